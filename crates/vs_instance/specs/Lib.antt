@@ -1,0 +1,11 @@
+pub mod Problem
+pub mod WayMap
+pub mod Ways
+pub mod Codes
+pub mod Instance
+pub mod Pieces
+pub mod Blocks
+pub mod Plan
+pub mod Restriction
+pub mod HoldingTable
+pub mod Misfits

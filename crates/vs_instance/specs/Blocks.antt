@@ -1,0 +1,57 @@
+-- What one vehicle runs from its pull-out to its pull-in, and what that costs.
+use Rattle.std.specs.Prelude.{◌≡◌, ℕ, ◌+◌, ◌-◌, ◌*◌, ◌<◌, ◌≤◌, List, [], ◌∷◌, length, All, sum_by, Option, slice_index_or}
+use Rattle.std.specs.List.{AllAdjacentBelow}
+use Rattle.std.specs.Option.{option_map_or}
+use Rattle.vs_types.specs.declared.numbers.LayerNo.{LayerNo}
+use Rattle.vs_types.specs.declared.numbers.TripNo.{TripNo}
+use Rattle.vs_instance.specs.declared.way.Way.{Way}
+use Rattle.vs_instance.specs.Problem.{Problem}
+use Rattle.vs_instance.specs.Ways.{Permitted, Connects, HasPullOut, HasPullIn, trip_of, layer_of, way_out, way_in, way_between}
+
+-- the first and the last trip of a list that isn't empty
+abbrev pub first_of : List TripNo → ℕ
+first_of trips = (slice_index_or trips 0 (record { 0 = 0 })).0
+
+abbrev pub last_of : List TripNo → ℕ
+last_of trips = (slice_index_or trips (length trips - 1) (record { 0 = 0 })).0
+
+-- a block of layer l: some trips of the instance, all permitted in l, each of which connects to the next, with a pull-out to the first and a pull-in from the last
+pub record IsBlock (p : Problem) (l : LayerNo) (trips : List TripNo) : Type 0 where
+  pub layer : l.0 < length p.layers
+  pub some_trip : 0 < length trips
+  pub of_instance : All (λ i. i.0 < length p.trips) trips
+  pub permitted : All (λ i. Permitted p l.0 i.0) trips
+  pub connected : AllAdjacentBelow (λ i j. Connects p i.0 j.0) trips (length trips)
+  pub pull_out : HasPullOut p l.0 (first_of trips)
+  pub pull_in : HasPullIn p l.0 (last_of trips)
+
+-- the minutes and the metres of a way, 0 where there is none
+abbrev pub minutes_of : Option Way → ℕ
+minutes_of w = option_map_or (λ x. x.minutes) w 0
+
+abbrev pub metres_of : Option Way → ℕ
+metres_of w = option_map_or (λ x. x.metres) w 0
+
+-- when the vehicle leaves its depot, and when it is back, in minutes from 0:00 of the first day
+abbrev pub pull_out_minute : Problem → LayerNo → List TripNo → ℕ
+pull_out_minute p l trips = (trip_of p (first_of trips)).start - minutes_of (way_out p l.0 (first_of trips))
+
+abbrev pub pull_in_minute : Problem → LayerNo → List TripNo → ℕ
+pull_in_minute p l trips = (trip_of p (last_of trips)).end + minutes_of (way_in p l.0 (last_of trips))
+
+-- the metres of the ways between trips that follow each other
+abbrev pub metres_between : Problem → List TripNo → ℕ
+metres_between p [] = 0
+metres_between p (i ∷ []) = 0
+metres_between p (i ∷ j ∷ rest) = metres_of (way_between p i.0 j.0) + metres_between p (j ∷ rest)
+
+-- the metres of the pull-out, of every trip, of every way between two trips, and of the pull-in
+abbrev pub block_metres : Problem → LayerNo → List TripNo → ℕ
+block_metres p l trips = metres_of (way_out p l.0 (first_of trips)) + sum_by (λ i. (trip_of p i.0).metres) trips
+    + metres_between p trips + metres_of (way_in p l.0 (last_of trips))
+
+-- what a block costs, from clock minutes and metres
+abbrev pub block_cost : Problem → LayerNo → List TripNo → ℕ
+block_cost p l trips = (layer_of p l.0).fixed
+    + (layer_of p l.0).per_minute * (pull_in_minute p l trips - pull_out_minute p l trips)
+    + (layer_of p l.0).per_metre * block_metres p l trips

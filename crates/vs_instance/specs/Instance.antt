@@ -1,0 +1,54 @@
+-- What makes a problem an instance: the limits, and closed deadheads.
+use Rattle.std.specs.Prelude.{◌≡◌, ◌≢◌, ℕ, ◌+◌, ◌<◌, ◌≤◌, List, [], length, All, IfSome, IsSomeAnd, Some}
+use Rattle.std.specs.FinMap as map
+use Rattle.vs_types.specs.LayerSet.{Has, members}
+use Rattle.vs_instance.specs.declared.layer.Layer.{Layer}
+use Rattle.vs_instance.specs.declared.trip.Trip.{Trip}
+use Rattle.vs_instance.specs.declared.way.Way.{Way}
+use Rattle.vs_instance.specs.Problem.{Problem}
+
+-- a layer within the limits
+pub record IsLayer (p : Problem) (layer : Layer) : Type 0 where
+  pub depot : layer.depot.0 < p.stops
+  pub fleet : layer.fleet ≤ 2000
+  pub fixed : layer.fixed ≤ 1000000000
+  pub per_minute : layer.per_minute ≤ 1000000
+  pub per_metre : layer.per_metre ≤ 10000
+
+-- a trip within the limits, which ends later than it starts and is permitted in some layer
+pub record IsTrip (p : Problem) (trip : Trip) : Type 0 where
+  pub from : trip.from.0 < p.stops
+  pub to : trip.to.0 < p.stops
+  pub end : trip.end < 2880
+  pub lasts : trip.start < trip.end
+  pub metres : trip.metres ≤ 1000000
+  pub some_layer : members trip.layers ≢ []
+  pub layers : (l : ℕ) → Has trip.layers l → l < length p.layers
+
+-- a deadhead from stop k to another stop s, within the limits
+pub record IsDeadhead (p : Problem) (k s : ℕ) (w : Way) : Type 0 where
+  pub from : k < p.stops
+  pub to : s < p.stops
+  pub apart : k ≢ s
+  pub some_minutes : 1 ≤ w.minutes
+  pub minutes : w.minutes ≤ 1440
+  pub metres : w.metres ≤ 1000000
+
+-- the way w is no longer than a and b together, in minutes and in metres
+pub record IsNoLonger (a b w : Way) : Type 0 where
+  pub minutes : w.minutes ≤ a.minutes + b.minutes
+  pub metres : w.metres ≤ a.metres + b.metres
+
+-- where deadheads lead from k to s and from s on to t, one leads from k to t that is no longer than both
+abbrev pub IsClosed : Problem → Type 0
+IsClosed p = (k s t : ℕ) (a b : Way) → k ≢ t → map.get p.deadheads (k, s) ≡ Some a → map.get p.deadheads (s, t) ≡ Some b
+    → IsSomeAnd (map.get p.deadheads (k, t)) (IsNoLonger a b)
+
+pub record IsInstance (p : Problem) : Type 0 where
+  pub few_stops : p.stops ≤ 500
+  pub few_layers : length p.layers ≤ 16
+  pub few_trips : length p.trips ≤ 2000
+  pub layers : All (IsLayer p) p.layers
+  pub deadheads : (k s : ℕ) → IfSome (map.get p.deadheads (k, s)) (IsDeadhead p k s)
+  pub trips : All (IsTrip p) p.trips
+  pub closed : IsClosed p

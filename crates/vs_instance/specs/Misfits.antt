@@ -1,0 +1,119 @@
+-- What is wrong with the parts of an instance, in the order in which it is answered.
+use Rattle.std.specs.Prelude.{◌≡◌, ◌≢◌, ℕ, ◌+◌, ◌<◌, ◌≤◌, Bool, not, nat_lt, ◌==◌, ◌&&◌, ◌||◌, if◌then◌else◌, List, [], ◌∷◌, ◌++◌, length, take, flat_map, fold, All, AllPairs, Option, Some, None, slice_get}
+use Rattle.std.specs.List.{list_any, enumerate_from, range_with_len}
+use Rattle.std.specs.FinMap as map
+use Rattle.vs_types.specs.LayerSet.{Has, members}
+use Rattle.vs_instance.specs.declared.deadhead.Deadhead.{Deadhead}
+use Rattle.vs_instance.specs.declared.layer.Layer.{Layer}
+use Rattle.vs_instance.specs.declared.trip.Trip.{Trip}
+use Rattle.vs_instance.specs.declared.way.Way.{Way}
+use Rattle.vs_instance.specs.declared.parts.Parts.{Parts}
+use Rattle.vs_instance.specs.declared.misfit.Misfit.{Misfit}
+use Rattle.vs_instance.specs.declared.misfit.Misfit.TheVariants.{Range, SelfDeadhead, DeadheadTwice, EndNotAfterStart, NotClosed, LongerMinutes, LongerMetres}
+use Rattle.vs_instance.specs.declared.misfit.NewError.{NewError}
+use Rattle.vs_instance.specs.declared.misfit.NewError.TheVariants as error
+use Rattle.vs_instance.specs.declared.misfit.Field.TheVariants as field
+use Rattle.vs_instance.specs.declared.misfit.Place.TheVariants as place
+use Rattle.vs_instance.specs.Problem.{Problem, pair_cmp}
+use Rattle.vs_instance.specs.Instance.{IsInstance}
+
+-- the deadheads as a map, written down one after another
+abbrev pub deadheads_of : List Deadhead → map.FinMap pair_cmp Way
+deadheads_of deadheads = fold (λ m d. map.insert m (d.from.0, d.to.0) (record { minutes = d.minutes; metres = d.metres })) map.empty deadheads
+
+-- what the parts say
+abbrev pub problem_of : Parts → Problem
+problem_of parts = record {
+  stops = parts.stops;
+  deadheads = deadheads_of parts.deadheads.items;
+  layers = parts.layers.items;
+  trips = parts.trips.items;
+}
+
+-- two deadheads between the same stops in the same direction
+abbrev pub are_twins : Deadhead → Deadhead → Bool
+are_twins d e = (d.from.0 == e.from.0) && (d.to.0 == e.to.0)
+
+-- the parts make an instance: no deadhead stands twice, and what they say is one
+pub record MakeInstance (parts : Parts) : Type 0 where
+  pub once : AllPairs (λ d e. are_twins d e ≡ Bool.false) parts.deadheads.items
+  pub instance : IsInstance (problem_of parts)
+
+-- the misfit where the test is true
+abbrev pub when : Bool → Misfit → List Misfit
+when wrong misfit = if wrong then misfit ∷ [] else []
+
+abbrev pub layer_misfits : ℕ → Layer → List Misfit
+layer_misfits l layer = let at = place.Layer (record { 0 = l }) in
+    when (nat_lt 2000 layer.fleet) (Range field.Fleet at)
+    ++ when (nat_lt 1000000000 layer.fixed) (Range field.Fixed at)
+    ++ when (nat_lt 1000000 layer.per_minute) (Range field.PerMinute at)
+    ++ when (nat_lt 10000 layer.per_metre) (Range field.PerMetre at)
+
+-- of the deadhead n, before which the earlier ones stand
+abbrev pub deadhead_misfits : List Deadhead → ℕ → Deadhead → List Misfit
+deadhead_misfits earlier n d =
+    when (d.from.0 == d.to.0) (SelfDeadhead n)
+    ++ when ((d.minutes == 0) || nat_lt 1440 d.minutes) (Range field.Minutes (place.Deadhead n))
+    ++ when (nat_lt 1000000 d.metres) (Range field.Metres (place.Deadhead n))
+    ++ when (list_any (are_twins d) earlier) (DeadheadTwice n)
+
+abbrev pub trip_misfits : ℕ → Trip → List Misfit
+trip_misfits i trip =
+    when (nat_lt 1000000 trip.metres) (Range field.Metres (place.Trip (record { 0 = i })))
+    ++ when (not (nat_lt trip.start trip.end)) (EndNotAfterStart (record { 0 = i }))
+
+-- what is wrong with the way w from k to t, beside the two ways by s
+abbrev pub longer_misfits : ℕ → ℕ → ℕ → Way → Way → Way → List Misfit
+longer_misfits k s t a b w =
+    when (nat_lt (a.minutes + b.minutes) w.minutes) (LongerMinutes (record { 0 = k }) (record { 0 = s }) (record { 0 = t }))
+    ++ when (nat_lt (a.metres + b.metres) w.metres) (LongerMetres (record { 0 = k }) (record { 0 = s }) (record { 0 = t }))
+
+-- what is wrong with the way from k to t, where there is one to s and one from s on
+abbrev pub detour_misfits : ℕ → ℕ → ℕ → Option Way → Option Way → Option Way → List Misfit
+detour_misfits k s t (Some a) (Some b) (Some w) = longer_misfits k s t a b w
+detour_misfits k s t (Some a) (Some b) None = NotClosed (record { 0 = k }) (record { 0 = s }) (record { 0 = t }) ∷ []
+detour_misfits k s t _ _ _ = []
+
+-- of stops k, s and t, which have to be three
+abbrev pub triple_misfits : map.FinMap pair_cmp Way → ℕ → ℕ → ℕ → List Misfit
+triple_misfits deadheads k s t = if (k == s) || (s == t) || (k == t) then []
+    else detour_misfits k s t (map.get deadheads (k, s)) (map.get deadheads (s, t)) (map.get deadheads (k, t))
+
+-- the stops' numbers in order
+abbrev pub numbers : ℕ → List ℕ
+numbers count = range_with_len 0 count
+
+abbrev pub closure_misfits : ℕ → map.FinMap pair_cmp Way → List Misfit
+closure_misfits stops deadheads =
+    flat_map (λ k. flat_map (λ s. flat_map (triple_misfits deadheads k s) (numbers stops)) (numbers stops)) (numbers stops)
+
+-- all that is wrong with the parts, in order: layers, deadheads, trips, and then closure by the numbers of the three stops
+abbrev pub misfits_of : Parts → List Misfit
+misfits_of parts =
+    flat_map (λ e. layer_misfits e.0 e.1) (enumerate_from 0 parts.layers.items)
+    ++ flat_map (λ e. deadhead_misfits (take e.0 parts.deadheads.items) e.0 e.1) (enumerate_from 0 parts.deadheads.items)
+    ++ flat_map (λ e. trip_misfits e.0 e.1) (enumerate_from 0 parts.trips.items)
+    ++ closure_misfits parts.stops (deadheads_of parts.deadheads.items)
+
+-- the error is a misfit
+abbrev pub IsMisfit : NewError → Type 0
+IsMisfit (error.Misfit m) = Unit {0}
+IsMisfit error.Memory = ⊥
+
+-- a misfit that is answered is the first of all
+abbrev pub IsFirstMisfit : Parts → NewError → Type 0
+IsFirstMisfit parts (error.Misfit m) = slice_get (misfits_of parts) 0 ≡ Some m
+IsFirstMisfit parts error.Memory = Unit {0}
+
+-- what a maker of parts has seen to: counts within the limits, each number one of the parts, and times of the two days
+pub record AreParts (parts : Parts) : Type 0 where
+  pub few_stops : parts.stops ≤ 500
+  pub few_layers : length parts.layers.items ≤ 16
+  pub few_trips : length parts.trips.items ≤ 2000
+  pub few_deadheads : length parts.deadheads.items < 4294967296
+  pub layers : All (λ layer. layer.depot.0 < parts.stops) parts.layers.items
+  pub deadheads : All (λ d. (d.from.0 < parts.stops) × (d.to.0 < parts.stops)) parts.deadheads.items
+  pub trip_stops : All (λ t. (t.from.0 < parts.stops) × (t.to.0 < parts.stops)) parts.trips.items
+  pub trip_times : All (λ t. (t.start < 2880) × (t.end < 2880)) parts.trips.items
+  pub trip_layers : All (λ t. (members t.layers ≢ []) × ((l : ℕ) → Has t.layers l → l < length parts.layers.items)) parts.trips.items

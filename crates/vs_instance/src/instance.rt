@@ -1,0 +1,138 @@
+ghost use Rattle.std.specs.Prelude.{◌≡◌, ℕ, ◌<◌, ◌≤◌, length, IfOk, IfErr, OnOk, option_map};
+ghost use Rattle.vs_instance.specs.Instance.{IsInstance};
+ghost use Rattle.vs_instance.specs.Misfits.{AreParts, MakeInstance, problem_of, IsFirstMisfit, IsMisfit};
+ghost use Rattle.vs_instance.specs.Ways.{way, trip_of, layer_of};
+
+use crate::layer::Layer;
+use crate::misfit::NewError;
+use crate::parts::Parts;
+use crate::trip::Trip;
+use crate::way::Way;
+use crate::ways::Ways;
+use std::alloc::Global;
+use std::marker::Model;
+use vs_types::{LayerNo, Memory, StopNo, TripNo};
+
+/// What is planned: stops, the deadheads between them, layers and trips, within the limits and with closed
+/// deadheads. From a stop to itself the way takes no time and has no length; between two others it is
+/// their deadhead, or there is none.
+#[derive(Drop)]
+pub struct Instance {
+    ways: Ways,
+    layers: Vec<Layer>,
+    trips: Vec<Trip>,
+}
+
+impl Model for Instance {
+    ghost use Rattle.vs_instance.specs.Problem.{Problem};
+    ghost use Rattle.vs_instance.specs.Instance.{IsInstance};
+    ghost use Rattle.vs_instance.specs.Codes.{coded_problem};
+
+    ghost Value = { Problem };
+
+    ghost coded = { coded_problem };
+
+    ghost view = { λ a. record { stops = a.ways.stops; deadheads = a.ways.given; layers = a.layers.items; trips = a.trips.items } };
+
+    ghost invariant = { λ a. IsInstance (record { stops = a.ways.stops; deadheads = a.ways.given; layers = a.layers.items; trips = a.trips.items }) };
+}
+
+impl Instance {
+    /// The instance that the parts make, or the first misfit of theirs.
+    pub fn new(alloc: Global, parts: Parts) -> Result<Instance, NewError>
+        requires { AreParts parts }
+        ensures made { OnOk result (MakeInstance parts) }
+        ensures parts { IfOk result (λ instance. instance ≡ problem_of parts) }
+        ensures misfit { IfErr result (IsFirstMisfit parts) }
+        ensures refused { IfErr result (λ e. IsMisfit e → ¬ (MakeInstance parts)) }
+    {
+        let ways = Ways::new(alloc, parts.stops).map_err(|_| NewError::Memory)?;
+        Ok(Instance {
+            ways,
+            layers: parts.layers,
+            trips: parts.trips,
+        })
+    }
+
+    /// An equal instance.
+    pub fn copy(&self, alloc: Global) -> Result<Instance, Memory>
+        ensures { IfOk result (λ instance. instance ≡ self.now) }
+    {
+        Err(Memory)
+    }
+
+    /// How many stops there are, at most 500.
+    pub fn stops(&self) -> u32
+        ensures count { result ≡ self.now.stops }
+        ensures instance { IsInstance self.now }
+    {
+        self.ways.stops()
+    }
+
+    /// How many layers there are, at most 16.
+    pub fn layers(&self) -> u32
+        ensures count { result ≡ length self.now.layers }
+        ensures instance { IsInstance self.now }
+    {
+        self.layers.len() as u32
+    }
+
+    /// How many trips there are, at most 2,000.
+    pub fn trips(&self) -> u32
+        ensures count { result ≡ length self.now.trips }
+        ensures instance { IsInstance self.now }
+    {
+        self.trips.len() as u32
+    }
+
+    /// A trip.
+    pub fn trip(&self, i: TripNo) -> &Trip
+        requires { i.0 < length self.now.trips }
+        ensures { result.now ≡ trip_of self.now i.0 }
+    {
+        &self.trips[i.0 as usize]
+    }
+
+    /// A layer.
+    pub fn layer(&self, l: LayerNo) -> &Layer
+        requires { l.0 < length self.now.layers }
+        ensures { result.now ≡ layer_of self.now l.0 }
+    {
+        &self.layers[l.0 as usize]
+    }
+
+    /// The way from stop k to stop s. None exactly where they differ and no deadhead is given.
+    pub fn way(&self, k: StopNo, s: StopNo) -> Option<Way>
+        requires from { k.0 < self.now.stops }
+        requires to { s.0 < self.now.stops }
+        ensures { result ≡ way self.now k.0 s.0 }
+    {
+        if k == s {
+            return Some(Way {
+                minutes: 0,
+                metres: 0,
+            });
+        }
+        self.ways.get(k, s)
+    }
+
+    /// How many minutes the way from stop k to stop s takes. None exactly where they differ and no
+    /// deadhead is given.
+    pub fn minutes(&self, k: StopNo, s: StopNo) -> Option<u32>
+        requires from { k.0 < self.now.stops }
+        requires to { s.0 < self.now.stops }
+        ensures { result ≡ option_map (λ w. w.minutes) (way self.now k.0 s.0) }
+    {
+        self.way(k, s).map(|way| way.minutes)
+    }
+
+    /// How many metres long the way from stop k to stop s is. None exactly where they differ and no
+    /// deadhead is given.
+    pub fn metres(&self, k: StopNo, s: StopNo) -> Option<u32>
+        requires from { k.0 < self.now.stops }
+        requires to { s.0 < self.now.stops }
+        ensures { result ≡ option_map (λ w. w.metres) (way self.now k.0 s.0) }
+    {
+        self.way(k, s).map(|way| way.metres)
+    }
+}

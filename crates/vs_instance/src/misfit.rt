@@ -1,0 +1,50 @@
+use vs_types::{LayerNo, StopNo, TripNo};
+
+/// A number of the parts that has a range.
+#[derive(Clone, Copy, Debug, PartialEq, Eq)]
+pub enum Field {
+    Fleet,
+    Fixed,
+    PerMinute,
+    PerMetre,
+    Minutes,
+    Metres,
+}
+
+/// Which of the parts a number stands in. Deadheads count from 0 in the order given.
+#[derive(Clone, Copy, Debug, PartialEq, Eq)]
+pub enum Place {
+    Layer(LayerNo),
+    Deadhead(u32),
+    Trip(TripNo),
+}
+
+/// Why parts are no instance.
+#[derive(Clone, Copy, Debug, PartialEq, Eq)]
+pub enum Misfit {
+    /// The number there is out of its range.
+    Range(Field, Place),
+    /// The deadhead leads from a stop to itself.
+    SelfDeadhead(u32),
+    /// An earlier deadhead leads from the same stop to the same stop.
+    DeadheadTwice(u32),
+    /// The trip doesn't end later than it starts.
+    EndNotAfterStart(TripNo),
+    /// Deadheads lead from the first stop to the second and from there to the third, and none leads
+    /// from the first to the third.
+    NotClosed(StopNo, StopNo, StopNo),
+    /// The deadhead from the first stop to the third takes more minutes than those by the second.
+    LongerMinutes(StopNo, StopNo, StopNo),
+    /// The deadhead from the first stop to the third is longer than those by the second.
+    LongerMetres(StopNo, StopNo, StopNo),
+}
+
+/// Why no instance was made.
+#[derive(Clone, Copy, Debug, PartialEq, Eq)]
+pub enum NewError {
+    /// The parts are none: this is the first misfit of all, in the order of layers, deadheads, trips
+    /// and closure.
+    Misfit(Misfit),
+    /// There was no memory.
+    Memory,
+}
