@@ -1,4 +1,4 @@
-ghost use Rattle.std.specs.Prelude.{◌≡◌, ℕ, ◌<◌, ◌≢◌, ◌↔◌, ◌⊎◌, length, IsTrue, MatchOption, []};
+ghost use Rattle.std.specs.Prelude.{◌≡◌, ℕ, ◌<◌, ◌≢◌, ◌↔◌, ◌⊎◌, length, IsTrue, MatchOption, IfSome, []};
 ghost use Rattle.vs_types.specs.LayerSet.{Has, members};
 
 use crate::numbers::LayerNo;
@@ -51,11 +51,35 @@ impl LayerSet {
     pub fn lowest(self) -> Option<LayerNo>
         ensures least { MatchOption result (members self ≡ [])
             (λ l. Has self l.0 × ((k : ℕ) → Has self k → k ≡ l.0 ⊎ l.0 < k)) }
+        ensures named { IfSome result (λ l. l.0 < 16) }
     {
         if self.0 == 0 {
             None
         } else {
             Some(LayerNo(self.0.trailing_zeros()))
+        }
+    }
+}
+
+#[cfg(test)]
+mod tests {
+    use super::*;
+
+    #[test]
+    fn works_as_a_set(rt: HostRuntime) {
+        let set = LayerSet::only(LayerNo(15))
+            .with(LayerNo(3))
+            .with(LayerNo(9));
+        let cases = [
+            (LayerSet(0), 0, None),
+            (set, 3, Some(LayerNo(3))),
+            (set.without(LayerNo(3)), 2, Some(LayerNo(9))),
+            (LayerSet(0xffff), 16, Some(LayerNo(0))),
+        ];
+        for (case, count, lowest) in cases {
+            assert_eq!(rt; case.count(), count);
+            assert_eq!(rt; case.lowest(), lowest);
+            assert_eq!(rt; case.has(LayerNo(9)), count > 0);
         }
     }
 }

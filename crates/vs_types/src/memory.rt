@@ -1,4 +1,4 @@
-ghost use Rattle.std.specs.Prelude.{◌≡◌, ⊤};
+ghost use Rattle.std.specs.Prelude.{◌≡◌};
 
 use std::alloc::{AllocError, AllocFailed};
 
@@ -8,12 +8,16 @@ use std::alloc::{AllocError, AllocFailed};
 pub struct Memory;
 
 impl From<AllocError> for Memory {
+    ghost from_gives = { λ _ m. m ≡ record {} };
+
     fn from(_: AllocError) -> Self {
         Memory
     }
 }
 
 impl<T: Drop> From<AllocFailed<T>> for Memory {
+    ghost from_gives = { λ _ m. m ≡ record {} };
+
     fn from(_: AllocFailed<T>) -> Self {
         Memory
     }
