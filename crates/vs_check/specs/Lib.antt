@@ -1,0 +1,5 @@
+pub mod Blocks
+pub mod Table
+pub mod Worth
+pub mod HoldingDocument
+pub mod Form

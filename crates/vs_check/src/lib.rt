@@ -1,1 +1,18 @@
+//! The judge of a plan's document: it trusts nothing of the search, and goes over all pairs of trips.
 #![tactic(auto)]
+
+mod bound;
+mod claim;
+mod document;
+mod plan;
+mod shape;
+mod table;
+mod verdict;
+
+pub use bound::Bound;
+pub use claim::Claim;
+pub use document::Document;
+pub use plan::{Block, Plan};
+pub use shape::Shape;
+pub use table::Table;
+pub use verdict::{Verdict, check};
