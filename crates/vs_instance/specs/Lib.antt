@@ -8,4 +8,5 @@ pub mod Blocks
 pub mod Plan
 pub mod Restriction
 pub mod HoldingTable
+pub mod Lagrangian
 pub mod Misfits

@@ -1,0 +1,12 @@
+pub mod Rows
+pub mod RowEnds
+pub mod Numbers
+pub mod Names
+pub mod InstanceText
+pub mod DocumentText
+pub mod FirstForm
+pub mod Status
+pub mod Words
+pub mod Greedy
+pub mod SolveAnswer
+pub mod Owed

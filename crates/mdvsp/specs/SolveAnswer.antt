@@ -1,0 +1,99 @@
+-- What a document has to be that a search of so many nodes answers.
+use Rattle.std.specs.Prelude.{◌≡◌, ℕ, ◌+◌, ◌-◌, ◌<◌, ◌≤◌, Bool, true, false, not, List, [], ◌∷◌, ◌++◌, length, set, count_by, ℤ, pos, ◌≤ℤ◌, ◌⊎◌, Option, Some, None, IfSome, MatchOption, bit_and, int_lt, slice_get}
+
+use Rattle.vs_types.specs.declared.layer_set.LayerSet.{LayerSet}
+use Rattle.vs_instance.specs.Problem.{Problem}
+use Rattle.vs_instance.specs.Lagrangian.{IsStartingValue}
+use Rattle.vs_instance.specs.Restriction.{set_of, permitted_sets}
+use Rattle.vs_check.specs.declared.bound.Bound.{Bound}
+use Rattle.vs_check.specs.declared.bound.Bound.TheVariants.{AtLeast, NoPlan}
+use Rattle.vs_check.specs.declared.claim.Claim.TheVariants.{StillOpen}
+use Rattle.vs_check.specs.declared.document.Document.{Document}
+use Rattle.vs_check.specs.declared.shape.Shape.{Shape}
+use Rattle.vs_check.specs.declared.shape.Shape.TheVariants.{Split, Leaf}
+use Rattle.vs_check.specs.declared.table.Table.{Table}
+use Rattle.vs_check.specs.HoldingDocument.{HoldingDocument}
+use Rattle.vs_check.specs.Worth.{IsWorth, IsRoundedUp}
+use Rattle.mdvsp.specs.DocumentText.{HasText}
+
+-- a leaf: which layers each trip may be run in there, and the number of its table
+pub record LeafPlace : Type 0 where
+  pub sets : List LayerSet
+  pub table : ℕ
+
+-- what a set leaves of another
+abbrev pub without : LayerSet → LayerSet → LayerSet
+without all left = record { 0 = bit_and all.0 (65535 - left.0) }
+
+-- the leaves of a tree in preorder, of which the parts still to come have these restrictions
+abbrev pub leaves_from : List (List LayerSet) → List Shape → List LeafPlace
+leaves_from (sets ∷ later) (Leaf table ∷ shapes) = record { sets = sets; table = table } ∷ leaves_from later shapes
+leaves_from (sets ∷ later) (Split trip left ∷ shapes) =
+    leaves_from (set sets trip.0 left ∷ set sets trip.0 (without (set_of sets trip.0) left) ∷ later) shapes
+leaves_from _ _ = []
+
+abbrev pub leaves : Problem → Document → List LeafPlace
+leaves p d = leaves_from (permitted_sets p ∷ []) d.shape.items
+
+-- how many splits the tree has
+abbrev pub splits : List Shape → ℕ
+splits [] = 0
+splits (Leaf table ∷ shapes) = splits shapes
+splits (Split trip left ∷ shapes) = splits shapes + 1
+
+-- the worths of the leaves, in order
+abbrev pub AreWorths : Problem → Document → List LeafPlace → List Bound → Type 0
+AreWorths p d [] [] = Unit {0}
+AreWorths p d (leaf ∷ places) (worth ∷ worths) =
+    (table : Table) × (slice_get d.tables.items leaf.table ≡ Some table) × IsWorth p leaf.sets table worth × AreWorths p d places worths
+AreWorths p d _ _ = ⊥
+
+-- whether a worth is below a cost, where no cost is above every number
+abbrev pub is_below : Option ℤ → Bound → Bool
+is_below cost NoPlan = false
+is_below None (AtLeast n) = true
+is_below (Some cost) (AtLeast n) = int_lt n cost
+
+-- how many of the worths aren't
+abbrev pub count_not_below : Option ℤ → List Bound → ℕ
+count_not_below cost worths = count_by (λ worth. not (is_below cost worth)) worths
+
+-- n is the cost, or one of the worths, and none of these is less
+abbrev pub IsAmong : Option ℤ → List Bound → ℤ → Type 0
+IsAmong (Some cost) [] n = n ≡ cost
+IsAmong None [] n = ⊥
+IsAmong cost (AtLeast worth ∷ worths) n = (n ≡ worth) ⊎ IsAmong cost worths n
+IsAmong cost (NoPlan ∷ worths) n = IsAmong cost worths n
+
+abbrev pub IsLeast : Option ℤ → List Bound → ℤ → Type 0
+IsLeast cost worths n = IsAmong cost worths n × ((m : ℤ) → IsAmong cost worths m → n ≤ℤ m)
+
+-- the printed bound is the lesser of the least worth and the cost; there is none exactly where neither is a number
+abbrev pub IsBoundOf : Option ℤ → List Bound → Option ℤ → Type 0
+IsBoundOf cost worths (Some bound) = IsLeast cost worths bound
+IsBoundOf cost worths None = (n : ℤ) → ¬ (IsAmong cost worths n)
+
+-- the tables are those that leaves name, in the order in which the leaves first name them, of which so many are named already
+abbrev pub AreNamedInOrder : ℕ → List LeafPlace → ℕ → Type 0
+AreNamedInOrder named [] tables = tables ≡ named
+AreNamedInOrder named (leaf ∷ places) tables =
+    ((leaf.table < named) × AreNamedInOrder named places tables) ⊎ ((leaf.table ≡ named) × AreNamedInOrder (named + 1) places tables)
+
+-- where a node was finished, the bound is no less than what the starting multipliers show, or than the cost
+abbrev pub ReachesStart : Problem → Document → ℤ → Type 0
+ReachesStart p d bound = (value start : ℤ) → IsStartingValue p value → IsRoundedUp value start
+    → MatchOption d.cost (start ≤ℤ bound) (λ cost. (start ≤ℤ bound) ⊎ (cost ≤ℤ bound))
+
+-- a document that a search of so many nodes may answer
+pub record SolveAnswer (p : Problem) (budget : ℕ) (d : Document) : Type 0 where
+  pub has_text : HasText p d
+  pub written : AreNamedInOrder 0 (leaves p d) (length d.tables.items)
+  pub holds : HoldingDocument p d
+  pub worths : List Bound
+  pub are_worths : AreWorths p d (leaves p d) worths
+  pub bound : IsBoundOf d.cost worths d.bound
+  pub within_budget : d.nodes ≤ budget
+  pub each_split : splits d.shape.items ≤ d.nodes
+  pub each_node : d.nodes ≤ splits d.shape.items + count_not_below d.cost worths
+  pub still_open : d.claim ≡ StillOpen → d.nodes ≡ budget
+  pub start : 1 ≤ d.nodes → IfSome d.bound (ReachesStart p d)
