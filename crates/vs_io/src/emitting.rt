@@ -31,3 +31,28 @@ pub fn emit<O: Sink>(sink: &mut O, bytes: &[u8]) -> Result<(), WriteFault>
     }
     Ok(())
 }
+
+#[cfg(test)]
+mod tests {
+    use super::*;
+    use crate::{MemSink, StdSink};
+    use std::test::Fail;
+
+    #[test]
+    fn writes_until_a_put_fails(rt: HostRuntime) -> Result<(), Fail> {
+        let mut sink = MemSink::new(rt.alloc(), 8, 3, vec![in rt.alloc(); 3]?)?;
+        assert_eq!(rt; emit(&mut sink, b"abcdefgh"), Err(WriteFault));
+        assert_eq!(rt; sink.taken(), b"abcdef".as_slice());
+        assert_eq!(rt; emit(&mut sink, b"gh"), Ok(()));
+        assert_eq!(rt; sink.taken(), b"abcdefgh".as_slice());
+        assert_eq!(rt; emit(&mut sink, b""), Ok(()));
+        assert_eq!(rt; emit(&mut sink, b"i"), Err(WriteFault));
+        Ok(())
+    }
+
+    #[test]
+    fn writes_to_a_writer(rt: HostRuntime) {
+        let mut sink = StdSink::new(Vec::new(rt.alloc()));
+        assert_eq!(rt; emit(&mut sink, b"depot"), Ok(()));
+    }
+}

@@ -1,4 +1,5 @@
-ghost use Rattle.std.specs.Prelude.{◌≡◌, None};
+ghost use Rattle.std.specs.Prelude.{◌≡◌, ◌<◌, ◌≤◌, length, None, IfOk, OnOk, OnErr};
+ghost use Rattle.vs_io.specs.Faults.{Rose, one_more};
 
 use crate::sink::Sink;
 use crate::source::Failed;
@@ -34,7 +35,17 @@ impl<W: Write + Drop> Sink for StdSink<W> {
 
     ghost faults = { λ count. count };
 
-    fn put(&mut self, piece: &[u8]) -> Result<usize, Failed> {
+    fn put(&mut self, piece: &[u8]) -> Result<usize, Failed>
+        requires { 0 < length piece.now }
+        ensures some { IfOk result (λ n. 0 < n) }
+        ensures within { IfOk result (λ n. n ≤ length piece.now) }
+        ensures fault { OnErr result (Rose self.old self.new) }
+        ensures never_falls { self.old ≤ self.new }
+
+        // Exactly how the count moves.
+        ensures risen { OnErr result (self.new ≡ one_more self.old) }
+        ensures not_risen { OnOk result (self.new ≡ self.old) }
+    {
         match self.writer.write(piece) {
             Ok(n) if n > 0 => Ok(n),
             _ => {

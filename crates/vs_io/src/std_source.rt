@@ -1,4 +1,5 @@
-ghost use Rattle.std.specs.Prelude.{◌≡◌, None};
+ghost use Rattle.std.specs.Prelude.{◌≡◌, ◌<◌, ◌≤◌, length, None, IfOk, OnOk, OnErr};
+ghost use Rattle.vs_io.specs.Faults.{Rose, one_more};
 
 use crate::source::{Failed, Source};
 use std::io::Read;
@@ -33,7 +34,16 @@ impl<R: Read + Drop> Source for StdSource<R> {
 
     ghost faults = { λ count. count };
 
-    fn take(&mut self, buf: &mut [u8]) -> Result<usize, Failed> {
+    fn take(&mut self, buf: &mut [u8]) -> Result<usize, Failed>
+        requires { 0 < length buf.old }
+        ensures within { IfOk result (λ n. n ≤ length buf.new) }
+        ensures fault { OnErr result (Rose self.old self.new) }
+        ensures never_falls { self.old ≤ self.new }
+
+        // Exactly how the count moves.
+        ensures risen { OnErr result (self.new ≡ one_more self.old) }
+        ensures not_risen { OnOk result (self.new ≡ self.old) }
+    {
         match self.reader.read(buf) {
             Ok(n) => Ok(n),
             Err(_) => {
