@@ -1,0 +1,70 @@
+-- What one take or put after another does to the bytes.
+use Rattle.std.proofs.Common.{◌≡◌, ℕ, ◌+◌, ◌<◌, ◌≤◌, Option, Some, None, List, [], ◌∷◌, ◌++◌, length, take, drop, refl, sym, ap, ◌∙◌, arith, ◌-◌, append-nil, append_assoc, length-drop, length-append, rules}
+use Rattle.std.specs.Prelude.{IfSome}
+use Rattle.std.specs.Option.{option_map}
+use Rattle.std.specs.Io.KnownBytes.{IsAtEnd}
+use Rattle.std.proofs.Math.Seq.{take-add}
+use Rattle.std.proofs.lemmas.List.{take_rest, take_at, take-append-drop, length-take, drop-drop}
+use Rattle.vs_io.specs.Bytes.{Takes, TakesAll, Appends, AppendsPrefix}
+
+-- no byte was taken
+pub Takes-none : (left : Option (List ℕ)) → Takes left left []
+Takes-none None = refl
+Takes-none (Some xs) = refl
+
+-- one take after another
+pub Takes-append : (old mid new : Option (List ℕ)) (xs ys : List ℕ)
+    → Takes old mid xs → Takes mid new ys → Takes old new (xs ++ ys)
+Takes-append old mid None xs ys first second = cc
+Takes-append old mid (Some rest) xs ys first second =
+    rw (first, second) (ap Some (sym (append_assoc xs ys rest)))
+
+-- where the bytes are told, those taken were the first of them
+pub Takes-told : (old new : Option (List ℕ)) (gone xs : List ℕ) → Takes old new gone → old ≡ Some xs
+    → (rest : List ℕ) × (xs ≡ gone ++ rest) × (new ≡ Some rest)
+Takes-told old None gone xs taken told = cc
+Takes-told old (Some rest) gone xs taken told = (rest, cc, refl)
+
+-- at the end, those taken were all
+pub Takes-all : (old new : Option (List ℕ)) (gone : List ℕ) → Takes old new gone → IsAtEnd new → TakesAll old new gone
+Takes-all old None gone taken end = rw taken (tt, refl)
+Takes-all old (Some rest) gone taken end = rw (taken, end) (append-nil gone, refl)
+
+-- all that was told to be left was taken
+pub TakesAll-told : (old new : Option (List ℕ)) (bytes xs : List ℕ) → TakesAll old new bytes → old ≡ Some xs
+    → (xs ≡ bytes) × (new ≡ Some [])
+TakesAll-told None new bytes xs all told = cc
+TakesAll-told (Some ys) new bytes xs all told = (cc, cc)
+
+-- no fewer bytes were left than were taken
+pub Takes-longer : (old new : Option (List ℕ)) (gone : List ℕ) (n : ℕ) → Takes old new gone → n < length gone
+    → IfSome old (λ xs. n < length xs)
+Takes-longer old None gone n taken more = rw taken tt
+Takes-longer old (Some rest) gone n taken more = rw taken (omega (arith, length-append gone rest))
+
+-- no byte was put
+pub Appends-none : (taken : Option (List ℕ)) → Appends taken taken []
+Appends-none None = refl
+Appends-none (Some xs) = ap Some (sym (append-nil xs))
+
+-- one put after another
+pub Appends-append : (old mid new : Option (List ℕ)) (xs ys : List ℕ)
+    → Appends old mid xs → Appends mid new ys → Appends old new (xs ++ ys)
+Appends-append None mid new xs ys first second = cc
+Appends-append (Some before) mid new xs ys first second =
+    rw (second, first) (ap Some (append_assoc before xs ys))
+
+-- a first part of what is not put yet
+pub take-further : (bytes : List ℕ) (done n : ℕ)
+    → take done bytes ++ take n (take (length bytes - done) (drop done bytes)) ≡ take (done + n) bytes
+take-further bytes done n = rw (take_rest bytes done) (sym (take-add done n bytes))
+
+-- n bytes from a place on, and those behind them
+pub take-moved : (bytes buf moved : List ℕ) (next n : ℕ) → next + n ≤ length bytes
+    → moved ≡ take (next + n - next) (drop next bytes)
+    → drop next bytes ≡ take n (moved ++ buf) ++ drop (next + n) bytes
+take-moved bytes buf moved next n within is =
+    let count : next + n - next ≡ n = omega arith in
+    let whole : moved ≡ take n (drop next bytes) = is ∙ ap (λ (m : ℕ). take m (drop next bytes)) count in
+    let long : length moved ≡ n = rw whole (omega (arith, length-take n (drop next bytes), length-drop next bytes)) in
+    rw (take_at moved buf n long, whole, ← drop-drop n next bytes) (sym (take-append-drop n (drop next bytes)))
