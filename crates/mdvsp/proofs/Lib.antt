@@ -1,1 +1,2 @@
 pub mod ReaderNames
+pub mod ReaderNumbers
