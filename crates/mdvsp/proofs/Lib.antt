@@ -1,2 +1,4 @@
 pub mod ReaderNames
 pub mod ReaderNumbers
+pub mod ReaderLayers
+pub mod ReaderRows

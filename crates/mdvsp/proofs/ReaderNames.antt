@@ -6,7 +6,7 @@ use Rattle.std.specs.Result.{result_ok}
 use Rattle.std.specs.Str.{IsAscii, IsUtf8, bytes_eq}
 use Rattle.std.proofs.lemmas.Bool.{cases_lt, cases_order, cases_Bool, or_left, or_right, or_cases, true≢false}
 use Rattle.std.proofs.lemmas.List.{get_or_past, get_or_default, length-map, map_push, length_push}
-use Rattle.std.proofs.lemmas.List.Elements.{All-get_or, All-push, Contains-append_right, Contains-get_or}
+use Rattle.std.proofs.lemmas.List.Elements.{All-get_or, All-push, All-contains}
 use Rattle.std.proofs.lemmas.List.Quantifiers.{all_pairs_push, position-Some}
 use Rattle.std.proofs.lemmas.Option.{slice_get-map, slice_get-get_or, slice_get_within, get_or_from_slice_get}
 use Rattle.std.proofs.lemmas.Slice.Eq.{bytes_eq-Decides}
@@ -119,3 +119,7 @@ module _ {K : Type 0} (text : K → Field) where
       where
         get_or_same : (i : ℕ) (d : Field) → i < length (map text ks) → get_or (map text ks) i d ≡ get_or (map text ks) i (text k)
         get_or_same i d within = get_or_default (map text ks) i d (text k) within
+
+-- what is numbered among names is a name
+pub IsName-Names : (names : List Field) (f : Field) (k : ℕ) → AreNames names → Names names f k → IsName f
+IsName-Names names f k are at = All-contains IsName names f are.each (Contains-Names names f k at)

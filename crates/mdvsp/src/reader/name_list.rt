@@ -2,6 +2,7 @@ ghost use Rattle.std.specs.Prelude.{◌≡◌, ℕ, ◌<◌, List, [], ◌∷◌
 ghost use Rattle.mdvsp.specs.Names.{IsName, Names as Numbered};
 ghost use Rattle.mdvsp.specs.NameRules.{AreNames};
 
+use super::name::name;
 use indexmap::IndexSet;
 use std::alloc::Global;
 use std::marker::Model;
@@ -58,6 +59,16 @@ impl NameList {
         ensures only { IfSome result (λ k. (j : ℕ) → Numbered self.now name.now j → j ≡ k) }
     {
         let number = self.names.get_index_of(name)?;
+        Some(number as u32)
+    }
+
+    /// The number of the name that a field is. None where it is none of these.
+    pub fn find_field(&self, field: &[u8]) -> Option<u32>
+        ensures found { MatchOption result ((k : ℕ) → ¬ (Numbered self.now field.now k)) (λ k. Numbered self.now field.now k) }
+        ensures only { IfSome result (λ k. (j : ℕ) → Numbered self.now field.now j → j ≡ k) }
+    {
+        let names = &self.names;
+        let number = names.get_index_of(name(field)?)?;
         Some(number as u32)
     }
 

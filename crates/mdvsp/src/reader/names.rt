@@ -111,6 +111,30 @@ impl Names {
         Some(TripNo(self.trips.find(name)?))
     }
 
+    /// The stop that a field names. None where it names none.
+    pub fn stop_named(&self, field: &[u8]) -> Option<StopNo>
+        ensures found { MatchOption result ((k : ℕ) → ¬ (Numbered self.now.stops field.now k)) (λ k. Numbered self.now.stops field.now k.0) }
+        ensures only { IfSome result (λ k. (j : ℕ) → Numbered self.now.stops field.now j → j ≡ k.0) }
+    {
+        Some(StopNo(self.stops.find_field(field)?))
+    }
+
+    /// The layer that a field names. None where it names none.
+    pub fn layer_named(&self, field: &[u8]) -> Option<LayerNo>
+        ensures found { MatchOption result ((l : ℕ) → ¬ (Numbered self.now.layers field.now l)) (λ l. Numbered self.now.layers field.now l.0) }
+        ensures only { IfSome result (λ l. (j : ℕ) → Numbered self.now.layers field.now j → j ≡ l.0) }
+    {
+        Some(LayerNo(self.layers.find_field(field)?))
+    }
+
+    /// The trip that a field names. None where it names none.
+    pub fn trip_named(&self, field: &[u8]) -> Option<TripNo>
+        ensures found { MatchOption result ((i : ℕ) → ¬ (Numbered self.now.trips field.now i)) (λ i. Numbered self.now.trips field.now i.0) }
+        ensures only { IfSome result (λ i. (j : ℕ) → Numbered self.now.trips field.now j → j ≡ i.0) }
+    {
+        Some(TripNo(self.trips.find_field(field)?))
+    }
+
     /// Names the next stop, and answers whether no stop had the name before. If one had, nothing changes.
     pub fn add_stop(&mut self, name: &str) -> Result<bool, Memory>
         requires { IsName name.now }

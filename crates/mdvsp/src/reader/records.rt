@@ -1,31 +1,14 @@
 ghost use Rattle.std.specs.Prelude.{◌≡◌, ℕ, ◌<◌, ◌≤◌, length, drop, codes, MatchOption};
 ghost use Rattle.mdvsp.specs.Rows.{Field};
-ghost use Rattle.mdvsp.specs.Names.{Names as Numbered};
 ghost use Rattle.mdvsp.specs.Kinds.{field_of, row_of};
 ghost use Rattle.mdvsp.specs.InstanceText.{DeadheadRow, LayerRow, TripRow, NameLayers};
 
-use super::name::name;
 use super::names::Names;
 use super::number::number;
 use super::time::time;
 use crate::rows::Rows;
 use vs_instance::{Deadhead, Layer, Trip};
-use vs_types::{LayerNo, LayerSet, StopNo};
-
-/// The stop that a field names. None where it names none.
-fn stop_named(names: &Names, field: &[u8]) -> Option<StopNo>
-    ensures { MatchOption result ((k : ℕ) → ¬ (Numbered names.now.stops field.now k)) (λ k. Numbered names.now.stops field.now k.0) }
-{
-    names.stop_of(name(field)?)
-}
-
-/// The layer that a field names. None where it names none.
-fn layer_named(names: &Names, field: &[u8]) -> Option<LayerNo>
-    ensures { MatchOption result ((l : ℕ) → ¬ (Numbered names.now.layers field.now l))
-        (λ l. Numbered names.now.layers field.now l.0 × ((j : ℕ) → Numbered names.now.layers field.now j → j ≡ l.0)) }
-{
-    names.layer_of(name(field)?)
-}
+use vs_types::LayerSet;
 
 /// The deadhead that a record of this kind gives. None where it gives none.
 pub fn deadhead(names: &Names, rows: &Rows, row: usize) -> Option<Deadhead>
@@ -36,8 +19,8 @@ pub fn deadhead(names: &Names, rows: &Rows, row: usize) -> Option<Deadhead>
     if rows.fields(row) != 5 {
         return None;
     }
-    let from = stop_named(names, rows.field(row, 1))?;
-    let to = stop_named(names, rows.field(row, 2))?;
+    let from = names.stop_named(rows.field(row, 1))?;
+    let to = names.stop_named(rows.field(row, 2))?;
     let minutes = number(rows.field(row, 3))?;
     let metres = number(rows.field(row, 4))?;
     Some(Deadhead {
@@ -58,7 +41,7 @@ pub fn layer(names: &Names, rows: &Rows, row: usize) -> Option<Layer>
     if rows.fields(row) != 7 {
         return None;
     }
-    let depot = stop_named(names, rows.field(row, 2))?;
+    let depot = names.stop_named(rows.field(row, 2))?;
     let fleet = number(rows.field(row, 3))?;
     let fixed = number(rows.field(row, 4))?;
     let per_minute = number(rows.field(row, 5))?;
@@ -83,9 +66,9 @@ pub fn trip(names: &Names, rows: &Rows, row: usize) -> Option<Trip>
     if rows.fields(row) < 8 {
         return None;
     }
-    let from = stop_named(names, rows.field(row, 2))?;
+    let from = names.stop_named(rows.field(row, 2))?;
     let start = time(rows.field(row, 3))?;
-    let to = stop_named(names, rows.field(row, 4))?;
+    let to = names.stop_named(rows.field(row, 4))?;
     let end = time(rows.field(row, 5))?;
     let metres = number(rows.field(row, 6))?;
     let layers = layers_of(names, rows, row)?;
@@ -110,7 +93,7 @@ fn layers_of(names: &Names, rows: &Rows, row: usize) -> Option<LayerSet>
 {
     let mut set = LayerSet(0);
     for k in 7..rows.fields(row) {
-        let l = layer_named(names, rows.field(row, k))?;
+        let l = names.layer_named(rows.field(row, k))?;
         if set.has(l) {
             return None;
         }
