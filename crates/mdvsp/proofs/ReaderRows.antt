@@ -1,12 +1,13 @@
 -- Rows by their fields.
 use Rattle.std.proofs.Common.{◌≡◌, ℕ, zero, suc, ◌+◌, ◌-◌, ◌<◌, ◌≤◌, List, [], ◌∷◌, ◌++◌, length, get_or, take, drop, refl, sym, ap, ◌∙◌, subst, arith}
+use Rattle.std.proofs.lemmas.List.{length-take, take-append-drop, take-take, drop-append-le, drop_more, take_more, get_or-take}
 use Rattle.vs_types.specs.declared.layer_set.LayerSet.{LayerSet}
 use Rattle.vs_instance.specs.declared.trip.Trip.{Trip}
 use Rattle.mdvsp.specs.Rows.{Field, Row}
 use Rattle.mdvsp.specs.Names.{NameLists}
 use Rattle.mdvsp.specs.Numbers.{IsTime}
 use Rattle.mdvsp.specs.InstanceText.{TripRow, NameLayers}
-use Rattle.mdvsp.specs.Kinds.{field_of}
+use Rattle.mdvsp.specs.Kinds.{field_of, row_of}
 
 -- a row of one field more
 pub more_fields : (row : Row) (n : ℕ) → length row ≡ suc n → row ≡ field_of row 0 ∷ drop 1 row
@@ -46,3 +47,33 @@ long_row (a ∷ b ∷ c ∷ d ∷ []) kind is many = absurd (omega arith)
 long_row (a ∷ b ∷ c ∷ d ∷ e ∷ []) kind is many = absurd (omega arith)
 long_row (a ∷ b ∷ c ∷ d ∷ e ∷ f ∷ []) kind is many = absurd (omega arith)
 long_row (a ∷ b ∷ c ∷ d ∷ e ∷ f ∷ g ∷ row) kind is many = ap (λ (k : Field). k ∷ b ∷ c ∷ d ∷ e ∷ f ∷ g ∷ row) is
+
+-- the rows up to an end, round row i
+pub rest_rows : (rows : List Row) (i end : ℕ) → i < end → end ≤ length rows → drop i (take end rows) ≡ row_of rows i ∷ drop (i + 1) (take end rows)
+rest_rows rows i end before within =
+    let inside : i < length (take end rows) = omega (arith, length-take end rows) in
+    drop_more (take end rows) i [] inside ∙ ap (λ (r : Row). r ∷ drop (i + 1) (take end rows)) (get_or-take end rows i [] before)
+
+pub split_rows : (rows : List Row) (i end : ℕ) → 1 ≤ i → i < end → end ≤ length rows
+    → drop 1 (take end rows) ≡ drop 1 (take i rows) ++ row_of rows i ∷ drop (i + 1) (take end rows)
+split_rows rows i end from before within =
+    let some : 1 ≤ length (take i rows) = omega (arith, length-take i rows) in
+    let less : i ≤ end = omega arith in
+    ap (drop 1) (sym (take-append-drop i (take end rows)) ∙ ap (λ (r : List Row). r ++ drop i (take end rows)) (take-take i end rows less))
+    ∙ drop-append-le 1 (take i rows) (drop i (take end rows)) some
+    ∙ ap (λ (r : List Row). drop 1 (take i rows) ++ r) (rest_rows rows i end before within)
+
+pub push_rows : (rows : List Row) (i : ℕ) → 1 ≤ i → i < length rows → drop 1 (take (i + 1) rows) ≡ drop 1 (take i rows) ++ row_of rows i ∷ []
+push_rows rows i from within =
+    let some : 1 ≤ length (take i rows) = omega (arith, length-take i rows) in
+    ap (drop 1) (take_more rows i [] within) ∙ drop-append-le 1 (take i rows) (row_of rows i ∷ []) some
+
+cons_rows : (rows : List Row) → 1 ≤ length rows → rows ≡ row_of rows 0 ∷ drop 1 rows
+cons_rows [] some = absurd (omega arith)
+cons_rows (row ∷ rows) some = refl
+
+-- the rows up to an end, by the first
+pub first_rows : (rows : List Row) (end : ℕ) (first : Row) → 1 ≤ end → end ≤ length rows → row_of rows 0 ≡ first → take end rows ≡ first ∷ drop 1 (take end rows)
+first_rows rows end first some within is =
+    let inside : 1 ≤ length (take end rows) = omega (arith, length-take end rows) in
+    cons_rows (take end rows) inside ∙ ap (λ (r : Row). r ∷ drop 1 (take end rows)) (get_or-take end rows 0 [] some ∙ is)
