@@ -77,7 +77,7 @@ sound_deadhead old new row s a =
       each_trip = s.each_trip;
       depots = s.depots;
       deadheads = All-push (λ (d : Deadhead). (d.from.0 < length old.names.stops) × (d.to.0 < length old.names.stops)) old.deadheads a.deadhead s.deadheads
-        (slice_get_within old.names.stops a.deadhead.from.0 a.row_is.from a.row_is.from_is, slice_get_within old.names.stops a.deadhead.to.0 a.row_is.to a.row_is.to_is);
+          (slice_get_within old.names.stops a.deadhead.from.0 a.row_is.from a.row_is.from_is, slice_get_within old.names.stops a.deadhead.to.0 a.row_is.to a.row_is.to_is);
       trip_stops = s.trip_stops;
       trip_times = s.trip_times;
       some_layer = s.some_layer;
@@ -129,11 +129,11 @@ sound_trip old new row s a =
       depots = s.depots;
       deadheads = s.deadheads;
       trip_stops = All-push (λ (t : Trip). (t.from.0 < length old.names.stops) × (t.to.0 < length old.names.stops)) old.trips a.trip s.trip_stops
-        (slice_get_within old.names.stops a.trip.from.0 r.from r.from_is, slice_get_within old.names.stops a.trip.to.0 r.to r.to_is);
+          (slice_get_within old.names.stops a.trip.from.0 r.from r.from_is, slice_get_within old.names.stops a.trip.to.0 r.to r.to_is);
       trip_times = All-push (λ (t : Trip). (t.start < 2880) × (t.end < 2880)) old.trips a.trip s.trip_times (time_below r.start a.trip.start r.start_is, time_below r.end a.trip.end r.end_is);
       some_layer = All-push (λ (t : Trip). (l : ℕ) × Has t.layers l) old.trips a.trip s.some_layer (named_layer old.names.layers r.layers a.trip.layers r.some_layer r.layers_are);
       trip_layers = All-push (λ (t : Trip). (l : ℕ) → Has t.layers l → l < length old.names.layers) old.trips a.trip s.trip_layers
-        (λ l has. let w = (r.layers_are.members l).0 has in slice_get_within old.names.layers l w.0 w.2);
+          (λ l has. let w = (r.layers_are.members l).0 has in slice_get_within old.names.layers l w.0 w.2);
     })
 
 pub IsSound-Adds : (old new : Declared) (row : Row) → IsSound old → Adds old row new → IsSound new
@@ -223,9 +223,10 @@ one_declared rows p names d text all = one_AddAll nothing_yet text.declared d (d
 pub one_text : (rows : List Row) (p q : Problem) (names more : NameLists) (d : Declared) → AddAll nothing_yet (drop 1 rows) d → Makes d q → more ≡ d.names
     → InstanceText rows p names → (p ≡ q) × (names ≡ more)
 one_text rows p q names more d all makes is text =
-    let same = one_declared rows p names d text all in
-    (text.makes.problem ∙ ap (λ (d : Declared). record { stops = length d.names.stops; deadheads = deadheads_of d.deadheads; layers = d.layers; trips = d.trips }) same ∙ sym makes.problem,
-      text.names_are ∙ ap (λ (d : Declared). d.names) same ∙ sym is)
+    let same = one_declared rows p names d text all in (
+      text.makes.problem ∙ ap (λ (d : Declared). record { stops = length d.names.stops; deadheads = deadheads_of d.deadheads; layers = d.layers; trips = d.trips }) same ∙ sym makes.problem,
+      text.names_are ∙ ap (λ (d : Declared). d.names) same ∙ sym is,
+    )
 
 pub makes_it : (rows : List Row) (p : Problem) (names : NameLists) (d : Declared) → AddAll nothing_yet (drop 1 rows) d → InstanceText rows p names → Makes d p
 makes_it rows p names d all text = subst (λ (e : Declared). Makes e p) (one_declared rows p names d text all) text.makes

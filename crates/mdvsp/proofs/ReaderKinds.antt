@@ -37,9 +37,12 @@ ComeByKind-lower p q (row ∷ rows) less w = (w.0, w.1, (let h = w.2 in omega ar
 ComeByKind-append : (kind : Kind) (p : ℕ) (xs ys : List Row) → p ≤ kind_place kind → AreOfKind (kind_name kind) xs → ComeByKind (kind_place kind) ys
     → ComeByKind p (xs ++ ys)
 ComeByKind-append kind p [] ys less are rest = ComeByKind-lower p (kind_place kind) ys less rest
-ComeByKind-append kind p (x ∷ xs) ys less are rest =
-    (kind, All-head (λ (row : Row). field_of row 0 ≡ kind_name kind) x xs are, less,
-      ComeByKind-append kind (kind_place kind) xs ys (omega arith) (All-tail (λ (row : Row). field_of row 0 ≡ kind_name kind) x xs are) rest)
+ComeByKind-append kind p (x ∷ xs) ys less are rest = (
+  kind,
+  All-head (λ (row : Row). field_of row 0 ≡ kind_name kind) x xs are,
+  less,
+  ComeByKind-append kind (kind_place kind) xs ys (omega arith) (All-tail (λ (row : Row). field_of row 0 ≡ kind_name kind) x xs are) rest,
+)
 
 four_parts : (a b c d : List Row) → a ++ b ++ c ++ d ≡ a ++ (b ++ (c ++ (d ++ [])))
 four_parts a b c d = append_assoc (a ++ b) c d ∙ append_assoc a b (c ++ d) ∙ ap (λ (r : List Row). a ++ (b ++ (c ++ r))) (sym (append-nil d))
@@ -48,12 +51,12 @@ four_parts a b c d = append_assoc (a ++ b) c d ∙ append_assoc a b (c ++ d) ∙
 pub ComeByKind-in_order : (rows : List Row) → AreInOrder rows → ComeByKind 0 (drop 1 rows)
 ComeByKind-in_order rows o =
     let parts : drop 1 rows ≡ o.stops ++ (o.deadheads ++ (o.layers ++ (o.trips ++ []))) =
-      ap (λ (r : List Row). drop 1 r) o.rows_are ∙ four_parts o.stops o.deadheads o.layers o.trips in
+    ap (λ (r : List Row). drop 1 r) o.rows_are ∙ four_parts o.stops o.deadheads o.layers o.trips in
     subst (λ (r : List Row). ComeByKind 0 r) (sym parts)
-      (ComeByKind-append Stop 0 o.stops _ (omega arith) o.are_stops
-      (ComeByKind-append Deadhead 0 o.deadheads _ (omega arith) o.are_deadheads
-      (ComeByKind-append Layer 1 o.layers _ (omega arith) o.are_layers
-      (ComeByKind-append Trip 2 o.trips [] (omega arith) o.are_trips tt))))
+    (ComeByKind-append Stop 0 o.stops _ (omega arith) o.are_stops
+    (ComeByKind-append Deadhead 0 o.deadheads _ (omega arith) o.are_deadheads
+    (ComeByKind-append Layer 1 o.layers _ (omega arith) o.are_layers
+    (ComeByKind-append Trip 2 o.trips [] (omega arith) o.are_trips tt))))
 
 -- the name by the place
 abbrev name_at : ℕ → Field
@@ -96,7 +99,7 @@ in_order-ComeByKind first rows rest is w =
     let t = span Trip l.1 l.4 in
     let none = none_later t.1 t.4 in
     let parts : rest ≡ s.0 ++ (d.0 ++ (l.0 ++ (t.0 ++ []))) =
-      s.2 ∙ ap (λ (r : List Row). s.0 ++ r) (d.2 ∙ ap (λ (r : List Row). d.0 ++ r) (l.2 ∙ ap (λ (r : List Row). l.0 ++ r) (t.2 ∙ ap (λ (r : List Row). t.0 ++ r) none))) in
+    s.2 ∙ ap (λ (r : List Row). s.0 ++ r) (d.2 ∙ ap (λ (r : List Row). d.0 ++ r) (l.2 ∙ ap (λ (r : List Row). l.0 ++ r) (t.2 ∙ ap (λ (r : List Row). t.0 ++ r) none))) in
     record {
       first = first;
       stops = s.0;

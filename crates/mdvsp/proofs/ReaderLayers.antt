@@ -61,7 +61,7 @@ named_twice names fields i l before set within earlier at has named =
     let early : k < i = omega (arith, w.1.1, length-take i fields) in
     let in_fields : k < length fields = omega (arith, early, within) in
     let is : get_or fields k [] ≡ w.0 =
-      get_or_default fields k [] w.0 in_fields ∙ sym (get_or-take i fields k w.0 early) ∙ w.1.2 in
+    get_or_default fields k [] w.0 in_fields ∙ sym (get_or-take i fields k w.0 early) ∙ w.1.2 in
     named.once k i [] early within (is ∙ same)
 
 -- the fields from the eighth on
@@ -76,6 +76,6 @@ next_layer names row k set more l from within named at only new with =
     let inside : k - 7 < length (drop 7 row) = omega (arith, length-drop 7 row) in
     let next : (k + 1) - 7 ≡ (k - 7) + 1 = omega arith in
     let step : take ((k + 1) - 7) (drop 7 row) ≡ take (k - 7) (drop 7 row) ++ field_of row k ∷ [] =
-      ap (λ (n : ℕ). take n (drop 7 row)) next ∙ take_more (drop 7 row) (k - 7) [] inside
-      ∙ ap (λ (f : Field). take (k - 7) (drop 7 row) ++ f ∷ []) (later_field row k from) in
+    ap (λ (n : ℕ). take n (drop 7 row)) next ∙ take_more (drop 7 row) (k - 7) [] inside
+    ∙ ap (λ (f : Field). take (k - 7) (drop 7 row) ++ f ∷ []) (later_field row k from) in
     rw step (NameLayers-push names (take (k - 7) (drop 7 row)) (field_of row k) set more l named at only new with)

@@ -78,5 +78,5 @@ one_trip names row f g s t apart a b =
     let end = one_time a.end b.end s.end t.end (same_field row _ _ 5 a.row_is b.row_is) a.end_is b.end_is in
     let metres = one_number a.metres b.metres s.metres t.metres (same_field row _ _ 6 a.row_is b.row_is) a.metres_are b.metres_are in
     let layers = one_set names.layers a.layers s.layers t.layers a.layers_are
-      (subst (λ (h : List Field). NameLayers names.layers h t.layers) (sym (ap (λ (r : Row). drop 7 r) (sym a.row_is ∙ b.row_is))) b.layers_are) in
+    (subst (λ (h : List Field). NameLayers names.layers h t.layers) (sym (ap (λ (r : Row). drop 7 r) (sym a.row_is ∙ b.row_is))) b.layers_are) in
     (same_field row _ _ 1 a.row_is b.row_is, λ i. record { from = record { 0 = from i }; start = start i; to = record { 0 = to i }; end = end i; metres = metres i; layers = record { 0 = layers i } })

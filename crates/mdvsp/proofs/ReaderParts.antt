@@ -47,8 +47,8 @@ are_parts parts names stops few s = record {
   trip_stops = rw stops s.trip_stops;
   trip_times = s.trip_times;
   trip_layers = λ k t within.
-    let some = s.some_layer k t within in
-    let below = s.trip_layers k t within in
-    let small : some.0 < 16 = omega (arith, below some.0 some.1, s.few_layers) in
-    (some_member _ some.0 small some.1, λ l has. omega (arith, below l has, s.each_layer));
+      let some = s.some_layer k t within in
+      let below = s.trip_layers k t within in
+      let small : some.0 < 16 = omega (arith, below some.0 some.1, s.few_layers) in
+      (some_member _ some.0 small some.1, λ l has. omega (arith, below l has, s.each_layer));
 }

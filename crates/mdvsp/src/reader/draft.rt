@@ -39,8 +39,10 @@ impl Draft {
         requires row { row < length rows.now }
         requires kind { field_of (row_of rows.now row) 0 ≡ kind_name kind }
         requires layers { length self.old.names.layers ≤ 16 }
-        ensures added { OnOk result (Adds (declared_of self.old) (row_of rows.now row) (declared_of self.new)) }
-        ensures none { result ≡ Err FormError.NotThisForm → (new : Declared) → ¬ (Adds (declared_of self.old) (row_of rows.now row) new) }
+        ensures added { OnOk result
+            (Adds (declared_of self.old) (row_of rows.now row) (declared_of self.new)) }
+        ensures none { result ≡ Err FormError.NotThisForm
+            → (new : Declared) → ¬ (Adds (declared_of self.old) (row_of rows.now row) new) }
     {
         match kind {
             Kind::Stop => self.add_stop(rows, row),
@@ -54,8 +56,10 @@ impl Draft {
     fn add_stop(&mut self, rows: &Rows, row: usize) -> Result<(), FormError>
         requires row { row < length rows.now }
         requires kind { field_of (row_of rows.now row) 0 ≡ codes "stop" }
-        ensures added { OnOk result (AddsStop (declared_of self.old) (row_of rows.now row) (declared_of self.new)) }
-        ensures none { result ≡ Err FormError.NotThisForm → (new : Declared) → ¬ (AddsStop (declared_of self.old) (row_of rows.now row) new) }
+        ensures added { OnOk result
+            (AddsStop (declared_of self.old) (row_of rows.now row) (declared_of self.new)) }
+        ensures none { result ≡ Err FormError.NotThisForm
+            → (new : Declared) → ¬ (AddsStop (declared_of self.old) (row_of rows.now row) new) }
     {
         if rows.fields(row) != 2 || self.names.stops() >= 500 {
             return Err(FormError::NotThisForm);
@@ -73,8 +77,10 @@ impl Draft {
     fn add_deadhead(&mut self, rows: &Rows, row: usize) -> Result<(), FormError>
         requires row { row < length rows.now }
         requires kind { field_of (row_of rows.now row) 0 ≡ codes "deadhead" }
-        ensures added { OnOk result (AddsDeadhead (declared_of self.old) (row_of rows.now row) (declared_of self.new)) }
-        ensures none { result ≡ Err FormError.NotThisForm → (new : Declared) → ¬ (AddsDeadhead (declared_of self.old) (row_of rows.now row) new) }
+        ensures added { OnOk result
+            (AddsDeadhead (declared_of self.old) (row_of rows.now row) (declared_of self.new)) }
+        ensures none { result ≡ Err FormError.NotThisForm
+            → (new : Declared) → ¬ (AddsDeadhead (declared_of self.old) (row_of rows.now row) new) }
     {
         let Some(deadhead) = records::deadhead(&self.names, rows, row) else {
             return Err(FormError::NotThisForm);
@@ -87,8 +93,10 @@ impl Draft {
     fn add_layer(&mut self, rows: &Rows, row: usize) -> Result<(), FormError>
         requires row { row < length rows.now }
         requires kind { field_of (row_of rows.now row) 0 ≡ codes "layer" }
-        ensures added { OnOk result (AddsLayer (declared_of self.old) (row_of rows.now row) (declared_of self.new)) }
-        ensures none { result ≡ Err FormError.NotThisForm → (new : Declared) → ¬ (AddsLayer (declared_of self.old) (row_of rows.now row) new) }
+        ensures added { OnOk result
+            (AddsLayer (declared_of self.old) (row_of rows.now row) (declared_of self.new)) }
+        ensures none { result ≡ Err FormError.NotThisForm
+            → (new : Declared) → ¬ (AddsLayer (declared_of self.old) (row_of rows.now row) new) }
     {
         let Some(layer) = records::layer(&self.names, rows, row) else {
             return Err(FormError::NotThisForm);
@@ -108,8 +116,10 @@ impl Draft {
         requires row { row < length rows.now }
         requires kind { field_of (row_of rows.now row) 0 ≡ codes "trip" }
         requires layers { length self.old.names.layers ≤ 16 }
-        ensures added { OnOk result (AddsTrip (declared_of self.old) (row_of rows.now row) (declared_of self.new)) }
-        ensures none { result ≡ Err FormError.NotThisForm → (new : Declared) → ¬ (AddsTrip (declared_of self.old) (row_of rows.now row) new) }
+        ensures added { OnOk result
+            (AddsTrip (declared_of self.old) (row_of rows.now row) (declared_of self.new)) }
+        ensures none { result ≡ Err FormError.NotThisForm
+            → (new : Declared) → ¬ (AddsTrip (declared_of self.old) (row_of rows.now row) new) }
     {
         let Some(trip) = records::trip(&self.names, rows, row) else {
             return Err(FormError::NotThisForm);

@@ -25,7 +25,8 @@ pub struct Input {
 /// deadheads, layers, trips.
 pub fn read_instance(alloc: Global, rows: &Rows, end: usize) -> Result<Input, FormError>
     requires { end ≤ length rows.now }
-    ensures found { IfOk result (λ input. InstanceText (take end rows.now) input.instance input.names) }
+    ensures found { IfOk result (λ input.
+        InstanceText (take end rows.now) input.instance input.names) }
     ensures in_order { OnOk result (AreInOrder (take end rows.now)) }
     ensures only { IfOk result (λ input. (p : Problem) (names : NameLists)
         → InstanceText (take end rows.now) p names → (p ≡ input.instance) × (names ≡ input.names)) }
@@ -51,10 +52,12 @@ fn is_first(rows: &Rows) -> bool
 fn declared(alloc: Global, rows: &Rows, end: usize) -> Result<Draft, FormError>
     requires some { 1 ≤ end }
     requires end { end ≤ length rows.now }
-    ensures declares { IfOk result (λ draft. AddAll nothing_yet (drop 1 (take end rows.now)) (declared_of draft)) }
+    ensures declares { IfOk result (λ draft.
+        AddAll nothing_yet (drop 1 (take end rows.now)) (declared_of draft)) }
     ensures in_order { OnOk result (ComeByKind 0 (drop 1 (take end rows.now))) }
     ensures none { result ≡ Err FormError.NotThisForm → (new : Declared)
-        → AddAll nothing_yet (drop 1 (take end rows.now)) new → ¬ (ComeByKind 0 (drop 1 (take end rows.now))) }
+        → AddAll nothing_yet (drop 1 (take end rows.now)) new
+        → ¬ (ComeByKind 0 (drop 1 (take end rows.now))) }
 {
     let mut draft = Draft::new(alloc);
     let mut last = Kind::Stop;
@@ -86,8 +89,10 @@ fn kind_of(rows: &Rows, row: usize) -> Option<Kind>
 /// What is declared, as an instance and its names.
 fn made(alloc: Global, draft: Draft) -> Result<Input, FormError>
     requires { IsSound (declared_of draft) }
-    ensures found { IfOk result (λ input. Makes (declared_of draft) input.instance × (input.names ≡ draft.names)) }
-    ensures none { result ≡ Err FormError.NotThisForm → (p : Problem) → ¬ (Makes (declared_of draft) p) }
+    ensures found { IfOk result (λ input.
+        Makes (declared_of draft) input.instance × (input.names ≡ draft.names)) }
+    ensures none { result ≡ Err FormError.NotThisForm
+        → (p : Problem) → ¬ (Makes (declared_of draft) p) }
 {
     let Draft {
         names,
@@ -95,6 +100,7 @@ fn made(alloc: Global, draft: Draft) -> Result<Input, FormError>
         layers,
         trips,
     } = draft;
+    // The parts count their deadheads by 32 bits.
     if deadheads.len() > u32::MAX as usize {
         return Err(FormError::Memory);
     }

@@ -13,7 +13,9 @@ pub enum Kind {
 impl Kind {
     /// The kind whose records begin with this field. None where there is none.
     pub fn of(field: &[u8]) -> Option<Kind>
-        ensures { MatchOption result ((kind : Kind) → ¬ (field.now ≡ kind_name kind)) (λ kind. field.now ≡ kind_name kind) }
+        ensures { MatchOption result
+            ((kind : Kind) → ¬ (field.now ≡ kind_name kind))
+            (λ kind. field.now ≡ kind_name kind) }
     {
         if is_text(field, "stop") {
             Some(Kind::Stop)

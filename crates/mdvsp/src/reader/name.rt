@@ -4,7 +4,9 @@ ghost use Rattle.mdvsp.specs.Names.{IsName, IsNameByte};
 /// The field as a name: 1 to 32 letters of the alphabet, digits and signs `_`, `.`, `:` and `-`. None where
 /// it isn't one.
 pub fn name(field: &[u8]) -> Option<&str>
-    ensures { MatchOption result (¬ (IsName field.now)) (λ name. (name.now ≡ field.now) × IsName field.now) }
+    ensures { MatchOption result
+        (¬ (IsName field.now))
+        (λ name. (name.now ≡ field.now) × IsName field.now) }
 {
     if !is_name(field) {
         return None;

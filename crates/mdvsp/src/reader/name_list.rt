@@ -55,7 +55,10 @@ impl NameList {
 
     /// The number of a name. None where it isn't one of these.
     pub fn find(&self, name: &str) -> Option<u32>
-        ensures found { MatchOption result (¬ (Contains self.now name.now)) (λ k. Numbered self.now name.now k) }
+        ensures found { MatchOption result
+            (¬ (Contains self.now name.now))
+            (λ k. Numbered self.now name.now k) }
+        ensures within { IfSome result (λ k. k < length self.now) }
         ensures only { IfSome result (λ k. (j : ℕ) → Numbered self.now name.now j → j ≡ k) }
     {
         let number = self.names.get_index_of(name)?;
@@ -64,7 +67,10 @@ impl NameList {
 
     /// The number of the name that a field is. None where it is none of these.
     pub fn find_field(&self, field: &[u8]) -> Option<u32>
-        ensures found { MatchOption result ((k : ℕ) → ¬ (Numbered self.now field.now k)) (λ k. Numbered self.now field.now k) }
+        ensures found { MatchOption result
+            ((k : ℕ) → ¬ (Numbered self.now field.now k))
+            (λ k. Numbered self.now field.now k) }
+        ensures within { IfSome result (λ k. k < length self.now) }
         ensures only { IfSome result (λ k. (j : ℕ) → Numbered self.now field.now j → j ≡ k) }
     {
         let names = &self.names;
@@ -76,8 +82,12 @@ impl NameList {
     /// changes.
     pub fn add(&mut self, name: &str) -> Result<bool, Memory>
         requires { IsName name.now }
-        ensures added { IfOk result (λ added. MatchBool added (¬ (Contains self.old name.now)) (Contains self.old name.now)) }
-        ensures names { IfOk result (λ added. MatchBool added (self.new ≡ self.old ++ name.now ∷ []) (self.new ≡ self.old)) }
+        ensures added { IfOk result (λ added. MatchBool added
+            (¬ (Contains self.old name.now))
+            (Contains self.old name.now)) }
+        ensures names { IfOk result (λ added. MatchBool added
+            (self.new ≡ self.old ++ name.now ∷ [])
+            (self.new ≡ self.old)) }
         ensures memory { OnErr result (self.new ≡ self.old) }
     {
         if self.names.len() >= u32::MAX as usize {

@@ -89,7 +89,10 @@ impl Names {
 
     /// The stop of this name. None where no stop has it.
     pub fn stop_of(&self, name: &str) -> Option<StopNo>
-        ensures found { MatchOption result (¬ (Contains self.now.stops name.now)) (λ k. Numbered self.now.stops name.now k.0) }
+        ensures found { MatchOption result
+            (¬ (Contains self.now.stops name.now))
+            (λ k. Numbered self.now.stops name.now k.0) }
+        ensures within { IfSome result (λ k. k.0 < length self.now.stops) }
         ensures only { IfSome result (λ k. (j : ℕ) → Numbered self.now.stops name.now j → j ≡ k.0) }
     {
         Some(StopNo(self.stops.find(name)?))
@@ -97,7 +100,10 @@ impl Names {
 
     /// The layer of this name. None where no layer has it.
     pub fn layer_of(&self, name: &str) -> Option<LayerNo>
-        ensures found { MatchOption result (¬ (Contains self.now.layers name.now)) (λ l. Numbered self.now.layers name.now l.0) }
+        ensures found { MatchOption result
+            (¬ (Contains self.now.layers name.now))
+            (λ l. Numbered self.now.layers name.now l.0) }
+        ensures within { IfSome result (λ l. l.0 < length self.now.layers) }
         ensures only { IfSome result (λ l. (j : ℕ) → Numbered self.now.layers name.now j → j ≡ l.0) }
     {
         Some(LayerNo(self.layers.find(name)?))
@@ -105,7 +111,10 @@ impl Names {
 
     /// The trip of this name. None where no trip has it.
     pub fn trip_of(&self, name: &str) -> Option<TripNo>
-        ensures found { MatchOption result (¬ (Contains self.now.trips name.now)) (λ i. Numbered self.now.trips name.now i.0) }
+        ensures found { MatchOption result
+            (¬ (Contains self.now.trips name.now))
+            (λ i. Numbered self.now.trips name.now i.0) }
+        ensures within { IfSome result (λ i. i.0 < length self.now.trips) }
         ensures only { IfSome result (λ i. (j : ℕ) → Numbered self.now.trips name.now j → j ≡ i.0) }
     {
         Some(TripNo(self.trips.find(name)?))
@@ -113,7 +122,10 @@ impl Names {
 
     /// The stop that a field names. None where it names none.
     pub fn stop_named(&self, field: &[u8]) -> Option<StopNo>
-        ensures found { MatchOption result ((k : ℕ) → ¬ (Numbered self.now.stops field.now k)) (λ k. Numbered self.now.stops field.now k.0) }
+        ensures found { MatchOption result
+            ((k : ℕ) → ¬ (Numbered self.now.stops field.now k))
+            (λ k. Numbered self.now.stops field.now k.0) }
+        ensures within { IfSome result (λ k. k.0 < length self.now.stops) }
         ensures only { IfSome result (λ k. (j : ℕ) → Numbered self.now.stops field.now j → j ≡ k.0) }
     {
         Some(StopNo(self.stops.find_field(field)?))
@@ -121,7 +133,10 @@ impl Names {
 
     /// The layer that a field names. None where it names none.
     pub fn layer_named(&self, field: &[u8]) -> Option<LayerNo>
-        ensures found { MatchOption result ((l : ℕ) → ¬ (Numbered self.now.layers field.now l)) (λ l. Numbered self.now.layers field.now l.0) }
+        ensures found { MatchOption result
+            ((l : ℕ) → ¬ (Numbered self.now.layers field.now l))
+            (λ l. Numbered self.now.layers field.now l.0) }
+        ensures within { IfSome result (λ l. l.0 < length self.now.layers) }
         ensures only { IfSome result (λ l. (j : ℕ) → Numbered self.now.layers field.now j → j ≡ l.0) }
     {
         Some(LayerNo(self.layers.find_field(field)?))
@@ -129,7 +144,10 @@ impl Names {
 
     /// The trip that a field names. None where it names none.
     pub fn trip_named(&self, field: &[u8]) -> Option<TripNo>
-        ensures found { MatchOption result ((i : ℕ) → ¬ (Numbered self.now.trips field.now i)) (λ i. Numbered self.now.trips field.now i.0) }
+        ensures found { MatchOption result
+            ((i : ℕ) → ¬ (Numbered self.now.trips field.now i))
+            (λ i. Numbered self.now.trips field.now i.0) }
+        ensures within { IfSome result (λ i. i.0 < length self.now.trips) }
         ensures only { IfSome result (λ i. (j : ℕ) → Numbered self.now.trips field.now j → j ≡ i.0) }
     {
         Some(TripNo(self.trips.find_field(field)?))
@@ -138,8 +156,12 @@ impl Names {
     /// Names the next stop, and answers whether no stop had the name before. If one had, nothing changes.
     pub fn add_stop(&mut self, name: &str) -> Result<bool, Memory>
         requires { IsName name.now }
-        ensures added { IfOk result (λ added. MatchBool added (¬ (Contains self.old.stops name.now)) (Contains self.old.stops name.now)) }
-        ensures names { IfOk result (λ added. MatchBool added (self.new ≡ record self.old { stops = self.old.stops ++ name.now ∷ [] }) (self.new ≡ self.old)) }
+        ensures added { IfOk result (λ added. MatchBool added
+            (¬ (Contains self.old.stops name.now))
+            (Contains self.old.stops name.now)) }
+        ensures names { IfOk result (λ added. MatchBool added
+            (self.new ≡ record self.old { stops = self.old.stops ++ name.now ∷ [] })
+            (self.new ≡ self.old)) }
         ensures memory { OnErr result (self.new ≡ self.old) }
     {
         self.stops.add(name)
@@ -148,8 +170,12 @@ impl Names {
     /// Names the next layer, and answers whether no layer had the name before. If one had, nothing changes.
     pub fn add_layer(&mut self, name: &str) -> Result<bool, Memory>
         requires { IsName name.now }
-        ensures added { IfOk result (λ added. MatchBool added (¬ (Contains self.old.layers name.now)) (Contains self.old.layers name.now)) }
-        ensures names { IfOk result (λ added. MatchBool added (self.new ≡ record self.old { layers = self.old.layers ++ name.now ∷ [] }) (self.new ≡ self.old)) }
+        ensures added { IfOk result (λ added. MatchBool added
+            (¬ (Contains self.old.layers name.now))
+            (Contains self.old.layers name.now)) }
+        ensures names { IfOk result (λ added. MatchBool added
+            (self.new ≡ record self.old { layers = self.old.layers ++ name.now ∷ [] })
+            (self.new ≡ self.old)) }
         ensures memory { OnErr result (self.new ≡ self.old) }
     {
         self.layers.add(name)
@@ -158,8 +184,12 @@ impl Names {
     /// Names the next trip, and answers whether no trip had the name before. If one had, nothing changes.
     pub fn add_trip(&mut self, name: &str) -> Result<bool, Memory>
         requires { IsName name.now }
-        ensures added { IfOk result (λ added. MatchBool added (¬ (Contains self.old.trips name.now)) (Contains self.old.trips name.now)) }
-        ensures names { IfOk result (λ added. MatchBool added (self.new ≡ record self.old { trips = self.old.trips ++ name.now ∷ [] }) (self.new ≡ self.old)) }
+        ensures added { IfOk result (λ added. MatchBool added
+            (¬ (Contains self.old.trips name.now))
+            (Contains self.old.trips name.now)) }
+        ensures names { IfOk result (λ added. MatchBool added
+            (self.new ≡ record self.old { trips = self.old.trips ++ name.now ∷ [] })
+            (self.new ≡ self.old)) }
         ensures memory { OnErr result (self.new ≡ self.old) }
     {
         self.trips.add(name)

@@ -14,7 +14,9 @@ pub fn number(field: &[u8]) -> Option<u64>
 /// field isn't one.
 pub fn digits(field: &[u8], most: usize) -> Option<u64>
     requires { most ≤ 10 }
-    ensures { MatchOption result (¬ (AreDigits field.now most)) (λ n. AreDigits field.now most × (n ≡ digits_value 10 field.now)) }
+    ensures { MatchOption result
+        (¬ (AreDigits field.now most))
+        (λ n. AreDigits field.now most × (n ≡ digits_value 10 field.now)) }
 {
     if field.is_empty() || field.len() > most {
         return None;

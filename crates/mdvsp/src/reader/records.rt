@@ -14,7 +14,9 @@ use vs_types::LayerSet;
 pub fn deadhead(names: &Names, rows: &Rows, row: usize) -> Option<Deadhead>
     requires row { row < length rows.now }
     requires kind { field_of (row_of rows.now row) 0 ≡ codes "deadhead" }
-    ensures { MatchOption result ((d : Deadhead) → ¬ (DeadheadRow names.now.stops (row_of rows.now row) d)) (DeadheadRow names.now.stops (row_of rows.now row)) }
+    ensures { MatchOption result
+        ((d : Deadhead) → ¬ (DeadheadRow names.now.stops (row_of rows.now row) d))
+        (DeadheadRow names.now.stops (row_of rows.now row)) }
 {
     if rows.fields(row) != 5 {
         return None;
@@ -35,7 +37,8 @@ pub fn deadhead(names: &Names, rows: &Rows, row: usize) -> Option<Deadhead>
 pub fn layer(names: &Names, rows: &Rows, row: usize) -> Option<Layer>
     requires row { row < length rows.now }
     requires kind { field_of (row_of rows.now row) 0 ≡ codes "layer" }
-    ensures { MatchOption result ((name : Field) (l : Layer) → ¬ (LayerRow names.now.stops (row_of rows.now row) name l))
+    ensures { MatchOption result
+        ((name : Field) (l : Layer) → ¬ (LayerRow names.now.stops (row_of rows.now row) name l))
         (LayerRow names.now.stops (row_of rows.now row) (field_of (row_of rows.now row) 1)) }
 {
     if rows.fields(row) != 7 {
@@ -60,7 +63,8 @@ pub fn trip(names: &Names, rows: &Rows, row: usize) -> Option<Trip>
     requires row { row < length rows.now }
     requires kind { field_of (row_of rows.now row) 0 ≡ codes "trip" }
     requires layers { length names.now.layers ≤ 16 }
-    ensures { MatchOption result ((name : Field) (t : Trip) → ¬ (TripRow names.now (row_of rows.now row) name t))
+    ensures { MatchOption result
+        ((name : Field) (t : Trip) → ¬ (TripRow names.now (row_of rows.now row) name t))
         (TripRow names.now (row_of rows.now row) (field_of (row_of rows.now row) 1)) }
 {
     if rows.fields(row) < 8 {
@@ -88,7 +92,8 @@ fn layers_of(names: &Names, rows: &Rows, row: usize) -> Option<LayerSet>
     requires row { row < length rows.now }
     requires fields { 7 ≤ length (row_of rows.now row) }
     requires layers { length names.now.layers ≤ 16 }
-    ensures { MatchOption result ((set : LayerSet) → ¬ (NameLayers names.now.layers (drop 7 (row_of rows.now row)) set))
+    ensures { MatchOption result
+        ((set : LayerSet) → ¬ (NameLayers names.now.layers (drop 7 (row_of rows.now row)) set))
         (NameLayers names.now.layers (drop 7 (row_of rows.now row))) }
 {
     let mut set = LayerSet(0);

@@ -6,7 +6,9 @@ use super::number::digits;
 /// The time that a field writes, in minutes from 0:00 of the first day: an hour of one or two digits up to
 /// 47, a colon, and a minute of two digits up to 59. None where the field isn't one.
 pub fn time(field: &[u8]) -> Option<u32>
-    ensures { MatchOption result ((t : ℕ) → ¬ (IsTime field.now t)) (λ t. IsTime field.now t × (t < 2880)) }
+    ensures { MatchOption result
+        ((t : ℕ) → ¬ (IsTime field.now t))
+        (λ t. IsTime field.now t × (t < 2880)) }
 {
     if field.len() < 3 {
         return None;

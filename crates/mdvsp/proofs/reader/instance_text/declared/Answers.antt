@@ -35,7 +35,7 @@ returns-in_err-add-clause-none c is new all ordered =
     let same : c.in_err-add.field-0.0 ≡ NotThisForm = cc (p.1, p.2, is) in
     let none = c.in_err-add.ensures.none (ap Err same) in
     no_add nothing_yet (declared_of c.loop-row.draft) new (drop 1 (take i rows)) (drop (i + 1) (take c.args.end rows)) (row_of rows i) IsSound-nothing c.loop-row.invariant.declares none
-      (rw (split_rows rows i c.args.end c.loop-row.invariant.from (omega arith) c.requires.end) at all)
+    (rw (split_rows rows i c.args.end c.loop-row.invariant.from (omega arith) c.requires.end) at all)
 
 pub loop-row-preserved : goal.loop-row-preserved
 loop-row-preserved c =
@@ -48,9 +48,9 @@ loop-row-preserved c =
     record {
       from = omega arith;
       declares = rw (push_rows rows i c.loop-row.invariant.from (omega arith))
-        (AddAll-push nothing_yet (declared_of c.loop-row.draft) (declared_of c.add.new.self) (drop 1 (take i rows)) (row_of rows i) c.loop-row.invariant.declares c.in_ok-add.ensures.added);
+          (AddAll-push nothing_yet (declared_of c.loop-row.draft) (declared_of c.add.new.self) (drop 1 (take i rows)) (row_of rows i) c.loop-row.invariant.declares c.in_ok-add.ensures.added);
       in_order = λ h. c.loop-row.invariant.in_order (rw rest (c.in-Some.kind, c.in-Some.ensures, not_before, h));
       only_so = λ h.
-        let w = rw rest at (c.loop-row.invariant.only_so h) in
-        (next_kind (kind_place c.loop-row.last) c.in-Some.kind (row_of rows i) _ c.in-Some.ensures w).1;
+          let w = rw rest at (c.loop-row.invariant.only_so h) in
+          (next_kind (kind_place c.loop-row.last) c.in-Some.kind (row_of rows i) _ c.in-Some.ensures w).1;
     }

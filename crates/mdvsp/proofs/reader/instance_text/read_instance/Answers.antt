@@ -40,7 +40,7 @@ returns-clause-in_order c = IfOk-weaker c.made.result _ _ (λ input made. in_ord
 
 pub returns-clause-only : goal.returns-clause-only
 returns-clause-only c = IfOk-weaker c.made.result _ _ (λ input made p names text.
-  one_text _ p input.instance names input.names (declared_of c.in_ok-draft.draft) c.in_ok-draft.ensures.declares made.0 made.1 text) c.made.ensures.found
+    one_text _ p input.instance names input.names (declared_of c.in_ok-draft.draft) c.in_ok-draft.ensures.declares made.0 made.1 text) c.made.ensures.found
 
 pub returns-clause-none : goal.returns-clause-none
 returns-clause-none c is p names text ordered = c.made.ensures.none is p (makes_it _ p names (declared_of c.in_ok-draft.draft) c.in_ok-draft.ensures.declares text)

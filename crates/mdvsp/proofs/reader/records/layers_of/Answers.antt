@@ -14,8 +14,8 @@ returns-in_err-l c =
     let k = c.loop-k.k in
     let within : k - 7 < length (drop 7 row) = omega (arith, length-drop 7 row, c.fields-k-end.ensures) in
     rw c.from_residual.ensures (λ set.
-      none_named c.args.names.now.layers (drop 7 row) (k - 7) set within
-      (rw (later_field row k c.loop-k.invariant.from, ← c.field.ensures) c.in_err-l.ensures.found))
+    none_named c.args.names.now.layers (drop 7 row) (k - 7) set within
+    (rw (later_field row k c.loop-k.invariant.from, ← c.field.ensures) c.in_err-l.ensures.found))
 
 pub has-requires : goal.has-requires
 has-requires c = omega (arith, slice_get_within c.args.names.now.layers c.in_ok-l.l.0 c.field.result.now c.in_ok-l.ensures.found)
@@ -26,8 +26,8 @@ returns-then-has c =
     let k = c.loop-k.k in
     let within : k - 7 < length (drop 7 row) = omega (arith, length-drop 7 row, c.fields-k-end.ensures) in
     λ set. named_twice c.args.names.now.layers (drop 7 row) (k - 7) c.in_ok-l.l.0 c.loop-k.set set within c.loop-k.invariant.named
-      (rw (later_field row k c.loop-k.invariant.from, ← c.field.ensures) c.in_ok-l.ensures.found)
-      (search rules)
+    (rw (later_field row k c.loop-k.invariant.from, ← c.field.ensures) c.in_ok-l.ensures.found)
+    (search rules)
 
 pub with-set-requires : goal.with-set-requires
 with-set-requires c = omega (arith, slice_get_within c.args.names.now.layers c.in_ok-l.l.0 c.field.result.now c.in_ok-l.ensures.found)
@@ -38,7 +38,7 @@ loop-k-preserved c =
     record {
       from = omega arith;
       named = next_layer c.args.names.now.layers row c.loop-k.k c.loop-k.set c.with-set.result c.in_ok-l.l.0 c.loop-k.invariant.from (omega (arith, c.fields-k-end.ensures)) c.loop-k.invariant.named
-        (rw (← c.field.ensures) c.in_ok-l.ensures.found) (rw (← c.field.ensures) c.in_ok-l.ensures.only) (search rules) c.with-set.ensures;
+          (rw (← c.field.ensures) c.in_ok-l.ensures.found) (rw (← c.field.ensures) c.in_ok-l.ensures.only) (search rules) c.with-set.ensures;
     }
 
 pub returns : goal.returns

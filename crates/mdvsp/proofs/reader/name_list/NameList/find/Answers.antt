@@ -9,7 +9,7 @@ pub returns-in_err-number-clause-found : goal.returns-in_err-number-clause-found
 returns-in_err-number-clause-found c =
     rw c.from_residual.ensures
     (subst (λ (names : List Field). ¬ (Contains names c.args.name.now)) c.self.view_is
-      (not_found string_bytes c.args.name.now c.self.inside.names.keys (sym c.in_err-number.ensures.found)))
+    (not_found string_bytes c.args.name.now c.self.inside.names.keys (sym c.in_err-number.ensures.found)))
 
 pub returns-clause-found : goal.returns-clause-found
 returns-clause-found c =

@@ -10,13 +10,13 @@ use Rattle.mdvsp.proofs.reader.name_list.NameList.find_field.Goals.{In_ok-number
 pub returns-in_err-name-clause-found : goal.returns-in_err-name-clause-found
 returns-in_err-name-clause-found c =
     rw c.from_residual.ensures (λ k at.
-      c.in_err-name.ensures (IsName-Names c.args.self.now c.args.field.now k (subst AreNames c.self.view_is c.self.invariant) at))
+    c.in_err-name.ensures (IsName-Names c.args.self.now c.args.field.now k (subst AreNames c.self.view_is c.self.invariant) at))
 
 pub returns-in_err-number-clause-found : goal.returns-in_err-number-clause-found
 returns-in_err-number-clause-found c =
     let none = not_found string_bytes c.in_ok-name.field-0.now c.self.inside.names.keys (sym c.in_err-number.ensures.found) in
     rw c.from_residual-in_err-number.ensures (λ k at.
-      none (rw (c.self.view_is, c.in_ok-name.ensures.0) (Contains-Names c.args.self.now c.args.field.now k at)))
+    none (rw (c.self.view_is, c.in_ok-name.ensures.0) (Contains-Names c.args.self.now c.args.field.now k at)))
 
 -- the number that was found
 found : (c : In_ok-number) → Numbered c.args.self.now c.args.field.now c.in_ok-number.number
