@@ -57,6 +57,10 @@ impl Rows {
 
     /// How many fields stand before a row.
     fn first_field(&self, row: usize) -> usize {
-        if row == 0 { 0 } else { self.row_ends[row - 1] as usize }
+        if row == 0 {
+            0
+        } else {
+            self.row_ends[row - 1] as usize
+        }
     }
 }
