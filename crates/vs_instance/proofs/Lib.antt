@@ -8,3 +8,5 @@ pub mod Limits
 pub mod Given
 pub mod Closed
 pub mod Judged
+pub mod Known
+pub mod Examples
