@@ -10,3 +10,4 @@ pub mod Words
 pub mod Greedy
 pub mod SolveAnswer
 pub mod Owed
+pub mod Outcome
