@@ -1,5 +1,5 @@
 -- What one vehicle runs from its pull-out to its pull-in, and what that costs.
-use Rattle.std.specs.Prelude.{◌≡◌, ℕ, ◌+◌, ◌-◌, ◌*◌, ◌<◌, ◌≤◌, List, [], ◌∷◌, length, All, sum_by, Option, slice_index_or}
+use Rattle.std.specs.Prelude.{ℕ, ◌+◌, ◌-◌, ◌*◌, ◌<◌, List, [], ◌∷◌, length, All, sum_by, Option, slice_index_or}
 use Rattle.std.specs.List.{AllAdjacentBelow}
 use Rattle.std.specs.Option.{option_map_or}
 use Rattle.vs_types.specs.declared.numbers.LayerNo.{LayerNo}

@@ -1,5 +1,5 @@
 -- What makes a problem an instance: the limits, and closed deadheads.
-use Rattle.std.specs.Prelude.{◌≡◌, ◌≢◌, ℕ, ◌+◌, ◌<◌, ◌≤◌, List, [], length, All, IfSome, IsSomeAnd, Some}
+use Rattle.std.specs.Prelude.{◌≡◌, ◌≢◌, ℕ, ◌+◌, ◌<◌, ◌≤◌, [], length, All, IfSome, IsSomeAnd, Some}
 use Rattle.std.specs.FinMap as map
 use Rattle.vs_types.specs.LayerSet.{Has, members}
 use Rattle.vs_instance.specs.declared.layer.Layer.{Layer}

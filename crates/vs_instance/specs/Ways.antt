@@ -1,5 +1,5 @@
 -- Which trips a layer may run, and which moves without passengers there are.
-use Rattle.std.specs.Prelude.{◌≡◌, ℕ, ◌+◌, ◌<◌, ◌≤◌, ◌==◌, if◌then◌else◌, Option, Some, IsSome, IsSomeAnd, slice_index_or}
+use Rattle.std.specs.Prelude.{ℕ, ◌+◌, ◌≤◌, ◌==◌, if◌then◌else◌, Option, Some, IsSome, IsSomeAnd, slice_index_or}
 use Rattle.std.specs.FinMap as map
 use Rattle.vs_types.specs.LayerSet.{Has}
 use Rattle.vs_instance.specs.declared.layer.Layer.{Layer}
