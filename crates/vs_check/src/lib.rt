@@ -4,10 +4,13 @@
 mod bound;
 mod claim;
 mod document;
+mod judge_table;
+mod pieces;
 mod plan;
 mod shape;
 mod table;
 mod verdict;
+mod worth;
 
 pub use bound::Bound;
 pub use claim::Claim;
