@@ -1,2 +1,5 @@
 pub mod Prices
 pub mod TableLemmas
+pub mod Rounding
+pub mod Totals
+pub mod Layers

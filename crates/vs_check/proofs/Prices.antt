@@ -1,5 +1,5 @@
 -- What prices are compared by.
-use Rattle.std.proofs.Common.{◌≡◌, ℕ, ◌+◌, ◌*◌, ◌<◌, ◌≤◌, ◌↔◌, Bool, true, false, List, length, get_or, refl, subst, arith, rules, IsTrue, w64, ℤ, pos, negsuc, ◌+ℤ◌, ◌≤ℤ◌, FitsSigned, to_z, of_z}
+use Rattle.std.proofs.Common.{◌≡◌, ℕ, ◌+◌, ◌*◌, ◌<◌, ◌≤◌, ◌↔◌, Bool, true, false, List, length, get_or, refl, subst, arith, rules, IsTrue, w64, ℤ, pos, negsuc, ◌+ℤ◌, ◌-ℤ◌, ◌≤ℤ◌, FitsSigned, to_z, of_z}
 use Rattle.std.specs.Prelude.{All, IfSome, Option, Some}
 use Rattle.std.proofs.lemmas.Int.{ints, to_z-of_z}
 use Rattle.vs_instance.specs.HoldingTable.{scaled}
@@ -46,3 +46,16 @@ pub compared_as : (into from into' from' : ℤ) (b ray : Bool) (piece piece' : O
 compared_as into from into' from' b ray piece piece' e f g is_price is_price' h =
     let P : ℤ → ℤ → Option ℕ → Type 0 = λ x y o. IsTrue b ↔ IfSome o (λ c. x ≤ℤ (y +ℤ scaled ray c)) in
     subst (λ x. P x from' piece') e (subst (λ y. P into y piece') f (subst (P into from) g (compared into from b ray piece is_price is_price' h)))
+
+-- what a trip pays, put together of prices that stand for others
+pub sum_of_parts : (a s b a' s' b' : ℤ) → a ≡ a' → s ≡ s' → b ≡ b' → IsPrice a → pos 0 ≤ℤ s → s ≤ℤ pos 20000000000000 → IsPrice b
+    → to_z w64 (of_z w64 (to_z w64 (of_z w64 (to_z w64 (of_z w64 a) +ℤ to_z w64 (of_z w64 s))) -ℤ to_z w64 (of_z w64 b))) ≡ a' +ℤ s' -ℤ b'
+sum_of_parts a s b a' s' b' e f g is_price low high is_price' = omega (arith, ints)
+
+pub sum_of_parts_fits : (a s b : ℤ) → IsPrice a → pos 0 ≤ℤ s → s ≤ℤ pos 20000000000000 → IsPrice b
+    → FitsSigned w64 (to_z w64 (of_z w64 (to_z w64 (of_z w64 a) +ℤ to_z w64 (of_z w64 s))) -ℤ to_z w64 (of_z w64 b))
+sum_of_parts_fits a s b is_price low high is_price' = omega (arith, ints)
+
+pub sum_of_parts_limits : (a s b : ℤ) → IsPrice a → pos 0 ≤ℤ s → s ≤ℤ pos 20000000000000 → IsPrice b
+    → (negsuc 2999999999999999999 ≤ℤ (a +ℤ s -ℤ b)) × ((a +ℤ s -ℤ b) ≤ℤ pos 3000000000000000000)
+sum_of_parts_limits a s b is_price low high is_price' = (omega (arith, ints), omega (arith, ints))

@@ -1,5 +1,7 @@
 ghost use Rattle.std.specs.Prelude.{◌≡◌, ℕ, ◌*◌, ◌<◌, ◌≤◌, ◌↔◌, length, IsTrue, map, ℤ, pos, negsuc, ◌≤ℤ◌};
+ghost use Rattle.std.specs.Int.{int_min};
 ghost use Rattle.std.specs.List.{range_with_len};
+ghost use Rattle.std.specs.Option.{option_map_or};
 ghost use Rattle.vs_check.specs.Table.{Fits};
 ghost use Rattle.vs_check.specs.Worth.{IsRoundedUp, IsWorth, Reaches, fleet_price, least_price, table_value, total, trip_price};
 ghost use Rattle.vs_instance.specs.Instance.{IsInstance};
@@ -27,6 +29,16 @@ fn trip_price(instance: &Instance, table: &Table, l: LayerNo, i: TripNo) -> i64
     into + scaled(table.ray, trip_piece(instance, l, i)) - from
 }
 
+/// The lesser of the least price so far, where there is one, and another price.
+fn lesser(least: Option<i64>, price: i64) -> i64
+    ensures { result ≡ option_map_or (λ x. int_min x price) least price }
+{
+    match least {
+        None => price,
+        Some(least) => least.min(price),
+    }
+}
+
 /// What trip i pays in the cheapest layer that may run it.
 fn least_price(instance: &Instance, table: &Table, i: TripNo) -> i64
     requires instance { IsInstance instance.now }
@@ -41,7 +53,7 @@ fn least_price(instance: &Instance, table: &Table, i: TripNo) -> i64
     for l in 0..instance.layers() {
         if layers.has(LayerNo(l)) {
             let price = trip_price(instance, table, LayerNo(l), i);
-            least = Some(least.map_or(price, |least| least.min(price)));
+            least = Some(lesser(least, price));
         }
     }
     least.unwrap_or(0)
