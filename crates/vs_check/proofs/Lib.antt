@@ -3,3 +3,4 @@ pub mod TableLemmas
 pub mod Rounding
 pub mod Totals
 pub mod Layers
+pub mod Running

@@ -1,4 +1,4 @@
-ghost use Rattle.std.specs.Prelude.{◌≡◌, ℕ, ◌+◌, ◌*◌, ◌<◌, ◌≤◌, ◌==◌, ◌↔◌, length, IsTrue, All, IfOk, MatchOption, IfSome, count_by, slice_index, map};
+ghost use Rattle.std.specs.Prelude.{◌≡◌, ℕ, ◌+◌, ◌*◌, ◌<◌, ◌≤◌, ◌==◌, ◌↔◌, length, IsTrue, All, IfOk, MatchOption, IfSome, count_by, slice_index, EachIndex};
 ghost use Rattle.vs_check.specs.Blocks.{blocks_of, pair_of, pairs_of};
 ghost use Rattle.vs_check.specs.Form.{IsReadBlock};
 ghost use Rattle.vs_instance.specs.Blocks.{IsBlock};
@@ -56,9 +56,15 @@ fn count_trips(counts: &mut [u32], trips: &[TripNo])
     }
 }
 
+/// Whether each count is 1.
+fn are_all_one(counts: &[u32]) -> bool
+    ensures { IsTrue result ↔ EachIndex counts.now (λ i. slice_index counts.now i ≡ 1) }
+{
+    counts.iter().all(|count| *count == 1)
+}
+
 /// Whether each trip of the instance stands in the blocks exactly once.
 fn runs_each_once(alloc: Global, instance: &Instance, blocks: &[Block]) -> Result<bool, Memory>
-    requires instance { IsInstance instance.now }
     requires read { All (IsReadBlock instance.now) (pairs_of blocks.now) }
     requires few_trips { length (all_trips (pairs_of blocks.now)) < 4294967296 }
     ensures { IfOk result (λ once. IsTrue once ↔ ((i : ℕ) → i < length instance.now.trips → times_run (pairs_of blocks.now) i ≡ 1)) }
@@ -67,7 +73,7 @@ fn runs_each_once(alloc: Global, instance: &Instance, blocks: &[Block]) -> Resul
     for block in blocks {
         count_trips(&mut counts, &block.trips);
     }
-    Ok(counts.iter().all(|count| *count == 1))
+    Ok(are_all_one(&counts))
 }
 
 /// How many of the blocks are layer l's.
@@ -79,8 +85,8 @@ fn vehicles_used(blocks: &[Block], l: LayerNo) -> usize
 
 /// Whether the blocks of no layer are more than it has vehicles.
 fn keeps_fleets(instance: &Instance, blocks: &[Block]) -> bool
-    requires instance { IsInstance instance.now }
-    ensures { IsTrue result ↔ ((l : ℕ) → l < length instance.now.layers → vehicles_used (pairs_of blocks.now) l ≤ (layer_of instance.now l).fleet) }
+    ensures instance { IsInstance instance.now }
+    ensures fleets { IsTrue result ↔ ((l : ℕ) → l < length instance.now.layers → vehicles_used (pairs_of blocks.now) l ≤ (layer_of instance.now l).fleet) }
 {
     for l in 0..instance.layers() {
         let fleet = instance.layer(LayerNo(l)).fleet;
@@ -93,7 +99,6 @@ fn keeps_fleets(instance: &Instance, blocks: &[Block]) -> bool
 
 /// What the plan costs, in cost units. None exactly where the blocks are no plan of the instance.
 pub fn judge_plan(alloc: Global, instance: &Instance, plan: &Plan) -> Result<Option<u128>, Memory>
-    requires instance { IsInstance instance.now }
     requires read { All (IsReadBlock instance.now) (blocks_of plan.now) }
     requires few_trips { length (all_trips (blocks_of plan.now)) < 4294967296 }
     ensures cost { IfOk result (λ answer. MatchOption answer (¬ (IsPlan instance.now (blocks_of plan.now)))
@@ -101,7 +106,7 @@ pub fn judge_plan(alloc: Global, instance: &Instance, plan: &Plan) -> Result<Opt
     ensures limit { IfOk result (λ answer. IfSome answer (λ cost. cost < 1000000000000000000000000)) }
 {
     let blocks = plan.blocks.as_slice();
-    if !are_blocks(instance, blocks) || !keeps_fleets(instance, blocks) {
+    if !keeps_fleets(instance, blocks) || !are_blocks(instance, blocks) {
         return Ok(None);
     }
     if !runs_each_once(alloc, instance, blocks)? {

@@ -99,9 +99,8 @@ fn layer_holds(instance: &Instance, table: &Table, l: LayerNo) -> bool
 }
 
 /// Whether the table holds, over all pairs of trips.
-pub fn table_holds(instance: &Instance, table: &Table) -> bool
-    requires instance { IsInstance instance.now }
-    requires fits { Fits instance.now table.now }
+fn table_holds(instance: &Instance, table: &Table) -> bool
+    requires { Fits instance.now table.now }
     ensures { IsTrue result ↔ HoldingTable instance.now table.now }
 {
     for l in 0..instance.layers() {
@@ -114,8 +113,7 @@ pub fn table_holds(instance: &Instance, table: &Table) -> bool
 
 /// Whether every table holds.
 pub fn tables_hold(instance: &Instance, tables: &[Table]) -> bool
-    requires instance { IsInstance instance.now }
-    requires fits { All (Fits instance.now) tables.now }
+    requires { All (Fits instance.now) tables.now }
     ensures { IsTrue result ↔ All (HoldingTable instance.now) tables.now }
 {
     for table in tables {

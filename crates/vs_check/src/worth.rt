@@ -61,8 +61,7 @@ fn least_price(instance: &Instance, table: &Table, i: TripNo) -> i64
 
 /// What all trips pay in their cheapest layers.
 fn trips_pay(instance: &Instance, table: &Table) -> i128
-    requires instance { IsInstance instance.now }
-    requires fits { Fits instance.now table.now }
+    requires { Fits instance.now table.now }
     ensures value { result ≡ total (map (least_price instance.now (permitted_sets instance.now) table.now) (range_with_len 0 (length instance.now.trips))) }
     ensures low { negsuc 9999999999999999999999 ≤ℤ result }
     ensures high { result ≤ℤ pos 10000000000000000000000 }
@@ -76,8 +75,7 @@ fn trips_pay(instance: &Instance, table: &Table) -> i128
 
 /// What all vehicles pay.
 fn vehicles_pay(instance: &Instance, table: &Table) -> i128
-    requires instance { IsInstance instance.now }
-    requires fits { Fits instance.now table.now }
+    requires { Fits instance.now table.now }
     ensures value { result ≡ total (map (fleet_price instance.now table.now) (range_with_len 0 (length instance.now.layers))) }
     ensures low { negsuc 99999999999999999999999 ≤ℤ result }
     ensures high { result ≤ℤ pos 100000000000000000000000 }
@@ -101,8 +99,7 @@ fn rounded_up(value: i128) -> i128
 
 /// What the table is worth where each trip may be run in any layer that permits it.
 pub fn worth(instance: &Instance, table: &Table) -> Bound
-    requires instance { IsInstance instance.now }
-    requires fits { Fits instance.now table.now }
+    requires { Fits instance.now table.now }
     ensures { IsWorth instance.now (permitted_sets instance.now) table.now result }
 {
     let value = trips_pay(instance, table) - vehicles_pay(instance, table);
