@@ -1,11 +1,10 @@
 -- What a trip pays in the layers that may run it.
-use Rattle.std.proofs.Common.{◌≡◌, ◌≢◌, ℕ, ◌+◌, ◌-◌, ◌<◌, ◌≤◌, Bool, true, false, eqb, List, [], ◌∷◌, ◌++◌, length, get_or, map, refl, sym, ap, ◌∙◌, subst, arith, ℤ}
+use Rattle.std.proofs.Common.{◌≡◌, ℕ, ◌+◌, ◌-◌, ◌<◌, ◌≤◌, Bool, false, eqb, List, [], ◌∷◌, ◌++◌, length, map, refl, sym, ap, ◌∙◌, arith, ℤ}
 use Rattle.std.specs.Int.{bit_at}
 use Rattle.std.specs.List.{range_with_len, filter}
-use Rattle.std.proofs.lemmas.Bool.{false_from_ne_true, eqb-true, eq-eqb, cases_lt}
+use Rattle.std.proofs.lemmas.Bool.{false_from_ne_true, eqb-true, eq-eqb}
 use Rattle.std.proofs.lemmas.List.{get_or-map}
 use Rattle.vs_types.specs.LayerSet.{Has, members, layer_numbers}
-use Rattle.vs_types.specs.declared.layer_set.LayerSet.{LayerSet}
 use Rattle.vs_instance.specs.Problem.{Problem}
 use Rattle.vs_instance.specs.Instance.{IsInstance}
 use Rattle.vs_instance.specs.Ways.{trip_of, no_trip}
@@ -41,8 +40,8 @@ members_below p i inst inside =
     let few = inst.few_layers in
     let e : 16 ≡ n + (16 - n) = omega arith in
     let past : (k : ℕ) → n ≤ k → stands p i k ≡ false = λ k le.
-      false_from_ne_true (stands p i k) (λ h.
-      let below = (inst.trips i no_trip inside).layers k (eqb-true (bit_at (trip_of p i).layers.0 k) 1 h) in absurd (omega arith)) in
+    false_from_ne_true (stands p i k) (λ h.
+    let below = (inst.trips i no_trip inside).layers k (eqb-true (bit_at (trip_of p i).layers.0 k) 1 h) in absurd (omega arith)) in
     sym (filter_range_past (stands p i) n (16 - n) past)
     ∙ (ap (λ m. filter (stands p i) (range_with_len 0 m)) (sym e) ∙ ap (filter (stands p i)) (sym layer_numbers_are))
 

@@ -4,3 +4,5 @@ pub mod Rounding
 pub mod Totals
 pub mod Layers
 pub mod Running
+pub mod Worths
+pub mod Examples

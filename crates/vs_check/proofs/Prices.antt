@@ -1,6 +1,6 @@
 -- What prices are compared by.
-use Rattle.std.proofs.Common.{◌≡◌, ℕ, ◌+◌, ◌*◌, ◌<◌, ◌≤◌, ◌↔◌, Bool, true, false, List, length, get_or, refl, subst, arith, rules, IsTrue, w64, ℤ, pos, negsuc, ◌+ℤ◌, ◌-ℤ◌, ◌≤ℤ◌, FitsSigned, to_z, of_z}
-use Rattle.std.specs.Prelude.{All, IfSome, Option, Some}
+use Rattle.std.proofs.Common.{◌≡◌, ℕ, ◌≤◌, ◌↔◌, Bool, true, false, subst, arith, IsTrue, w64, ℤ, pos, negsuc, ◌+ℤ◌, ◌-ℤ◌, ◌≤ℤ◌, FitsSigned, to_z, of_z}
+use Rattle.std.specs.Prelude.{IfSome, Option}
 use Rattle.std.proofs.lemmas.Int.{ints, to_z-of_z}
 use Rattle.vs_instance.specs.HoldingTable.{scaled}
 use Rattle.vs_check.specs.Table.{IsPrice}

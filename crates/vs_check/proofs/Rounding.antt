@@ -1,5 +1,5 @@
 -- A value in 1/1000 of a unit, rounded up to whole units.
-use Rattle.std.proofs.Common.{◌≡◌, ℕ, ◌+◌, ◌*◌, ◌<◌, ◌≤◌, refl, sym, ap, subst, true, false, arith, lit<, FitsSigned, to_z, of_z, ℤ, pos, negsuc, ◌+ℤ◌, ◌*ℤ◌, ◌≤ℤ◌, ◌<ℤ◌}
+use Rattle.std.proofs.Common.{◌≡◌, ◌<◌, sym, subst, true, false, arith, lit<, FitsSigned, to_z, of_z, ℤ, pos, negsuc, ◌+ℤ◌, ◌*ℤ◌, ◌≤ℤ◌, ◌<ℤ◌}
 use Rattle.std.specs.Prelude.{int_div, int_rem, unsigned_abs}
 use Rattle.std.proofs.lemmas.Int.{ints, to_z-of_z, quot-rem, rem_below, quot_is, rem_is, quot_fits}
 use Rattle.vs_check.specs.Worth.{IsRoundedUp}

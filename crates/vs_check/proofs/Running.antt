@@ -1,5 +1,5 @@
 -- Blocks taken one by one, and the trips of a block one by one.
-use Rattle.std.proofs.Common.{◌≡◌, ℕ, zero, suc, ◌+◌, ◌-◌, ◌*◌, ◌<◌, ◌≤◌, ◌==◌, List, [], ◌∷◌, ◌++◌, length, get_or, take, drop, map, All, refl, sym, ap, ◌∙◌, subst, arith, count_by, cond, Option, Some, None, length-append}
+use Rattle.std.proofs.Common.{◌≡◌, ℕ, zero, suc, ◌+◌, ◌-◌, ◌*◌, ◌<◌, ◌≤◌, ◌==◌, List, [], ◌∷◌, ◌++◌, length, get_or, take, All, refl, sym, ap, ◌∙◌, subst, arith, count_by, cond, Option, Some, None, length-append}
 use Rattle.std.specs.Prelude.{IsSomeAnd, sum_by}
 use Rattle.std.specs.List.{AllAdjacentBelow}
 use Rattle.std.proofs.lemmas.Grind.{flat_map-append}
@@ -8,12 +8,11 @@ use Rattle.std.proofs.lemmas.List.Sums.{sum_by-cons, sum_by-append, sum_by_more,
 use Rattle.std.proofs.lemmas.Nat.{mul-le}
 use Rattle.vs_types.specs.declared.numbers.TripNo.{TripNo}
 use Rattle.vs_instance.specs.declared.way.Way.{Way}
-use Rattle.vs_instance.specs.declared.layer.Layer.{Layer}
-use Rattle.vs_instance.specs.Blocks.{IsBlock, block_cost, metres_between, first_of, last_of}
-use Rattle.vs_instance.specs.Instance.{IsInstance, IsLayer}
+use Rattle.vs_instance.specs.Blocks.{block_cost, metres_between}
+use Rattle.vs_instance.specs.Instance.{IsInstance}
 use Rattle.vs_instance.specs.Plan.{LayerBlock, all_trips, plan_cost, times_run}
 use Rattle.vs_instance.specs.Problem.{Problem}
-use Rattle.vs_instance.specs.Ways.{Connects, trip_of, layer_of, no_trip, way_between}
+use Rattle.vs_instance.specs.Ways.{Connects, trip_of, no_trip, way_between}
 use Rattle.vs_check.specs.Blocks.{pair_of, pairs_of}
 use Rattle.vs_check.specs.declared.plan.Block.{Block}
 

@@ -1,12 +1,11 @@
 -- The prices of a layer hold where they hold from each trip.
-use Rattle.std.proofs.Common.{◌≡◌, ℕ, ◌<◌, ◌≤◌, Bool, true, false, length, refl, arith, ℤ, pos, ◌+ℤ◌, ◌≤ℤ◌, to_z, of_z, w64}
-use Rattle.std.specs.Prelude.{IfSome}
+use Rattle.std.proofs.Common.{◌≡◌, ℕ, ◌<◌, true, false, length, arith, ℤ, pos, ◌+ℤ◌, ◌≤ℤ◌, to_z, of_z, w64}
 use Rattle.std.proofs.lemmas.Int.{ints}
 use Rattle.std.proofs.lemmas.Option.{IfSome_then}
 use Rattle.vs_instance.specs.Pieces.{out_piece}
 use Rattle.vs_instance.specs.Problem.{Problem}
 use Rattle.vs_instance.specs.HoldingTable.{HoldsInLayer, price_of, scaled}
-use Rattle.vs_check.specs.Table.{HoldsFromTrip, MovesHold, IsPrice, prices_in}
+use Rattle.vs_check.specs.Table.{HoldsFromTrip, IsPrice, prices_in}
 use Rattle.vs_check.specs.declared.table.Table.{Table}
 use Rattle.vs_check.proofs.Prices.{price_passed}
 use lib.Signed.{lt_z}

@@ -69,7 +69,12 @@ fn holds_from_trip(instance: &Instance, table: &Table, l: LayerNo, i: TripNo) ->
     }
     let into = price_at(table.into_in(instance, l), i);
     let from = price_at(table.from_in(instance, l), i);
-    if !is_within(into, table.fleet_price(l), out_piece(instance, l, i), table.ray) {
+    if !is_within(
+        into,
+        table.fleet_price(l),
+        out_piece(instance, l, i),
+        table.ray,
+    ) {
         return false;
     }
     if !is_within(0, from, in_piece(instance, l, i), table.ray) {

@@ -106,7 +106,11 @@ pub fn worth(instance: &Instance, table: &Table) -> Bound
     if !table.ray {
         return Bound::AtLeast(rounded_up(value));
     }
-    if value > 0 { Bound::NoPlan } else { Bound::AtLeast(0) }
+    if value > 0 {
+        Bound::NoPlan
+    } else {
+        Bound::AtLeast(0)
+    }
 }
 
 /// Whether a worth is at least a printed bound, where no bound says that there is no plan.

@@ -1,8 +1,7 @@
-use Rattle.std.proofs.Common.{◌≡◌, ◌+◌, ◌-◌, ◌*◌, ◌<◌, ◌≤◌, length, arith, subst, sym}
-use Rattle.vs_types.specs.declared.numbers.TripNo.{TripNo}
+use Rattle.std.proofs.Common.{◌+◌, ◌-◌, ◌*◌, ◌<◌, ◌≤◌, length, arith, subst, sym}
 use Rattle.vs_instance.specs.declared.layer.Layer.{Layer}
 use Rattle.vs_instance.specs.declared.trip.Trip.{Trip}
-use Rattle.vs_instance.specs.Ways.{no_layer, no_trip, trip_of}
+use Rattle.vs_instance.specs.Ways.{no_layer, no_trip}
 use Rattle.vs_instance.specs.Blocks.{last_of}
 use Rattle.vs_check.proofs.Running.{first_before_last, cost_limit}
 use Rattle.vs_check.proofs.block_cost.block_cost.Goals as goal

@@ -1,8 +1,8 @@
-use Rattle.std.proofs.Common.{◌≡◌, ◌<◌, ◌≤◌, ◌+◌, ◌*◌, List, length, arith, subst, sym, ap, ◌∙◌}
+use Rattle.std.proofs.Common.{List, length, arith, subst, sym, ap, ◌∙◌}
 use Rattle.vs_types.specs.declared.numbers.TripNo.{TripNo}
 use Rattle.vs_instance.specs.Blocks.{IsBlock, block_cost}
 use Rattle.vs_instance.specs.Plan.{LayerBlock}
-use Rattle.vs_check.specs.Blocks.{pairs_of, pair_of}
+use Rattle.vs_check.specs.Blocks.{pair_of}
 use Rattle.vs_check.proofs.Running.{one_more, pair_at, inside_pairs}
 use Rattle.vs_check.proofs.block_cost.blocks_cost.Goals as goal
 

@@ -1,4 +1,4 @@
-use Rattle.std.proofs.Common.{◌≡◌, ◌≤◌, All, length, take, arith, refl, sym, subst, ◌∙◌}
+use Rattle.std.proofs.Common.{◌≤◌, All, length, arith, refl, sym, subst, ◌∙◌}
 use Rattle.std.proofs.lemmas.Bool.{false≢true}
 use Rattle.std.proofs.lemmas.List.{take_all}
 use Rattle.std.proofs.lemmas.List.Elements.{All-more}
@@ -19,10 +19,12 @@ is_block-requires-clause-read c =
 pub returns-then-not-is_block : goal.returns-then-not-is_block
 returns-then-not-is_block c =
     let bs = c.args.blocks.now in
-    let b = c.block-item.result in
-    (λ e. absurd (false≢true e), λ all. absurd (false≢true (sym c.if-not-is_block.true ∙ c.is_block.ensures.1
-    (subst (λ (x : LayerBlock). IsBlock c.args.instance.now x.0 x.1) (pair_at bs c.loop-block.block-index b (pair_of b) c.loop-block-test.true c.block-item.is)
-    (all c.loop-block.block-index (pair_of b) (inside_pairs bs c.loop-block.block-index c.loop-block-test.true))))))
+    let b = c.block-item.result in (
+      λ e. absurd (false≢true e),
+      λ all. absurd (false≢true (sym c.if-not-is_block.true ∙ c.is_block.ensures.1
+          (subst (λ (x : LayerBlock). IsBlock c.args.instance.now x.0 x.1) (pair_at bs c.loop-block.block-index b (pair_of b) c.loop-block-test.true c.block-item.is)
+          (all c.loop-block.block-index (pair_of b) (inside_pairs bs c.loop-block.block-index c.loop-block-test.true))))),
+    )
 
 pub loop-block-preserved : goal.loop-block-preserved
 loop-block-preserved c =

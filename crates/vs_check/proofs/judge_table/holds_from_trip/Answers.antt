@@ -1,4 +1,4 @@
-use Rattle.std.proofs.Common.{sym, ◌∙◌, subst, pos, ◌≡◌, refl}
+use Rattle.std.proofs.Common.{sym, ◌∙◌, subst, pos, refl}
 use Rattle.std.proofs.lemmas.Bool.{false≢true}
 use Rattle.vs_types.specs.LayerSet.{Has}
 use Rattle.vs_instance.specs.declared.trip.Trip.{Trip}
@@ -39,6 +39,7 @@ returns c =
     c.is_within-2.result c.args.table.now.ray c.in_piece.result (in_piece p c.args.l.0 c.args.i.0)
     refl (rw c.from_in.ensures.value at c.price_at-from.ensures.value) c.in_piece.ensures.value
     zero_price c.price_at-from.ensures.price c.is_within-2.ensures in
-    let permitted = subst (λ (t : Trip). Has t.layers c.args.l.0) c.trip.ensures (c.has.ensures.0 c.if-not-has.false) in
-    (λ yes _. record { out = out.0 c.if-not-is_within.false; back = back.0 c.if-not-is_within-2.false; links = c.links_hold.ensures.0 yes },
-    λ h. c.links_hold.ensures.1 (h permitted).links)
+    let permitted = subst (λ (t : Trip). Has t.layers c.args.l.0) c.trip.ensures (c.has.ensures.0 c.if-not-has.false) in (
+      λ yes _. record { out = out.0 c.if-not-is_within.false; back = back.0 c.if-not-is_within-2.false; links = c.links_hold.ensures.0 yes },
+      λ h. c.links_hold.ensures.1 (h permitted).links,
+    )

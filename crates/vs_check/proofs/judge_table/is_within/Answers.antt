@@ -1,4 +1,3 @@
-use Rattle.std.proofs.Common.{◌≤ℤ◌, ◌+ℤ◌, IfSome, ap, subst}
 use Rattle.vs_instance.specs.HoldingTable.{scaled}
 use Rattle.vs_check.proofs.Prices.{within_sum, scaled_limit}
 use Rattle.vs_check.proofs.judge_table.is_within.Goals as goal

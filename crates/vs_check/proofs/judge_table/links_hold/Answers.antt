@@ -1,4 +1,4 @@
-use Rattle.std.proofs.Common.{◌↔◌, ℕ, Bool, IsTrue, arith, below_more, sym, ◌∙◌, subst, ℤ, Option, pos, ◌≡◌, ◌<◌}
+use Rattle.std.proofs.Common.{arith, below_more, sym, ◌∙◌, subst}
 use Rattle.std.proofs.lemmas.Bool.{false≢true}
 use Rattle.vs_types.specs.LayerSet.{Has}
 use Rattle.vs_instance.specs.declared.trip.Trip.{Trip}

@@ -1,4 +1,4 @@
-use Rattle.std.proofs.Common.{All, arith, refl, subst}
+use Rattle.std.proofs.Common.{All, refl, subst}
 use Rattle.std.proofs.lemmas.List.{take_all}
 use Rattle.std.proofs.lemmas.List.Elements.{All-more}
 use Rattle.vs_check.specs.Table.{HoldingTable}

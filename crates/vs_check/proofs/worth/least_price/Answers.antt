@@ -1,4 +1,4 @@
-use Rattle.std.proofs.Common.{◌≡◌, ◌≤◌, ap, sym, ◌∙◌, arith, subst, to_z, of_z, w64, Some, length, map}
+use Rattle.std.proofs.Common.{◌≡◌, ap, sym, ◌∙◌, arith, subst, w64, length, map}
 use Rattle.std.specs.Int.{bit_at}
 use Rattle.std.specs.Prelude.{unwrap_or, pos}
 use Rattle.std.proofs.lemmas.Bool.{false≢true}
@@ -28,7 +28,7 @@ loop-l-preserved c =
       | else-has w ↦
           record {
             value = w.least-is ∙ (inv.value ∙ ap minimum (sym (prices_below-no p table i c.loop-l.l
-            (λ has. false≢true (sym w.if-has.false ∙ c.has.ensures.1 (subst (λ (t : Trip). bit_at t.layers.0 c.loop-l.l ≡ 1) (sym c.trip.ensures) has))))));
+                (λ has. false≢true (sym w.if-has.false ∙ c.has.ensures.1 (subst (λ (t : Trip). bit_at t.layers.0 c.loop-l.l ≡ 1) (sym c.trip.ensures) has))))));
             limits = rw w.least-is inv.limits;
           }
     ]

@@ -1,7 +1,5 @@
-use Rattle.std.proofs.Common.{◌≡◌, ap, ◌∙◌, subst, ℕ, ℤ, pos, negsuc, ◌+ℤ◌, ◌-ℤ◌, ◌≤ℤ◌, sym, refl}
-use Rattle.vs_instance.specs.Pieces.{trip_piece}
-use Rattle.vs_instance.specs.HoldingTable.{price_of, scaled}
-use Rattle.vs_check.specs.Table.{prices_in}
+use Rattle.std.proofs.Common.{ap, ◌∙◌, refl}
+use Rattle.vs_instance.specs.HoldingTable.{scaled}
 use Rattle.vs_check.proofs.Prices.{scaled_limit, sum_of_parts, sum_of_parts_fits, sum_of_parts_limits}
 use Rattle.vs_check.proofs.worth.trip_price.Goals as goal
 

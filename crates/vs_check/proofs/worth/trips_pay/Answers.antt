@@ -1,4 +1,4 @@
-use Rattle.std.proofs.Common.{◌≡◌, ◌+◌, arith, sym, ap, ◌∙◌, ◌+ℤ◌, to_z}
+use Rattle.std.proofs.Common.{arith, sym, ◌∙◌}
 use Rattle.vs_instance.specs.Restriction.{permitted_sets}
 use Rattle.vs_check.specs.Worth.{least_price}
 use Rattle.vs_check.proofs.Totals.{trip_added, total-map_more, same_sum}

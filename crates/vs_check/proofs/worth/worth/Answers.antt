@@ -1,4 +1,4 @@
-use Rattle.std.proofs.Common.{◌≡◌, sym, subst, Bool, false, MatchBool, pos, ◌≤ℤ◌, ℤ, to_z, of_z}
+use Rattle.std.proofs.Common.{◌≡◌, sym, subst, Bool, false, MatchBool}
 use Rattle.std.proofs.lemmas.Int.{to_z-of_z}
 use Rattle.vs_instance.specs.Restriction.{permitted_sets}
 use Rattle.vs_check.specs.Worth.{IsRoundedUp, table_value}
