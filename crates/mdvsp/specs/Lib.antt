@@ -6,6 +6,7 @@ pub mod Names
 pub mod InstanceText
 pub mod DocumentText
 pub mod FirstForm
+pub mod BeforeResult
 pub mod Status
 pub mod Words
 pub mod Greedy
