@@ -4,3 +4,4 @@ pub mod Building
 pub mod Reading
 pub mod Results
 pub mod LinesAppend
+pub mod WordLists

@@ -12,3 +12,4 @@ pub mod Words
 pub mod Greedy
 pub mod SolveAnswer
 pub mod Owed
+pub mod Outcome
