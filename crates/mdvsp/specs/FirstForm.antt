@@ -1,10 +1,11 @@
 -- The form of text that is read so far.
-use Rattle.std.specs.Prelude.{◌≡◌, ℕ, Bool, false, List, [], ◌∷◌, ◌++◌, length, map, filter, take_while, All, codes, ◌⊎◌, IsSome, slice_index_or, not, ◌&&◌, ◌==◌}
+use Rattle.std.specs.Prelude.{◌≡◌, ℕ, false, List, [], ◌∷◌, ◌++◌, All, codes, ◌⊎◌, IsSome, slice_index_or, ◌||◌, ◌==◌}
+use Rattle.std.specs.List.{before_first}
 use Rattle.vs_instance.specs.Problem.{Problem}
 use Rattle.vs_check.specs.declared.document.Document.{Document}
 use Rattle.vs_check.specs.declared.shape.Shape.TheVariants.{Leaf}
 use Rattle.vs_check.specs.declared.table.Table.{Table}
-use Rattle.mdvsp.specs.Rows.{Row, AreLines, lines}
+use Rattle.mdvsp.specs.Rows.{Row, AreLines}
 use Rattle.mdvsp.specs.Names.{NameLists}
 use Rattle.mdvsp.specs.InstanceText.{InstanceText}
 use Rattle.mdvsp.specs.DocumentText.{DocumentText}
@@ -45,7 +46,7 @@ pub record CheckText (bytes : List ℕ) (p : Problem) (names : NameLists) (d : D
 
 -- what a first line's first field is, up to its comma or the line's end
 abbrev pub first_field : List ℕ → List ℕ
-first_field bytes = take_while (λ b. not (b == 44) && not (b == 10)) bytes
+first_field bytes = before_first (λ b. b == 44 || b == 10) bytes
 
 -- bytes that aren't looked at: none, or a first line whose first field is `result` and whatever follows
 abbrev pub IsUnread : List ℕ → Type 0

@@ -1,10 +1,12 @@
 pub mod Rows
 pub mod RowEnds
+pub mod UnfinishedRows
 pub mod Numbers
 pub mod Names
 pub mod InstanceText
 pub mod DocumentText
 pub mod FirstForm
+pub mod BeforeResult
 pub mod Status
 pub mod Words
 pub mod Greedy
