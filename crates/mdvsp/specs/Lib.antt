@@ -1,6 +1,7 @@
 pub mod Rows
 pub mod RowEnds
 pub mod Numbers
+pub mod RowText
 pub mod Names
 pub mod InstanceText
 pub mod DocumentText
@@ -11,3 +12,4 @@ pub mod Greedy
 pub mod SolveAnswer
 pub mod Owed
 pub mod Outcome
+pub mod Answered
