@@ -1,2 +1,3 @@
 pub mod WordLists
 pub mod RowTexts
+pub mod CheckTexts
