@@ -1,3 +1,6 @@
-pub mod WordLists
-pub mod RowTexts
+pub mod Building
 pub mod CheckTexts
+pub mod Parts
+pub mod RowPlaces
+pub mod RowTexts
+pub mod WordLists
