@@ -5,7 +5,7 @@ use Rattle.std.proofs.Math.Seq.{get_or-append_right, take-append_seam, drop-appe
 use Rattle.vs_instance.specs.Problem.{Problem}
 use Rattle.vs_check.specs.declared.document.Document.{Document}
 use Rattle.mdvsp.specs.Rows.{Row, Field}
-use Rattle.mdvsp.specs.Names.{NameLists}
+use Rattle.mdvsp.specs.Names.{NameLists, HaveCounts}
 use Rattle.mdvsp.specs.InstanceText.{InstanceText, Declared, nothing_yet, Adds, AddAll, AddsStop, AddsDeadhead, AddsLayer, AddsTrip}
 use Rattle.mdvsp.specs.DocumentText.{DocumentText}
 use Rattle.mdvsp.specs.FirstForm.{IsResultRow, IsFirstResult, CheckRows, IsFirstDocument, AreInOrder}
@@ -33,7 +33,7 @@ add_all_no_result old (row ∷ rows) new h (suc k) lt = add_all_no_result h.0 ro
 
 header_no_result : (rows : List Row) (k : ℕ) → ((m : ℕ) → m < length rows → IsResultRow (get_or rows m []) → ⊥)
     → k < length rows + 1 → IsResultRow (get_or ((codes "instance" ∷ codes "1" ∷ []) ∷ rows) k []) → ⊥
-header_no_result rows zero none lt = not_result _ _ _ refl refl
+header_no_result rows zero none lt = not_result (codes "instance" ∷ codes "1" ∷ []) (codes "instance") (codes "1" ∷ []) refl refl
 header_no_result rows (suc k) none lt = none k (omega arith)
 
 pub records_no_result : (rows : List Row) (p : Problem) (names : NameLists) → InstanceText rows p names → (k : ℕ) → k < length rows → IsResultRow (get_or rows k []) → ⊥
@@ -85,22 +85,22 @@ split_is rows start p names d f c =
 pub no_instance : (rows : List Row) (start : ℕ) → IsFirstResult rows start
     → ((p : Problem) (names : NameLists) → InstanceText (take start rows) p names → AreInOrder (take start rows) → ⊥) → AreCheckRows rows → ⊥
 no_instance rows start f none h =
-    let c = h.2.2.2 in
-    let s = split_is rows start h.0 h.2.0 h.2.2.0 f c in
-    none h.0 h.2.0 (subst (λ (x : List Row). InstanceText x h.0 h.2.0) (sym s.0) c.instance) (subst AreInOrder (sym s.0) c.in_order)
+    let c = h.3 in
+    let s = split_is rows start h.0 h.1 h.2 f c in
+    none h.0 h.1 (subst (λ (x : List Row). InstanceText x h.0 h.1) (sym s.0) c.instance) (subst AreInOrder (sym s.0) c.in_order)
 
 -- where the rows after the one instance's records are no document, the rows aren't read
 pub no_document : (rows : List Row) (start : ℕ) (p : Problem) (names : NameLists) → IsFirstResult rows start
     → ((q : Problem) (others : NameLists) → InstanceText (take start rows) q others → (q ≡ p) × (others ≡ names))
     → ((d : Document) → DocumentText p names (drop start rows) d → IsFirstDocument d → ⊥) → AreCheckRows rows → ⊥
 no_document rows start p names f only none h =
-    let c = h.2.2.2 in
-    let s = split_is rows start h.0 h.2.0 h.2.2.0 f c in
-    let same = only h.0 h.2.0 (subst (λ (x : List Row). InstanceText x h.0 h.2.0) (sym s.0) c.instance) in
-    none h.2.2.0
-        (subst (λ (q : Problem). DocumentText q names (drop start rows) h.2.2.0) same.0
-            (subst (λ (others : NameLists). DocumentText h.0 others (drop start rows) h.2.2.0) same.1
-                (subst (λ (x : List Row). DocumentText h.0 h.2.0 x h.2.2.0) (sym s.1) c.document)))
+    let c = h.3 in
+    let s = split_is rows start h.0 h.1 h.2 f c in
+    let same = only h.0 h.1 (subst (λ (x : List Row). InstanceText x h.0 h.1) (sym s.0) c.instance) in
+    none h.2
+        (subst (λ (q : Problem). DocumentText q names (drop start rows) h.2) same.0
+            (subst (λ (others : NameLists). DocumentText h.0 others (drop start rows) h.2) same.1
+                (subst (λ (x : List Row). DocumentText h.0 h.1 x h.2) (sym s.1) c.document)))
         c.first_document
 
 -- as many names as layers and trips
@@ -119,12 +119,6 @@ adds_counts old row new (inr (inr (inr a))) h = subst AreCounts (sym a.added)
 add_all_counts : (old : Declared) (rows : List Row) (new : Declared) → AddAll old rows new → AreCounts old → AreCounts new
 add_all_counts old [] new h c = subst AreCounts (sym h) c
 add_all_counts old (row ∷ rows) new h c = add_all_counts h.0 rows new h.2 (adds_counts old row h.0 h.1 c)
-
--- the names' lists have the instance's counts
-pub record HaveCounts (p : Problem) (names : NameLists) : Type 0 where
-  pub stops : length names.stops ≡ p.stops
-  pub layers : length names.layers ≡ length p.layers
-  pub trips : length names.trips ≡ length p.trips
 
 pub names_counts : (rows : List Row) (p : Problem) (names : NameLists) → InstanceText rows p names → HaveCounts p names
 names_counts rows p names t =

@@ -1,9 +1,5 @@
 -- The form of text that is read so far.
-<<<<<<< HEAD
 use Rattle.std.specs.Prelude.{◌≡◌, ℕ, ◌<◌, ◌≤◌, Bool, false, List, [], ◌∷◌, ◌++◌, length, map, filter, take_while, All, codes, ◌⊎◌, IsSome, slice_index_or, not, ◌&&◌, ◌==◌}
-=======
-use Rattle.std.specs.Prelude.{◌≡◌, ℕ, false, List, [], ◌∷◌, ◌++◌, take_while, All, codes, ◌⊎◌, IsSome, slice_index_or, not, ◌&&◌, ◌==◌}
->>>>>>> 89891bc3c5132a56e4b452dd373985621f0d05a2
 use Rattle.vs_instance.specs.Problem.{Problem}
 use Rattle.vs_check.specs.declared.document.Document.{Document}
 use Rattle.vs_check.specs.declared.shape.Shape.TheVariants.{Leaf}

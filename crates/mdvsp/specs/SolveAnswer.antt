@@ -1,10 +1,6 @@
 -- What a document has to be that a search of so many nodes answers.
-<<<<<<< HEAD
 use Rattle.std.specs.Prelude.{◌≡◌, ℕ, ◌+◌, ◌-◌, ◌<◌, ◌≤◌, Bool, true, false, not, List, [], ◌∷◌, ◌++◌, length, set, count_by, ℤ, pos, ◌≤ℤ◌, ◌⊎◌, Option, Some, None, IfSome, MatchOption, bit_and, int_lt, slice_get}
-=======
-use Rattle.std.specs.Prelude.{◌≡◌, ℕ, ◌+◌, ◌-◌, ◌<◌, ◌≤◌, Bool, true, false, not, List, [], ◌∷◌, length, set, count_by, ℤ, ◌≤ℤ◌, ◌⊎◌, Option, Some, None, IfSome, MatchOption, bit_and, int_lt, slice_get}
 
->>>>>>> 89891bc3c5132a56e4b452dd373985621f0d05a2
 use Rattle.vs_types.specs.declared.layer_set.LayerSet.{LayerSet}
 use Rattle.vs_instance.specs.Problem.{Problem}
 use Rattle.vs_instance.specs.Lagrangian.{IsStartingValue}

@@ -1,13 +1,9 @@
 -- The words that a call is given.
-<<<<<<< HEAD
-use Rattle.std.specs.Prelude.{◌≡◌, ℕ, ◌+◌, ◌-◌, ◌<◌, ◌≤◌, List, [], ◌∷◌, length, map, take, codes, decimal, ◌⊎◌, String, string_bytes, slice_index_or}
+use Rattle.std.specs.Prelude.{◌≡◌, ℕ, ◌+◌, ◌-◌, ◌<◌, ◌≤◌, List, [], ◌∷◌, length, map, take, codes, decimal, ◌⊎◌, String, string_bytes, slice_index_or, Contains, Any}
 use Rattle.std.specs.declared.alloc.Global.{Global}
 use Rattle.std.specs.Borrow.{Bor}
 use Rattle.mdvsp.specs.declared.words.Command.{Command}
 use Rattle.mdvsp.specs.declared.words.Command.TheVariants.{Check, Solve}
-=======
-use Rattle.std.specs.Prelude.{◌≡◌, ℕ, ◌+◌, ◌-◌, ◌≤◌, List, [], ◌∷◌, length, take, Contains, codes, decimal, Any}
->>>>>>> 89891bc3c5132a56e4b452dd373985621f0d05a2
 use Rattle.mdvsp.specs.Rows.{Row}
 
 abbrev pub check_words : List (List ℕ)

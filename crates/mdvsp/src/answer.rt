@@ -1,9 +1,7 @@
-ghost use Rattle.std.specs.Prelude.{◌≡◌, ◌≤◌, ◌⊎◌, length, [], ◌∷◌, IfOk, Option, codes};
+ghost use Rattle.std.specs.Prelude.{◌≡◌, ◌≤◌, [], ◌∷◌, IfOk, codes};
 ghost use Rattle.std.specs.Option.{option_map_or};
-ghost use Rattle.vs_io.specs.Faults.{Rose};
-ghost use Rattle.mdvsp.specs.Answered.{IsOwedFor, IsSaid};
+ghost use Rattle.mdvsp.specs.Answered.{IsSaid};
 ghost use Rattle.mdvsp.specs.DocumentText.{claim_field};
-ghost use Rattle.mdvsp.specs.Outcome.{input_limit};
 ghost use Rattle.mdvsp.specs.Owed.{refused_row, yes_row, no_row};
 ghost use Rattle.mdvsp.specs.Rows.{lines};
 ghost use Rattle.mdvsp.specs.Words.{words_row, texts_of};
@@ -13,7 +11,7 @@ use crate::status::Status;
 use crate::words::BadWord;
 use itoa::{Buffer, Integer};
 use std::alloc::Global;
-use vs_check::{Claim, Document, Verdict};
+use vs_check::{Claim, Document};
 use vs_io::{Sink, emit};
 use vs_types::Memory;
 
@@ -69,17 +67,20 @@ impl Answer {
         let text = line_of(alloc, fields)?;
         Ok(Answer { status, text })
     }
+}
 
-    /// Writes the text, and says how the run ends.
-    pub fn say<O: Sink>(&self, output: &mut O) -> Status
-        ensures said { IsSaid self.now result (O.taken output.old) (O.taken output.new) }
-        ensures fault { result ≡ self.now.status ⊎ Rose (O.faults output.old) (O.faults output.new) }
-        ensures never_falls { O.faults output.old ≤ O.faults output.new }
-    {
-        match emit(output, &self.text) {
-            Ok(()) => self.status,
-            Err(_) => Status::WriteFault,
-        }
+/// Writes the answer's text, and says how the run ends.
+pub fn say<O: Sink>(answer: Result<Answer, Memory>, output: &mut O) -> Status
+    ensures said { IsSaid answer result (O.taken output.old) (O.taken output.new) (O.faults output.old) (O.faults output.new) }
+    ensures never_falls { O.faults output.old ≤ O.faults output.new }
+{
+    let answer = match answer {
+        Ok(answer) => answer,
+        Err(Memory) => return Status::NoMemory,
+    };
+    match emit(output, &answer.text) {
+        Ok(()) => answer.status,
+        Err(_) => Status::WriteFault,
     }
 }
 
