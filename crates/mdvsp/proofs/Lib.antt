@@ -4,4 +4,8 @@ pub mod Building
 pub mod Reading
 pub mod Results
 pub mod LinesAppend
+pub mod CheckTexts
+pub mod OwedAnswers
+pub mod RunEnds
+pub mod RowTexts
 pub mod WordLists

@@ -2,6 +2,7 @@ pub mod Rows
 pub mod RowEnds
 pub mod UnfinishedRows
 pub mod Numbers
+pub mod RowText
 pub mod Names
 pub mod InstanceText
 pub mod DocumentText
@@ -13,3 +14,4 @@ pub mod Greedy
 pub mod SolveAnswer
 pub mod Owed
 pub mod Outcome
+pub mod Answered
