@@ -6,3 +6,14 @@ pub mod ReaderOnly
 pub mod ReaderDeclared
 pub mod ReaderKinds
 pub mod ReaderParts
+pub mod Parts
+pub mod RowPlaces
+pub mod Building
+pub mod Reading
+pub mod Results
+pub mod LinesAppend
+pub mod CheckTexts
+pub mod OwedAnswers
+pub mod RunEnds
+pub mod RowTexts
+pub mod WordLists

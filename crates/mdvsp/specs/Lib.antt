@@ -1,6 +1,8 @@
 pub mod Rows
 pub mod RowEnds
+pub mod UnfinishedRows
 pub mod Numbers
+pub mod RowText
 pub mod Names
 pub mod NameRules
 pub mod NameCodes
@@ -9,8 +11,11 @@ pub mod Kinds
 pub mod Drafts
 pub mod DocumentText
 pub mod FirstForm
+pub mod BeforeResult
 pub mod Status
 pub mod Words
 pub mod Greedy
 pub mod SolveAnswer
 pub mod Owed
+pub mod Outcome
+pub mod Answered
