@@ -1,3 +1,11 @@
+pub mod ReaderNames
+pub mod ReaderNumbers
+pub mod ReaderLayers
+pub mod ReaderRows
+pub mod ReaderOnly
+pub mod ReaderDeclared
+pub mod ReaderKinds
+pub mod ReaderParts
 pub mod Parts
 pub mod RowPlaces
 pub mod Building
