@@ -1,1 +1,4 @@
 pub mod WordLists
+pub mod Orders
+pub mod OpenBlocks
+pub mod Placing

@@ -1,0 +1,3 @@
+pub mod draft;
+pub mod greedy;
+pub mod order;
