@@ -3,6 +3,7 @@ pub mod Pairs
 pub mod WayMap
 pub mod Gathered
 pub mod Detours
+pub mod Elements
 pub mod Empty
 pub mod Limits
 pub mod Given

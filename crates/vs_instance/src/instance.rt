@@ -152,3 +152,6 @@ impl Instance {
         self.way(k, s).map(|way| way.metres)
     }
 }
+
+#[cfg(test)]
+mod tests;
