@@ -1,10 +1,10 @@
 -- Blocks that are opened and joined one trip after another.
-use Rattle.std.proofs.Common.{◌≡◌, ◌≢◌, ℕ, zero, suc, ◌+◌, ◌-◌, ◌<◌, Bool, cond, eqb, List, [], ◌∷◌, ◌++◌, length, set, get_or, slice_index, ◌⊎◌, inl, inr, refl, sym, ap, ◌∙◌, subst, arith}
+use Rattle.std.proofs.Common.{◌≡◌, ◌≢◌, ℕ, zero, suc, ◌+◌, ◌-◌, ◌<◌, Bool, cond, eqb, List, [], ◌∷◌, ◌++◌, length, set, get_or, refl, sym, ap, ◌∙◌, subst, arith}
 use Rattle.std.specs.List.{All, AllAdjacentBelow}
-use Rattle.std.proofs.lemmas.Bool.{cases_eq, ne_eqb, eq-eqb}
-use Rattle.std.proofs.lemmas.List.{map-set, get_or-map, get_or_default, length-map, length-set, length_push, get_or_append_left, get_or_push, get_or-set_same, get_or-set_other}
+use Rattle.std.proofs.lemmas.Bool.{ne_eqb, eq-eqb}
+use Rattle.std.proofs.lemmas.List.{map-set, get_or-map, get_or_default, length-map, length_push, get_or_append_left, get_or_push}
 use Rattle.std.proofs.lemmas.Grind.{flat_map-append}
-use Rattle.std.proofs.lemmas.List.Elements.{All-get_or, All-set, All-push, All-nil, All-cons}
+use Rattle.std.proofs.lemmas.List.Elements.{All-get_or, All-push, All-nil, All-cons}
 use Rattle.std.proofs.lemmas.List.Sorted.{all_adjacent_more}
 use Rattle.std.proofs.lemmas.List.Sums.{sum_by-set, sum_by_push}
 use Rattle.vs_types.specs.declared.numbers.LayerNo.{LayerNo}
@@ -13,10 +13,10 @@ use Rattle.vs_check.specs.declared.plan.Block.{Block}
 use Rattle.vs_check.specs.Blocks.{pair_of, pairs_of}
 use Rattle.vs_check.specs.Form.{IsReadBlock}
 use Rattle.vs_instance.specs.Problem.{Problem}
-use Rattle.vs_instance.specs.Ways.{Connects, Permitted, HasPullOut, HasPullIn, layer_of}
+use Rattle.vs_instance.specs.Ways.{Connects, Permitted, HasPullOut, HasPullIn}
 use Rattle.vs_instance.specs.Blocks.{IsBlock, first_of, last_of}
 use Rattle.vs_instance.specs.Plan.{LayerBlock, all_trips, vehicles_used}
-use Rattle.mdvsp.specs.Greedy.{AreLeft, CanJoin, CanOpen, block_at}
+use Rattle.mdvsp.specs.Greedy.{CanJoin, CanOpen, block_at}
 
 abbrev pub no_block : LayerBlock
 no_block = (record { 0 = 0 }, [])
@@ -135,52 +135,3 @@ module _ (p : Problem) where
     pull_out = can.pull_out;
     pull_in = can.pull_in;
   }
-
--- a placed trip keeps what is known of blocks that are read
-module _ (p : Problem) (old : List LayerBlock) (i : TripNo) (within : i.0 < length p.trips) (read : All (IsReadBlock p) old) where
-  pub read_joined : (k : ℕ) → k < length old → All (IsReadBlock p) (set old k (longer (block_at old k) i))
-  read_joined k here =
-      let was = All-get_or (IsReadBlock p) old k no_block here read in
-      All-set (IsReadBlock p) old k (longer (block_at old k) i) (record {
-        layer = was.layer;
-        some_trip = omega (arith, length_push (block_at old k).1 i);
-        trips = All-push (λ (t : TripNo). t.0 < length p.trips) (block_at old k).1 i was.trips within;
-      }) read
-
-  pub read_opened : (l : LayerNo) → l.0 < length p.layers → All (IsReadBlock p) (old ++ (l, i ∷ []) ∷ [])
-  read_opened l of_layer =
-      All-push (IsReadBlock p) old (l, i ∷ []) read (record {
-        layer = of_layer;
-        some_trip = omega arith;
-        trips = All-cons (λ (t : TripNo). t.0 < length p.trips) i [] within (All-nil (λ (t : TripNo). t.0 < length p.trips));
-      })
-
--- the vehicles that are left
-module _ (p : Problem) (old : List LayerBlock) (i : TripNo) (left : List ℕ) (are : AreLeft p old left) where
-  pub left_joined : (k : ℕ) → k < length old → AreLeft p (set old k (longer (block_at old k) i)) left
-  left_joined k here = record {
-    each_layer = are.each_layer;
-    counted = λ l of_layer. omega (arith, used_joined old k i l here, are.counted l of_layer);
-  }
-
-  pub left_opened : (l : LayerNo) → l.0 < length p.layers → 0 < slice_index left l.0
-      → AreLeft p (old ++ (l, i ∷ []) ∷ []) (set left l.0 (slice_index left l.0 - 1))
-  left_opened l of_layer some = record {
-    each_layer = length-set left l.0 (slice_index left l.0 - 1) ∙ are.each_layer;
-    counted = λ m of_m. by_case m of_m (cases_eq l.0 m);
-  }
-    where
-      by_case : (m : ℕ) → m < length p.layers → (l.0 ≡ m) ⊎ (l.0 ≢ m)
-          → slice_index (set left l.0 (slice_index left l.0 - 1)) m + vehicles_used (old ++ (l, i ∷ []) ∷ []) m ≡ (layer_of p m).fleet
-      by_case m of_m (inl same) =
-          let here : l.0 < length left = omega (arith, are.each_layer) in
-          let now = get_or-set_same left l.0 (slice_index left l.0 - 1) 0 here in
-          let used = used_opened_same old (l, i ∷ []) l.0 refl in
-          let then = are.counted l.0 of_layer in
-          subst (λ (n : ℕ). slice_index (set left l.0 (slice_index left l.0 - 1)) n + vehicles_used (old ++ (l, i ∷ []) ∷ []) n ≡ (layer_of p n).fleet) same (omega arith)
-      by_case m of_m (inr other) =
-          let apart : m ≢ l.0 = λ s. other (sym s) in
-          let now = get_or-set_other left l.0 m (slice_index left l.0 - 1) 0 apart in
-          let used = used_opened_other old (l, i ∷ []) m other in
-          let then = are.counted m of_m in
-          omega arith

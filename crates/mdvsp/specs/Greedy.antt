@@ -1,11 +1,11 @@
 -- The rule by which a first plan is made.
-use Rattle.std.specs.Prelude.{◌≡◌, ℕ, ◌+◌, ◌<◌, List, [], ◌∷◌, ◌++◌, length, set, AllPairs, Contains, ◌⊎◌, ◌↔◌, slice_index, slice_index_or}
+use Rattle.std.specs.Prelude.{◌≡◌, ℕ, ◌+◌, ◌<◌, ◌≤◌, List, [], ◌∷◌, ◌++◌, length, set, AllPairs, Contains, ◌⊎◌, ◌↔◌, slice_index, slice_index_or, ℤ, pos, Option, MatchOption}
 use Rattle.vs_types.specs.declared.numbers.LayerNo.{LayerNo}
 use Rattle.vs_types.specs.declared.numbers.TripNo.{TripNo}
 use Rattle.vs_instance.specs.Problem.{Problem}
 use Rattle.vs_instance.specs.Ways.{trip_of, layer_of, Permitted, Connects, HasPullOut, HasPullIn}
 use Rattle.vs_instance.specs.Blocks.{last_of}
-use Rattle.vs_instance.specs.Plan.{LayerBlock, vehicles_used}
+use Rattle.vs_instance.specs.Plan.{LayerBlock, IsPlan, all_trips, plan_cost, vehicles_used}
 
 -- trip i is taken before trip j: it starts earlier, or at the same minute and has the lower number
 abbrev pub TakenBefore : Problem → TripNo → TripNo → Type 0
@@ -87,3 +87,15 @@ pub record GreedyGetsStuck (p : Problem) : Type 0 where
   pub is_order : IsOrder p (earlier ++ trip ∷ later)
   pub placed : Places p [] earlier blocks
   pub stuck : IsStuck p blocks trip.0
+
+-- blocks that the rule gives, a plan that runs each trip once, and what they cost
+pub record IsPriced (p : Problem) (blocks : List LayerBlock) (cost : ℤ) : Type 0 where
+  pub given : GreedyGives p blocks
+  pub plan : IsPlan p blocks
+  pub each_trip : length (all_trips blocks) ≡ length p.trips
+  pub value : cost ≡ pos (plan_cost p blocks)
+  pub few : plan_cost p blocks ≤ 100000000000000000
+
+-- the rule's blocks with their cost, or neither where it gets stuck
+abbrev pub IsPricedPlan : Problem → List LayerBlock → Option ℤ → Type 0
+IsPricedPlan p blocks cost = MatchOption cost (GreedyGetsStuck p × (blocks ≡ [])) (IsPriced p blocks)
