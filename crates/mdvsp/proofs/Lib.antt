@@ -1,3 +1,13 @@
+pub mod Parts
+pub mod RowPlaces
+pub mod Building
+pub mod Reading
+pub mod Results
+pub mod LinesAppend
+pub mod CheckTexts
+pub mod OwedAnswers
+pub mod RunEnds
+pub mod RowTexts
 pub mod WordLists
 pub mod Orders
 pub mod OpenBlocks

@@ -1,13 +1,17 @@
 pub mod Rows
 pub mod RowEnds
+pub mod UnfinishedRows
 pub mod Numbers
+pub mod RowText
 pub mod Names
 pub mod InstanceText
 pub mod DocumentText
 pub mod FirstForm
+pub mod BeforeResult
 pub mod Status
 pub mod Words
 pub mod Greedy
 pub mod SolveAnswer
 pub mod Owed
 pub mod Outcome
+pub mod Answered

@@ -1,5 +1,7 @@
-pub mod draft;
-pub mod first_answer;
-pub mod greedy;
-pub mod order;
-pub mod zero_table;
+mod answering;
+mod draft;
+mod greedy;
+mod order;
+mod zero_table;
+
+pub use answering::first_answer;

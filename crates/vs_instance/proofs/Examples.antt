@@ -1,19 +1,15 @@
 -- The definitions at work on a small timetable.
 -- Stops D, P and Q are 0, 1 and 2. Deadheads take 10 minutes to and from D, and 15 between P and Q; nothing has a length. One layer of two vehicles
 -- at D costs 1000 a vehicle and 1 a minute. Trip 0 goes from P at 8:00 to Q at 8:30, and trip 1 from Q at 8:30 to P at 9:00.
-use Rattle.std.proofs.Common.{◌≡◌, ℕ, zero, suc, ◌<◌, ◌≤◌, false, cond, List, [], ◌∷◌, refl, ap, ◌∙◌, arith, rules, pos, negsuc}
-use Rattle.std.specs.FinMap as map
-use Rattle.std.specs.List.{fold, All}
-use Rattle.std.specs.declared.option.Option.{Option}
-use Rattle.std.specs.declared.option.Option.TheVariants.{None, Some}
-use Rattle.std.specs.Ordering.{eq_by_cmp}
+use Rattle.std.proofs.Common.{◌≡◌, ℕ, zero, suc, ◌<◌, ◌≤◌, false, List, [], ◌∷◌, refl, ap, arith, rules, pos, negsuc}
+use Rattle.std.specs.List.{All}
+use Rattle.std.specs.declared.option.Option.TheVariants.{Some}
 use Rattle.vs_types.specs.declared.numbers.LayerNo.{LayerNo}
 use Rattle.vs_types.specs.declared.numbers.TripNo.{TripNo}
 use Rattle.vs_instance.specs.declared.deadhead.Deadhead.{Deadhead}
 use Rattle.vs_instance.specs.declared.layer.Layer.{Layer}
 use Rattle.vs_instance.specs.declared.trip.Trip.{Trip}
-use Rattle.vs_instance.specs.declared.way.Way.{Way}
-use Rattle.vs_instance.specs.Problem.{Problem, pair_cmp}
+use Rattle.vs_instance.specs.Problem.{Problem}
 use Rattle.vs_instance.specs.Ways.{way, layer_of, Connects, Permitted}
 use Rattle.vs_instance.specs.Pieces.{out_piece, trip_piece, link_piece, in_piece}
 use Rattle.vs_instance.specs.Blocks.{IsBlock, block_cost}
@@ -23,22 +19,7 @@ use Rattle.std.specs.Prelude.{◌+ℤ◌, ◌≤ℤ◌, IfSome}
 use Rattle.std.proofs.Common.{inl, inr, ◌+◌}
 use Rattle.std.proofs.lemmas.Bool.{cases_eq}
 use Rattle.vs_instance.specs.Misfits.{deadheads_of}
-use Rattle.vs_instance.proofs.Pairs.{pair_cmp-total}
-use Rattle.vs_instance.proofs.Given.{pair_of, way_given}
-use Rattle.vs_instance.proofs.Gathered.{Map, with_deadhead}
-
--- the way of the last of the deadheads with this pair, or else o
-abbrev pub last_given : List Deadhead → ℕ × ℕ → Option Way → Option Way
-last_given [] q o = o
-last_given (d ∷ ds) q o = last_given ds q (cond (eq_by_cmp pair_cmp q (pair_of d)) (Some (way_given d)) o)
-
-pub get-last_given : (m : Map) (ds : List Deadhead) (q : ℕ × ℕ) → map.get (fold with_deadhead m ds) q ≡ last_given ds q (map.get m q)
-get-last_given m [] q = refl
-get-last_given m (d ∷ ds) q =
-    get-last_given (with_deadhead m d) ds q ∙ ap (last_given ds q) (map.get-insert pair_cmp-total m (pair_of d) (way_given d) q)
-
-pub get-deadheads_of : (ds : List Deadhead) (q : ℕ × ℕ) → map.get (deadheads_of ds) q ≡ last_given ds q None
-get-deadheads_of ds q = get-last_given map.empty ds q ∙ ap (last_given ds q) (map.get-empty pair_cmp q)
+use Rattle.vs_instance.proofs.Gathered.{get-deadheads_of}
 
 abbrev deadhead : ℕ → ℕ → ℕ → Deadhead
 deadhead from to minutes = record { from = record { 0 = from }; to = record { 0 = to }; minutes = minutes; metres = 0 }

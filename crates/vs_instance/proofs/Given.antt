@@ -14,14 +14,7 @@ use Rattle.vs_instance.specs.Problem.{pair_cmp}
 use Rattle.vs_instance.specs.Misfits.{are_twins, has_twin_before, deadhead_misfits}
 use Rattle.vs_instance.proofs.Empty.{None, both_none, none-append, false_from_none, none_from_false}
 use Rattle.vs_instance.proofs.Pairs.{pair_cmp-total, pair_cmp-IsAntisymmetric, tied_same}
-use Rattle.vs_instance.proofs.Gathered.{Map, with_deadhead, tied_twins}
-
--- the way and the pair that a deadhead gives
-abbrev pub way_given : Deadhead → Way
-way_given d = record { minutes = d.minutes; metres = d.metres }
-
-abbrev pub pair_of : Deadhead → ℕ × ℕ
-pair_of d = (d.from.0, d.to.0)
+use Rattle.vs_instance.proofs.Gathered.{Map, with_deadhead, tied_twins, way_given, pair_of}
 
 -- what a deadhead without a misfit is
 pub record IsFit (twice : Bool) (d : Deadhead) : Type 0 where

@@ -107,6 +107,9 @@ fn misfit(alloc: Global, parts: Parts) -> Option<Misfit>
     }
 }
 
+/// Takes what threads may share.
+fn share<T: Send + Sync>(_shared: &T) {}
+
 #[test]
 fn keeps_the_parts_and_copies_them(rt: HostRuntime) -> Result<(), Fail> {
     let alloc = rt.alloc();
@@ -117,6 +120,7 @@ fn keeps_the_parts_and_copies_them(rt: HostRuntime) -> Result<(), Fail> {
         510,
     )?;
     let made = Instance::new(alloc, parts)?;
+    share(&made);
     for instance in [made.copy(alloc)?, made] {
         assert_eq!(rt;
             (instance.stops(), instance.layers(), instance.trips()),
