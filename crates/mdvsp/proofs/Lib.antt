@@ -1,1 +1,4 @@
 pub mod DocumentNumbers
+pub mod Parts
+pub mod RowPlaces
+pub mod Building

@@ -1,13 +1,12 @@
 -- What the rows of a document say.
-use Rattle.std.specs.Prelude.{◌≡◌, ℕ, zero, suc, ◌+◌, ◌*◌, ◌<◌, ◌≤◌, Bool, if◌then◌else◌, List, [], ◌∷◌, ◌++◌, length, map, filter, flat_map, All, AllPairs, Contains, codes, decimal, ◌==◌, ◌↔◌, ℤ, pos, negsuc, ◌≤ℤ◌, Option, Some, None, IfSome, slice_index_or}
+use Rattle.std.specs.Prelude.{◌≡◌, ℕ, zero, suc, ◌+◌, ◌<◌, ◌≤◌, if◌then◌else◌, List, [], ◌∷◌, ◌++◌, length, map, filter, flat_map, All, AllPairs, Contains, codes, decimal, ◌==◌, ◌↔◌, ℤ, pos, negsuc, ◌≤ℤ◌, Option, Some, None, IfSome, slice_index_or}
 use Rattle.std.specs.Fmt.{signed_decimal}
 use Rattle.std.specs.Int.{bit_at}
 use Rattle.std.specs.List.{enumerate_from, range_with_len}
 use Rattle.vs_types.specs.LayerSet.{Has, members}
-use Rattle.vs_types.specs.declared.numbers.TripNo.{TripNo}
 use Rattle.vs_instance.specs.Problem.{Problem}
 use Rattle.vs_instance.specs.Ways.{Permitted, trip_of}
-use Rattle.vs_instance.specs.Plan.{LayerBlock, all_trips}
+use Rattle.vs_instance.specs.Plan.{LayerBlock}
 use Rattle.vs_instance.specs.HoldingTable.{price_of}
 use Rattle.vs_check.specs.declared.claim.Claim.{Claim}
 use Rattle.vs_check.specs.declared.claim.Claim.TheVariants.{Optimal, Infeasible, StillOpen}

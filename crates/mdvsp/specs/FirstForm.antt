@@ -1,10 +1,10 @@
 -- The form of text that is read so far.
-use Rattle.std.specs.Prelude.{◌≡◌, ℕ, Bool, false, List, [], ◌∷◌, ◌++◌, length, map, filter, take_while, All, codes, ◌⊎◌, IsSome, slice_index_or, not, ◌&&◌, ◌==◌}
+use Rattle.std.specs.Prelude.{◌≡◌, ℕ, false, List, [], ◌∷◌, ◌++◌, take_while, All, codes, ◌⊎◌, IsSome, slice_index_or, not, ◌&&◌, ◌==◌}
 use Rattle.vs_instance.specs.Problem.{Problem}
 use Rattle.vs_check.specs.declared.document.Document.{Document}
 use Rattle.vs_check.specs.declared.shape.Shape.TheVariants.{Leaf}
 use Rattle.vs_check.specs.declared.table.Table.{Table}
-use Rattle.mdvsp.specs.Rows.{Row, AreLines, lines}
+use Rattle.mdvsp.specs.Rows.{Row, AreLines}
 use Rattle.mdvsp.specs.Names.{NameLists}
 use Rattle.mdvsp.specs.InstanceText.{InstanceText}
 use Rattle.mdvsp.specs.DocumentText.{DocumentText}

@@ -1,5 +1,5 @@
 -- What the records of an instance text say. Each record adds to what the records before it declare.
-use Rattle.std.specs.Prelude.{◌≡◌, ℕ, ◌+◌, ◌<◌, ◌≤◌, Bool, false, List, [], ◌∷◌, ◌++◌, length, All, AllPairs, Contains, codes, ◌⊎◌, ◌↔◌}
+use Rattle.std.specs.Prelude.{◌≡◌, ℕ, ◌<◌, ◌≤◌, false, List, [], ◌∷◌, ◌++◌, length, All, AllPairs, Contains, codes, ◌⊎◌, ◌↔◌}
 use Rattle.vs_types.specs.LayerSet.{Has}
 use Rattle.vs_types.specs.declared.layer_set.LayerSet.{LayerSet}
 use Rattle.vs_instance.specs.declared.deadhead.Deadhead.{Deadhead}

@@ -1,5 +1,6 @@
 pub mod Rows
 pub mod RowEnds
+pub mod UnfinishedRows
 pub mod Numbers
 pub mod Names
 pub mod InstanceText

@@ -17,3 +17,8 @@ pub record AreEnds (bytes field_ends row_ends : List ℕ) : Type 0 where
   pub fields_within : All (λ end. end ≤ length bytes) field_ends
   pub rows_in_order : IsNonDecreasing row_ends
   pub rows_within : All (λ end. end ≤ length field_ends) row_ends
+
+-- where the last of these ends, or this place where there are none
+abbrev pub end_of : ℕ → List ℕ → ℕ
+end_of start [] = start
+end_of start (end ∷ ends) = end_of end ends

@@ -1,5 +1,5 @@
 -- The words that a call is given.
-use Rattle.std.specs.Prelude.{◌≡◌, ℕ, ◌+◌, ◌-◌, ◌≤◌, List, [], ◌∷◌, ◌++◌, length, take, Contains, codes, decimal, Any}
+use Rattle.std.specs.Prelude.{◌≡◌, ℕ, ◌+◌, ◌-◌, ◌≤◌, List, [], ◌∷◌, length, take, Contains, codes, decimal, Any}
 use Rattle.mdvsp.specs.Rows.{Row}
 
 abbrev pub check_words : List (List ℕ)
