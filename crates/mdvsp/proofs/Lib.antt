@@ -1,4 +1,11 @@
 pub mod DocumentNumbers
+pub mod DocumentNames
+pub mod DocumentPlan
+pub mod DocumentErrors
+pub mod DocumentRows
+pub mod DocumentPrices
+pub mod DocumentLayers
+pub mod DocumentSame
 pub mod Parts
 pub mod RowPlaces
 pub mod Building

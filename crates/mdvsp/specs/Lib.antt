@@ -5,6 +5,8 @@ pub mod Numbers
 pub mod Names
 pub mod InstanceText
 pub mod DocumentText
+pub mod DocumentParts
+pub mod Alike
 pub mod FirstForm
 pub mod Status
 pub mod Words
