@@ -1,5 +1,6 @@
 -- The form of text that is read so far.
-use Rattle.std.specs.Prelude.{◌≡◌, ℕ, false, List, [], ◌∷◌, ◌++◌, take_while, All, codes, ◌⊎◌, IsSome, slice_index_or, not, ◌&&◌, ◌==◌}
+use Rattle.std.specs.Prelude.{◌≡◌, ℕ, false, List, [], ◌∷◌, ◌++◌, All, codes, ◌⊎◌, IsSome, slice_index_or, ◌||◌, ◌==◌, ◌<◌, ◌≤◌, Bool, length, map, filter, take_while, not, ◌&&◌}
+use Rattle.std.specs.List.{before_first}
 use Rattle.vs_instance.specs.Problem.{Problem}
 use Rattle.vs_check.specs.declared.document.Document.{Document}
 use Rattle.vs_check.specs.declared.shape.Shape.TheVariants.{Leaf}
@@ -33,23 +34,39 @@ pub record IsFirstDocument (d : Document) : Type 0 where
   pub cost_table : table.ray ≡ false
   pub one_leaf : d.shape.items ≡ Leaf 0 ∷ []
 
--- the bytes are the lines of an instance's records and of a document's rows
-pub record CheckText (bytes : List ℕ) (p : Problem) (names : NameLists) (d : Document) : Type 0 where
+-- the rows are an instance's records, and then those of a document
+pub record CheckRows (rows : List Row) (p : Problem) (names : NameLists) (d : Document) : Type 0 where
   pub records : List Row
-  pub rows : List Row
-  pub lines_are : AreLines bytes (records ++ rows)
+  pub document_rows : List Row
+  pub rows_are : rows ≡ records ++ document_rows
   pub instance : InstanceText records p names
   pub in_order : AreInOrder records
-  pub document : DocumentText p names rows d
+  pub document : DocumentText p names document_rows d
   pub first_document : IsFirstDocument d
+
+-- the bytes are the lines of such rows
+pub record CheckText (bytes : List ℕ) (p : Problem) (names : NameLists) (d : Document) : Type 0 where
+  pub rows : List Row
+  pub lines_are : AreLines bytes rows
+  pub rows_are : CheckRows rows p names d
 
 -- what a first line's first field is, up to its comma or the line's end
 abbrev pub first_field : List ℕ → List ℕ
-first_field bytes = take_while (λ b. not (b == 44) && not (b == 10)) bytes
+first_field bytes = before_first (λ b. b == 44 || b == 10) bytes
 
 -- bytes that aren't looked at: none, or a first line whose first field is `result` and whatever follows
 abbrev pub IsUnread : List ℕ → Type 0
 IsUnread bytes = (bytes ≡ []) ⊎ (first_field bytes ≡ codes "result")
+
+-- a row whose first field is `result`
+abbrev pub IsResultRow : Row → Type 0
+IsResultRow row = slice_index_or row 0 [] ≡ codes "result"
+
+-- the first row whose first field is `result`, or the end of the rows where there is none
+pub record IsFirstResult (rows : List Row) (start : ℕ) : Type 0 where
+  pub within : start ≤ length rows
+  pub before : (k : ℕ) → k < start → ¬ (IsResultRow (slice_index_or rows k []))
+  pub found : start < length rows → IsResultRow (slice_index_or rows start [])
 
 -- The bytes are the lines of these rows, none of which begins with the field `result`, and then some that aren't looked at.
 pub record SplitsAtResult (bytes : List ℕ) (rows : List Row) : Type 0 where
@@ -57,7 +74,7 @@ pub record SplitsAtResult (bytes : List ℕ) (rows : List Row) : Type 0 where
   pub unread : List ℕ
   pub bytes_are : bytes ≡ read ++ unread
   pub lines_are : AreLines read rows
-  pub no_result : All (λ row. ¬ (slice_index_or row 0 [] ≡ codes "result")) rows
+  pub no_result : All (λ row. ¬ (IsResultRow row)) rows
   pub rest : IsUnread unread
 
 -- those rows are an instance's records

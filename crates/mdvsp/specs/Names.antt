@@ -1,5 +1,6 @@
 -- Names, and the numbers that they stand for.
 use Rattle.std.specs.Prelude.{◌≡◌, ℕ, ◌≤◌, List, length, All, Some, slice_get, ◌⊎◌}
+use Rattle.vs_instance.specs.Problem.{Problem}
 use Rattle.mdvsp.specs.Rows.{Field}
 
 -- a letter or a digit, or one of the signs _ . : -
@@ -20,3 +21,9 @@ pub record NameLists : Type 0 where
 -- the name of number k
 abbrev pub Names : List Field → Field → ℕ → Type 0
 Names names field k = slice_get names k ≡ Some field
+
+-- the names' lists have the instance's counts
+pub record HaveCounts (p : Problem) (names : NameLists) : Type 0 where
+  pub stops : length names.stops ≡ p.stops
+  pub layers : length names.layers ≡ length p.layers
+  pub trips : length names.trips ≡ length p.trips

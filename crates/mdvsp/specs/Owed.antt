@@ -12,7 +12,7 @@ use Rattle.mdvsp.specs.declared.status.Status.TheVariants as status
 use Rattle.mdvsp.specs.Rows.{Row}
 use Rattle.mdvsp.specs.Names.{NameLists}
 use Rattle.mdvsp.specs.DocumentText.{claim_field, number_field, document_rows}
-use Rattle.mdvsp.specs.FirstForm.{CheckText, SolveText}
+use Rattle.mdvsp.specs.FirstForm.{CheckText, CheckRows, SolveText}
 use Rattle.mdvsp.specs.Greedy.{GreedyGives, GreedyGetsStuck}
 use Rattle.mdvsp.specs.SolveAnswer.{SolveAnswer}
 use Rattle.mdvsp.specs.Words.{check_words, solve_words}
@@ -50,6 +50,9 @@ pub record OwesNo (bytes : List ℕ) (rows : List Row) : Type 0 where
 pub record OwesRefusal (HasForm : Type 0) (rows : List Row) : Type 0 where
   pub no_form : ¬ HasForm
   pub rows_are : rows ≡ refused_row ∷ []
+
+abbrev pub AreCheckRows : List Row → Type 0
+AreCheckRows rows = (p : Problem) × (names : NameLists) × (d : Document) × CheckRows rows p names d
 
 abbrev pub IsCheckText : List ℕ → Type 0
 IsCheckText bytes = (p : Problem) × (names : NameLists) × (d : Document) × CheckText bytes p names d

@@ -1,6 +1,6 @@
 ghost use Rattle.std.specs.Prelude.{◌≡◌, ℕ, ◌+◌, ◌<◌, ◌≤◌, ◌^◌, ◌↔◌, List, [], ◌∷◌, ◌++◌, length, take, slice_index_or, OnOk, IsTrue};
 ghost use Rattle.mdvsp.specs.RowEnds.{end_of};
-ghost use Rattle.mdvsp.specs.UnfinishedRows.{text_so_far};
+ghost use Rattle.mdvsp.specs.UnfinishedRows.{text_so_far, is_row_empty, with_byte, with_field, with_row};
 
 use std::alloc::{AllocError, Global};
 use std::marker::Model;
@@ -96,7 +96,7 @@ impl RowBuilder {
 
     /// Whether nothing has come since the last row ended.
     pub fn row_is_empty(&self) -> bool
-        ensures { IsTrue result ↔ ((self.now.fields ≡ []) × (self.now.partial ≡ [])) }
+        ensures { result ≡ is_row_empty self.now }
     {
         let fields = start_of(&self.row_ends, self.row_ends.len());
         let bytes = start_of(&self.field_ends, self.field_ends.len());
@@ -105,7 +105,7 @@ impl RowBuilder {
 
     /// Adds a byte to the open field.
     pub fn push(&mut self, byte: u8) -> Result<(), AllocError>
-        ensures { OnOk result (self.new ≡ record self.old { partial = self.old.partial ++ byte ∷ [] }) }
+        ensures { OnOk result (self.new ≡ with_byte self.old byte) }
     {
         self.bytes.push(byte)?;
         Ok(())
@@ -114,7 +114,7 @@ impl RowBuilder {
     /// Ends the open field.
     pub fn end_field(&mut self) -> Result<(), AllocError>
         requires { length (text_so_far self.old) < 2 ^ 32 }
-        ensures { OnOk result (self.new ≡ record self.old { fields = self.old.fields ++ self.old.partial ∷ []; partial = [] }) }
+        ensures { OnOk result (self.new ≡ with_field self.old) }
     {
         self.field_ends.push(self.bytes.len() as u32)?;
         Ok(())
@@ -123,11 +123,7 @@ impl RowBuilder {
     /// Ends the open field, and the row that it is the last of.
     pub fn end_row(&mut self) -> Result<(), AllocError>
         requires { length (text_so_far self.old) + 1 < 2 ^ 32 }
-        ensures { OnOk result (self.new ≡ record {
-          rows = self.old.rows ++ (self.old.fields ++ self.old.partial ∷ []) ∷ [];
-          fields = [];
-          partial = [];
-        }) }
+        ensures { OnOk result (self.new ≡ with_row self.old) }
     {
         self.field_ends.push(self.bytes.len() as u32)?;
         self.row_ends.push(self.field_ends.len() as u32)?;

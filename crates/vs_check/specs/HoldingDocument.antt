@@ -1,5 +1,5 @@
 -- When a document proves what it claims.
-use Rattle.std.specs.Prelude.{◌≡◌, ℕ, List, [], ◌∷◌, All, ℤ, pos, Bool, if◌then◌else◌, Option, Some, None, MatchOption, slice_get}
+use Rattle.std.specs.Prelude.{◌≡◌, ℕ, [], ◌∷◌, All, ℤ, pos, if◌then◌else◌, Option, Some, None, MatchOption, slice_get}
 use Rattle.std.specs.Ordering.{int_eq}
 use Rattle.vs_instance.specs.Problem.{Problem}
 use Rattle.vs_instance.specs.Plan.{IsPlan, plan_cost}
@@ -8,7 +8,6 @@ use Rattle.vs_check.specs.declared.bound.Bound.{Bound}
 use Rattle.vs_check.specs.declared.claim.Claim.{Claim}
 use Rattle.vs_check.specs.declared.claim.Claim.TheVariants.{Optimal, Infeasible, StillOpen}
 use Rattle.vs_check.specs.declared.document.Document.{Document}
-use Rattle.vs_check.specs.declared.shape.Shape.{Shape}
 use Rattle.vs_check.specs.declared.shape.Shape.TheVariants.{Leaf}
 use Rattle.vs_check.specs.declared.table.Table.{Table}
 use Rattle.vs_check.specs.Blocks.{blocks_of}

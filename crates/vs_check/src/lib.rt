@@ -1,13 +1,19 @@
 //! The judge of a plan's document: it trusts nothing of the search, and goes over all pairs of trips.
 #![tactic(auto)]
 
+mod block_cost;
 mod bound;
 mod claim;
 mod document;
+mod judge_plan;
+mod judge_table;
+mod moves;
+mod pieces;
 mod plan;
 mod shape;
 mod table;
 mod verdict;
+mod worth;
 
 pub use bound::Bound;
 pub use claim::Claim;

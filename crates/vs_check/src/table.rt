@@ -1,3 +1,6 @@
+use vs_instance::Instance;
+use vs_types::LayerNo;
+
 /// Prices in 1/1000 of a cost unit, each within -10^18 and 10^18. Those of trips stand layer by layer, so
 /// trip i in layer l has place `l * trips + i`.
 #[derive(Debug, Drop)]
@@ -10,4 +13,49 @@ pub struct Table {
     pub fleet: Vec<i64>,
     /// Whether all pieces of cost count nothing, so that the table can show only that there is no plan.
     pub ray: bool,
+}
+
+impl Table {
+    ghost use Rattle.std.specs.Prelude.{◌≡◌, ◌<◌, length, All};
+    ghost use Rattle.vs_check.specs.Table.{Fits, IsPrice, prices_in};
+    ghost use Rattle.vs_instance.specs.HoldingTable.{price_of};
+    ghost use Rattle.vs_instance.specs.Instance.{IsInstance};
+
+    /// The prices for entering the trips in layer l, one per trip.
+    pub(crate) fn into_in(&self, instance: &Instance, l: LayerNo) -> &[i64]
+        requires instance { IsInstance instance.now }
+        requires fits { Fits instance.now self.now }
+        requires layer { l.0 < length instance.now.layers }
+        ensures value { result.now ≡ prices_in instance.now l.0 self.now.into.items }
+        ensures size { length result.now ≡ length instance.now.trips }
+        ensures prices { All IsPrice result.now }
+    {
+        let trips = instance.trips() as usize;
+        let first = l.0 as usize * trips;
+        &self.into[first..first + trips]
+    }
+
+    /// The prices for leaving the trips in layer l, one per trip.
+    pub(crate) fn from_in(&self, instance: &Instance, l: LayerNo) -> &[i64]
+        requires instance { IsInstance instance.now }
+        requires fits { Fits instance.now self.now }
+        requires layer { l.0 < length instance.now.layers }
+        ensures value { result.now ≡ prices_in instance.now l.0 self.now.from.items }
+        ensures size { length result.now ≡ length instance.now.trips }
+        ensures prices { All IsPrice result.now }
+    {
+        let trips = instance.trips() as usize;
+        let first = l.0 as usize * trips;
+        &self.from[first..first + trips]
+    }
+
+    /// The price of a vehicle of layer l.
+    pub(crate) fn fleet_price(&self, l: LayerNo) -> i64
+        requires layer { l.0 < length self.now.fleet.items }
+        requires prices { All IsPrice self.now.fleet.items }
+        ensures value { result ≡ price_of self.now.fleet.items l.0 }
+        ensures price { IsPrice result }
+    {
+        self.fleet[l.0 as usize]
+    }
 }

@@ -1,2 +1,13 @@
+pub mod Firsts
 pub mod Pairs
 pub mod WayMap
+pub mod Gathered
+pub mod Detours
+pub mod Elements
+pub mod Empty
+pub mod Limits
+pub mod Given
+pub mod Closed
+pub mod Judged
+pub mod Known
+pub mod Examples

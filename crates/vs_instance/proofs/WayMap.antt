@@ -1,14 +1,15 @@
 -- The row table and the map that it stands for.
-use Rattle.std.proofs.Common.{◌≡◌, ℕ, zero, suc, ◌+◌, ◌*◌, ◌/◌, ◌%◌, ◌<◌, ◌≤◌, Bool, cond, List, [], ◌∷◌, length, get_or, set, replicate, refl, sym, ap, ◌∙◌, inl, inr, arith}
+use Rattle.std.proofs.Common.{◌≡◌, ℕ, zero, suc, ◌+◌, ◌-◌, ◌*◌, ◌/◌, ◌%◌, ◌<◌, ◌≤◌, Bool, cond, List, [], ◌∷◌, length, get_or, set, take, drop, replicate, refl, sym, ap, ◌∙◌, inl, inr, arith}
 use Rattle.std.specs.FinMap as map
 use Rattle.std.specs.declared.option.Option.{Option}
 use Rattle.std.specs.declared.option.Option.TheVariants.{None, Some}
 use Rattle.std.proofs.lemmas.Bool.{cases_eq, cases_lt}
-use Rattle.std.proofs.lemmas.Nat.{div-mul-add, mod-mul-add, same_from_place, mod_below, div-add-mod'}
-use Rattle.std.proofs.lemmas.List.{get_or-set_same, get_or-set_other}
+use Rattle.std.proofs.lemmas.Nat.{div-mul-add, mod-mul-add, same_from_place, mod_below, mul-le, div-add-mod'}
+use Rattle.std.proofs.lemmas.List.{get_or-set_same, get_or-set_other, get_or-take, get_or-drop, length-take, length-drop}
 use Rattle.vs_instance.specs.declared.way.Way.{Way}
 use Rattle.vs_instance.specs.Problem.{pair_cmp}
-use Rattle.vs_instance.specs.WayMap.{map_from, way_map}
+use Rattle.vs_instance.specs.WayMap.{WayMap, map_from, way_map, row_of}
+use Rattle.std.proofs.lemmas.List.FromFn.{fill_by_all, length-map-range_with_len, get_or-map-range_with_len}
 use Rattle.vs_instance.proofs.Pairs.{pair_cmp-total, pair_cmp-IsAntisymmetric, tied_same, tied_apart}
 
 -- the pair is that of place p
@@ -93,3 +94,21 @@ map_from-none n p (suc k) = map_from-none n (p + 1) k
 -- a table of empty places is the empty map
 pub way_map-none : (n k : ℕ) → way_map n (replicate k None) ≡ map.empty
 way_map-none n k = map_from-none n 0 k
+
+-- the places of a stop's row
+pub row_of-way_map : (n k : ℕ) (ps : List (Option Way)) → length ps ≡ n * n → k < n
+    → take (k * n + n - k * n) (drop (k * n) ps) ≡ row_of (record { stops = n; given = way_map n ps }) k
+row_of-way_map n k ps all within =
+    let fits : k * n + n ≤ length ps = omega (arith, all, mul-le (k + 1) n n n (omega arith) (omega arith)) in
+    let size : k * n + n - k * n ≡ n = omega arith in
+    rw size
+    (fill_by_all (λ s. map.get (way_map n ps) (k, s)) (take n (drop (k * n) ps)) n None
+    (omega (arith, length-take n (drop (k * n) ps), length-drop (k * n) ps))
+    (λ s inside. get_or-take n (drop (k * n) ps) s None inside ∙ get_or-drop (k * n) ps s None ∙ sym (get-way_map n k s ps inside)))
+
+pub length-row_of : (ways : WayMap) (k : ℕ) → length (row_of ways k) ≡ ways.stops
+length-row_of ways k = length-map-range_with_len (λ s. map.get ways.given (k, s)) 0 ways.stops
+
+-- what stands in a stop's row
+pub get_or-row_of : (ways : WayMap) (k s : ℕ) (d : Option Way) → s < ways.stops → get_or (row_of ways k) s d ≡ map.get ways.given (k, s)
+get_or-row_of ways k s d within = get_or-map-range_with_len (λ t. map.get ways.given (k, t)) 0 ways.stops s s d within (omega arith)

@@ -50,13 +50,13 @@ layer_misfits l layer = let at = place.Layer (record { 0 = l }) in
     ++ when (nat_lt 1000000 layer.per_minute) (Range field.PerMinute at)
     ++ when (nat_lt 10000 layer.per_metre) (Range field.PerMetre at)
 
--- of the deadhead n, before which the earlier ones stand
-abbrev pub deadhead_misfits : List Deadhead → ℕ → Deadhead → List Misfit
-deadhead_misfits earlier n d =
+-- of the deadhead n, which may have a twin before it
+abbrev pub deadhead_misfits : Bool → ℕ → Deadhead → List Misfit
+deadhead_misfits twice n d =
     when (d.from.0 == d.to.0) (SelfDeadhead n)
     ++ when ((d.minutes == 0) || nat_lt 1440 d.minutes) (Range field.Minutes (place.Deadhead n))
     ++ when (nat_lt 1000000 d.metres) (Range field.Metres (place.Deadhead n))
-    ++ when (list_any (are_twins d) earlier) (DeadheadTwice n)
+    ++ when twice (DeadheadTwice n)
 
 abbrev pub trip_misfits : ℕ → Trip → List Misfit
 trip_misfits i trip =
@@ -75,36 +75,68 @@ detour_misfits k s t (Some a) (Some b) (Some w) = longer_misfits k s t a b w
 detour_misfits k s t (Some a) (Some b) None = NotClosed (record { 0 = k }) (record { 0 = s }) (record { 0 = t }) ∷ []
 detour_misfits k s t _ _ _ = []
 
--- of stops k, s and t, which have to be three
+-- the same, where the stops have to be three
+abbrev pub apart_misfits : ℕ → ℕ → ℕ → Option Way → Option Way → Option Way → List Misfit
+apart_misfits k s t a b w = if (k == s) || (s == t) || (k == t) then [] else detour_misfits k s t a b w
+
+-- of stops k, s and t
 abbrev pub triple_misfits : map.FinMap pair_cmp Way → ℕ → ℕ → ℕ → List Misfit
-triple_misfits deadheads k s t = if (k == s) || (s == t) || (k == t) then []
-    else detour_misfits k s t (map.get deadheads (k, s)) (map.get deadheads (s, t)) (map.get deadheads (k, t))
+triple_misfits deadheads k s t =
+    apart_misfits k s t (map.get deadheads (k, s)) (map.get deadheads (s, t)) (map.get deadheads (k, t))
 
 -- the stops' numbers in order
 abbrev pub numbers : ℕ → List ℕ
 numbers count = range_with_len 0 count
 
+-- of the ways from stop k by stop s to each stop, and from stop k by each stop
+abbrev pub misfits_by : ℕ → map.FinMap pair_cmp Way → ℕ → ℕ → List Misfit
+misfits_by stops deadheads k s = flat_map (triple_misfits deadheads k s) (numbers stops)
+
+abbrev pub misfits_from : ℕ → map.FinMap pair_cmp Way → ℕ → List Misfit
+misfits_from stops deadheads k = flat_map (misfits_by stops deadheads k) (numbers stops)
+
 abbrev pub closure_misfits : ℕ → map.FinMap pair_cmp Way → List Misfit
-closure_misfits stops deadheads =
-    flat_map (λ k. flat_map (λ s. flat_map (triple_misfits deadheads k s) (numbers stops)) (numbers stops)) (numbers stops)
+closure_misfits stops deadheads = flat_map (misfits_from stops deadheads) (numbers stops)
+
+-- of all layers, of all deadheads and of all trips, in number order
+abbrev pub layers_misfits : List Layer → List Misfit
+layers_misfits layers = flat_map (λ e. layer_misfits e.0 e.1) (enumerate_from 0 layers)
+
+abbrev pub has_twin_before : List Deadhead → ℕ → Deadhead → Bool
+has_twin_before deadheads n d = list_any (λ e. are_twins e d) (take n deadheads)
+
+abbrev pub deadheads_misfits : List Deadhead → List Misfit
+deadheads_misfits deadheads =
+    flat_map (λ e. deadhead_misfits (has_twin_before deadheads e.0 e.1) e.0 e.1) (enumerate_from 0 deadheads)
+
+abbrev pub trips_misfits : List Trip → List Misfit
+trips_misfits trips = flat_map (λ e. trip_misfits e.0 e.1) (enumerate_from 0 trips)
 
 -- all that is wrong with the parts, in order: layers, deadheads, trips, and then closure by the numbers of the three stops
 abbrev pub misfits_of : Parts → List Misfit
 misfits_of parts =
-    flat_map (λ e. layer_misfits e.0 e.1) (enumerate_from 0 parts.layers.items)
-    ++ flat_map (λ e. deadhead_misfits (take e.0 parts.deadheads.items) e.0 e.1) (enumerate_from 0 parts.deadheads.items)
-    ++ flat_map (λ e. trip_misfits e.0 e.1) (enumerate_from 0 parts.trips.items)
+    layers_misfits parts.layers.items
+    ++ deadheads_misfits parts.deadheads.items
+    ++ trips_misfits parts.trips.items
     ++ closure_misfits parts.stops (deadheads_of parts.deadheads.items)
+
+-- the first of all
+abbrev pub first_misfit : List Misfit → Option Misfit
+first_misfit misfits = slice_get misfits 0
 
 -- the error is a misfit
 abbrev pub IsMisfit : NewError → Type 0
 IsMisfit (error.Misfit m) = Unit {0}
 IsMisfit error.Memory = ⊥
 
+-- a misfit that is answered is the first of these
+abbrev pub IsFirstOf : List Misfit → NewError → Type 0
+IsFirstOf misfits (error.Misfit m) = first_misfit misfits ≡ Some m
+IsFirstOf misfits error.Memory = Unit {0}
+
 -- a misfit that is answered is the first of all
 abbrev pub IsFirstMisfit : Parts → NewError → Type 0
-IsFirstMisfit parts (error.Misfit m) = slice_get (misfits_of parts) 0 ≡ Some m
-IsFirstMisfit parts error.Memory = Unit {0}
+IsFirstMisfit parts e = IsFirstOf (misfits_of parts) e
 
 -- what a maker of parts has seen to: counts within the limits, each number one of the parts, and times of the two days
 pub record AreParts (parts : Parts) : Type 0 where

@@ -1,6 +1,7 @@
 -- Deadheads in rows, read as a map from pairs of stops.
-use Rattle.std.specs.Prelude.{ℕ, ◌+◌, ◌/◌, ◌%◌, List, [], ◌∷◌, Option, Some, None}
+use Rattle.std.specs.Prelude.{ℕ, ◌+◌, ◌/◌, ◌%◌, List, [], ◌∷◌, Option, Some, None, map as each}
 use Rattle.std.specs.FinMap as map
+use Rattle.std.specs.List.{range_with_len}
 use Rattle.vs_instance.specs.declared.way.Way.{Way}
 use Rattle.vs_instance.specs.Problem.{pair_cmp}
 
@@ -17,3 +18,7 @@ map_from stops place (Some w ∷ places) = map.insert (map_from stops (place + 1
 
 abbrev pub way_map : ℕ → List (Option Way) → map.FinMap pair_cmp Way
 way_map stops places = map_from stops 0 places
+
+-- the deadheads from stop k to each stop in number order
+abbrev pub row_of : WayMap → ℕ → List (Option Way)
+row_of ways k = each (λ s. map.get ways.given (k, s)) (range_with_len 0 ways.stops)

@@ -3,9 +3,12 @@ ghost use Rattle.vs_instance.specs.Instance.{IsInstance};
 ghost use Rattle.vs_instance.specs.Misfits.{AreParts, MakeInstance, problem_of, IsFirstMisfit, IsMisfit};
 ghost use Rattle.vs_instance.specs.Ways.{way, trip_of, layer_of};
 
+use crate::closure::closure_misfit;
+use crate::gather::ways_of;
 use crate::layer::Layer;
 use crate::misfit::NewError;
 use crate::parts::Parts;
+use crate::ranges::{layers_misfit, trips_misfit};
 use crate::trip::Trip;
 use crate::way::Way;
 use crate::ways::Ways;
@@ -46,15 +49,32 @@ impl Instance {
         ensures misfit { IfErr result (IsFirstMisfit parts) }
         ensures refused { IfErr result (λ e. IsMisfit e → ¬ (MakeInstance parts)) }
     {
-        let _ = (alloc, parts);
-        Err(NewError::Memory)
+        if let Some(misfit) = layers_misfit(&parts.layers) {
+            return Err(NewError::Misfit(misfit));
+        }
+        let ways = ways_of(alloc, parts.stops, &parts.deadheads)?;
+        if let Some(misfit) = trips_misfit(&parts.trips) {
+            return Err(NewError::Misfit(misfit));
+        }
+        if let Some(misfit) = closure_misfit(&ways) {
+            return Err(NewError::Misfit(misfit));
+        }
+        Ok(Instance {
+            ways,
+            layers: parts.layers,
+            trips: parts.trips,
+        })
     }
 
     /// An equal instance.
     pub fn copy(&self, alloc: Global) -> Result<Instance, Memory>
         ensures { IfOk result (λ instance. instance ≡ self.now) }
     {
-        Err(Memory)
+        Ok(Instance {
+            ways: self.ways.copy(alloc)?,
+            layers: Vec::from_slice(alloc, &self.layers)?,
+            trips: Vec::from_slice(alloc, &self.trips)?,
+        })
     }
 
     /// How many stops there are, at most 500.
@@ -132,3 +152,6 @@ impl Instance {
         self.way(k, s).map(|way| way.metres)
     }
 }
+
+#[cfg(test)]
+mod tests;

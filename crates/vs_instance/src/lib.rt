@@ -2,11 +2,14 @@
 //! pieces of cost, blocks, plans and prices that every other crate cites.
 #![tactic(auto)]
 
+mod closure;
 mod deadhead;
+mod gather;
 mod instance;
 mod layer;
 mod misfit;
 mod parts;
+mod ranges;
 mod trip;
 mod way;
 mod ways;

@@ -1,4 +1,6 @@
-use vs_types::{LayerNo, StopNo, TripNo};
+ghost use Rattle.std.specs.Prelude.{◌≡◌};
+
+use vs_types::{LayerNo, Memory, StopNo, TripNo};
 
 /// A number of the parts that has a range.
 #[derive(Clone, Copy, Debug, PartialEq, Eq)]
@@ -47,4 +49,14 @@ pub enum NewError {
     Misfit(Misfit),
     /// There was no memory.
     Memory,
+}
+
+impl From<Memory> for NewError {
+    ghost use Rattle.vs_instance.specs.declared.misfit.NewError.TheVariants as error;
+
+    ghost from_gives = { λ _ e. e ≡ error.Memory };
+
+    fn from(_memory: Memory) -> NewError {
+        NewError::Memory
+    }
 }

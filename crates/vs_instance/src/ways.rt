@@ -1,5 +1,6 @@
 ghost use Rattle.std.specs.Prelude.{◌≡◌, ℕ, ◌<◌, ◌≤◌, Some, IfOk, length};
 ghost use Rattle.std.specs.FinMap as map;
+ghost use Rattle.vs_instance.specs.WayMap.{row_of};
 
 use crate::way::Way;
 use std::alloc::Global;
@@ -39,6 +40,16 @@ impl Ways {
         Ok(Ways { stops, places })
     }
 
+    /// The same deadheads between the same stops.
+    pub fn copy(&self, alloc: Global) -> Result<Ways, Memory>
+        ensures { IfOk result (λ w. w ≡ self.now) }
+    {
+        Ok(Ways {
+            stops: self.stops,
+            places: Vec::from_slice(alloc, &self.places)?,
+        })
+    }
+
     /// How many stops there are.
     pub fn stops(&self) -> u32
         ensures count { result ≡ self.now.stops }
@@ -54,6 +65,15 @@ impl Ways {
         ensures { result ≡ map.get self.now.given (from.0, to.0) }
     {
         self.places[from.0 as usize * self.stops + to.0 as usize]
+    }
+
+    /// The deadheads from a stop to each stop in number order, where they are given.
+    pub fn row(&self, from: StopNo) -> &[Option<Way>]
+        requires { from.0 < self.now.stops }
+        ensures { result.now ≡ row_of self.now from.0 }
+    {
+        let start = from.0 as usize * self.stops;
+        &self.places[start..start + self.stops]
     }
 
     /// Gives the deadhead from one stop to another, in place of one that was given.

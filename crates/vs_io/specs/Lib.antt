@@ -1,3 +1,4 @@
 pub mod Bytes
+pub mod Edge
 pub mod Faults
 pub mod Memory

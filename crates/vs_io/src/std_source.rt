@@ -1,11 +1,13 @@
 ghost use Rattle.std.specs.Prelude.{◌≡◌, ◌<◌, ◌≤◌, length, None, IfOk, OnOk, OnErr};
+ghost use Rattle.std.specs.Io.KnownBytes.{ReadConsumes};
 ghost use Rattle.vs_io.specs.Faults.{Rose, one_more};
 
 use crate::source::{Failed, Source};
 use std::io::Read;
 use std::marker::Model;
 
-/// A source over a reader of the system, which tells no bytes. Clauses see its count of faults.
+/// A source over a reader of the system, which tells no bytes. Clauses see the reader and the count of
+/// faults.
 #[derive(Drop)]
 pub struct StdSource<R: Read + Drop> {
     reader: R,
@@ -13,17 +15,18 @@ pub struct StdSource<R: Read + Drop> {
 }
 
 impl<R: Read + Drop> Model for StdSource<R> {
-    ghost use Rattle.std.specs.Prelude.{ℕ};
+    ghost use Rattle.vs_io.specs.Edge.{Edge};
 
-    ghost Value = { ℕ };
+    ghost Value = { Edge R };
 
-    ghost view = { λ s. s.faults };
+    ghost view = { λ s. record { device = s.reader; faults = s.faults } };
 }
 
 impl<R: Read + Drop> StdSource<R> {
     /// A source that gives what the reader gives. Takes no memory.
     pub fn new(reader: R) -> StdSource<R>
-        ensures no_faults { result ≡ 0 }
+        ensures device { result.device ≡ reader }
+        ensures no_faults { result.faults ≡ 0 }
     {
         StdSource { reader, faults: 0 }
     }
@@ -32,17 +35,20 @@ impl<R: Read + Drop> StdSource<R> {
 impl<R: Read + Drop> Source for StdSource<R> {
     ghost left = { λ _. None };
 
-    ghost faults = { λ count. count };
+    ghost faults = { λ s. s.faults };
 
     fn take(&mut self, buf: &mut [u8]) -> Result<usize, Failed>
         requires { 0 < length buf.old }
         ensures within { IfOk result (λ n. n ≤ length buf.new) }
-        ensures fault { OnErr result (Rose self.old self.new) }
-        ensures never_falls { self.old ≤ self.new }
+        ensures fault { OnErr result (Rose self.old.faults self.new.faults) }
+        ensures never_falls { self.old.faults ≤ self.new.faults }
+
+        // It gives what the reader gave, where that tells its bytes.
+        ensures read { ReadConsumes (R.remaining self.old.device) (R.remaining self.new.device) result buf.new }
 
         // Exactly how the count moves.
-        ensures risen { OnErr result (self.new ≡ one_more self.old) }
-        ensures not_risen { OnOk result (self.new ≡ self.old) }
+        ensures risen { OnErr result (self.new.faults ≡ one_more self.old.faults) }
+        ensures not_risen { OnOk result (self.new.faults ≡ self.old.faults) }
     {
         match self.reader.read(buf) {
             Ok(n) => Ok(n),

@@ -1,4 +1,4 @@
-use Rattle.std.proofs.Common.{arith, length-drop}
+use Rattle.std.proofs.Common.{arith}
 use Rattle.vs_io.proofs.Bytes.{Appends-append, take-further}
 use Rattle.vs_io.proofs.emitting.emit.Goals as goal
 

@@ -1,0 +1,94 @@
+use Rattle.std.proofs.Common.{◌≡◌, List, sym, ap, ◌∙◌, subst}
+use Rattle.std.proofs.lemmas.Result.{err_from_is_err_and}
+use Rattle.vs_instance.specs.declared.layer.Layer.{Layer}
+use Rattle.vs_instance.specs.declared.deadhead.Deadhead.{Deadhead}
+use Rattle.vs_instance.specs.declared.trip.Trip.{Trip}
+use Rattle.vs_instance.specs.Instance.{IsInstance}
+use Rattle.vs_instance.specs.Misfits.{IsFirstOf, first_misfit, layers_misfits, deadheads_misfits, trips_misfits, closure_misfits, deadheads_of}
+use Rattle.vs_instance.proofs.Judged.{at_layers, at_deadheads, at_trips, at_closure, refuses, refuses_error, made}
+use Rattle.vs_instance.proofs.instance.Instance.new.Goals as goal
+
+pub returns-in-Some-clause-refused : goal.returns-in-Some-clause-refused
+returns-in-Some-clause-refused c =
+    let first = at_layers c.args.parts c.in-Some.misfit (c.in-Some.ensures ∙ ap (λ (ls : List Layer). first_misfit (layers_misfits ls)) c.deref.ensures.value) in
+    λ _. refuses c.args.parts c.in-Some.misfit first
+
+pub returns-in_err-ways-clause-misfit : goal.returns-in_err-ways-clause-misfit
+returns-in_err-ways-clause-misfit c =
+    let p = err_from_is_err_and c.from_residual.result c.from_residual.ensures.1 in
+    let h = at_deadheads c.args.parts c.in_err-ways.field-0.0
+    (c.in_default.ensures ∙ ap (λ (ls : List Layer). first_misfit (layers_misfits ls)) c.deref.ensures.value)
+    (subst (λ (ds : List Deadhead). IsFirstOf (deadheads_misfits ds) c.in_err-ways.field-0.0) c.deref-2.ensures.value c.in_err-ways.ensures.misfit) in
+    rw (p.1, p.2) h
+
+pub returns-in_err-ways-clause-refused : goal.returns-in_err-ways-clause-refused
+returns-in_err-ways-clause-refused c =
+    let p = err_from_is_err_and c.from_residual.result c.from_residual.ensures.1 in
+    let h = at_deadheads c.args.parts c.in_err-ways.field-0.0
+    (c.in_default.ensures ∙ ap (λ (ls : List Layer). first_misfit (layers_misfits ls)) c.deref.ensures.value)
+    (subst (λ (ds : List Deadhead). IsFirstOf (deadheads_misfits ds) c.in_err-ways.field-0.0) c.deref-2.ensures.value c.in_err-ways.ensures.misfit) in
+    rw (p.1, p.2) (refuses_error c.args.parts c.in_err-ways.field-0.0 h)
+
+pub returns-in-Some-trips_misfit-clause-misfit : goal.returns-in-Some-trips_misfit-clause-misfit
+returns-in-Some-trips_misfit-clause-misfit c =
+    at_trips c.args.parts c.in-Some-trips_misfit.misfit
+    (c.in_default.ensures ∙ ap (λ (ls : List Layer). first_misfit (layers_misfits ls)) c.deref.ensures.value)
+    (sym (ap deadheads_misfits c.deref-2.ensures.value) ∙ c.in_ok-ways.ensures.fit)
+    (c.in-Some-trips_misfit.ensures ∙ ap (λ (ts : List Trip). first_misfit (trips_misfits ts)) c.deref-3.ensures.value)
+
+pub returns-in-Some-trips_misfit-clause-refused : goal.returns-in-Some-trips_misfit-clause-refused
+returns-in-Some-trips_misfit-clause-refused c =
+    let first = at_trips c.args.parts c.in-Some-trips_misfit.misfit
+    (c.in_default.ensures ∙ ap (λ (ls : List Layer). first_misfit (layers_misfits ls)) c.deref.ensures.value)
+    (sym (ap deadheads_misfits c.deref-2.ensures.value) ∙ c.in_ok-ways.ensures.fit)
+    (c.in-Some-trips_misfit.ensures ∙ ap (λ (ts : List Trip). first_misfit (trips_misfits ts)) c.deref-3.ensures.value) in
+    λ _. refuses c.args.parts c.in-Some-trips_misfit.misfit first
+
+pub returns-in-Some-closure_misfit-clause-misfit : goal.returns-in-Some-closure_misfit-clause-misfit
+returns-in-Some-closure_misfit-clause-misfit c =
+    let given : c.in_ok-ways.ways.given ≡ deadheads_of c.args.parts.deadheads.items =
+    c.in_ok-ways.ensures.given.1 ∙ ap deadheads_of c.deref-2.ensures.value in
+    at_closure c.args.parts c.in-Some-closure_misfit.misfit
+    (c.in_default.ensures ∙ ap (λ (ls : List Layer). first_misfit (layers_misfits ls)) c.deref.ensures.value)
+    (sym (ap deadheads_misfits c.deref-2.ensures.value) ∙ c.in_ok-ways.ensures.fit)
+    (c.in_default-trips_misfit.ensures ∙ ap (λ (ts : List Trip). first_misfit (trips_misfits ts)) c.deref-3.ensures.value)
+    (c.in-Some-closure_misfit.ensures ∙ (λ i. first_misfit (closure_misfits (c.in_ok-ways.ensures.given.0 i) (given i))))
+
+pub returns-in-Some-closure_misfit-clause-refused : goal.returns-in-Some-closure_misfit-clause-refused
+returns-in-Some-closure_misfit-clause-refused c =
+    let given : c.in_ok-ways.ways.given ≡ deadheads_of c.args.parts.deadheads.items =
+    c.in_ok-ways.ensures.given.1 ∙ ap deadheads_of c.deref-2.ensures.value in
+    let first = at_closure c.args.parts c.in-Some-closure_misfit.misfit
+    (c.in_default.ensures ∙ ap (λ (ls : List Layer). first_misfit (layers_misfits ls)) c.deref.ensures.value)
+    (sym (ap deadheads_misfits c.deref-2.ensures.value) ∙ c.in_ok-ways.ensures.fit)
+    (c.in_default-trips_misfit.ensures ∙ ap (λ (ts : List Trip). first_misfit (trips_misfits ts)) c.deref-3.ensures.value)
+    (c.in-Some-closure_misfit.ensures ∙ (λ i. first_misfit (closure_misfits (c.in_ok-ways.ensures.given.0 i) (given i)))) in
+    λ _. refuses c.args.parts c.in-Some-closure_misfit.misfit first
+
+pub invariant_of-result : goal.invariant_of-result
+invariant_of-result c =
+    let given : c.in_ok-ways.ways.given ≡ deadheads_of c.args.parts.deadheads.items =
+    c.in_ok-ways.ensures.given.1 ∙ ap deadheads_of c.deref-2.ensures.value in
+    let whole = made c.args.parts c.requires
+    (c.in_default.ensures ∙ ap (λ (ls : List Layer). first_misfit (layers_misfits ls)) c.deref.ensures.value)
+    (sym (ap deadheads_misfits c.deref-2.ensures.value) ∙ c.in_ok-ways.ensures.fit)
+    (c.in_default-trips_misfit.ensures ∙ ap (λ (ts : List Trip). first_misfit (trips_misfits ts)) c.deref-3.ensures.value)
+    (c.in_default-closure_misfit.ensures ∙ (λ i. first_misfit (closure_misfits (c.in_ok-ways.ensures.given.0 i) (given i)))) in
+    subst IsInstance
+    (λ i. record {
+      stops = sym c.in_ok-ways.ensures.given.0 i;
+      deadheads = sym given i;
+      layers = c.args.parts.layers.items;
+      trips = c.args.parts.trips.items;
+    })
+    whole.instance
+
+pub returns-clause-made : goal.returns-clause-made
+returns-clause-made c =
+    let given : c.in_ok-ways.ways.given ≡ deadheads_of c.args.parts.deadheads.items =
+    c.in_ok-ways.ensures.given.1 ∙ ap deadheads_of c.deref-2.ensures.value in
+    made c.args.parts c.requires
+    (c.in_default.ensures ∙ ap (λ (ls : List Layer). first_misfit (layers_misfits ls)) c.deref.ensures.value)
+    (sym (ap deadheads_misfits c.deref-2.ensures.value) ∙ c.in_ok-ways.ensures.fit)
+    (c.in_default-trips_misfit.ensures ∙ ap (λ (ts : List Trip). first_misfit (trips_misfits ts)) c.deref-3.ensures.value)
+    (c.in_default-closure_misfit.ensures ∙ (λ i. first_misfit (closure_misfits (c.in_ok-ways.ensures.given.0 i) (given i))))

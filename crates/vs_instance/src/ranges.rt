@@ -1,0 +1,74 @@
+ghost use Rattle.std.specs.Prelude.{◌≡◌, ◌≤◌, length};
+ghost use Rattle.vs_instance.specs.Misfits.{first_misfit, layer_misfits, layers_misfits, trip_misfits, trips_misfits};
+
+use crate::layer::Layer;
+use crate::misfit::{Field, Misfit, Place};
+use crate::trip::Trip;
+use vs_types::{LayerNo, TripNo};
+
+pub const MAX_FLEET: u64 = 2_000;
+
+pub const MAX_FIXED: u64 = 1_000_000_000;
+
+pub const MAX_PER_MINUTE: u64 = 1_000_000;
+
+pub const MAX_PER_METRE: u64 = 10_000;
+
+pub const MAX_MINUTES: u64 = 1_440;
+
+pub const MAX_METRES: u64 = 1_000_000;
+
+fn layer_misfit(l: LayerNo, layer: &Layer) -> Option<Misfit>
+    ensures { result ≡ first_misfit (layer_misfits l.0 layer.now) }
+{
+    let place = Place::Layer(l);
+    if layer.fleet > MAX_FLEET {
+        Some(Misfit::Range(Field::Fleet, place))
+    } else if layer.fixed > MAX_FIXED {
+        Some(Misfit::Range(Field::Fixed, place))
+    } else if layer.per_minute > MAX_PER_MINUTE {
+        Some(Misfit::Range(Field::PerMinute, place))
+    } else if layer.per_metre > MAX_PER_METRE {
+        Some(Misfit::Range(Field::PerMetre, place))
+    } else {
+        None
+    }
+}
+
+/// The first misfit of the layers, in number order.
+pub fn layers_misfit(layers: &[Layer]) -> Option<Misfit>
+    requires { length layers.now ≤ 16 }
+    ensures { result ≡ first_misfit (layers_misfits layers.now) }
+{
+    for (l, layer) in layers.iter().enumerate() {
+        if let Some(misfit) = layer_misfit(LayerNo(l as u32), layer) {
+            return Some(misfit);
+        }
+    }
+    None
+}
+
+fn trip_misfit(i: TripNo, trip: &Trip) -> Option<Misfit>
+    ensures { result ≡ first_misfit (trip_misfits i.0 trip.now) }
+{
+    if trip.metres > MAX_METRES {
+        Some(Misfit::Range(Field::Metres, Place::Trip(i)))
+    } else if trip.end <= trip.start {
+        Some(Misfit::EndNotAfterStart(i))
+    } else {
+        None
+    }
+}
+
+/// The first misfit of the trips, in number order.
+pub fn trips_misfit(trips: &[Trip]) -> Option<Misfit>
+    requires { length trips.now ≤ 2000 }
+    ensures { result ≡ first_misfit (trips_misfits trips.now) }
+{
+    for (i, trip) in trips.iter().enumerate() {
+        if let Some(misfit) = trip_misfit(TripNo(i as u32), trip) {
+            return Some(misfit);
+        }
+    }
+    None
+}
