@@ -25,3 +25,8 @@ pub mod OwedAnswers
 pub mod RunEnds
 pub mod RowTexts
 pub mod WordLists
+pub mod Orders
+pub mod OpenBlocks
+pub mod Placing
+pub mod ZeroTable
+pub mod FirstAnswer
