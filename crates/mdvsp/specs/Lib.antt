@@ -9,6 +9,8 @@ pub mod InstanceText
 pub mod Kinds
 pub mod Drafts
 pub mod DocumentText
+pub mod DocumentParts
+pub mod Alike
 pub mod FirstForm
 pub mod BeforeResult
 pub mod Status
