@@ -1,3 +1,11 @@
+pub mod DocumentNumbers
+pub mod DocumentNames
+pub mod DocumentPlan
+pub mod DocumentErrors
+pub mod DocumentRows
+pub mod DocumentPrices
+pub mod DocumentLayers
+pub mod DocumentSame
 pub mod ReaderNames
 pub mod ReaderNumbers
 pub mod ReaderLayers
@@ -14,6 +22,11 @@ pub mod Results
 pub mod LinesAppend
 pub mod CheckTexts
 pub mod OwedAnswers
+pub mod RowFields
 pub mod RunEnds
-pub mod RowTexts
 pub mod WordLists
+pub mod Orders
+pub mod OpenBlocks
+pub mod Placing
+pub mod ZeroTable
+pub mod FirstAnswer

@@ -1,11 +1,11 @@
 -- The rule by which a first plan is made.
-use Rattle.std.specs.Prelude.{◌≡◌, ℕ, ◌<◌, List, [], ◌∷◌, ◌++◌, length, set, AllPairs, Contains, ◌⊎◌, ◌↔◌, slice_index_or}
+use Rattle.std.specs.Prelude.{◌≡◌, ℕ, ◌+◌, ◌<◌, ◌≤◌, List, [], ◌∷◌, ◌++◌, length, set, AllPairs, Contains, ◌⊎◌, ◌↔◌, slice_index, slice_index_or, ℤ, pos, Option, MatchOption}
 use Rattle.vs_types.specs.declared.numbers.LayerNo.{LayerNo}
 use Rattle.vs_types.specs.declared.numbers.TripNo.{TripNo}
 use Rattle.vs_instance.specs.Problem.{Problem}
 use Rattle.vs_instance.specs.Ways.{trip_of, layer_of, Permitted, Connects, HasPullOut, HasPullIn}
 use Rattle.vs_instance.specs.Blocks.{last_of}
-use Rattle.vs_instance.specs.Plan.{LayerBlock, vehicles_used}
+use Rattle.vs_instance.specs.Plan.{LayerBlock, IsPlan, all_trips, plan_cost, vehicles_used}
 
 -- trip i is taken before trip j: it starts earlier, or at the same minute and has the lower number
 abbrev pub TakenBefore : Problem → TripNo → TripNo → Type 0
@@ -58,10 +58,19 @@ pub record IsStuck (p : Problem) (blocks : List LayerBlock) (i : ℕ) : Type 0 w
   pub none : JoinsNone p blocks i
   pub no_layer : (l : ℕ) → ¬ (CanOpen p blocks i l)
 
+-- trip i joins a block or opens one
+abbrev pub IsPlaced : Problem → List LayerBlock → TripNo → List LayerBlock → Type 0
+IsPlaced p old i new = Joins p old i new ⊎ Opens p old i new
+
 -- the trips are placed one after another
 abbrev pub Places : Problem → List LayerBlock → List TripNo → List LayerBlock → Type 0
 Places p old [] new = new ≡ old
-Places p old (i ∷ trips) new = (next : List LayerBlock) × (Joins p old i next ⊎ Opens p old i next) × Places p next trips new
+Places p old (i ∷ trips) new = (next : List LayerBlock) × IsPlaced p old i next × Places p next trips new
+
+-- how many vehicles each layer has left, beside those of its blocks
+pub record AreLeft (p : Problem) (blocks : List LayerBlock) (left : List ℕ) : Type 0 where
+  pub each_layer : length left ≡ length p.layers
+  pub counted : (l : ℕ) → l < length p.layers → slice_index left l + vehicles_used blocks l ≡ (layer_of p l).fleet
 
 -- what the rule gives: the blocks when every trip is placed
 pub record GreedyGives (p : Problem) (blocks : List LayerBlock) : Type 0 where
@@ -78,3 +87,15 @@ pub record GreedyGetsStuck (p : Problem) : Type 0 where
   pub is_order : IsOrder p (earlier ++ trip ∷ later)
   pub placed : Places p [] earlier blocks
   pub stuck : IsStuck p blocks trip.0
+
+-- blocks that the rule gives, a plan that runs each trip once, and what they cost
+pub record IsPriced (p : Problem) (blocks : List LayerBlock) (cost : ℤ) : Type 0 where
+  pub given : GreedyGives p blocks
+  pub plan : IsPlan p blocks
+  pub each_trip : length (all_trips blocks) ≡ length p.trips
+  pub value : cost ≡ pos (plan_cost p blocks)
+  pub few : plan_cost p blocks ≤ 100000000000000000
+
+-- the rule's blocks with their cost, or neither where it gets stuck
+abbrev pub IsPricedPlan : Problem → List LayerBlock → Option ℤ → Type 0
+IsPricedPlan p blocks cost = MatchOption cost (GreedyGetsStuck p × (blocks ≡ [])) (IsPriced p blocks)

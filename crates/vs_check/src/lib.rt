@@ -15,10 +15,12 @@ mod table;
 mod verdict;
 mod worth;
 
+pub use block_cost::blocks_cost;
 pub use bound::Bound;
 pub use claim::Claim;
 pub use document::Document;
+pub use moves::{connects, has_pull_in, has_pull_out};
 pub use plan::{Block, Plan};
 pub use shape::Shape;
 pub use table::Table;
-pub use verdict::{Verdict, check};
+pub use verdict::{Verdict, check, claim_found};

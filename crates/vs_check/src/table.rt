@@ -1,3 +1,5 @@
+use crate::bound::Bound;
+use crate::worth::worth;
 use vs_instance::Instance;
 use vs_types::LayerNo;
 
@@ -18,8 +20,10 @@ pub struct Table {
 impl Table {
     ghost use Rattle.std.specs.Prelude.{◌≡◌, ◌<◌, length, All};
     ghost use Rattle.vs_check.specs.Table.{Fits, IsPrice, prices_in};
+    ghost use Rattle.vs_check.specs.Worth.{IsWorth};
     ghost use Rattle.vs_instance.specs.HoldingTable.{price_of};
     ghost use Rattle.vs_instance.specs.Instance.{IsInstance};
+    ghost use Rattle.vs_instance.specs.Restriction.{permitted_sets};
 
     /// The prices for entering the trips in layer l, one per trip.
     pub(crate) fn into_in(&self, instance: &Instance, l: LayerNo) -> &[i64]
@@ -57,5 +61,13 @@ impl Table {
         ensures price { IsPrice result }
     {
         self.fleet[l.0 as usize]
+    }
+
+    /// What the table is worth where each trip may be run in any layer that permits it.
+    pub fn worth(&self, instance: &Instance) -> Bound
+        requires { Fits instance.now self.now }
+        ensures { IsWorth instance.now (permitted_sets instance.now) self.now result }
+    {
+        worth(instance, self)
     }
 }

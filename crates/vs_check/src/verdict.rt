@@ -49,7 +49,7 @@ fn leaf_reaches(instance: &Instance, document: &Document) -> bool
 }
 
 /// What a cost and a bound claim together.
-fn claim_found(cost: Option<i64>, bound: Option<i128>) -> Claim
+pub fn claim_found(cost: Option<i64>, bound: Option<i128>) -> Claim
     ensures { result ≡ claim_found cost bound }
 {
     match (cost, bound) {

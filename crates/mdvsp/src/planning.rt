@@ -1,0 +1,7 @@
+mod answering;
+mod draft;
+mod greedy;
+mod order;
+mod zero_table;
+
+pub use answering::first_answer;
