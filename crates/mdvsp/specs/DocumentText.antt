@@ -6,7 +6,7 @@ use Rattle.std.specs.List.{enumerate_from, range_with_len}
 use Rattle.vs_types.specs.LayerSet.{Has, members}
 use Rattle.vs_instance.specs.Problem.{Problem}
 use Rattle.vs_instance.specs.Ways.{Permitted, trip_of}
-use Rattle.vs_instance.specs.Plan.{LayerBlock}
+use Rattle.vs_instance.specs.Plan.{LayerBlock, all_trips}
 use Rattle.vs_instance.specs.HoldingTable.{price_of}
 use Rattle.vs_check.specs.declared.claim.Claim.{Claim}
 use Rattle.vs_check.specs.declared.claim.Claim.TheVariants.{Optimal, Infeasible, StillOpen}
@@ -112,9 +112,11 @@ pub record HasText (p : Problem) (d : Document) : Type 0 where
   pub tree : IsTreeOf 1 d.shape.items
   pub shape : All (IsShapeOf p (length d.tables.items)) d.shape.items
 
--- The rows are the document's: its head, its blocks, its tables numbered from 1, its tree, and `end`.
+-- The rows are the document's: its head, its blocks, its tables numbered from 1, its tree, and `end`. All blocks together have so few trips
+-- since an input has at most 536870912 bytes.
 pub record DocumentText (p : Problem) (names : NameLists) (rows : List Row) (d : Document) : Type 0 where
   pub has_text : HasText p d
+  pub few_trips : length (all_trips (blocks_of d.plan)) < 4294967296
   pub shape_rows : List Row
   pub shapes_are : AreShapeRows names shape_rows d.shape.items
   pub rows_are : rows ≡ head_rows d ++ map (block_row names) (blocks_of d.plan)

@@ -2,10 +2,15 @@ pub mod Rows
 pub mod RowEnds
 pub mod UnfinishedRows
 pub mod Numbers
-pub mod RowText
 pub mod Names
+pub mod NameRules
+pub mod NameCodes
 pub mod InstanceText
+pub mod Kinds
+pub mod Drafts
 pub mod DocumentText
+pub mod DocumentParts
+pub mod Alike
 pub mod FirstForm
 pub mod BeforeResult
 pub mod Status

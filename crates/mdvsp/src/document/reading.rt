@@ -1,0 +1,119 @@
+ghost use Rattle.std.specs.Prelude.{◌≡◌, ◌≤◌, ◌↔◌, [], ◌∷◌, List, length, drop, IsTrue, IfOk, OnErr};
+ghost use Rattle.vs_instance.specs.Plan.{LayerBlock};
+ghost use Rattle.vs_check.specs.declared.document.Document.{Document as DocumentOf};
+ghost use Rattle.vs_check.specs.declared.table.Table.{Table as TableOf};
+ghost use Rattle.vs_check.specs.Blocks.{blocks_of};
+ghost use Rattle.vs_check.specs.Form.{IsReadFor};
+ghost use Rattle.mdvsp.specs.declared.document.head.Head.{Head as HeadOf};
+ghost use Rattle.mdvsp.specs.NameRules.{AreNames};
+ghost use Rattle.mdvsp.specs.DocumentText.{DocumentText};
+ghost use Rattle.mdvsp.specs.DocumentParts.{AreParts, HasParts, leaf_line, end_line, row_at};
+ghost use Rattle.mdvsp.specs.FirstForm.{IsFirstDocument};
+ghost use Rattle.mdvsp.specs.Alike.{AreAlike};
+
+use super::fields::{is_of_kind, is_text};
+use super::head::{Head, read_head};
+use super::plan::read_plan;
+use super::table::{empty_table, read_table};
+use crate::form_error::FormError;
+use crate::reader::Names;
+use crate::rows::Rows;
+use std::alloc::Global;
+use vs_check::{Document, Plan, Shape, Table};
+use vs_instance::Instance;
+
+/// What the rows of a document of the first form give.
+#[derive(Drop)]
+struct Parts {
+    head: Head,
+    plan: Plan,
+    table: Table,
+}
+
+/// Reads the rows from `start` on as a document of the first form: its bound is a number, it has one cost
+/// table, and its tree is one leaf.
+pub fn read_document(
+    alloc: Global,
+    rows: &Rows,
+    start: usize,
+    instance: &Instance,
+    names: &Names,
+) -> Result<Document, FormError>
+    requires start { start ≤ length rows.now }
+    requires layers { length names.now.layers ≡ length instance.now.layers }
+    requires trips { length names.now.trips ≡ length instance.now.trips }
+    ensures found { IfOk result (DocumentText instance.now names.now (drop start rows.now)) }
+    ensures form { IfOk result IsFirstDocument }
+    ensures read_for { IfOk result (IsReadFor instance.now) }
+    ensures only { IfOk result (λ d. (other : DocumentOf) → DocumentText instance.now names.now (drop start rows.now) other
+        → IsFirstDocument other → AreAlike d other) }
+    ensures none { result ≡ Err FormError.NotThisForm → (d : DocumentOf) → DocumentText instance.now names.now (drop start rows.now) d
+        → ¬ (IsFirstDocument d) }
+{
+    let parts = read_parts(alloc, rows, start, instance, names)?;
+    document(alloc, parts)
+}
+
+/// Reads the parts of a document of the first form.
+fn read_parts(
+    alloc: Global,
+    rows: &Rows,
+    start: usize,
+    instance: &Instance,
+    names: &Names,
+) -> Result<Parts, FormError>
+    requires start { start ≤ length rows.now }
+    requires layers { length names.now.layers ≡ length instance.now.layers }
+    requires trips { length names.now.trips ≡ length instance.now.trips }
+    ensures found { IfOk result (λ x. AreParts instance.now names.now rows.now start x.head (blocks_of x.plan) x.table) }
+    ensures layer_names { IfOk result (λ _. AreNames names.now.layers) }
+    ensures trip_names { IfOk result (λ _. AreNames names.now.trips) }
+    ensures none { result ≡ Err FormError.NotThisForm → (head : HeadOf) (blocks : List LayerBlock) (table : TableOf)
+        → ¬ (AreParts instance.now names.now rows.now start head blocks table) }
+{
+    let empty = empty_table(alloc, names)?;
+    let Some(head) = read_head(rows, start) else {
+        return Err(FormError::NotThisForm);
+    };
+    let (plan, next) = read_plan(alloc, rows, start + 4, names)?;
+    if head.cost.is_none() && !plan.blocks.is_empty() {
+        return Err(FormError::NotThisForm);
+    }
+    let (table, end) = read_table(rows, next, instance, names, empty)?;
+    if !is_end(rows, end) {
+        return Err(FormError::NotThisForm);
+    }
+    Ok(Parts { head, plan, table })
+}
+
+/// Whether the rows from this one on are `leaf`, `1` and `end`.
+fn is_end(rows: &Rows, at: usize) -> bool
+    requires { at ≤ length rows.now }
+    ensures { IsTrue result ↔ (drop at rows.now ≡ leaf_line ∷ end_line ∷ []) }
+{
+    rows.len() - at == 2
+        && is_of_kind(rows, at, "leaf", 2)
+        && is_text(rows.field(at, 1), "1")
+        && is_of_kind(rows, at + 1, "end", 1)
+}
+
+/// The document that has these parts.
+fn document(alloc: Global, parts: Parts) -> Result<Document, FormError>
+    ensures found { IfOk result (λ d. HasParts d parts.head (blocks_of parts.plan) parts.table) }
+    ensures memory { OnErr result (result ≡ Err FormError.Memory) }
+{
+    let Parts { head, plan, table } = parts;
+    let mut tables = Vec::with_capacity(alloc, 1)?;
+    tables.push(table)?;
+    let mut shape = Vec::with_capacity(alloc, 1)?;
+    shape.push(Shape::Leaf { table: 0 })?;
+    Ok(Document {
+        claim: head.claim,
+        cost: head.cost,
+        bound: Some(head.bound),
+        nodes: head.nodes,
+        plan,
+        tables,
+        shape,
+    })
+}
