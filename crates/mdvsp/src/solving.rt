@@ -6,7 +6,7 @@ ghost use Rattle.mdvsp.specs.Outcome.{input_limit};
 ghost use Rattle.mdvsp.specs.Owed.{IsSolveText, status_of};
 
 use crate::answer::Answer;
-use crate::document::write_document;
+use crate::writing::write_document;
 use crate::form_error::FormError;
 use crate::lines::rows_before_result;
 use crate::planning::first_answer;
