@@ -5,3 +5,7 @@ pub mod Reading
 pub mod Results
 pub mod LinesAppend
 pub mod WordLists
+pub mod ReaderNames
+pub mod ReaderNumbers
+pub mod ReaderLayers
+pub mod ReaderRows

@@ -36,35 +36,41 @@ pub record AddsStop (old : Declared) (row : Row) (new : Declared) : Type 0 where
   pub added : new ≡ record old { names = record old.names { stops = old.names.stops ++ name ∷ [] } }
 
 -- `deadhead`, FROM, TO, MINUTES, METRES
-pub record AddsDeadhead (old : Declared) (row : Row) (new : Declared) : Type 0 where
+pub record DeadheadRow (stops : List Field) (row : Row) (deadhead : Deadhead) : Type 0 where
   pub from : Field
   pub to : Field
   pub minutes : Field
   pub metres : Field
-  pub deadhead : Deadhead
   pub row_is : row ≡ codes "deadhead" ∷ from ∷ to ∷ minutes ∷ metres ∷ []
-  pub from_is : Names old.names.stops from deadhead.from.0
-  pub to_is : Names old.names.stops to deadhead.to.0
+  pub from_is : Names stops from deadhead.from.0
+  pub to_is : Names stops to deadhead.to.0
   pub minutes_are : IsNumber minutes deadhead.minutes
   pub metres_are : IsNumber metres deadhead.metres
+
+pub record AddsDeadhead (old : Declared) (row : Row) (new : Declared) : Type 0 where
+  pub deadhead : Deadhead
+  pub row_is : DeadheadRow old.names.stops row deadhead
   pub added : new ≡ record old { deadheads = old.deadheads ++ deadhead ∷ [] }
 
 -- `layer`, NAME, DEPOT, FLEET, FIXED, PER_MINUTE, PER_METRE
-pub record AddsLayer (old : Declared) (row : Row) (new : Declared) : Type 0 where
-  pub name : Field
+pub record LayerRow (stops : List Field) (row : Row) (name : Field) (layer : Layer) : Type 0 where
   pub depot : Field
   pub fleet : Field
   pub fixed : Field
   pub per_minute : Field
   pub per_metre : Field
-  pub layer : Layer
   pub row_is : row ≡ codes "layer" ∷ name ∷ depot ∷ fleet ∷ fixed ∷ per_minute ∷ per_metre ∷ []
-  pub new_name : IsNew old.names.layers name
-  pub depot_is : Names old.names.stops depot layer.depot.0
+  pub depot_is : Names stops depot layer.depot.0
   pub fleet_is : IsNumber fleet layer.fleet
   pub fixed_is : IsNumber fixed layer.fixed
   pub per_minute_is : IsNumber per_minute layer.per_minute
   pub per_metre_is : IsNumber per_metre layer.per_metre
+
+pub record AddsLayer (old : Declared) (row : Row) (new : Declared) : Type 0 where
+  pub name : Field
+  pub layer : Layer
+  pub row_is : LayerRow old.names.stops row name layer
+  pub new_name : IsNew old.names.layers name
   pub room : length old.names.layers < 16
   pub added : new ≡ record old { names = record old.names { layers = old.names.layers ++ name ∷ [] }; layers = old.layers ++ layer ∷ [] }
 
@@ -75,24 +81,27 @@ pub record NameLayers (names : List Field) (fields : List Field) (set : LayerSet
   pub members : (l : ℕ) → Has set l ↔ ((f : Field) × Contains fields f × Names names f l)
 
 -- `trip`, NAME, FROM, START, TO, END, METRES, and one LAYER or more
-pub record AddsTrip (old : Declared) (row : Row) (new : Declared) : Type 0 where
-  pub name : Field
+pub record TripRow (names : NameLists) (row : Row) (name : Field) (trip : Trip) : Type 0 where
   pub from : Field
   pub start : Field
   pub to : Field
   pub end : Field
   pub metres : Field
   pub layers : List Field
-  pub trip : Trip
   pub row_is : row ≡ codes "trip" ∷ name ∷ from ∷ start ∷ to ∷ end ∷ metres ∷ layers
-  pub new_name : IsNew old.names.trips name
-  pub from_is : Names old.names.stops from trip.from.0
+  pub from_is : Names names.stops from trip.from.0
   pub start_is : IsTime start trip.start
-  pub to_is : Names old.names.stops to trip.to.0
+  pub to_is : Names names.stops to trip.to.0
   pub end_is : IsTime end trip.end
   pub metres_are : IsNumber metres trip.metres
   pub some_layer : 1 ≤ length layers
-  pub layers_are : NameLayers old.names.layers layers trip.layers
+  pub layers_are : NameLayers names.layers layers trip.layers
+
+pub record AddsTrip (old : Declared) (row : Row) (new : Declared) : Type 0 where
+  pub name : Field
+  pub trip : Trip
+  pub row_is : TripRow old.names row name trip
+  pub new_name : IsNew old.names.trips name
   pub room : length old.names.trips < 2000
   pub added : new ≡ record old { names = record old.names { trips = old.names.trips ++ name ∷ [] }; trips = old.trips ++ trip ∷ [] }
 

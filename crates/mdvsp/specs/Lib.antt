@@ -3,7 +3,11 @@ pub mod RowEnds
 pub mod UnfinishedRows
 pub mod Numbers
 pub mod Names
+pub mod NameRules
+pub mod NameCodes
 pub mod InstanceText
+pub mod Kinds
+pub mod Drafts
 pub mod DocumentText
 pub mod FirstForm
 pub mod BeforeResult
