@@ -9,3 +9,4 @@ pub mod ReaderNames
 pub mod ReaderNumbers
 pub mod ReaderLayers
 pub mod ReaderRows
+pub mod WrittenRows

@@ -9,6 +9,7 @@ pub mod InstanceText
 pub mod Kinds
 pub mod Drafts
 pub mod DocumentText
+pub mod WrittenParts
 pub mod FirstForm
 pub mod BeforeResult
 pub mod Status
