@@ -31,3 +31,8 @@ pub mod OpenBlocks
 pub mod Placing
 pub mod ZeroTable
 pub mod FirstAnswer
+pub mod ReaderNames
+pub mod ReaderNumbers
+pub mod ReaderLayers
+pub mod ReaderRows
+pub mod WrittenRows

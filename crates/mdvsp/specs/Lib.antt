@@ -11,6 +11,7 @@ pub mod Drafts
 pub mod DocumentText
 pub mod DocumentParts
 pub mod Alike
+pub mod WrittenParts
 pub mod FirstForm
 pub mod BeforeResult
 pub mod Status

@@ -86,3 +86,29 @@ fn first_separator(bytes: &[u8]) -> Option<usize>
 {
     bytes.iter().position(|b| *b == b',' || *b == b'\n')
 }
+
+#[cfg(test)]
+mod tests {
+    use super::*;
+    use std::test::Fail;
+
+    #[test]
+    fn splits_lines(rt: HostRuntime) -> Result<(), Fail> {
+        let rows = rows_of_lines(rt.alloc(), b"stop,S\n,x,\n")?;
+        assert_eq!(rt; rows.len(), 2);
+        assert_eq!(rt; rows.fields(0), 2);
+        assert_eq!(rt; rows.field(0, 1), b"S".as_slice());
+        assert_eq!(rt; rows.fields(1), 3);
+        assert_eq!(rt; rows.field(1, 1), b"x".as_slice());
+        assert_eq!(rt; rows.field(1, 2), b"".as_slice());
+        Ok(())
+    }
+
+    #[test]
+    fn stops_before_a_result(rt: HostRuntime) -> Result<(), Fail> {
+        let rows = rows_before_result(rt.alloc(), b"results,1\nresult\n\"\n")?;
+        assert_eq!(rt; rows.len(), 1);
+        assert_eq!(rt; rows.fields(0), 2);
+        Ok(())
+    }
+}

@@ -70,3 +70,25 @@ impl Text {
         self.bytes
     }
 }
+
+#[cfg(test)]
+mod tests {
+    use super::*;
+    use std::test::Fail;
+
+    #[test]
+    fn writes_rows(rt: HostRuntime) -> Result<(), Fail> {
+        let mut text = Text::new(rt.alloc());
+        text.begin_row("cost")?;
+        text.number(-7i64)?;
+        text.end_row()?;
+        text.begin_row("end")?;
+        text.field("x")?;
+        text.end_row()?;
+        assert_eq!(rt;
+            text.into_bytes().as_slice(),
+            b"cost,-7\nend,x\n".as_slice()
+        );
+        Ok(())
+    }
+}

@@ -1,0 +1,10 @@
+use Rattle.std.proofs.Common.{◌≡◌, List, [], ◌∷◌, ◌++◌, length, take}
+use Rattle.std.specs.Prelude.{flat_map}
+use Rattle.std.specs.List.{range_with_len}
+use Rattle.mdvsp.specs.Rows.{line, lines}
+use Rattle.mdvsp.specs.DocumentText.{name_of, block_row, layer_rows, table_rows, price_row, shape_row}
+use Rattle.mdvsp.proofs.writing.blocks.write_block.Given as goal
+
+-- the trips so far are written
+abbrev pub invariant-loop-trip : goal.invariant-loop-trip
+invariant-loop-trip l = l.text ≡ l.initial.text ++ flat_map (λ t. 44 ∷ name_of l.names.trips t.0) (take l.trip-index l.block.trips.items)
