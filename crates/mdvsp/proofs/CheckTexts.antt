@@ -22,9 +22,9 @@ not_result row kind rest e apart r =
 -- no record of an instance begins with `result`
 adds_no_result : (old : Declared) (row : Row) (new : Declared) → Adds old row new → IsResultRow row → ⊥
 adds_no_result old row new (inl a) = not_result row _ _ a.row_is refl
-adds_no_result old row new (inr (inl a)) = not_result row _ _ a.row_is refl
-adds_no_result old row new (inr (inr (inl a))) = not_result row _ _ a.row_is refl
-adds_no_result old row new (inr (inr (inr a))) = not_result row _ _ a.row_is refl
+adds_no_result old row new (inr (inl a)) = not_result row _ _ a.row_is.row_is refl
+adds_no_result old row new (inr (inr (inl a))) = not_result row _ _ a.row_is.row_is refl
+adds_no_result old row new (inr (inr (inr a))) = not_result row _ _ a.row_is.row_is refl
 
 add_all_no_result : (old : Declared) (rows : List Row) (new : Declared) → AddAll old rows new → (k : ℕ) → k < length rows → IsResultRow (get_or rows k []) → ⊥
 add_all_no_result old [] new h k lt = absurd (omega arith)

@@ -23,8 +23,8 @@ pub mod Results
 pub mod LinesAppend
 pub mod CheckTexts
 pub mod OwedAnswers
+pub mod RowFields
 pub mod RunEnds
-pub mod RowTexts
 pub mod WordLists
 pub mod Orders
 pub mod OpenBlocks

@@ -2,7 +2,6 @@ pub mod Rows
 pub mod RowEnds
 pub mod UnfinishedRows
 pub mod Numbers
-pub mod RowText
 pub mod Names
 pub mod NameRules
 pub mod NameCodes

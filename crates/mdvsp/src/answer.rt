@@ -6,8 +6,8 @@ ghost use Rattle.mdvsp.specs.Owed.{refused_row, yes_row, no_row};
 ghost use Rattle.mdvsp.specs.Rows.{lines};
 ghost use Rattle.mdvsp.specs.Words.{words_row, texts_of};
 
-use crate::row_text::line_of;
 use crate::status::Status;
+use crate::text::Text;
 use crate::words::BadWord;
 use itoa::{Buffer, Integer};
 use std::alloc::Global;
@@ -28,14 +28,14 @@ impl Answer {
         ensures { IfOk result (λ a. (a.status ≡ Status.BadWords) × (a.text.items ≡ lines (words_row bad.0 ∷ []))) }
     {
         let mut place = Buffer::new();
-        Answer::of_row(alloc, Status::BadWords, &["words", place.format(bad.0)])
+        Answer::of_row(alloc, Status::BadWords, "words", &[place.format(bad.0)])
     }
 
     /// The input isn't of the form that is read.
     pub fn refused(alloc: Global) -> Result<Answer, Memory>
         ensures { IfOk result (λ a. (a.status ≡ Status.BadInput) × (a.text.items ≡ lines (refused_row ∷ []))) }
     {
-        Answer::of_row(alloc, Status::BadInput, &["refused", "0", "90", "NotThisForm"])
+        Answer::of_row(alloc, Status::BadInput, "refused", &["0", "90", "NotThisForm"])
     }
 
     /// The document holds.
@@ -45,27 +45,39 @@ impl Answer {
         let mut cost = Buffer::new();
         let mut bound = Buffer::new();
         let fields = [
-            "yes",
             claim_name(document.claim),
             number_or_none(&mut cost, document.cost),
             number_or_none(&mut bound, document.bound),
         ];
-        Answer::of_row(alloc, Status::Done, &fields)
+        Answer::of_row(alloc, Status::Done, "yes", &fields)
     }
 
     /// The document doesn't hold.
     pub fn no(alloc: Global) -> Result<Answer, Memory>
         ensures { IfOk result (λ a. (a.status ≡ Status.SaysNo) × (a.text.items ≡ lines (no_row ∷ []))) }
     {
-        Answer::of_row(alloc, Status::SaysNo, &["no"])
+        Answer::of_row(alloc, Status::SaysNo, "no", &[])
     }
 
-    /// One row.
-    fn of_row(alloc: Global, status: Status, fields: &[&str]) -> Result<Answer, Memory>
-        ensures { IfOk result (λ a. (a.status ≡ status) × (a.text.items ≡ lines (texts_of fields.now ∷ []))) }
+    /// One row: what it says, and further fields.
+    fn of_row(
+        alloc: Global,
+        status: Status,
+        kind: &str,
+        fields: &[&str],
+    ) -> Result<Answer, Memory>
+        ensures { IfOk result (λ a. (a.status ≡ status) × (a.text.items ≡ lines ((kind.now ∷ texts_of fields.now) ∷ []))) }
     {
-        let text = line_of(alloc, fields)?;
-        Ok(Answer { status, text })
+        let mut text = Text::new(alloc);
+        text.begin_row(kind)?;
+        for field in fields {
+            text.field(field)?;
+        }
+        text.end_row()?;
+        Ok(Answer {
+            status,
+            text: text.into_bytes(),
+        })
     }
 }
 

@@ -116,7 +116,7 @@ fn plans_without_a_search(rt: HostRuntime) -> Result<(), Fail> {
     let words = ["solve", "--nodes", "0"];
     let cases: [(&str, [&str; 4], Status, [&str; 4]); 4] = [
         ("two trips", [STOPS, LAYER, TRIPS, ""], Status::StillOpen, [zero_head, BLOCK, ZERO_TABLE, END]),
-        ("what follows isn't read", [STOPS, LAYER, TRIPS, "result\r\n\"x"], Status::StillOpen, [zero_head, BLOCK, ZERO_TABLE, END]),
+        ("what follows isn't read", [STOPS, LAYER, TRIPS, "result,\"\r\nstop"], Status::StillOpen, [zero_head, BLOCK, ZERO_TABLE, END]),
         ("one vehicle short", [STOPS, ONE_VEHICLE, LATE_TRIPS, ""], Status::StillOpen, [late_head, "", ZERO_TABLE, END]),
         ("no trips", [STOPS, LAYER, "", ""], Status::Done, ["result,1,optimal\ncost,0\nbound,0\nnodes,0\n", "table,1,cost\n", "fleet,L1,0\n", END]),
     ];
