@@ -66,7 +66,7 @@ pub layer_size : (p : Problem) (names : NameLists) (l : ℕ) (a b : ℤ) (f g f'
 layer_size p names l a b f g f' g' =
     let trips : List ℕ = filter (λ (k : ℕ). bit_at (trip_of p k).layers.0 l == 1) (range_with_len 0 (length p.trips - 0)) in
     ap suc (length-map trips (λ (k : ℕ). price_line (name_of names.layers l) (name_of names.trips k) (f k) (g k))
-      ∙ sym (length-map trips (λ (k : ℕ). price_line (name_of names.layers l) (name_of names.trips k) (f' k) (g' k))))
+    ∙ sym (length-map trips (λ (k : ℕ). price_line (name_of names.layers l) (name_of names.trips k) (f' k) (g' k))))
 
 -- the layers before l are read, and the rows now are left
 pub record LayersSoFar (p : Problem) (names : NameLists) (l : ℕ) (before now : List Row) (table : Table) : Type 0 where
@@ -126,11 +126,12 @@ blank_more : (p : Problem) (l : ℕ) (old prices : List ℤ) → length old ≡ 
     → ((i : ℕ) → i < length p.trips → ¬ (Permitted p l i) → price_of prices i ≡ pos 0)
     → (k i : ℕ) → k < l + 1 → i < length p.trips → ¬ (Permitted p k i) → of_layer p (old ++ prices) k i ≡ pos 0
 blank_more p l old prices size one before here k i lt within may_not = elim (cases_lt k l) [
-    inl below ↦ ap (λ (xs : List ℤ). price_of xs i) (earlier p k l old prices below size) ∙ before k i below within may_not
+  | inl below ↦ ap (λ (xs : List ℤ). price_of xs i) (earlier p k l old prices below size) ∙ before k i below within may_not
   | inr above ↦
       let same : k ≡ l = omega arith in
       let P : ℕ → Type 0 = λ n. ¬ (Permitted p n i) in
-      ap (λ (n : ℕ). of_layer p (old ++ prices) n i) same ∙ ap (λ (xs : List ℤ). price_of xs i) (last_layer p l old prices size one) ∙ here i within (subst P same may_not) ]
+      ap (λ (n : ℕ). of_layer p (old ++ prices) n i) same ∙ ap (λ (xs : List ℤ). price_of xs i) (last_layer p l old prices size one) ∙ here i within (subst P same may_not)
+]
 
 regrouped : (new old more rest : List ℤ) → new ≡ old ++ more → new ++ rest ≡ old ++ (more ++ rest)
 regrouped new old more rest e = ap (λ (xs : List ℤ). xs ++ rest) e ∙ append_assoc old more rest
@@ -149,8 +150,9 @@ layers_more p names l before now next old new s lt r =
       from_prices = subst All_prices (sym r.adds.from_is) (All-append IsPrice old.from.items r.from s.from_prices r.adds.from_prices);
       fleet_prices = subst All_prices (sym r.fleet_is) (All-push IsPrice old.fleet.items r.fleet s.fleet_prices r.fleet_price);
       blank = λ k i a b c. (
-          ap (λ (xs : List ℤ). of_layer p xs k i) r.adds.into_is ∙ into_blank k i a b c,
-          ap (λ (xs : List ℤ). of_layer p xs k i) r.adds.from_is ∙ from_blank k i a b c);
+        ap (λ (xs : List ℤ). of_layer p xs k i) r.adds.into_is ∙ into_blank k i a b c,
+        ap (λ (xs : List ℤ). of_layer p xs k i) r.adds.from_is ∙ from_blank k i a b c,
+      );
       ray = r.adds.ray_is ∙ s.ray;
       reads = λ into from fleet after e.
           let i_is = regrouped new.into.items old.into.items r.into into r.adds.into_is in
@@ -160,23 +162,24 @@ layers_more p names l before now next old new s lt r =
           let Before : List ℤ → List ℤ → List ℤ → Type 0 = λ a b c. before ≡ rows_from p names 0 a b c ++ after in
           let rest = subst_three Next i_is f_is z_is e in
           let whole = s.reads (r.into ++ into) (r.from ++ from) (r.fleet ∷ fleet) after
-              (layer_then p names l now next r.fleet r.into r.from (old.into.items ++ (r.into ++ into)) (old.from.items ++ (r.from ++ from)) (old.fleet.items ++ r.fleet ∷ fleet) after lt
-                (prices_in_middle p l old.into.items r.into into s.into_size r.adds.into_size) (prices_in_middle p l old.from.items r.from from s.from_size r.adds.from_size)
-                (get_or_at old.fleet.items r.fleet fleet (pos 0) l s.fleet_size) r.rows_are rest) in
+          (layer_then p names l now next r.fleet r.into r.from (old.into.items ++ (r.into ++ into)) (old.from.items ++ (r.from ++ from)) (old.fleet.items ++ r.fleet ∷ fleet) after lt
+          (prices_in_middle p l old.into.items r.into into s.into_size r.adds.into_size) (prices_in_middle p l old.from.items r.from from s.from_size r.adds.from_size)
+          (get_or_at old.fleet.items r.fleet fleet (pos 0) l s.fleet_size) r.rows_are rest) in
           subst_three Before (sym i_is) (sym f_is) (sym z_is) whole;
       goes_on = λ into from fleet after e.
           let here = s.goes_on into from fleet after e
-              ∙ ap (λ (rs : List Row). rs ++ after) (rows_at p names l into from fleet lt)
-              ∙ append_assoc (layer_lines p names l (price_of fleet l) (of_layer p into l) (of_layer p from l)) (rows_from p names (l + 1) into from fleet) after in
+          ∙ ap (λ (rs : List Row). rs ++ after) (rows_at p names l into from fleet lt)
+          ∙ append_assoc (layer_lines p names l (price_of fleet l) (of_layer p into l) (of_layer p from l)) (rows_from p names (l + 1) into from fleet) after in
           (same_fronts (layer_lines p names l r.fleet (price_of r.into) (price_of r.from)) next (layer_lines p names l (price_of fleet l) (of_layer p into l) (of_layer p from l))
-            (rows_from p names (l + 1) into from fleet ++ after) (layer_size p names l r.fleet (price_of fleet l) (price_of r.into) (price_of r.from) (of_layer p into l) (of_layer p from l))
-            (sym r.rows_are ∙ here)).1;
+          (rows_from p names (l + 1) into from fleet ++ after) (layer_size p names l r.fleet (price_of fleet l) (price_of r.into) (price_of r.from) (of_layer p into l) (of_layer p from l))
+          (sym r.rows_are ∙ here)).1;
     }
 
 pub price_anywhere : (prices : List ℤ) (k : ℕ) → All IsPrice prices → IsPrice (price_of prices k)
 price_anywhere prices k all = elim (cases_lt k (length prices)) [
-    inl lt ↦ all k (pos 0) lt
-  | inr ge ↦ let P : ℤ → Type 0 = λ x. IsPrice x in subst P (sym (get_or_past prices k (pos 0) ge)) zero_price ]
+  | inl lt ↦ all k (pos 0) lt
+  | inr ge ↦ let P : ℤ → Type 0 = λ x. IsPrice x in subst P (sym (get_or_past prices k (pos 0) ge)) zero_price
+]
 
 pub prices_in_all : (p : Problem) (l : ℕ) (prices : List ℤ) → All IsPrice prices → All IsPrice (prices_in p l prices)
 prices_in_all p l prices all = All-take IsPrice (l * length p.trips + length p.trips - l * length p.trips) _ (All-drop IsPrice (l * length p.trips) prices all)
@@ -187,30 +190,31 @@ pub layer_fails : (p : Problem) (names : NameLists) (l : ℕ) (before now : List
     → (into from fleet : List ℤ) (after : List Row) → All IsPrice into → All IsPrice from → All IsPrice fleet → ¬ (before ≡ rows_from p names 0 into from fleet ++ after)
 layer_fails p names l before now table s lt none into from fleet after a b c e =
     let here = s.goes_on into from fleet after e
-        ∙ ap (λ (rs : List Row). rs ++ after) (rows_at p names l into from fleet lt)
-        ∙ append_assoc (layer_lines p names l (price_of fleet l) (of_layer p into l) (of_layer p from l)) (rows_from p names (l + 1) into from fleet) after in
+    ∙ ap (λ (rs : List Row). rs ++ after) (rows_at p names l into from fleet lt)
+    ∙ append_assoc (layer_lines p names l (price_of fleet l) (of_layer p into l) (of_layer p from l)) (rows_from p names (l + 1) into from fleet) after in
     none (price_of fleet l) (of_layer p into l) (of_layer p from l) (rows_from p names (l + 1) into from fleet ++ after)
     (price_anywhere fleet l c) (λ i. price_anywhere (prices_in p l into) i (prices_in_all p l into a)) (λ i. price_anywhere (prices_in p l from) i (prices_in_all p l from b)) here
 
 pub layers_end : (p : Problem) (names : NameLists) (l : ℕ) (before now : List Row) (table : Table) → LayersSoFar p names l before now table → l ≡ length p.layers
     → IsWhole p table × (before ≡ rows_from p names 0 table.into.items table.from.items table.fleet.items ++ now)
 layers_end p names l before now table s all =
-    let Before : List ℤ → List ℤ → List ℤ → Type 0 = λ a b c. before ≡ rows_from p names 0 a b c ++ now in
-    (record {
-      fits = record {
-        into_size = s.into_size ∙ ap (λ (n : ℕ). n * length p.trips) all;
-        from_size = s.from_size ∙ ap (λ (n : ℕ). n * length p.trips) all;
-        fleet_size = s.fleet_size ∙ all;
-        into = s.into_prices;
-        from = s.from_prices;
-        fleet = s.fleet_prices;
-      };
-      blank = λ k i lt. s.blank k i (omega arith);
-      ray = s.ray;
-    },
-    subst_three Before (append-nil table.into.items) (append-nil table.from.items) (append-nil table.fleet.items)
-    (s.reads [] [] [] now
-      (ap (λ (rs : List Row). rs ++ now) (sym (rows_end p names l (table.into.items ++ []) (table.from.items ++ []) (table.fleet.items ++ []) (omega arith))))))
+    let Before : List ℤ → List ℤ → List ℤ → Type 0 = λ a b c. before ≡ rows_from p names 0 a b c ++ now in (
+      record {
+        fits = record {
+          into_size = s.into_size ∙ ap (λ (n : ℕ). n * length p.trips) all;
+          from_size = s.from_size ∙ ap (λ (n : ℕ). n * length p.trips) all;
+          fleet_size = s.fleet_size ∙ all;
+          into = s.into_prices;
+          from = s.from_prices;
+          fleet = s.fleet_prices;
+        };
+        blank = λ k i lt. s.blank k i (omega arith);
+        ray = s.ray;
+      },
+      subst_three Before (append-nil table.into.items) (append-nil table.from.items) (append-nil table.fleet.items)
+          (s.reads [] [] [] now
+          (ap (λ (rs : List Row). rs ++ now) (sym (rows_end p names l (table.into.items ++ []) (table.from.items ++ []) (table.fleet.items ++ []) (omega arith))))),
+    )
 
 flat_map_same : {X A : Type 0} (f g : X → List A) → ((x : X) → f x ≡ g x) → (xs : List X) → flat_map f xs ≡ flat_map g xs
 flat_map_same f g same [] = refl
@@ -227,11 +231,11 @@ table_rows_are p names table cost =
     let trips : length p.trips - 0 ≡ length p.trips = omega arith in
     let layers : length p.layers - 0 ≡ length p.layers = omega arith in
     let one_layer : (k : ℕ) → layer_rows p names table k ≡ layer_lines p names k (price_of table.fleet.items k) (of_layer p table.into.items k) (of_layer p table.from.items k) = λ k.
-        ap (λ (n : ℕ). fleet_line (name_of names.layers k) (price_of table.fleet.items k)
-          ∷ map (λ (i : ℕ). price_line (name_of names.layers k) (name_of names.trips i) (of_layer p table.into.items k i) (of_layer p table.from.items k i))
-            (filter (λ (i : ℕ). bit_at (trip_of p i).layers.0 k == 1) (range_with_len 0 n))) (sym trips) in
+    ap (λ (n : ℕ). fleet_line (name_of names.layers k) (price_of table.fleet.items k)
+    ∷ map (λ (i : ℕ). price_line (name_of names.layers k) (name_of names.trips i) (of_layer p table.into.items k i) (of_layer p table.from.items k i))
+    (filter (λ (i : ℕ). bit_at (trip_of p i).layers.0 k == 1) (range_with_len 0 n))) (sym trips) in
     let rows = flat_map_same (layer_rows p names table)
-        (λ (k : ℕ). layer_lines p names k (price_of table.fleet.items k) (of_layer p table.into.items k) (of_layer p table.from.items k)) one_layer (range_with_len 0 (length p.layers)) in
+    (λ (k : ℕ). layer_lines p names k (price_of table.fleet.items k) (of_layer p table.into.items k) (of_layer p table.from.items k)) one_layer (range_with_len 0 (length p.layers)) in
     ap (λ (b : Bool). (codes "table" ∷ decimal 1 ∷ (if b then codes "ray" else codes "cost") ∷ []) ∷ flat_map (layer_rows p names table) (range_with_len 0 (length p.layers))) cost
     ∙ ap (λ (n : List ℕ). (codes "table" ∷ n ∷ codes "cost" ∷ []) ∷ flat_map (layer_rows p names table) (range_with_len 0 (length p.layers))) (decimal_digit 1 (omega arith))
     ∙ ap (λ (rs : List Row). table_line ∷ rs) rows
@@ -297,6 +301,12 @@ rows_size p names zero l into from fleet into' from' fleet' size =
 rows_size p names (suc n) l into from fleet into' from' fleet' size =
     let rest = rows_size p names n (l + 1) into from fleet into' from' fleet' (omega arith) in
     let first = layer_size p names l (price_of fleet l) (price_of fleet' l) (of_layer p into l) (of_layer p from l) (of_layer p into' l) (of_layer p from' l) in
-    omega (arith, rest, first, ap length (rows_at p names l into from fleet (omega arith)), ap length (rows_at p names l into' from' fleet' (omega arith)),
+    omega (
+      arith,
+      rest,
+      first,
+      ap length (rows_at p names l into from fleet (omega arith)),
+      ap length (rows_at p names l into' from' fleet' (omega arith)),
       length-append (layer_lines p names l (price_of fleet l) (of_layer p into l) (of_layer p from l)) (rows_from p names (l + 1) into from fleet),
-      length-append (layer_lines p names l (price_of fleet' l) (of_layer p into' l) (of_layer p from' l)) (rows_from p names (l + 1) into' from' fleet'))
+      length-append (layer_lines p names l (price_of fleet' l) (of_layer p into' l) (of_layer p from' l)) (rows_from p names (l + 1) into' from' fleet'),
+    )

@@ -18,8 +18,9 @@ name_byte_below b h = omega (arith, h)
 
 ascii_name : (field : Field) → IsName field → IsAscii field
 ascii_name field name i = elim (cases_lt i (length field)) [
-    inl lt ↦ name_byte_below (get_or field i 0) (name.bytes i 0 lt)
-  | inr ge ↦ omega (arith, get_or_past field i 0 ge) ]
+  | inl lt ↦ name_byte_below (get_or field i 0) (name.bytes i 0 lt)
+  | inr ge ↦ omega (arith, get_or_past field i 0 ge)
+]
 
 pub utf8_name : (names : List Field) (k : ℕ) → AreNames names → k < length names → IsUtf8 (name_of names k)
 utf8_name names k are lt = IsUtf8-from_ascii _ (ascii_name _ (are.each k [] lt))
@@ -44,9 +45,11 @@ pub name_trips_at : (names fields : List Field) (trips : List TripNo) → NameTr
     → (t : TripNo) × (t.0 < length names) × (get_or fields k [] ≡ name_of names t.0)
 name_trips_at names fields trips named k lt =
     let no_trip : TripNo = record { 0 = 0 } in
-    let within : k < length trips = omega (arith, ap length named.fields_are, length-map trips (λ (u : TripNo). name_of names u.0)) in
-    (get_or trips k no_trip, named.trips_are k no_trip within,
-      ap (λ (fs : List Field). get_or fs k []) named.fields_are ∙ get_or-map (λ (u : TripNo). name_of names u.0) trips k no_trip [] within)
+    let within : k < length trips = omega (arith, ap length named.fields_are, length-map trips (λ (u : TripNo). name_of names u.0)) in (
+      get_or trips k no_trip,
+      named.trips_are k no_trip within,
+      ap (λ (fs : List Field). get_or fs k []) named.fields_are ∙ get_or-map (λ (u : TripNo). name_of names u.0) trips k no_trip [] within,
+    )
 
 -- a field that names none of the trips
 pub no_trips : (names fields : List Field) (k : ℕ) → k < length fields → ((i : ℕ) → i < length names → ¬ (get_or fields k [] ≡ name_of names i))
@@ -68,7 +71,7 @@ row_trips_more names row k field trips t low lt is named below e =
     let at : get_or (drop 2 row) (k - 2) [] ≡ field = get_or-drop 2 row (k - 2) [] ∙ ap (λ (n : ℕ). get_or row n []) place ∙ sym is in
     let next : k + 1 - 2 ≡ k - 2 + 1 = omega arith in
     let fields : take (k + 1 - 2) (drop 2 row) ≡ take (k - 2) (drop 2 row) ++ field ∷ [] =
-        ap (λ (n : ℕ). take n (drop 2 row)) next ∙ take_more (drop 2 row) (k - 2) [] (omega (arith, length-drop 2 row)) ∙ ap (λ (f : Field). take (k - 2) (drop 2 row) ++ f ∷ []) at in
+    ap (λ (n : ℕ). take n (drop 2 row)) next ∙ take_more (drop 2 row) (k - 2) [] (omega (arith, length-drop 2 row)) ∙ ap (λ (f : Field). take (k - 2) (drop 2 row) ++ f ∷ []) at in
     let P : List Field → Type 0 = λ fs. NameTrips names fs (trips ++ t ∷ []) in
     subst P (sym fields) (name_trips_more names (take (k - 2) (drop 2 row)) field trips t named below e)
 

@@ -27,7 +27,7 @@ no_block = (record { 0 = 0 }, [])
 row_of_push : (names : NameLists) (rows : List Row) (at next trips : ℕ) (blocks : List LayerBlock) (b : LayerBlock) → PlanSoFar names rows at next trips blocks
     → IsBlockRow names (row_at rows next) b → (k : ℕ) → k < length (blocks ++ b ∷ []) → IsBlockRow names (row_at rows (at + k)) (block_at (blocks ++ b ∷ []) k)
 row_of_push names rows at next trips blocks b so_far row k lt = elim (cases_lt k (length blocks)) [
-    inl below ↦
+  | inl below ↦
       let P : LayerBlock → Type 0 = λ x. IsBlockRow names (row_at rows (at + k)) x in
       subst P (sym (get_or_append_left blocks (b ∷ []) (record { 0 = 0 }, []) k below)) (so_far.blocks_are k below)
   | inr above ↦
@@ -35,7 +35,8 @@ row_of_push names rows at next trips blocks b so_far row k lt = elim (cases_lt k
       let place : next ≡ at + k = omega (arith, so_far.next_is) in
       let P : LayerBlock → Type 0 = λ x. IsBlockRow names (row_at rows (at + k)) x in
       let Q : ℕ → Type 0 = λ n. IsBlockRow names (row_at rows n) b in
-      subst P (sym (get_or_push blocks b (record { 0 = 0 }, []) k last)) (subst Q place row) ]
+      subst P (sym (get_or_push blocks b (record { 0 = 0 }, []) k last)) (subst Q place row)
+]
 
 trips_push : (blocks : List LayerBlock) (b : LayerBlock) → length (all_trips (blocks ++ b ∷ [])) ≡ length (all_trips blocks) + length b.1
 trips_push blocks b =
@@ -70,19 +71,21 @@ block_kind names row b is = ap kind_of is.row_is
 blocks_before : (names : NameLists) (rows : List Row) (at next trips : ℕ) (blocks : List LayerBlock) → PlanSoFar names rows at next trips blocks
     → IsBlockKind (row_at rows next) → (k : ℕ) → k ≤ length blocks → IsBlockKind (row_at rows (at + k))
 blocks_before names rows at next trips blocks so_far kind k le = elim (cases_lt k (length blocks)) [
-    inl below ↦ block_kind names (row_at rows (at + k)) (block_at blocks k) (so_far.blocks_are k below)
+  | inl below ↦ block_kind names (row_at rows (at + k)) (block_at blocks k) (so_far.blocks_are k below)
   | inr above ↦
       let place : next ≡ at + k = omega (arith, so_far.next_is) in
       let Q : ℕ → Type 0 = λ n. IsBlockKind (row_at rows n) in
-      subst Q place kind ]
+      subst Q place kind
+]
 
 longer : (names : NameLists) (rows : List Row) (at next trips : ℕ) (blocks : List LayerBlock) → PlanSoFar names rows at next trips blocks → IsBlockKind (row_at rows next)
     → (end : ℕ) (others : List LayerBlock) → IsPlanAt names rows at end others → length blocks < length others
 longer names rows at next trips blocks so_far kind end others plan = elim (cases_lt (length blocks) (length others)) [
-    inl below ↦ below
+  | inl below ↦ below
   | inr above ↦
       let Q : ℕ → Type 0 = λ n. IsBlockKind (row_at rows n) in
-      absurd (plan.ends (subst Q (sym plan.next_is) (blocks_before names rows at next trips blocks so_far kind (length others) above))) ]
+      absurd (plan.ends (subst Q (sym plan.next_is) (blocks_before names rows at next trips blocks so_far kind (length others) above)))
+]
 
 -- a row that begins as a block's and is none
 pub block_fails : (names : NameLists) (rows : List Row) (at next trips : ℕ) (blocks : List LayerBlock) → PlanSoFar names rows at next trips blocks → IsBlockKind (row_at rows next)
@@ -111,9 +114,12 @@ too_many_trips names rows at next trips blocks b so_far lt row many others end p
     let rows_are = row_of_push names rows at next trips blocks b so_far row in
     let further = longer names rows at next trips blocks so_far (block_kind names (row_at rows next) b row) end others plan in
     let as_many : (k : ℕ) → k < length (blocks ++ b ∷ []) → length (block_at (blocks ++ b ∷ []) k).1 ≡ length (block_at others k).1 = λ k below.
-        omega (arith, length_push blocks b,
-          trips_of_row names (row_at rows (at + k)) (block_at (blocks ++ b ∷ []) k) (rows_are k below),
-          trips_of_row names (row_at rows (at + k)) (block_at others k) (plan.blocks_are k (omega (arith, length_push blocks b)))) in
+    omega (
+      arith,
+      length_push blocks b,
+      trips_of_row names (row_at rows (at + k)) (block_at (blocks ++ b ∷ []) k) (rows_are k below),
+      trips_of_row names (row_at rows (at + k)) (block_at others k) (plan.blocks_are k (omega (arith, length_push blocks b))),
+    ) in
     let no_fewer = trips_along (blocks ++ b ∷ []) others (omega (arith, length_push blocks b)) as_many in
     many (omega (arith, no_fewer, so_far.trips_are, trips_push blocks b, plan.few_trips))
 

@@ -27,8 +27,8 @@ may_run p l k = eqb (bit_at (trip_of p k).layers.0 l) 1
 -- at a trip that the layer may run there is a row, and at another one there is none
 lines_at : (p : Problem) (names : NameLists) (l i n : ℕ) (into from : ℕ → ℤ) (test : Bool) → may_run p l i ≡ test
     → map (line_of names l into from) (filter (may_run p l) (range_with_len i (suc n)))
-      ≡ cond test (line_of names l into from i ∷ map (line_of names l into from) (filter (may_run p l) (range_with_len (i + 1) n)))
-          (map (line_of names l into from) (filter (may_run p l) (range_with_len (i + 1) n)))
+    ≡ cond test (line_of names l into from i ∷ map (line_of names l into from) (filter (may_run p l) (range_with_len (i + 1) n)))
+    (map (line_of names l into from) (filter (may_run p l) (range_with_len (i + 1) n)))
 lines_at p names l i n into from true e = ap (λ (b : Bool). map (line_of names l into from) (cond b (i ∷ filter (may_run p l) (range_with_len (i + 1) n)) (filter (may_run p l) (range_with_len (i + 1) n)))) e
 lines_at p names l i n into from false e = ap (λ (b : Bool). map (line_of names l into from) (cond b (i ∷ filter (may_run p l) (range_with_len (i + 1) n)) (filter (may_run p l) (range_with_len (i + 1) n)))) e
 
@@ -57,8 +57,9 @@ pub record Agrees (i : ℕ) (f : ℕ → ℤ) (prices : List ℤ) : Type 0 where
 
 pub agrees_push : (i : ℕ) (f : ℕ → ℤ) (prices : List ℤ) (x : ℤ) → length prices ≡ i → Agrees (i + 1) f (prices ++ x ∷ []) → Agrees i f prices × (f i ≡ x)
 agrees_push i f prices x size agrees = (
-    record { below = λ k lt. agrees.below k (omega arith) ∙ get_or_append_left prices (x ∷ []) (pos 0) k (omega arith) },
-    agrees.below i (omega arith) ∙ get_or_push prices x (pos 0) i size)
+  record { below = λ k lt. agrees.below k (omega arith) ∙ get_or_append_left prices (x ∷ []) (pos 0) k (omega arith) },
+  agrees.below i (omega arith) ∙ get_or_push prices x (pos 0) i size,
+)
 
 -- the prices of the trips before i are read, and the rows now are left
 pub record PricesSoFar (p : Problem) (names : NameLists) (l i : ℕ) (before now : List Row) (old new : Table) : Type 0 where
@@ -112,13 +113,14 @@ blank_push : (p : Problem) (l i : ℕ) (into from : List ℤ) (a b : ℤ) → le
     → ((k : ℕ) → k < i → ¬ (Permitted p l k) → (price_of into k ≡ pos 0) × (price_of from k ≡ pos 0)) → (¬ (Permitted p l i) → (a ≡ pos 0) × (b ≡ pos 0))
     → (k : ℕ) → k < i + 1 → ¬ (Permitted p l k) → (price_of (into ++ a ∷ []) k ≡ pos 0) × (price_of (from ++ b ∷ []) k ≡ pos 0)
 blank_push p l i into from a b into_size from_size blank last k lt may_not = elim (cases_lt k i) [
-    inl below ↦ let h = blank k below may_not in
+  | inl below ↦ let h = blank k below may_not in
       (get_or_append_left into (a ∷ []) (pos 0) k (omega arith) ∙ h.0, get_or_append_left from (b ∷ []) (pos 0) k (omega arith) ∙ h.1)
   | inr above ↦
       let here : k ≡ i = omega arith in
       let P : ℕ → Type 0 = λ n. ¬ (Permitted p l n) in
       let h = last (subst P here may_not) in
-      (get_or_push into a (pos 0) k (omega arith) ∙ h.0, get_or_push from b (pos 0) k (omega arith) ∙ h.1) ]
+      (get_or_push into a (pos 0) k (omega arith) ∙ h.0, get_or_push from b (pos 0) k (omega arith) ∙ h.1)
+]
 
 pub prices_without : (p : Problem) (names : NameLists) (l i : ℕ) (before now : List Row) (old table new : Table) → PricesSoFar p names l i before now old table
     → i < length p.trips → ¬ (Permitted p l i) → AddsTrip table new (pos 0) (pos 0) → PricesSoFar p names l (i + 1) before now old new
@@ -159,11 +161,11 @@ prices_with p names l i before now next old table new a b s lt may row a_price b
       let fs = agrees_push i f s.into a s.into_size agrees_f in
       let gs = agrees_push i g s.from b s.from_size agrees_g in
       let head : price_line (name_of names.layers l) (name_of names.trips i) a b ≡ price_line (name_of names.layers l) (name_of names.trips i) (f i) (g i) =
-          ap (λ (x : ℤ). price_line (name_of names.layers l) (name_of names.trips i) x b) (sym fs.1)
-          ∙ ap (λ (x : ℤ). price_line (name_of names.layers l) (name_of names.trips i) (f i) x) (sym gs.1) in
+      ap (λ (x : ℤ). price_line (name_of names.layers l) (name_of names.trips i) x b) (sym fs.1)
+      ∙ ap (λ (x : ℤ). price_line (name_of names.layers l) (name_of names.trips i) (f i) x) (sym gs.1) in
       s.reads f g after fs.0 gs.0
       (row ∙ ap (λ (x : Row). x ∷ next) head ∙ ap (λ (rows : List Row). price_line (name_of names.layers l) (name_of names.trips i) (f i) (g i) ∷ rows) e
-        ∙ ap (λ (rows : List Row). rows ++ after) (sym (lines_with p names l i f g lt may)));
+      ∙ ap (λ (rows : List Row). rows ++ after) (sym (lines_with p names l i f g lt may)));
   goes_on = λ f g after e.
       ap (drop 1) (sym row ∙ s.goes_on f g after e ∙ ap (λ (rows : List Row). rows ++ after) (lines_with p names l i f g lt may));
 }

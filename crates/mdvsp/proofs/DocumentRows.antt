@@ -13,8 +13,9 @@ rest_of_drop rows at row rest e = sym (drop-drop 1 at rows) ∙ ap (drop 1) e
 -- a row that has a field is one of the rows
 pub row_within : (rows : List Row) (at : ℕ) → 0 < length (get_or rows at []) → at < length rows
 row_within rows at some = elim (cases_lt at (length rows)) [
-    inl lt ↦ lt
-  | inr ge ↦ absurd (omega (arith, ap length (get_or_past rows at [] ge))) ]
+  | inl lt ↦ lt
+  | inr ge ↦ absurd (omega (arith, ap length (get_or_past rows at [] ge)))
+]
 
 pub drop_row : (rows : List Row) (at : ℕ) (row : Row) → get_or rows at [] ≡ row → 0 < length row → drop at rows ≡ row ∷ drop (at + 1) rows
 drop_row rows at row e some =

@@ -30,10 +30,12 @@ use Rattle.mdvsp.proofs.DocumentLayers.{of_layer, rows_from, rows_at, same_front
 -- a name is that of one number
 name_once : (names : List Field) (k m : ℕ) → AreNames names → k < length names → m < length names → name_of names k ≡ name_of names m → k ≡ m
 name_once names k m are a b e = elim (cases_order k m) [
-    inl same ↦ same
+  | inl same ↦ same
   | inr other ↦ elim other [
-      inl below ↦ absurd (are.apart k m [] below b e)
-    | inr above ↦ absurd (are.apart m k [] above a (sym e)) ] ]
+    | inl below ↦ absurd (are.apart k m [] below b e)
+    | inr above ↦ absurd (are.apart m k [] above a (sym e))
+  ]
+]
 
 same_trips : (names : List Field) (ts us : List TripNo) → AreNames names → All (λ t. t.0 < length names) ts → All (λ t. t.0 < length names) us
     → map (λ t. name_of names t.0) ts ≡ map (λ t. name_of names t.0) us → ts ≡ us
@@ -42,7 +44,7 @@ same_trips names [] (u ∷ us) are a b e = absurd (omega (arith, ap length e))
 same_trips names (t ∷ ts) [] are a b e = absurd (omega (arith, ap length e))
 same_trips names (t ∷ ts) (u ∷ us) are a b e =
     let first : t.0 ≡ u.0 = name_once names t.0 u.0 are (All-head (λ (x : TripNo). x.0 < length names) t ts a) (All-head (λ (x : TripNo). x.0 < length names) u us b)
-        (ap (λ (fs : List Field). get_or fs 0 []) e) in
+    (ap (λ (fs : List Field). get_or fs 0 []) e) in
     let rest = same_trips names ts us are (All-tail (λ (x : TripNo). x.0 < length names) t ts a) (All-tail (λ (x : TripNo). x.0 < length names) u us b) (ap (drop 1) e) in
     let one : t ≡ u = ap (λ (n : ℕ). record { 0 = n }) first in
     ap (λ (x : TripNo). x ∷ ts) one ∙ ap (λ (xs : List TripNo). u ∷ xs) rest
@@ -60,10 +62,11 @@ block_kind names row b is = ap kind_of is.row_is
 
 no_fewer : (names : NameLists) (rows : List Row) (at n m : ℕ) (bs cs : List LayerBlock) → IsPlanAt names rows at n bs → IsPlanAt names rows at m cs → length cs ≤ length bs
 no_fewer names rows at n m bs cs p q = elim (cases_lt (length bs) (length cs)) [
-    inl lt ↦
+  | inl lt ↦
       let Q : ℕ → Type 0 = λ k. IsBlockKind (row_at rows k) in
       absurd (p.ends (subst Q (sym p.next_is) (block_kind names (row_at rows (at + length bs)) (block_at cs (length bs)) (q.blocks_are (length bs) lt))))
-  | inr ge ↦ ge ]
+  | inr ge ↦ ge
+]
 
 pub same_plans : (names : NameLists) (rows : List Row) (at n m : ℕ) (bs cs : List LayerBlock) → AreNames names.layers → AreNames names.trips
     → IsPlanAt names rows at n bs → IsPlanAt names rows at m cs → bs ≡ cs
@@ -119,20 +122,23 @@ same_lines : (p : Problem) (names : NameLists) (l n i : ℕ) (f g f' g' : ℕ �
     → price_lines p names l i f g ≡ price_lines p names l i f' g' → (k : ℕ) → i ≤ k → k < length p.trips → Permitted p l k → (f k ≡ f' k) × (g k ≡ g' k)
 same_lines p names l zero i f g f' g' size a b c d e k low high may = absurd (omega arith)
 same_lines p names l (suc n) i f g f' g' size a b c d e k low high may = elim (cases_eq (bit_at (trip_of p i).layers.0 l) 1) [
-    inl runs ↦
+  | inl runs ↦
       let both = sym (lines_with p names l i f g (omega arith) runs) ∙ e ∙ lines_with p names l i f' g' (omega arith) runs in
       let first = ap (λ (rs : List Row). get_or rs 0 []) both in
       elim (cases_eq i k) [
-        inl here ↦
-          let into = same_price (f i) (f' i) (a i) (c i) (ap (λ (r : Row). get_or r 3 []) first) in
-          let from = same_price (g i) (g' i) (b i) (d i) (ap (λ (r : Row). get_or r 4 []) first) in
-          (ap f (sym here) ∙ into ∙ ap f' here, ap g (sym here) ∙ from ∙ ap g' here)
-      | inr later ↦ same_lines p names l n (i + 1) f g f' g' (omega arith) a b c d (ap (drop 1) both) k (omega arith) high may ]
+        | inl here ↦
+            let into = same_price (f i) (f' i) (a i) (c i) (ap (λ (r : Row). get_or r 3 []) first) in
+            let from = same_price (g i) (g' i) (b i) (d i) (ap (λ (r : Row). get_or r 4 []) first) in
+            (ap f (sym here) ∙ into ∙ ap f' here, ap g (sym here) ∙ from ∙ ap g' here)
+        | inr later ↦ same_lines p names l n (i + 1) f g f' g' (omega arith) a b c d (ap (drop 1) both) k (omega arith) high may
+      ]
   | inr idle ↦
       let both = sym (lines_without p names l i f g (omega arith) idle) ∙ e ∙ lines_without p names l i f' g' (omega arith) idle in
       elim (cases_eq i k) [
-        inl here ↦ let P : ℕ → Type 0 = λ x. Permitted p l x in absurd (idle (subst P (sym here) may))
-      | inr later ↦ same_lines p names l n (i + 1) f g f' g' (omega arith) a b c d both k (omega arith) high may ] ]
+        | inl here ↦ let P : ℕ → Type 0 = λ x. Permitted p l x in absurd (idle (subst P (sym here) may))
+        | inr later ↦ same_lines p names l n (i + 1) f g f' g' (omega arith) a b c d both k (omega arith) high may
+      ]
+]
 
 -- what two tables have for a layer
 record SameLayer (p : Problem) (k : ℕ) (into from fleet into' from' fleet' : List ℤ) : Type 0 where
@@ -150,17 +156,18 @@ same_layers p names zero l into from fleet into' from' fleet' size a b c a' b' c
 same_layers p names (suc n) l into from fleet into' from' fleet' size a b c a' b' c' e k low high =
     let both = sym (rows_at p names l into from fleet (omega arith)) ∙ e ∙ rows_at p names l into' from' fleet' (omega arith) in
     let parts = same_fronts (layer_lines p names l (price_of fleet l) (of_layer p into l) (of_layer p from l)) (rows_from p names (l + 1) into from fleet)
-        (layer_lines p names l (price_of fleet' l) (of_layer p into' l) (of_layer p from' l)) (rows_from p names (l + 1) into' from' fleet')
-        (layer_size p names l (price_of fleet l) (price_of fleet' l) (of_layer p into l) (of_layer p from l) (of_layer p into' l) (of_layer p from' l)) both in
+    (layer_lines p names l (price_of fleet' l) (of_layer p into' l) (of_layer p from' l)) (rows_from p names (l + 1) into' from' fleet')
+    (layer_size p names l (price_of fleet l) (price_of fleet' l) (of_layer p into l) (of_layer p from l) (of_layer p into' l) (of_layer p from' l)) both in
     elim (cases_eq l k) [
-      inl here ↦
-        let vehicle : price_of fleet l ≡ price_of fleet' l = same_price (price_of fleet l) (price_of fleet' l) (price_anywhere fleet l c) (price_anywhere fleet' l c')
-            (ap (λ (rs : List Row). get_or (get_or rs 0 []) 2 []) parts.0) in
-        let lines = same_lines p names l (length p.trips) 0 (of_layer p into l) (of_layer p from l) (of_layer p into' l) (of_layer p from' l) (omega arith)
-            (prices_of_layer p l into a) (prices_of_layer p l from b) (prices_of_layer p l into' a') (prices_of_layer p l from' b') (ap (drop 1) parts.0) in
-        let P : ℕ → Type 0 = λ x. SameLayer p x into from fleet into' from' fleet' in
-        subst P here (record { vehicle = vehicle; trips = λ i lt may. lines i (omega arith) lt may })
-    | inr later ↦ same_layers p names n (l + 1) into from fleet into' from' fleet' (omega arith) a b c a' b' c' parts.1 k (omega arith) high ]
+      | inl here ↦
+          let vehicle : price_of fleet l ≡ price_of fleet' l = same_price (price_of fleet l) (price_of fleet' l) (price_anywhere fleet l c) (price_anywhere fleet' l c')
+          (ap (λ (rs : List Row). get_or (get_or rs 0 []) 2 []) parts.0) in
+          let lines = same_lines p names l (length p.trips) 0 (of_layer p into l) (of_layer p from l) (of_layer p into' l) (of_layer p from' l) (omega arith)
+          (prices_of_layer p l into a) (prices_of_layer p l from b) (prices_of_layer p l into' a') (prices_of_layer p l from' b') (ap (drop 1) parts.0) in
+          let P : ℕ → Type 0 = λ x. SameLayer p x into from fleet into' from' fleet' in
+          subst P here (record { vehicle = vehicle; trips = λ i lt may. lines i (omega arith) lt may })
+      | inr later ↦ same_layers p names n (l + 1) into from fleet into' from' fleet' (omega arith) a b c a' b' c' parts.1 k (omega arith) high
+    ]
 
 -- price i of layer k by its place
 place_of : (p : Problem) (prices : List ℤ) (k i : ℕ) → i < length p.trips → of_layer p prices k i ≡ get_or prices (k * length p.trips + i) (pos 0)
@@ -188,8 +195,9 @@ same_by_layers p prices prices' size size' same = ext_get_or (pos 0) prices pric
 same_entries : (p : Problem) (prices prices' : List ℤ) (k i : ℕ) → (Permitted p k i → of_layer p prices k i ≡ of_layer p prices' k i)
     → (¬ (Permitted p k i) → of_layer p prices k i ≡ pos 0) → (¬ (Permitted p k i) → of_layer p prices' k i ≡ pos 0) → of_layer p prices k i ≡ of_layer p prices' k i
 same_entries p prices prices' k i same blank blank' = elim (cases_eq (bit_at (trip_of p i).layers.0 k) 1) [
-    inl may ↦ same may
-  | inr idle ↦ blank idle ∙ sym (blank' idle) ]
+  | inl may ↦ same may
+  | inr idle ↦ blank idle ∙ sym (blank' idle)
+]
 
 -- the prices of two tables are equal
 pub record AreSameTables (t u : Table) : Type 0 where
@@ -201,7 +209,7 @@ pub same_tables : (p : Problem) (names : NameLists) (t u : Table) → IsWhole p 
     → rows_from p names 0 t.into.items t.from.items t.fleet.items ≡ rows_from p names 0 u.into.items u.from.items u.fleet.items → AreSameTables t u
 same_tables p names t u a b e =
     let layers = same_layers p names (length p.layers) 0 t.into.items t.from.items t.fleet.items u.into.items u.from.items u.fleet.items (omega arith)
-        a.fits.into a.fits.from a.fits.fleet b.fits.into b.fits.from b.fits.fleet e in
+    a.fits.into a.fits.from a.fits.fleet b.fits.into b.fits.from b.fits.fleet e in
     record {
       into = same_by_layers p t.into.items u.into.items a.fits.into_size b.fits.into_size (λ k i row column.
           same_entries p t.into.items u.into.items k i (λ may. ((layers k (omega arith) row).trips i column may).0) (λ idle. (a.blank k i row column idle).0) (λ idle. (b.blank k i row column idle).0));

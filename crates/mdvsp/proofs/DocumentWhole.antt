@@ -105,10 +105,10 @@ rows_of_parts p names rows start head blocks table parts =
     ap (λ (n : ℕ). drop n rows) (omega arith)
     ∙ head_line rows start 0 (claim_row head.claim) first (omega arith)
     ∙ ap (λ (rs : List Row). claim_row head.claim ∷ rs) (head_line rows start 1 (cost_row head.cost) h.cost (omega arith)
-      ∙ ap (λ (rs : List Row). cost_row head.cost ∷ rs) (head_line rows start 2 (number_row (codes "bound") head.bound) h.bound (omega arith)
-        ∙ ap (λ (rs : List Row). number_row (codes "bound") head.bound ∷ rs) (head_line rows start 3 (number_row (codes "nodes") (pos head.nodes)) h.nodes (omega arith)
-          ∙ ap (λ (rs : List Row). number_row (codes "nodes") (pos head.nodes) ∷ rs) (blocks_then
-            ∙ ap (λ (rs : List Row). map (block_row names) blocks ++ rs) (parts.is_table.rows_are ∙ ap (λ (rs : List Row). table_rows p names (1, table) ++ rs) parts.ends)))))
+    ∙ ap (λ (rs : List Row). cost_row head.cost ∷ rs) (head_line rows start 2 (number_row (codes "bound") head.bound) h.bound (omega arith)
+    ∙ ap (λ (rs : List Row). number_row (codes "bound") head.bound ∷ rs) (head_line rows start 3 (number_row (codes "nodes") (pos head.nodes)) h.nodes (omega arith)
+    ∙ ap (λ (rs : List Row). number_row (codes "nodes") (pos head.nodes) ∷ rs) (blocks_then
+    ∙ ap (λ (rs : List Row). map (block_row names) blocks ++ rs) (parts.is_table.rows_are ∙ ap (λ (rs : List Row). table_rows p names (1, table) ++ rs) parts.ends)))))
 
 -- the rows of a document of the first form
 abbrev pub text_rows : Problem → NameLists → Document → List Row → List Row
@@ -116,17 +116,17 @@ text_rows p names d shapes = head_rows d ++ map (block_row names) (blocks_of d.p
 
 pub text_is_whole : (p : Problem) (names : NameLists) (d : Document) (table : Table) (bound : ℤ) → d.tables.items ≡ table ∷ [] → d.bound ≡ Some bound
     → text_rows p names d (leaf_line ∷ [])
-      ≡ whole_rows p names (claim_row d.claim) (cost_row d.cost) (number_row (codes "bound") bound) (number_row (codes "nodes") (pos d.nodes)) (blocks_of d.plan) table
+    ≡ whole_rows p names (claim_row d.claim) (cost_row d.cost) (number_row (codes "bound") bound) (number_row (codes "nodes") (pos d.nodes)) (blocks_of d.plan) table
 text_is_whole p names d table bound tables bounds =
     let blocks = map (block_row names) (blocks_of d.plan) in
     let heads : head_rows d ≡ claim_row d.claim ∷ cost_row d.cost ∷ number_row (codes "bound") bound ∷ number_row (codes "nodes") (pos d.nodes) ∷ [] =
-        ap (λ (b : Option ℤ). claim_row d.claim ∷ cost_row d.cost ∷ (codes "bound" ∷ number_field b ∷ []) ∷ number_row (codes "nodes") (pos d.nodes) ∷ []) bounds in
+    ap (λ (b : Option ℤ). claim_row d.claim ∷ cost_row d.cost ∷ (codes "bound" ∷ number_field b ∷ []) ∷ number_row (codes "nodes") (pos d.nodes) ∷ []) bounds in
     let one_table : flat_map (table_rows p names) (enumerate_from 1 d.tables.items) ≡ table_rows p names (1, table) =
-        ap (λ (ts : List Table). flat_map (table_rows p names) (enumerate_from 1 ts)) tables ∙ append-nil (table_rows p names (1, table)) in
+    ap (λ (ts : List Table). flat_map (table_rows p names) (enumerate_from 1 ts)) tables ∙ append-nil (table_rows p names (1, table)) in
     ap (λ (rs : List Row). rs ++ blocks ++ flat_map (table_rows p names) (enumerate_from 1 d.tables.items) ++ (leaf_line ∷ []) ++ end_line ∷ []) heads
     ∙ ap (λ (rs : List Row). (claim_row d.claim ∷ cost_row d.cost ∷ number_row (codes "bound") bound ∷ number_row (codes "nodes") (pos d.nodes) ∷ []) ++ blocks ++ rs ++ (leaf_line ∷ []) ++ end_line ∷ []) one_table
     ∙ ap (λ (rs : List Row). claim_row d.claim ∷ cost_row d.cost ∷ number_row (codes "bound") bound ∷ number_row (codes "nodes") (pos d.nodes) ∷ rs)
-      (append_assoc (blocks ++ table_rows p names (1, table)) (leaf_line ∷ []) (end_line ∷ []) ∙ append_assoc blocks (table_rows p names (1, table)) (leaf_line ∷ end_line ∷ []))
+    (append_assoc (blocks ++ table_rows p names (1, table)) (leaf_line ∷ []) (end_line ∷ []) ∙ append_assoc blocks (table_rows p names (1, table)) (leaf_line ∷ end_line ∷ []))
 
 leaf_row_is : (codes "leaf" ∷ decimal (0 + 1) ∷ []) ≡ leaf_line
 leaf_row_is = ap (λ (n : List ℕ). codes "leaf" ∷ n ∷ []) (decimal_digit 1 (omega arith))
@@ -156,8 +156,8 @@ has_text p names rows start head blocks table d layers trips parts has =
       bound_with_cost = λ none. cc (has.bound_is, none);
       nodes = omega (arith, has.nodes_are, parts.is_head.nodes_range);
       blocks = subst Blocks (sym has.blocks_are) (λ k b lt.
-        let Q : LayerBlock → Type 0 = λ x. IsReadBlock p x in
-        subst Q (get_or_default blocks k no_block b lt) (read_block p names (block_at blocks k) layers trips (parts.is_plan.blocks_are k lt).named));
+          let Q : LayerBlock → Type 0 = λ x. IsReadBlock p x in
+          subst Q (get_or_default blocks k no_block b lt) (read_block p names (block_at blocks k) layers trips (parts.is_plan.blocks_are k lt).named));
       no_blocks = λ none. has.blocks_are ∙ parts.no_blocks (sym has.cost_is ∙ none);
       few_tables = omega (arith, ap length has.tables_are);
       fits = subst FitsAll (sym has.tables_are) (All-cons (Fits p) table [] parts.is_table.whole.fits (All-nil (Fits p)));
@@ -174,11 +174,11 @@ document_of_parts p names rows start head blocks table d layers trips parts has 
     let Few : List LayerBlock → Type 0 = λ bs. length (all_trips bs) < 4294967296 in
     let whole = text_is_whole p names d table head.bound has.tables_are has.bound_is in
     let same : whole_rows p names (claim_row head.claim) (cost_row head.cost) (number_row (codes "bound") head.bound) (number_row (codes "nodes") (pos head.nodes)) blocks table
-        ≡ whole_rows p names (claim_row d.claim) (cost_row d.cost) (number_row (codes "bound") head.bound) (number_row (codes "nodes") (pos d.nodes)) (blocks_of d.plan) table =
-        ap (λ c. whole_rows p names (claim_row c) (cost_row head.cost) (number_row (codes "bound") head.bound) (number_row (codes "nodes") (pos head.nodes)) blocks table) (sym has.claim_is)
-        ∙ ap (λ (c : Option ℤ). whole_rows p names (claim_row d.claim) (cost_row c) (number_row (codes "bound") head.bound) (number_row (codes "nodes") (pos head.nodes)) blocks table) (sym has.cost_is)
-        ∙ ap (λ (n : ℕ). whole_rows p names (claim_row d.claim) (cost_row d.cost) (number_row (codes "bound") head.bound) (number_row (codes "nodes") (pos n)) blocks table) (sym has.nodes_are)
-        ∙ ap (λ (bs : List LayerBlock). whole_rows p names (claim_row d.claim) (cost_row d.cost) (number_row (codes "bound") head.bound) (number_row (codes "nodes") (pos d.nodes)) bs table) (sym has.blocks_are) in
+    ≡ whole_rows p names (claim_row d.claim) (cost_row d.cost) (number_row (codes "bound") head.bound) (number_row (codes "nodes") (pos d.nodes)) (blocks_of d.plan) table =
+    ap (λ c. whole_rows p names (claim_row c) (cost_row head.cost) (number_row (codes "bound") head.bound) (number_row (codes "nodes") (pos head.nodes)) blocks table) (sym has.claim_is)
+    ∙ ap (λ (c : Option ℤ). whole_rows p names (claim_row d.claim) (cost_row c) (number_row (codes "bound") head.bound) (number_row (codes "nodes") (pos head.nodes)) blocks table) (sym has.cost_is)
+    ∙ ap (λ (n : ℕ). whole_rows p names (claim_row d.claim) (cost_row d.cost) (number_row (codes "bound") head.bound) (number_row (codes "nodes") (pos n)) blocks table) (sym has.nodes_are)
+    ∙ ap (λ (bs : List LayerBlock). whole_rows p names (claim_row d.claim) (cost_row d.cost) (number_row (codes "bound") head.bound) (number_row (codes "nodes") (pos d.nodes)) bs table) (sym has.blocks_are) in
     record {
       has_text = has_text p names rows start head blocks table d layers trips parts has;
       few_trips = subst Few (sym has.blocks_are) parts.is_plan.few_trips;
@@ -266,15 +266,15 @@ parts_of p names rows start d layers trips text first =
     let e2 = rest_of_drop rows (start + 1) _ _ e1 in
     let e3 = rest_of_drop rows (start + 1 + 1) _ _ e2 in
     let e4 : drop (start + 4) rows ≡ map (block_row names) (blocks_of d.plan) ++ (table_rows p names (1, first.table) ++ tail) =
-        ap (λ (n : ℕ). drop n rows) (omega arith) ∙ rest_of_drop rows (start + 1 + 1 + 1) _ _ e3 in
+    ap (λ (n : ℕ). drop n rows) (omega arith) ∙ rest_of_drop rows (start + 1 + 1 + 1) _ _ e3 in
     let table_is = ap (λ (rs : List Row). rs ++ tail) (table_rows_are p names first.table first.cost_table) in
     let plan_rows_are : drop (start + 4) rows ≡ map (block_row names) (blocks_of d.plan) ++ (table_line ∷ (rows_from p names 0 first.table.into.items first.table.from.items first.table.fleet.items ++ tail)) =
-        e4 ∙ ap (λ (rs : List Row). map (block_row names) (blocks_of d.plan) ++ rs) table_is in
+    e4 ∙ ap (λ (rs : List Row). map (block_row names) (blocks_of d.plan) ++ rs) table_is in
     let plan = plan_at p names rows (start + 4) (blocks_of d.plan) (rows_from p names 0 first.table.into.items first.table.from.items first.table.fleet.items ++ tail) layers trips
-        text.has_text.blocks text.few_trips plan_rows_are in
+    text.has_text.blocks text.few_trips plan_rows_are in
     let size : length (map (block_row names) (blocks_of d.plan)) ≡ length (blocks_of d.plan) = length-map (blocks_of d.plan) (block_row names) in
     let table_there : drop (start + 4 + length (blocks_of d.plan)) rows ≡ table_rows p names (1, first.table) ++ tail =
-        ap (λ (n : ℕ). drop (start + 4 + n) rows) (sym size) ∙ drop_after rows (start + 4) (map (block_row names) (blocks_of d.plan)) (table_rows p names (1, first.table) ++ tail) e4 in
+    ap (λ (n : ℕ). drop (start + 4 + n) rows) (sym size) ∙ drop_after rows (start + 4) (map (block_row names) (blocks_of d.plan)) (table_rows p names (1, first.table) ++ tail) e4 in
     let end : ℕ = start + 4 + length (blocks_of d.plan) + length (table_rows p names (1, first.table)) in
     let end_there : drop end rows ≡ tail = drop_after rows (start + 4 + length (blocks_of d.plan)) (table_rows p names (1, first.table)) tail table_there in
     record {

@@ -10,7 +10,9 @@ use vs_check::Claim;
 
 /// The most that a cost may be, a bound in either direction, and a count of nodes.
 const MOST_COST: i128 = 100_000_000_000_000_000;
+
 const MOST_BOUND: i128 = 100_000_000_000_000_000_000;
+
 const MOST_NODES: i128 = 1_000_000_000_000_000_000;
 
 /// The first four rows of a document whose bound is a number.

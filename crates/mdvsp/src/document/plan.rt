@@ -15,7 +15,12 @@ use vs_check::{Block, Plan};
 use vs_types::{LayerNo, TripNo};
 
 /// The blocks that stand from a row on, and the first row after them.
-pub fn read_plan(alloc: Global, rows: &Rows, at: usize, names: &Names) -> Result<(Plan, usize), FormError>
+pub fn read_plan(
+    alloc: Global,
+    rows: &Rows,
+    at: usize,
+    names: &Names,
+) -> Result<(Plan, usize), FormError>
     requires at { at ≤ length rows.now }
     requires layers { AreNames names.now.layers }
     requires trips { AreNames names.now.trips }
@@ -76,7 +81,12 @@ fn read_block(alloc: Global, rows: &Rows, row: usize, names: &Names) -> Result<B
 }
 
 /// The trips that the fields of a row name from the third on.
-fn read_trips(alloc: Global, rows: &Rows, row: usize, names: &Names) -> Result<Vec<TripNo>, FormError>
+fn read_trips(
+    alloc: Global,
+    rows: &Rows,
+    row: usize,
+    names: &Names,
+) -> Result<Vec<TripNo>, FormError>
     requires row { row < length rows.now }
     requires fields { 2 ≤ length (row_at rows.now row) }
     requires trips { AreNames names.now.trips }

@@ -39,7 +39,13 @@ pub fn empty_table(alloc: Global, names: &Names) -> Result<Table, FormError>
 
 /// Reads the rows of the first table, and puts their prices into an empty one. Answers the table and the row
 /// after its rows.
-pub fn read_table(rows: &Rows, at: usize, instance: &Instance, names: &Names, empty: Table) -> Result<(Table, usize), FormError>
+pub fn read_table(
+    rows: &Rows,
+    at: usize,
+    instance: &Instance,
+    names: &Names,
+    empty: Table,
+) -> Result<(Table, usize), FormError>
     requires at { at ≤ length rows.now }
     requires layers { length names.now.layers ≡ length instance.now.layers }
     requires trips { length names.now.trips ≡ length instance.now.trips }
@@ -66,11 +72,20 @@ fn is_table(rows: &Rows, row: usize) -> bool
     ensures within { IsTrue result → row < length rows.now }
     ensures few { length rows.now < 2 ^ 64 }
 {
-    is_of_kind(rows, row, "table", 3) && is_text(rows.field(row, 1), "1") && is_text(rows.field(row, 2), "cost")
+    is_of_kind(rows, row, "table", 3)
+        && is_text(rows.field(row, 1), "1")
+        && is_text(rows.field(row, 2), "cost")
 }
 
 /// Reads the rows of a layer, puts its prices at the end of those of the table, and answers the next row.
-fn read_layer(rows: &Rows, at: usize, instance: &Instance, names: &Names, l: LayerNo, table: &mut Table) -> Result<usize, FormError>
+fn read_layer(
+    rows: &Rows,
+    at: usize,
+    instance: &Instance,
+    names: &Names,
+    l: LayerNo,
+    table: &mut Table,
+) -> Result<usize, FormError>
     requires at { at ≤ length rows.now }
     requires layer { l.0 < length instance.now.layers }
     requires layers { length names.now.layers ≡ length instance.now.layers }
@@ -89,7 +104,14 @@ fn read_layer(rows: &Rows, at: usize, instance: &Instance, names: &Names, l: Lay
 
 /// Reads the price rows of a layer, one for each trip that it may run, puts the prices of all trips at the end
 /// of those of the table, and answers the next row.
-fn read_prices(rows: &Rows, at: usize, instance: &Instance, names: &Names, l: LayerNo, table: &mut Table) -> Result<usize, FormError>
+fn read_prices(
+    rows: &Rows,
+    at: usize,
+    instance: &Instance,
+    names: &Names,
+    l: LayerNo,
+    table: &mut Table,
+) -> Result<usize, FormError>
     requires at { at ≤ length rows.now }
     requires layer { l.0 < length instance.now.layers }
     requires layers { length names.now.layers ≡ length instance.now.layers }

@@ -22,11 +22,11 @@ returns-in_default-clause-none c = λ _.
 pub loop-row-preserved : goal.loop-row-preserved
 loop-row-preserved c =
     let pushed : map view c.push.new.self.items ≡ map view c.loop-row.blocks.items ++ view c.in_ok-block.block ∷ [] =
-        ap (map view) c.in_ok-push.ensures.items ∙ map_push view c.loop-row.blocks.items c.in_ok-block.block in
+    ap (map view) c.in_ok-push.ensures.items ∙ map_push view c.loop-row.blocks.items c.in_ok-block.block in
     rw pushed
     (plan_more c.args.names.now c.args.rows.now c.args.at c.loop-row.row c.loop-row.trips c.in-Some.more (map view c.loop-row.blocks.items) (view c.in_ok-block.block) c.loop-row.invariant
-      (omega (arith, c.loop-row-test.true, c.len-row-end.ensures)) c.in_ok-block.ensures.found
-      (omega (arith, c.in-Some.ensures.1, c.in_ok-block.block.trips.ok.0)) (omega (arith, c.in-Some.ensures.0, c.in-Some.ensures.1)))
+    (omega (arith, c.loop-row-test.true, c.len-row-end.ensures)) c.in_ok-block.ensures.found
+    (omega (arith, c.in-Some.ensures.1, c.in_ok-block.block.trips.ok.0)) (omega (arith, c.in-Some.ensures.0, c.in-Some.ensures.1)))
 
 pub returns-clause-found : goal.returns-clause-found
 returns-clause-found c =

@@ -10,7 +10,7 @@ returns-in_default-clause-none c = λ _.
 pub loop-k-preserved : goal.loop-k-preserved
 loop-k-preserved c = rw c.in_ok-push.ensures.items
     (row_trips_more c.args.names.now.trips (row_at c.args.rows.now c.args.row) c.loop-k.k _ c.loop-k.trips.items c.in-Some.trip (omega arith) (omega arith) c.field.ensures
-      c.loop-k.invariant c.in-Some.ensures.found.0 c.in-Some.ensures.found.1)
+    c.loop-k.invariant c.in-Some.ensures.found.0 c.in-Some.ensures.found.1)
 
 pub returns-clause-found : goal.returns-clause-found
 returns-clause-found c = row_trips_all c.args.names.now.trips (row_at c.args.rows.now c.args.row) c.loop-k.k c.loop-k.trips.items (omega arith) c.loop-k.invariant

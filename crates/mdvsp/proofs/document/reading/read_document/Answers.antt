@@ -30,8 +30,8 @@ returns-clause-read_for c =
     let x = c.in_ok-parts.parts in
     IfOk-weaker c.document.result _ _
     (λ d has. read_for c.args.instance.now c.args.names.now _ d
-      (document_of_parts c.args.instance.now c.args.names.now c.args.rows.now c.args.start x.head (blocks_of x.plan) x.table d c.requires.layers c.requires.trips c.in_ok-parts.ensures.found has)
-      (first_document d x.head (blocks_of x.plan) c.args.instance.now x.table c.in_ok-parts.ensures.found.is_table.whole has))
+    (document_of_parts c.args.instance.now c.args.names.now c.args.rows.now c.args.start x.head (blocks_of x.plan) x.table d c.requires.layers c.requires.trips c.in_ok-parts.ensures.found has)
+    (first_document d x.head (blocks_of x.plan) c.args.instance.now x.table c.in_ok-parts.ensures.found.is_table.whole has))
     c.document.ensures.found
 
 pub returns-clause-only : goal.returns-clause-only
@@ -39,5 +39,5 @@ returns-clause-only c =
     let x = c.in_ok-parts.parts in
     IfOk-weaker c.document.result _ _
     (λ d has other. alike c.args.instance.now c.args.names.now c.args.rows.now c.args.start x.head (blocks_of x.plan) x.table d other c.requires.layers c.requires.trips
-      c.in_ok-parts.ensures.layer_names c.in_ok-parts.ensures.trip_names c.in_ok-parts.ensures.found has)
+    c.in_ok-parts.ensures.layer_names c.in_ok-parts.ensures.trip_names c.in_ok-parts.ensures.found has)
     c.document.ensures.found

@@ -22,7 +22,7 @@ returns-in_default-clause-none c = λ _.
     (omega (arith, c.loop-i-test.true, c.trips-i-end.ensures.count))
     (is_permitted c.args.instance.now c.args.l.0 c.loop-i.i c.trip.result.now c.has.result c.trip.ensures c.if-not-has.false c.has.ensures)
     (λ a b a_price b_price e. c.in_default.ensures.none a b a_price b_price
-      (same_line (get_or c.args.rows.now c.loop-i.next []) _ _ c.layer.result.now c.trip-in-loop-i.result.now a b (sym c.layer.ensures) (sym c.trip-in-loop-i.ensures) e))
+    (same_line (get_or c.args.rows.now c.loop-i.next []) _ _ c.layer.result.now c.trip-in-loop-i.result.now a b (sym c.layer.ensures) (sym c.trip-in-loop-i.ensures) e))
 
 pub loop-i-preserved : goal.loop-i-preserved
 loop-i-preserved c =
