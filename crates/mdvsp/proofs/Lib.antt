@@ -30,3 +30,6 @@ pub mod OpenBlocks
 pub mod Placing
 pub mod ZeroTable
 pub mod FirstAnswer
+pub mod LawPlain
+pub mod LawTrips
+pub mod LawDocuments
