@@ -288,3 +288,15 @@ layer_read p names l at rows old middle new name price row name_is is_price into
   rows_are = drop_row rows at (fleet_line (name_of names.layers l) price) (row ∙ ap (λ (f : List ℕ). fleet_line f price) name_is) (omega arith)
       ∙ ap (λ (rs : List Row). fleet_line (name_of names.layers l) price ∷ rs) r.rows_are;
 }
+
+-- the rows of layers are as many whatever the prices
+pub rows_size : (p : Problem) (names : NameLists) (n l : ℕ) (into from fleet into' from' fleet' : List ℤ) → l + n ≡ length p.layers
+    → length (rows_from p names l into from fleet) ≡ length (rows_from p names l into' from' fleet')
+rows_size p names zero l into from fleet into' from' fleet' size =
+    ap length (rows_end p names l into from fleet (omega arith)) ∙ sym (ap length (rows_end p names l into' from' fleet' (omega arith)))
+rows_size p names (suc n) l into from fleet into' from' fleet' size =
+    let rest = rows_size p names n (l + 1) into from fleet into' from' fleet' (omega arith) in
+    let first = layer_size p names l (price_of fleet l) (price_of fleet' l) (of_layer p into l) (of_layer p from l) (of_layer p into' l) (of_layer p from' l) in
+    omega (arith, rest, first, ap length (rows_at p names l into from fleet (omega arith)), ap length (rows_at p names l into' from' fleet' (omega arith)),
+      length-append (layer_lines p names l (price_of fleet l) (of_layer p into l) (of_layer p from l)) (rows_from p names (l + 1) into from fleet),
+      length-append (layer_lines p names l (price_of fleet' l) (of_layer p into' l) (of_layer p from' l)) (rows_from p names (l + 1) into' from' fleet'))

@@ -6,6 +6,7 @@ pub mod DocumentRows
 pub mod DocumentPrices
 pub mod DocumentLayers
 pub mod DocumentSame
+pub mod DocumentWhole
 pub mod ReaderNames
 pub mod ReaderNumbers
 pub mod ReaderLayers

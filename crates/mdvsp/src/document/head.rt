@@ -1,4 +1,4 @@
-ghost use Rattle.std.specs.Prelude.{◌≡◌, ◌+◌, ◌≤◌, ◌↔◌, [], ◌∷◌, length, codes, IsTrue, IfSome, IfNone, ℕ, ℤ, pos, Option};
+ghost use Rattle.std.specs.Prelude.{◌≡◌, ◌+◌, ◌^◌, ◌<◌, ◌≤◌, ◌↔◌, [], ◌∷◌, length, codes, IsTrue, IfSome, IfNone, ℕ, ℤ, pos, Option};
 ghost use Rattle.vs_check.specs.declared.claim.Claim.{Claim as ClaimOf};
 ghost use Rattle.mdvsp.specs.declared.document.head.Head.{Head as HeadOf};
 ghost use Rattle.mdvsp.specs.DocumentText.{claim_field};
@@ -30,6 +30,7 @@ pub fn read_head(rows: &Rows, at: usize) -> Option<Head>
     requires { at ≤ length rows.now }
     ensures found { IfSome result (IsHeadAt rows.now at) }
     ensures within { IfSome result (λ _. at + 4 ≤ length rows.now) }
+    ensures few { length rows.now < 2 ^ 64 }
     ensures none { IfNone result ((head : HeadOf) → ¬ (IsHeadAt rows.now at head)) }
 {
     if rows.len() - at < 4 {

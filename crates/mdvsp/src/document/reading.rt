@@ -1,4 +1,4 @@
-ghost use Rattle.std.specs.Prelude.{◌≡◌, ◌≤◌, ◌↔◌, [], ◌∷◌, List, length, drop, IsTrue, IfOk, OnErr};
+ghost use Rattle.std.specs.Prelude.{◌≡◌, ◌≤◌, ◌↔◌, [], ◌∷◌, List, length, drop, IsTrue, IfOk, IsOkUnless};
 ghost use Rattle.vs_instance.specs.Plan.{LayerBlock};
 ghost use Rattle.vs_check.specs.declared.document.Document.{Document as DocumentOf};
 ghost use Rattle.vs_check.specs.declared.table.Table.{Table as TableOf};
@@ -76,7 +76,7 @@ fn read_parts(
         return Err(FormError::NotThisForm);
     };
     let (plan, next) = read_plan(alloc, rows, start + 4, names)?;
-    if head.cost.is_none() && !plan.blocks.is_empty() {
+    if !is_plan_of(&head, &plan) {
         return Err(FormError::NotThisForm);
     }
     let (table, end) = read_table(rows, next, instance, names, empty)?;
@@ -86,21 +86,42 @@ fn read_parts(
     Ok(Parts { head, plan, table })
 }
 
+/// Whether there are no blocks where there is no cost.
+fn is_plan_of(head: &Head, plan: &Plan) -> bool
+    ensures { IsTrue result ↔ (head.now.cost ≡ None → blocks_of plan.now ≡ []) }
+{
+    head.cost.is_some() || plan.blocks.is_empty()
+}
+
 /// Whether the rows from this one on are `leaf`, `1` and `end`.
 fn is_end(rows: &Rows, at: usize) -> bool
     requires { at ≤ length rows.now }
     ensures { IsTrue result ↔ (drop at rows.now ≡ leaf_line ∷ end_line ∷ []) }
 {
-    rows.len() - at == 2
-        && is_of_kind(rows, at, "leaf", 2)
-        && is_text(rows.field(at, 1), "1")
-        && is_of_kind(rows, at + 1, "end", 1)
+    if rows.len() - at != 2 {
+        return false;
+    }
+    is_leaf(rows, at) && is_last(rows, at + 1)
+}
+
+/// Whether a row is `leaf`, `1`.
+fn is_leaf(rows: &Rows, row: usize) -> bool
+    ensures { IsTrue result ↔ (row_at rows.now row ≡ leaf_line) }
+{
+    is_of_kind(rows, row, "leaf", 2) && is_text(rows.field(row, 1), "1")
+}
+
+/// Whether a row is `end`.
+fn is_last(rows: &Rows, row: usize) -> bool
+    ensures { IsTrue result ↔ (row_at rows.now row ≡ end_line) }
+{
+    is_of_kind(rows, row, "end", 1)
 }
 
 /// The document that has these parts.
 fn document(alloc: Global, parts: Parts) -> Result<Document, FormError>
     ensures found { IfOk result (λ d. HasParts d parts.head (blocks_of parts.plan) parts.table) }
-    ensures memory { OnErr result (result ≡ Err FormError.Memory) }
+    ensures memory { IsOkUnless result FormError.Memory }
 {
     let Parts { head, plan, table } = parts;
     let mut tables = Vec::with_capacity(alloc, 1)?;

@@ -1,4 +1,4 @@
-ghost use Rattle.std.specs.Prelude.{◌≡◌, ℕ, ◌^◌, ◌<◌, ◌≤◌, ◌↔◌, [], ◌∷◌, ◌++◌, List, length, drop, codes, IsTrue, IfSome, IfNone, IfOk, ℤ, false};
+ghost use Rattle.std.specs.Prelude.{◌≡◌, ℕ, ◌^◌, ◌<◌, ◌≤◌, ◌↔◌, [], ◌∷◌, ◌++◌, List, length, drop, codes, IsTrue, IfSome, IfNone, IfOk, IsOkUnless, ℤ, false};
 ghost use Rattle.vs_check.specs.Table.{IsPrice, Fits};
 ghost use Rattle.vs_check.specs.declared.table.Table.{Table as TableOf};
 ghost use Rattle.std.specs.Fmt.{signed_decimal};
@@ -25,6 +25,7 @@ pub fn empty_table(alloc: Global, names: &Names) -> Result<Table, FormError>
     ensures empty { IfOk result IsEmptyTable }
     ensures layers { IfOk result (λ _. AreNames names.now.layers) }
     ensures trips { IfOk result (λ _. AreNames names.now.trips) }
+    ensures memory { IsOkUnless result FormError.Memory }
 {
     let layers = names.layers();
     let prices = layers.saturating_mul(names.trips());

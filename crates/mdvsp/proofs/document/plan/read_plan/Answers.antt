@@ -1,10 +1,9 @@
-use Rattle.std.proofs.Common.{◌++◌, ◌∷◌, [], ◌≡◌, ◌+◌, ◌<◌, length, map, ap, arith, sym, ◌∙◌, subst, ℕ, List}
+use Rattle.std.proofs.Common.{◌++◌, ◌∷◌, [], ◌≡◌, map, ap, arith, ◌∙◌}
 use Rattle.std.proofs.lemmas.Bool.{false≢true}
 use Rattle.std.proofs.lemmas.List.{map_push}
 use Rattle.vs_check.specs.declared.plan.Block.{Block}
 use Rattle.vs_instance.specs.Plan.{LayerBlock}
-use Rattle.mdvsp.specs.DocumentParts.{IsBlockKind, row_at}
-use Rattle.mdvsp.proofs.DocumentPlan.{PlanSoFar, plan_more, plan_ends, plan_ends_rows, block_fails, too_many_trips}
+use Rattle.mdvsp.proofs.DocumentPlan.{plan_more, plan_ends, plan_ends_rows, too_many_trips}
 use Rattle.mdvsp.proofs.document.plan.read_plan.Goals as goal
 
 abbrev view : Block → LayerBlock

@@ -1,4 +1,4 @@
-use Rattle.std.proofs.Common.{length, drop, arith}
+use Rattle.std.proofs.Common.{arith}
 use Rattle.mdvsp.specs.DocumentParts.{row_at}
 use Rattle.mdvsp.proofs.DocumentNames.{no_trips_in_row, row_trips_more, row_trips_all}
 use Rattle.mdvsp.proofs.document.plan.read_trips.Goals as goal

@@ -1,4 +1,4 @@
-use Rattle.std.proofs.Common.{rules, FitsSigned, w64, ◌≡◌, [], get_or, sym, refl, arith, pos, drop, length, ◌+◌, ◌<◌}
+use Rattle.std.proofs.Common.{rules, FitsSigned, w64, [], get_or, sym, refl, arith, drop, ◌+◌}
 use Rattle.std.proofs.lemmas.Int.{to_z-of_z}
 use Rattle.mdvsp.proofs.DocumentPrices.{prices_none, prices_without, prices_with, prices_fail, not_permitted, is_permitted, same_line}
 use Rattle.mdvsp.proofs.DocumentRows.{drop_row}

@@ -1,4 +1,4 @@
-use Rattle.std.proofs.Common.{refl, ◌≡◌, ◌+◌, drop, length, ap, ◌∙◌, Err, arith}
+use Rattle.std.proofs.Common.{refl, ◌+◌, drop, ap, ◌∙◌, Err, arith}
 use Rattle.std.proofs.lemmas.Bool.{false≢true}
 use Rattle.mdvsp.specs.declared.form_error.FormError.{FormError}
 use Rattle.mdvsp.proofs.DocumentErrors.{same_error}
