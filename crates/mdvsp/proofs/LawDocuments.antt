@@ -1,7 +1,9 @@
 -- A document that `solve` owes is judged `yes` behind its instance's records.
 use Rattle.std.proofs.Common.{◌≡◌, ℕ, ◌<◌, ◌≤◌, Bool, false, List, [], ◌∷◌, ◌++◌, length, map, slice_get, refl, sym, ap, ◌∙◌, subst, inl, inr, arith, All, Option, Some, None, IsSome, ℤ}
 use Rattle.std.proofs.lemmas.Bool.{false≢true}
+use Rattle.std.proofs.lemmas.List.{get_or_default, length_push}
 use Rattle.std.proofs.lemmas.List.Elements.{All-head, All-nil, All-push}
+use Rattle.std.proofs.lemmas.List.Quantifiers.{all_pairs_push}
 use Rattle.vs_instance.specs.Problem.{Problem}
 use Rattle.vs_check.specs.declared.bound.Bound.TheVariants.{AtLeast, NoPlan}
 use Rattle.vs_check.specs.declared.document.Document.{Document}
@@ -11,9 +13,10 @@ use Rattle.vs_check.specs.declared.table.Table.{Table}
 use Rattle.vs_check.specs.Blocks.{blocks_of}
 use Rattle.vs_check.specs.HoldingDocument.{ReachesBound}
 use Rattle.mdvsp.specs.declared.status.Status.{Status}
-use Rattle.mdvsp.specs.Rows.{Row, AreLines, lines}
+use Rattle.mdvsp.specs.Rows.{Field, Row, AreLines, lines}
 use Rattle.mdvsp.specs.Names.{IsName, NameLists}
-use Rattle.mdvsp.specs.InstanceText.{InstanceText, Declared, nothing_yet, Adds, AddAll}
+use Rattle.mdvsp.specs.NameRules.{AreNames}
+use Rattle.mdvsp.specs.InstanceText.{InstanceText, IsNew, Declared, nothing_yet, Adds, AddAll}
 use Rattle.mdvsp.specs.DocumentText.{AreShapeRows, DocumentText, IsShapeOf, document_rows, shape_row}
 use Rattle.mdvsp.specs.FirstForm.{IsFirstDocument}
 use Rattle.mdvsp.specs.Owed.{OwesDocument, OwesYes, HasZeroTable, yes_row}
@@ -23,13 +26,23 @@ use Rattle.mdvsp.proofs.LawTrips.{few_in_plan}
 use Rattle.mdvsp.proofs.LinesAppend.{AreLines-append}
 
 -- what records declare as names are names
+no_names : AreNames []
+no_names = record { each = All-nil IsName; apart = λ i j d before within. absurd (omega arith); few = omega arith }
+
+one_more_name : (names : List Field) (name : Field) → AreNames names → IsNew names name → length names < 2000 → AreNames (names ++ name ∷ [])
+one_more_name names name are new room = record {
+  each = All-push IsName names name are.each new.name;
+  apart = all_pairs_push (λ f g. ¬ (f ≡ g)) names name are.apart (λ k d within same. new.new (k, within, get_or_default names k name d within ∙ same));
+  few = let more = length_push names name in omega (arith, more, room);
+}
+
 adds_names : (old : Declared) (row : Row) (new : Declared) → Adds old row new → HaveNames old.names → HaveNames new.names
 adds_names old row new (inl a) h = subst (λ (d : Declared). HaveNames d.names) (sym a.added) (record { layers = h.layers; trips = h.trips })
 adds_names old row new (inr (inl a)) h = subst (λ (d : Declared). HaveNames d.names) (sym a.added) (record { layers = h.layers; trips = h.trips })
 adds_names old row new (inr (inr (inl a))) h = subst (λ (d : Declared). HaveNames d.names) (sym a.added)
-    (record { layers = All-push IsName old.names.layers a.name h.layers a.new_name.name; trips = h.trips })
+    (record { layers = one_more_name old.names.layers a.name h.layers a.new_name (let room = a.room in omega arith); trips = h.trips })
 adds_names old row new (inr (inr (inr a))) h = subst (λ (d : Declared). HaveNames d.names) (sym a.added)
-    (record { layers = h.layers; trips = All-push IsName old.names.trips a.name h.trips a.new_name.name })
+    (record { layers = h.layers; trips = one_more_name old.names.trips a.name h.trips a.new_name a.room })
 
 add_all_names : (old : Declared) (rows : List Row) (new : Declared) → AddAll old rows new → HaveNames old.names → HaveNames new.names
 add_all_names old [] new h have = subst (λ (d : Declared). HaveNames d.names) (sym h) have
@@ -37,7 +50,7 @@ add_all_names old (row ∷ rows) new h have = add_all_names h.0 rows new h.2 (ad
 
 pub instance_names : (rows : List Row) (p : Problem) (names : NameLists) → InstanceText rows p names → HaveNames names
 instance_names rows p names t =
-    subst HaveNames (sym t.names_are) (add_all_names nothing_yet t.records t.declared t.declares (record { layers = All-nil IsName; trips = All-nil IsName }))
+    subst HaveNames (sym t.names_are) (add_all_names nothing_yet t.records t.declared t.declares (record { layers = no_names; trips = no_names }))
 
 -- a cost table is worth a number, so what it reaches is one
 number_reached : (p : Problem) (table : Table) (bound : Option ℤ) → table.ray ≡ false → ReachesBound p table bound → IsSome bound

@@ -22,6 +22,7 @@ use Rattle.vs_check.specs.Blocks.{blocks_of}
 use Rattle.vs_check.specs.Table.{Fits, IsPrice, prices_in}
 use Rattle.mdvsp.specs.Rows.{Field, Row, IsPlain, IsPlainRow}
 use Rattle.mdvsp.specs.Names.{IsName, IsNameByte, NameLists}
+use Rattle.mdvsp.specs.NameRules.{AreNames}
 use Rattle.mdvsp.specs.DocumentText.{HasText, IsBetween, block_row, claim_field, document_rows, head_rows, layer_rows, name_of, number_field, permitted_trips, price_row, shape_row, table_rows}
 
 abbrev IsPlainField : Field → Type 0
@@ -169,19 +170,19 @@ price_printed prices i all = by_place (cases_lt i (length prices))
         (omega (arith, ints), omega (arith, ints))
     by_place (inr past) = rw (get_or_past prices i (pos 0) past) (omega (arith, ints), omega (arith, ints))
 
--- names of layers and trips that are names
+-- names of layers and of trips, no two of a kind the same
 pub record HaveNames (names : NameLists) : Type 0 where
-  pub layers : All IsName names.layers
-  pub trips : All IsName names.trips
+  pub layers : AreNames names.layers
+  pub trips : AreNames names.trips
 
 module _ (p : Problem) (names : NameLists) (are : HaveNames names) where
   trip_names : (b : LayerBlock) → All IsPlainField (map (λ t. name_of names.trips t.0) b.1)
   trip_names b = All-map IsPlainField (λ t. name_of names.trips t.0) b.1
-      (every (λ t. IsPlainField (name_of names.trips t.0)) b.1 (λ t. plain_name_of names.trips t.0 are.trips))
+      (every (λ t. IsPlainField (name_of names.trips t.0)) b.1 (λ t. plain_name_of names.trips t.0 are.trips.each))
 
   plain_block : (b : LayerBlock) → IsPlainRow (block_row names b)
   plain_block b = plain_row (codes "block") (name_of names.layers b.0.0 ∷ map (λ t. name_of names.trips t.0) b.1) (omega arith) refl
-      (All-cons IsPlainField (name_of names.layers b.0.0) (map (λ t. name_of names.trips t.0) b.1) (plain_name_of names.layers b.0.0 are.layers) (trip_names b))
+      (All-cons IsPlainField (name_of names.layers b.0.0) (map (λ t. name_of names.trips t.0) b.1) (plain_name_of names.layers b.0.0 are.layers.each) (trip_names b))
 
   module _ (table : Table) (fits : Fits p table) where
     in_layer : (l i : ℕ) (prices : List ℤ) → All IsPrice prices → Printed (price_of (prices_in p l prices) i)
@@ -190,13 +191,13 @@ module _ (p : Problem) (names : NameLists) (are : HaveNames names) where
     plain_price : (l i : ℕ) → IsPlainRow (price_row p names table l i)
     plain_price l i = row_of_four (codes "price") (name_of names.layers l) (name_of names.trips i)
         (signed_decimal (price_of (prices_in p l table.into.items) i)) (signed_decimal (price_of (prices_in p l table.from.items) i)) (omega arith) refl
-        (plain_name_of names.layers l are.layers) (plain_name_of names.trips i are.trips)
+        (plain_name_of names.layers l are.layers.each) (plain_name_of names.trips i are.trips.each)
         (plain_signed (price_of (prices_in p l table.into.items) i) (in_layer l i table.into.items fits.into))
         (plain_signed (price_of (prices_in p l table.from.items) i) (in_layer l i table.from.items fits.from))
 
     plain_fleet : (l : ℕ) → IsPlainRow (codes "fleet" ∷ name_of names.layers l ∷ signed_decimal (price_of table.fleet.items l) ∷ [])
     plain_fleet l = row_of_two (codes "fleet") (name_of names.layers l) (signed_decimal (price_of table.fleet.items l)) (omega arith) refl
-        (plain_name_of names.layers l are.layers) (plain_signed (price_of table.fleet.items l) (price_printed table.fleet.items l fits.fleet))
+        (plain_name_of names.layers l are.layers.each) (plain_signed (price_of table.fleet.items l) (price_printed table.fleet.items l fits.fleet))
 
     plain_layer : (l : ℕ) → All IsPlainRow (layer_rows p names table l)
     plain_layer l = row_and (codes "fleet" ∷ name_of names.layers l ∷ signed_decimal (price_of table.fleet.items l) ∷ [])

@@ -34,3 +34,5 @@ pub mod FirstAnswer
 pub mod LawPlain
 pub mod LawTrips
 pub mod LawDocuments
+pub mod LawAlike
+pub mod LawVerdicts
