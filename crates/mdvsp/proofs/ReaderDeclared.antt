@@ -1,7 +1,5 @@
 -- What records declare: it is sound, and there is one such thing.
-use Rattle.std.proofs.Common.{◌≡◌, ℕ, zero, suc, ◌+◌, ◌-◌, ◌*◌, ◌<◌, ◌≤◌, ◌⊎◌, inl, inr, List, [], ◌∷◌, ◌++◌, length, get_or, take, drop, Contains, refl, sym, ap, ◌∙◌, subst, arith}
-use Rattle.std.specs.Prelude.{All, AllPairs, codes}
-use Rattle.std.specs.Str.Parse.{digits_value}
+use Rattle.std.proofs.Common.{◌≡◌, ℕ, ◌<◌, ◌≤◌, inl, inr, List, [], ◌∷◌, ◌++◌, length, get_or, drop, Contains, refl, sym, ap, ◌∙◌, subst, arith}
 use Rattle.std.proofs.lemmas.List.{length_push, get_or_default}
 use Rattle.std.proofs.lemmas.List.Elements.{All-get_or, All-nil, All-push, All-weaker, Contains-get_or}
 use Rattle.std.proofs.lemmas.List.Quantifiers.{all_pairs_push}
@@ -15,9 +13,9 @@ use Rattle.vs_instance.specs.declared.layer.Layer.{Layer}
 use Rattle.vs_instance.specs.declared.trip.Trip.{Trip}
 use Rattle.mdvsp.specs.Rows.{Field, Row}
 use Rattle.mdvsp.specs.Kinds.{field_of}
-use Rattle.mdvsp.specs.Names.{NameLists, Names}
+use Rattle.mdvsp.specs.Names.{NameLists}
 use Rattle.mdvsp.specs.Numbers.{IsTime}
-use Rattle.mdvsp.specs.InstanceText.{Declared, nothing_yet, IsNew, AddsStop, AddsDeadhead, AddsLayer, AddsTrip, Adds, AddAll, DeadheadRow, LayerRow, TripRow, NameLayers, Makes, InstanceText}
+use Rattle.mdvsp.specs.InstanceText.{Declared, nothing_yet, IsNew, AddsStop, AddsDeadhead, AddsLayer, AddsTrip, Adds, AddAll, NameLayers, Makes, InstanceText}
 use Rattle.mdvsp.specs.Drafts.{AreApart, IsSound}
 use Rattle.mdvsp.proofs.ReaderNames.{Names-Contains}
 use Rattle.mdvsp.proofs.ReaderOnly.{same_field, one_deadhead, one_layer, one_trip}

@@ -1,11 +1,11 @@
 -- Names as texts, and numbered lists of names.
-use Rattle.std.proofs.Common.{◌≡◌, ℕ, zero, suc, ◌+◌, ◌<◌, ◌≤◌, ◌⊎◌, inl, inr, Bool, true, false, not, cond, ◌||◌, List, [], ◌∷◌, ◌++◌, length, get_or, Option, Some, None, Result, Ok, Err, MatchOption, MatchResult, MatchBool, Contains, refl, sym, ap, ◌∙◌, subst, arith, slice_index_or, map, Bor}
-use Rattle.std.specs.Prelude.{All, AllPairs, slice_get, position, IfSome}
+use Rattle.std.proofs.Common.{◌≡◌, ℕ, zero, suc, ◌<◌, inl, inr, Bool, true, false, not, cond, List, [], ◌∷◌, ◌++◌, length, get_or, Option, Some, Result, Ok, Err, MatchOption, MatchResult, MatchBool, Contains, refl, sym, ap, ◌∙◌, arith, map, Bor}
+use Rattle.std.specs.Prelude.{All, AllPairs, position}
 use Rattle.std.specs.List.{list_any}
 use Rattle.std.specs.Result.{result_ok}
-use Rattle.std.specs.Str.{IsAscii, IsUtf8, bytes_eq}
-use Rattle.std.proofs.lemmas.Bool.{cases_lt, cases_order, cases_Bool, or_left, or_right, or_cases, true≢false}
-use Rattle.std.proofs.lemmas.List.{get_or_past, get_or_default, length-map, map_push, length_push}
+use Rattle.std.specs.Str.{IsUtf8, bytes_eq}
+use Rattle.std.proofs.lemmas.Bool.{cases_lt, cases_order, or_left, or_right, or_cases, true≢false}
+use Rattle.std.proofs.lemmas.List.{get_or_past, get_or_default, map_push, length_push}
 use Rattle.std.proofs.lemmas.List.Elements.{All-get_or, All-push, All-contains}
 use Rattle.std.proofs.lemmas.List.Quantifiers.{all_pairs_push, position-Some}
 use Rattle.std.proofs.lemmas.Option.{slice_get-map, slice_get-get_or, slice_get_within, get_or_from_slice_get}

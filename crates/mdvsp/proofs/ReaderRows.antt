@@ -1,5 +1,5 @@
 -- Rows by their fields.
-use Rattle.std.proofs.Common.{◌≡◌, ℕ, zero, suc, ◌+◌, ◌-◌, ◌<◌, ◌≤◌, List, [], ◌∷◌, ◌++◌, length, get_or, take, drop, refl, sym, ap, ◌∙◌, subst, arith}
+use Rattle.std.proofs.Common.{◌≡◌, ℕ, suc, ◌+◌, ◌<◌, ◌≤◌, List, [], ◌∷◌, ◌++◌, length, take, drop, refl, sym, ap, ◌∙◌, arith}
 use Rattle.std.proofs.lemmas.List.{length-take, take-append-drop, take-take, drop-append-le, drop_more, take_more, get_or-take}
 use Rattle.vs_types.specs.declared.layer_set.LayerSet.{LayerSet}
 use Rattle.vs_instance.specs.declared.trip.Trip.{Trip}
@@ -9,11 +9,7 @@ use Rattle.mdvsp.specs.Numbers.{IsTime}
 use Rattle.mdvsp.specs.InstanceText.{TripRow, NameLayers}
 use Rattle.mdvsp.specs.Kinds.{field_of, row_of}
 
--- a row of one field more
-pub more_fields : (row : Row) (n : ℕ) → length row ≡ suc n → row ≡ field_of row 0 ∷ drop 1 row
-more_fields [] n is = cc
-more_fields (a ∷ row) n is = refl
-
+-- a row of seven fields
 pub seven_fields : (row : Row) (kind : Field) → field_of row 0 ≡ kind → length row ≡ 7
     → row ≡ kind ∷ field_of row 1 ∷ field_of row 2 ∷ field_of row 3 ∷ field_of row 4 ∷ field_of row 5 ∷ field_of row 6 ∷ []
 seven_fields [] kind is many = absurd (omega arith)

@@ -1,5 +1,5 @@
 -- What a draft holds, and what is true of it.
-use Rattle.std.specs.Prelude.{◌≡◌, ◌≢◌, ℕ, ◌<◌, ◌≤◌, List, length, All, AllPairs}
+use Rattle.std.specs.Prelude.{◌≡◌, ℕ, ◌<◌, ◌≤◌, List, length, All, AllPairs}
 use Rattle.vs_types.specs.LayerSet.{Has}
 use Rattle.mdvsp.specs.declared.reader.draft.Draft.{Draft}
 use Rattle.mdvsp.specs.Rows.{Field}

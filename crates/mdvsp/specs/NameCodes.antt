@@ -1,5 +1,5 @@
 -- How lists of names are stored, so that a proof can tell them apart.
-use Rattle.std.specs.Prelude.{ℕ, List, refl}
+use Rattle.std.specs.Prelude.{List, refl}
 use Rattle.std.specs.Coded.{Coded, code_by, coded×, coded_ℕ, coded_list}
 use Rattle.mdvsp.specs.Rows.{Field}
 use Rattle.mdvsp.specs.Names.{NameLists}

@@ -1,5 +1,5 @@
 -- What a list of declared names keeps.
-use Rattle.std.specs.Prelude.{◌≡◌, ℕ, ◌<◌, ◌^◌, List, length, All, AllPairs}
+use Rattle.std.specs.Prelude.{◌≡◌, ◌<◌, ◌^◌, List, length, All, AllPairs}
 use Rattle.mdvsp.specs.Rows.{Field}
 use Rattle.mdvsp.specs.Names.{IsName}
 

@@ -5,3 +5,6 @@ mod order;
 mod zero_table;
 
 pub use answering::first_answer;
+
+#[cfg(test)]
+mod tests;

@@ -6,3 +6,4 @@ pub mod Layers
 pub mod Running
 pub mod Worths
 pub mod Examples
+pub mod Tried

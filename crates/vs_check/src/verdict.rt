@@ -73,3 +73,6 @@ pub fn check(alloc: Global, instance: &Instance, document: &Document) -> Result<
     }
     Ok(Verdict::Yes)
 }
+
+#[cfg(test)]
+mod tests;

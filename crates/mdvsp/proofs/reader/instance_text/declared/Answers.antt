@@ -1,10 +1,9 @@
-use Rattle.std.proofs.Common.{◌≡◌, refl, inl, inr, ◌∙◌, sym, ap, subst, ℕ, ◌+◌, ◌<◌, ◌≤◌, List, [], ◌∷◌, ◌++◌, length, take, drop, Err, arith}
+use Rattle.std.proofs.Common.{◌≡◌, refl, inl, inr, ap, ◌+◌, ◌≤◌, take, drop, Err, arith}
 use Rattle.std.proofs.lemmas.Bool.{cases_lt, iff_false}
 use Rattle.std.proofs.lemmas.Result.{err_from_is_err_and}
 use Rattle.mdvsp.specs.declared.form_error.FormError.TheVariants.{NotThisForm}
-use Rattle.mdvsp.specs.Rows.{Row}
-use Rattle.mdvsp.specs.Kinds.{ComeByKind, kind_place, row_of, field_of}
-use Rattle.mdvsp.specs.InstanceText.{Declared, AddAll, nothing_yet}
+use Rattle.mdvsp.specs.Kinds.{kind_place, row_of}
+use Rattle.mdvsp.specs.InstanceText.{nothing_yet}
 use Rattle.mdvsp.specs.Drafts.{declared_of}
 use Rattle.mdvsp.proofs.ReaderDeclared.{IsSound-nothing, IsSound-AddAll, AddAll-push, no_add}
 use Rattle.mdvsp.proofs.ReaderKinds.{next_kind}

@@ -1,8 +1,7 @@
-use Rattle.std.proofs.Common.{◌≡◌, ◌≤◌, take, drop}
+use Rattle.std.proofs.Common.{◌≤◌, take, drop}
 use Rattle.mdvsp.specs.Kinds.{ComeByKind, kind_place}
 use Rattle.mdvsp.specs.InstanceText.{AddAll, nothing_yet}
 use Rattle.mdvsp.specs.Drafts.{declared_of}
-use Rattle.mdvsp.proofs.ReaderDeclared.{one_Adds}
 use Rattle.mdvsp.proofs.reader.instance_text.declared.Given as goal
 
 abbrev pub invariant-loop-row : goal.invariant-loop-row

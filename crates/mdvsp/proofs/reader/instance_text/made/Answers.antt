@@ -1,4 +1,4 @@
-use Rattle.std.proofs.Common.{◌≡◌, ◌∙◌, sym, ap, subst, ℕ, ◌+◌, ◌<◌, ◌≤◌, ◌≢◌, List, [], length, arith}
+use Rattle.std.proofs.Common.{arith}
 use Rattle.mdvsp.proofs.ReaderParts.{are_parts}
 use Rattle.mdvsp.proofs.reader.instance_text.made.Goals as goal
 

@@ -1,10 +1,8 @@
-use Rattle.std.proofs.Common.{◌≡◌, ◌∙◌, sym, ap, refl, ℕ, ◌<◌, ◌≤◌, List, [], ◌∷◌, drop, take, Err, IsTrue, arith}
+use Rattle.std.proofs.Common.{◌≡◌, ap, [], ◌∷◌, drop, take, Err, arith}
 use Rattle.std.specs.Prelude.{codes}
 use Rattle.std.proofs.lemmas.Result.{IfOk-weaker, err_from_is_err_and}
 use Rattle.mdvsp.specs.declared.form_error.FormError.TheVariants.{NotThisForm}
-use Rattle.mdvsp.specs.Kinds.{row_of}
-use Rattle.mdvsp.specs.InstanceText.{InstanceText, nothing_yet}
-use Rattle.mdvsp.specs.FirstForm.{AreInOrder}
+use Rattle.mdvsp.specs.InstanceText.{nothing_yet}
 use Rattle.mdvsp.specs.Drafts.{declared_of}
 use Rattle.mdvsp.proofs.ReaderDeclared.{IsSound-nothing, IsSound-AddAll, declared_by, one_text, makes_it}
 use Rattle.mdvsp.proofs.ReaderKinds.{ComeByKind-in_order, in_order-ComeByKind}

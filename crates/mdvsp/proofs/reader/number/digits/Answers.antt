@@ -1,4 +1,4 @@
-use Rattle.std.proofs.Common.{◌+◌, ◌-◌, ◌*◌, ◌^◌, ◌<◌, ◌≤◌, length, take, get_or, arith, rules, ℕ, List}
+use Rattle.std.proofs.Common.{◌<◌, ◌≤◌, length, take, get_or, arith, rules, ℕ, List}
 use Rattle.std.specs.Prelude.{All}
 use Rattle.std.specs.Char.{IsAsciiDigit}
 use Rattle.std.specs.Str.Parse.{digits_value}

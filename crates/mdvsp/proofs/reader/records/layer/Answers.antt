@@ -1,7 +1,5 @@
-use Rattle.std.proofs.Common.{◌≡◌, ◌∙◌, sym, List, [], ◌∷◌}
+use Rattle.std.proofs.Common.{◌∙◌, sym}
 use Rattle.mdvsp.specs.Kinds.{field_of, row_of}
-use Rattle.mdvsp.specs.Names.{Names}
-use Rattle.mdvsp.specs.Numbers.{IsNumber}
 use Rattle.mdvsp.proofs.ReaderRows.{seven_fields}
 use Rattle.mdvsp.proofs.reader.records.layer.Goals as goal
 

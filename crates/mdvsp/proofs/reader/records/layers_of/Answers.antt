@@ -1,10 +1,7 @@
-use Rattle.std.proofs.Common.{rules, ◌≡◌, ◌∙◌, sym, ap, ℕ, ◌+◌, ◌-◌, ◌<◌, ◌≤◌, List, [], length, take, drop, arith}
+use Rattle.std.proofs.Common.{rules, ◌-◌, ◌<◌, length, drop, arith}
 use Rattle.std.proofs.lemmas.List.{length-drop, take_all}
 use Rattle.std.proofs.lemmas.Option.{slice_get_within}
-use Rattle.mdvsp.specs.Rows.{Field, Row}
-use Rattle.mdvsp.specs.Names.{Names}
-use Rattle.mdvsp.specs.Kinds.{field_of, row_of}
-use Rattle.mdvsp.specs.InstanceText.{NameLayers}
+use Rattle.mdvsp.specs.Kinds.{row_of}
 use Rattle.mdvsp.proofs.ReaderLayers.{next_layer, none_named, named_twice, later_field}
 use Rattle.mdvsp.proofs.reader.records.layers_of.Goals as goal
 

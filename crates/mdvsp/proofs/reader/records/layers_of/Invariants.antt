@@ -1,4 +1,4 @@
-use Rattle.std.proofs.Common.{ℕ, ◌-◌, ◌≤◌, take, drop}
+use Rattle.std.proofs.Common.{◌-◌, ◌≤◌, take, drop}
 use Rattle.mdvsp.specs.Kinds.{row_of}
 use Rattle.mdvsp.specs.InstanceText.{NameLayers}
 use Rattle.mdvsp.proofs.reader.records.layers_of.Given as goal

@@ -1,4 +1,4 @@
-use Rattle.std.proofs.Common.{ℕ, ◌≤◌, length, drop, arith}
+use Rattle.std.proofs.Common.{◌≤◌, length, drop, arith}
 use Rattle.mdvsp.specs.Kinds.{field_of, row_of}
 use Rattle.std.proofs.lemmas.List.{length-drop}
 use Rattle.mdvsp.proofs.ReaderRows.{no_start, no_end, no_layers, long_row}

@@ -1,9 +1,7 @@
-use Rattle.std.proofs.Common.{◌≡◌, ◌∙◌, ◌<◌, refl, sym, ap, subst, MatchBool, Contains, List, length, map, arith}
+use Rattle.std.proofs.Common.{◌<◌, refl, length, map, arith}
 use Rattle.std.specs.String.{string_bytes, string_eq}
 use Rattle.std.proofs.lemmas.List.{length-map}
-use Rattle.mdvsp.specs.Rows.{Field}
 use Rattle.mdvsp.specs.Names.{IsName}
-use Rattle.mdvsp.specs.NameRules.{AreNames}
 use Rattle.mdvsp.proofs.ReaderNames.{AreNames-insert, added_is}
 use Rattle.mdvsp.proofs.reader.name_list.NameList.add.Goals as goal
 

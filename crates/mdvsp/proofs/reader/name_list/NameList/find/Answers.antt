@@ -1,4 +1,4 @@
-use Rattle.std.proofs.Common.{◌≡◌, ◌∙◌, sym, ap, subst, is_some, List, Contains}
+use Rattle.std.proofs.Common.{sym, subst, List, Contains}
 use Rattle.std.specs.String.{string_bytes}
 use Rattle.mdvsp.specs.Rows.{Field}
 use Rattle.mdvsp.specs.Names.{Names as Numbered}

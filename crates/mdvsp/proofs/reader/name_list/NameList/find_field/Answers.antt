@@ -1,6 +1,5 @@
-use Rattle.std.proofs.Common.{◌≡◌, ◌∙◌, sym, ap, subst, List, Contains, ℕ}
+use Rattle.std.proofs.Common.{sym, subst}
 use Rattle.std.specs.String.{string_bytes}
-use Rattle.mdvsp.specs.Rows.{Field}
 use Rattle.mdvsp.specs.Names.{Names as Numbered}
 use Rattle.mdvsp.specs.NameRules.{AreNames}
 use Rattle.mdvsp.proofs.ReaderNames.{not_found, found_at, same_number, IsName-Names, Contains-Names}
