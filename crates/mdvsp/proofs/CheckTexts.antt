@@ -46,7 +46,7 @@ records_no_result rows p names t k lt r =
 pub document_starts : (p : Problem) (names : NameLists) (rows : List Row) (d : Document) → DocumentText p names rows d → (0 < length rows) × IsResultRow (get_or rows 0 [])
 document_starts p names rows d t = (omega (arith, ap length t.rows_are), ap (λ (x : List Row). get_or (get_or x 0 []) 0 []) t.rows_are)
 
-get_or-append_seam_first : (xs ys : List Row) → 0 < length ys → get_or (xs ++ ys) (length xs) [] ≡ get_or ys 0 []
+pub get_or-append_seam_first : (xs ys : List Row) → 0 < length ys → get_or (xs ++ ys) (length xs) [] ≡ get_or ys 0 []
 get_or-append_seam_first xs ys some = let n : length xs - length xs ≡ 0 = omega arith in get_or-append_right xs ys (length xs) [] (omega arith) ∙ ap (λ k. get_or ys k []) n
 
 nat_eq_from_both : (m n : ℕ) → (m < n → ⊥) → (n < m → ⊥) → m ≡ n

@@ -36,3 +36,8 @@ pub mod ReaderNumbers
 pub mod ReaderLayers
 pub mod ReaderRows
 pub mod WrittenRows
+pub mod LawPlain
+pub mod LawTrips
+pub mod LawDocuments
+pub mod LawAlike
+pub mod LawVerdicts

@@ -1,0 +1,141 @@
+-- A document that `solve` owes is judged `yes` behind its instance's records.
+use Rattle.std.proofs.Common.{◌≡◌, ℕ, ◌<◌, ◌≤◌, Bool, false, List, [], ◌∷◌, ◌++◌, length, map, slice_get, refl, sym, ap, ◌∙◌, subst, inl, inr, arith, All, Option, Some, None, IsSome, ℤ}
+use Rattle.std.proofs.lemmas.Bool.{false≢true}
+use Rattle.std.proofs.lemmas.List.{get_or_default, length_push}
+use Rattle.std.proofs.lemmas.List.Elements.{All-head, All-nil, All-push}
+use Rattle.std.proofs.lemmas.List.Quantifiers.{all_pairs_push}
+use Rattle.vs_instance.specs.Problem.{Problem}
+use Rattle.vs_check.specs.declared.bound.Bound.TheVariants.{AtLeast, NoPlan}
+use Rattle.vs_check.specs.declared.document.Document.{Document}
+use Rattle.vs_check.specs.declared.shape.Shape.{Shape}
+use Rattle.vs_check.specs.declared.shape.Shape.TheVariants.{Leaf}
+use Rattle.vs_check.specs.declared.table.Table.{Table}
+use Rattle.vs_check.specs.Blocks.{blocks_of}
+use Rattle.vs_check.specs.HoldingDocument.{ReachesBound}
+use Rattle.mdvsp.specs.declared.status.Status.{Status}
+use Rattle.mdvsp.specs.Rows.{Field, Row, AreLines, lines}
+use Rattle.mdvsp.specs.Names.{IsName, NameLists}
+use Rattle.mdvsp.specs.NameRules.{AreNames}
+use Rattle.mdvsp.specs.InstanceText.{InstanceText, IsNew, Declared, nothing_yet, Adds, AddAll}
+use Rattle.mdvsp.specs.DocumentText.{AreShapeRows, DocumentText, IsShapeOf, document_rows, shape_row}
+use Rattle.mdvsp.specs.FirstForm.{IsFirstDocument}
+use Rattle.mdvsp.specs.Owed.{OwesDocument, OwesYes, HasZeroTable, yes_row}
+use Rattle.mdvsp.specs.SolveAnswer.{SolveAnswer}
+use Rattle.mdvsp.proofs.LawPlain.{HaveNames, plain_document}
+use Rattle.mdvsp.proofs.LawTrips.{few_in_plan}
+use Rattle.mdvsp.proofs.LinesAppend.{AreLines-append}
+
+-- what records declare as names are names
+no_names : AreNames []
+no_names = record { each = All-nil IsName; apart = λ i j d before within. absurd (omega arith); few = omega arith }
+
+one_more_name : (names : List Field) (name : Field) → AreNames names → IsNew names name → length names < 2000 → AreNames (names ++ name ∷ [])
+one_more_name names name are new room = record {
+  each = All-push IsName names name are.each new.name;
+  apart = all_pairs_push (λ f g. ¬ (f ≡ g)) names name are.apart (λ k d within same. new.new (k, within, get_or_default names k name d within ∙ same));
+  few = let more = length_push names name in omega (arith, more, room);
+}
+
+adds_names : (old : Declared) (row : Row) (new : Declared) → Adds old row new → HaveNames old.names → HaveNames new.names
+adds_names old row new (inl a) h = subst (λ (d : Declared). HaveNames d.names) (sym a.added) (record { layers = h.layers; trips = h.trips })
+adds_names old row new (inr (inl a)) h = subst (λ (d : Declared). HaveNames d.names) (sym a.added) (record { layers = h.layers; trips = h.trips })
+adds_names old row new (inr (inr (inl a))) h = subst (λ (d : Declared). HaveNames d.names) (sym a.added)
+    (record { layers = one_more_name old.names.layers a.name h.layers a.new_name (let room = a.room in omega arith); trips = h.trips })
+adds_names old row new (inr (inr (inr a))) h = subst (λ (d : Declared). HaveNames d.names) (sym a.added)
+    (record { layers = h.layers; trips = one_more_name old.names.trips a.name h.trips a.new_name a.room })
+
+add_all_names : (old : Declared) (rows : List Row) (new : Declared) → AddAll old rows new → HaveNames old.names → HaveNames new.names
+add_all_names old [] new h have = subst (λ (d : Declared). HaveNames d.names) (sym h) have
+add_all_names old (row ∷ rows) new h have = add_all_names h.0 rows new h.2 (adds_names old row h.0 h.1 have)
+
+pub instance_names : (rows : List Row) (p : Problem) (names : NameLists) → InstanceText rows p names → HaveNames names
+instance_names rows p names t =
+    subst HaveNames (sym t.names_are) (add_all_names nothing_yet t.records t.declared t.declares (record { layers = no_names; trips = no_names }))
+
+-- a cost table is worth a number, so what it reaches is one
+number_reached : (p : Problem) (table : Table) (bound : Option ℤ) → table.ray ≡ false → ReachesBound p table bound → IsSome bound
+number_reached p table (Some n) cost reaches = refl
+number_reached p table None cost (NoPlan, is, at) = absurd (false≢true (sym cost ∙ is.0))
+number_reached p table None cost (AtLeast n, is, at) = absurd at
+
+abbrev ray_of : Option Table → Bool
+ray_of (Some table) = table.ray
+ray_of None = false
+
+-- a document of the zero table that answers a search
+module _ (p : Problem) (d : Document) (budget : ℕ) (solves : SolveAnswer p budget d) (zero : HasZeroTable p d) (few : length p.trips ≤ 2000) where
+  leaf_is : solves.holds.leaf.0 ≡ 0
+  leaf_is =
+      let tables : length d.tables.items ≡ 1 = ap length zero.1 in
+      let within : solves.holds.leaf.0 < length d.tables.items =
+      All-head (IsShapeOf p (length d.tables.items)) (Leaf solves.holds.leaf.0) []
+      (subst (All (IsShapeOf p (length d.tables.items))) solves.holds.leaf.2 solves.has_text.shape) in
+      omega (arith, tables, within)
+
+  one_leaf : d.shape.items ≡ Leaf 0 ∷ []
+  one_leaf = solves.holds.leaf.2 ∙ ap (λ (t : ℕ). Leaf t ∷ []) leaf_is
+
+  cost_table : solves.holds.leaf.1.ray ≡ false
+  cost_table =
+      ap ray_of (sym solves.holds.leaf.3)
+      ∙ ap (λ (t : ℕ). ray_of (slice_get d.tables.items t)) leaf_is
+      ∙ ap (λ (tables : List Table). ray_of (slice_get tables 0)) zero.1
+      ∙ zero.2.0
+
+  first_document : IsFirstDocument d
+  first_document = record {
+    bound = number_reached p solves.holds.leaf.1 d.bound cost_table solves.holds.leaf.4;
+    table = zero.0;
+    one_table = zero.1;
+    cost_table = zero.2.0;
+    one_leaf = one_leaf;
+  }
+
+  shape_rows : (names : NameLists) → AreShapeRows names (map (shape_row names) d.shape.items) d.shape.items
+  shape_rows names = subst (λ (shapes : List Shape). AreShapeRows names (map (shape_row names) shapes) shapes) (sym one_leaf) (refl, tt)
+
+  document_text : (names : NameLists) → DocumentText p names (document_rows p names d) d
+  document_text names = record {
+    has_text = solves.has_text;
+    few_trips = few_in_plan p d.cost (blocks_of d.plan) few solves.holds.plan solves.has_text.blocks;
+    shape_rows = map (shape_row names) d.shape.items;
+    shapes_are = shape_rows names;
+    rows_are = refl;
+  }
+
+  document_lines : (names : NameLists) → HaveNames names → AreLines (lines (document_rows p names d)) (document_rows p names d)
+  document_lines names have = record {
+    bytes_are = refl;
+    plain = plain_document p names have d zero.0 solves.has_text zero.1 one_leaf;
+  }
+
+-- behind the records they are one text
+pub solved_holds : (bytes : List ℕ) (answer : Status) (rows : List Row) (owed : OwesDocument bytes answer rows)
+    → OwesYes (owed.text.lines_are.read ++ lines rows) (yes_row owed.document ∷ [])
+solved_holds bytes answer rows owed =
+    let p = owed.problem in
+    let names = owed.names in
+    let d = owed.document in
+    let written = document_rows p names d in
+    let few = owed.text.instance.makes.instance.few_trips in
+    subst (λ (others : List Row). OwesYes (owed.text.lines_are.read ++ lines others) (yes_row d ∷ [])) (sym owed.rows_are) (record {
+      problem = p;
+      names = names;
+      document = d;
+      text = record {
+        rows = owed.text.records ++ written;
+        lines_are = AreLines-append owed.text.lines_are.read (lines written) owed.text.records written owed.text.lines_are.lines_are
+            (document_lines p d 0 owed.solves owed.table few names (instance_names owed.text.records p names owed.text.instance));
+        rows_are = record {
+          records = owed.text.records;
+          document_rows = written;
+          rows_are = refl;
+          instance = owed.text.instance;
+          in_order = owed.text.in_order;
+          document = document_text p d 0 owed.solves owed.table few names;
+          first_document = first_document p d 0 owed.solves owed.table few;
+        };
+      };
+      holds = owed.solves.holds;
+      rows_are = refl;
+    })
