@@ -39,8 +39,8 @@ header_no_result rows (suc k) none lt = none k (omega arith)
 pub records_no_result : (rows : List Row) (p : Problem) (names : NameLists) → InstanceText rows p names → (k : ℕ) → k < length rows → IsResultRow (get_or rows k []) → ⊥
 records_no_result rows p names t k lt r =
     header_no_result t.records k (add_all_no_result _ t.records _ t.declares)
-        (omega (arith, ap length t.rows_are))
-        (subst (λ (x : List Row). IsResultRow (get_or x k [])) t.rows_are r)
+    (omega (arith, ap length t.rows_are))
+    (subst (λ (x : List Row). IsResultRow (get_or x k [])) t.rows_are r)
 
 -- a document's first row does
 pub document_starts : (p : Problem) (names : NameLists) (rows : List Row) (d : Document) → DocumentText p names rows d → (0 < length rows) × IsResultRow (get_or rows 0 [])
@@ -58,19 +58,19 @@ pub records_end : (rows records others : List Row) (start : ℕ) → IsFirstResu
 records_end rows records others start f e none some r =
     let many : length rows ≡ length records + length others = ap length e ∙ length-append records others in
     let no_later : length records < start → ⊥ = λ lt. f.before (length records) lt
-        (subst (λ (x : List Row). IsResultRow (get_or x (length records) [])) (sym e)
-            (let at : get_or (records ++ others) (length records) [] ≡ get_or others 0 [] = get_or-append_seam_first records others some in
-             subst IsResultRow (sym at) r)) in
+    (subst (λ (x : List Row). IsResultRow (get_or x (length records) [])) (sym e)
+    (let at : get_or (records ++ others) (length records) [] ≡ get_or others 0 [] = get_or-append_seam_first records others some in
+    subst IsResultRow (sym at) r)) in
     let no_earlier : start < length records → ⊥ = λ lt. none start lt
-        (subst IsResultRow (get_or_append_left records others [] start lt)
-            (subst (λ (x : List Row). IsResultRow (get_or x start [])) e (f.found (omega arith)))) in
+    (subst IsResultRow (get_or_append_left records others [] start lt)
+    (subst (λ (x : List Row). IsResultRow (get_or x start [])) e (f.found (omega arith)))) in
     nat_eq_from_both start (length records) no_earlier no_later
 
 -- the parts of the rows before and from there
 pub records_are : (rows records others : List Row) (start : ℕ) → rows ≡ records ++ others → start ≡ length records → (take start rows ≡ records) × (drop start rows ≡ others)
 records_are rows records others start e n = (
-    ap (λ k. take k rows) n ∙ ap (take (length records)) e ∙ take-append_seam records others,
-    ap (λ k. drop k rows) n ∙ ap (drop (length records)) e ∙ drop-append_seam records others
+  ap (λ k. take k rows) n ∙ ap (take (length records)) e ∙ take-append_seam records others,
+  ap (λ k. drop k rows) n ∙ ap (drop (length records)) e ∙ drop-append_seam records others,
 )
 
 -- the split of rows that hold an instance and a document
@@ -79,7 +79,7 @@ pub split_is : (rows : List Row) (start : ℕ) (p : Problem) (names : NameLists)
 split_is rows start p names d f c =
     let s = document_starts p names c.document_rows d c.document in
     records_are rows c.records c.document_rows start c.rows_are
-        (records_end rows c.records c.document_rows start f c.rows_are (records_no_result c.records p names c.instance) s.0 s.1)
+    (records_end rows c.records c.document_rows start f c.rows_are (records_no_result c.records p names c.instance) s.0 s.1)
 
 -- where the records are no instance, the rows aren't read
 pub no_instance : (rows : List Row) (start : ℕ) → IsFirstResult rows start
@@ -98,10 +98,10 @@ no_document rows start p names f only none h =
     let s = split_is rows start h.0 h.1 h.2 f c in
     let same = only h.0 h.1 (subst (λ (x : List Row). InstanceText x h.0 h.1) (sym s.0) c.instance) in
     none h.2
-        (subst (λ (q : Problem). DocumentText q names (drop start rows) h.2) same.0
-            (subst (λ (others : NameLists). DocumentText h.0 others (drop start rows) h.2) same.1
-                (subst (λ (x : List Row). DocumentText h.0 h.1 x h.2) (sym s.1) c.document)))
-        c.first_document
+    (subst (λ (q : Problem). DocumentText q names (drop start rows) h.2) same.0
+    (subst (λ (others : NameLists). DocumentText h.0 others (drop start rows) h.2) same.1
+    (subst (λ (x : List Row). DocumentText h.0 h.1 x h.2) (sym s.1) c.document)))
+    c.first_document
 
 -- as many names as layers and trips
 pub record AreCounts (declared : Declared) : Type 0 where

@@ -23,7 +23,6 @@ pub mod Results
 pub mod LinesAppend
 pub mod CheckTexts
 pub mod OwedAnswers
-pub mod RowFields
 pub mod RunEnds
 pub mod WordLists
 pub mod Orders
@@ -31,10 +30,6 @@ pub mod OpenBlocks
 pub mod Placing
 pub mod ZeroTable
 pub mod FirstAnswer
-pub mod ReaderNames
-pub mod ReaderNumbers
-pub mod ReaderLayers
-pub mod ReaderRows
 pub mod WrittenRows
 pub mod LawPlain
 pub mod LawTrips

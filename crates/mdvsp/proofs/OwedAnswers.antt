@@ -63,18 +63,21 @@ pub document_owed : (bytes : List ℕ) (p : Problem) (names : NameLists) (r : Re
     → IfOk r (IsDocumentOf p names) → IfOk r (IsOwedFor Solve bytes)
 document_owed bytes p names (Ok a) text d = record {
   rows = document_rows p names d.document;
-  owed = inr (refl, subst (λ (s : Status). SolveOwes bytes s (document_rows p names d.document)) (sym d.status_is)
-      (solve_owes bytes d.document.claim (document_rows p names d.document) (record {
-        problem = p;
-        names = names;
-        document = d.document;
-        text = text;
-        solves = d.solves;
-        plan = d.plan;
-        table = d.table;
-        status_is = refl;
-        rows_are = refl;
-      })));
+  owed = inr (
+    refl,
+    subst (λ (s : Status). SolveOwes bytes s (document_rows p names d.document)) (sym d.status_is)
+        (solve_owes bytes d.document.claim (document_rows p names d.document) (record {
+          problem = p;
+          names = names;
+          document = d.document;
+          text = text;
+          solves = d.solves;
+          plan = d.plan;
+          table = d.table;
+          status_is = refl;
+          rows_are = refl;
+        })),
+  );
   text_is = d.text_is;
 }
 document_owed bytes p names (Err m) text d = tt

@@ -54,9 +54,9 @@ command_ends run command bytes (Ok a) said w read few owed says =
       owed = subst (λ (words : List (List ℕ)). Owes words bytes a.status owed.rows) (sym w) owed.owed;
     } in
     ⊎_elim
-      (λ s. subst (Ends run) (sym s.0) (ends_answered run a.status owed.rows o (subst (Appends run.taken run.taken_after) owed.text_is s.1)))
-      (λ s. subst (Ends run) (sym s.0) (s.2, inl (a.status, owed.rows, o, subst (AppendsPrefix run.taken run.taken_after) owed.text_is s.1)))
-      says
+    (λ s. subst (Ends run) (sym s.0) (ends_answered run a.status owed.rows o (subst (Appends run.taken run.taken_after) owed.text_is s.1)))
+    (λ s. subst (Ends run) (sym s.0) (s.2, inl (a.status, owed.rows, o, subst (AppendsPrefix run.taken run.taken_after) owed.text_is s.1)))
+    says
 
 -- wrong words were told
 pub wrong_words_end : (run : Run) (place : ℕ) (answer : Result Answer Memory) (said : Status) → run.left_after ≡ run.left → DepartAt run.words place
@@ -67,6 +67,6 @@ wrong_words_end run place (Err m) said same departs says said_so =
 wrong_words_end run place (Ok a) said same departs says said_so =
     let told : IsTold run (words_row place) = record { place = place; departs = departs; row_is = refl } in
     ⊎_elim
-      (λ s. subst (Ends run) (sym (s.0 ∙ says.0)) (words_row place, told, subst (Appends run.taken run.taken_after) says.1 s.1, same))
-      (λ s. subst (Ends run) (sym s.0) (s.2, inr (words_row place, told, subst (AppendsPrefix run.taken run.taken_after) says.1 s.1, same)))
-      said_so
+    (λ s. subst (Ends run) (sym (s.0 ∙ says.0)) (words_row place, told, subst (Appends run.taken run.taken_after) says.1 s.1, same))
+    (λ s. subst (Ends run) (sym s.0) (s.2, inr (words_row place, told, subst (AppendsPrefix run.taken run.taken_after) says.1 s.1, same)))
+    said_so

@@ -1,17 +1,15 @@
-ghost use Rattle.std.specs.Prelude.{◌≡◌, ◌≤◌, [], ◌∷◌, IfOk, codes};
-ghost use Rattle.std.specs.Option.{option_map_or};
+ghost use Rattle.std.specs.Prelude.{◌≡◌, ◌≤◌, [], ◌∷◌, IfOk};
 ghost use Rattle.mdvsp.specs.Answered.{IsSaid};
-ghost use Rattle.mdvsp.specs.DocumentText.{claim_field};
 ghost use Rattle.mdvsp.specs.Owed.{refused_row, yes_row, no_row};
 ghost use Rattle.mdvsp.specs.Rows.{lines};
-ghost use Rattle.mdvsp.specs.Words.{words_row, texts_of};
+ghost use Rattle.mdvsp.specs.Words.{words_row};
 
 use crate::status::Status;
 use crate::text::Text;
 use crate::words::BadWord;
-use itoa::{Buffer, Integer};
+use crate::writing::{bound_field, claim_field, cost_field};
 use std::alloc::Global;
-use vs_check::{Claim, Document};
+use vs_check::Document;
 use vs_io::{Sink, emit};
 use vs_types::Memory;
 
@@ -27,57 +25,58 @@ impl Answer {
     pub fn bad_word(alloc: Global, bad: BadWord) -> Result<Answer, Memory>
         ensures { IfOk result (λ a. (a.status ≡ Status.BadWords) × (a.text.items ≡ lines (words_row bad.0 ∷ []))) }
     {
-        let mut place = Buffer::new();
-        Answer::of_row(alloc, Status::BadWords, "words", &[place.format(bad.0)])
+        let mut text = Text::new(alloc);
+        text.begin_row("words")?;
+        text.number(bad.0)?;
+        text.end_row()?;
+        Ok(Answer::of(Status::BadWords, text))
     }
 
     /// The input isn't of the form that is read.
     pub fn refused(alloc: Global) -> Result<Answer, Memory>
         ensures { IfOk result (λ a. (a.status ≡ Status.BadInput) × (a.text.items ≡ lines (refused_row ∷ []))) }
     {
-        Answer::of_row(alloc, Status::BadInput, "refused", &["0", "90", "NotThisForm"])
+        let mut text = Text::new(alloc);
+        text.begin_row("refused")?;
+        text.field("0")?;
+        text.field("90")?;
+        text.field("NotThisForm")?;
+        text.end_row()?;
+        Ok(Answer::of(Status::BadInput, text))
     }
 
     /// The document holds.
     pub fn yes(alloc: Global, document: &Document) -> Result<Answer, Memory>
         ensures { IfOk result (λ a. (a.status ≡ Status.Done) × (a.text.items ≡ lines (yes_row document.now ∷ []))) }
     {
-        let mut cost = Buffer::new();
-        let mut bound = Buffer::new();
-        let fields = [
-            claim_name(document.claim),
-            number_or_none(&mut cost, document.cost),
-            number_or_none(&mut bound, document.bound),
-        ];
-        Answer::of_row(alloc, Status::Done, "yes", &fields)
+        let mut text = Text::new(alloc);
+        text.begin_row("yes")?;
+        claim_field(&mut text, document.claim)?;
+        cost_field(&mut text, document.cost)?;
+        bound_field(&mut text, document.bound)?;
+        text.end_row()?;
+        Ok(Answer::of(Status::Done, text))
     }
 
     /// The document doesn't hold.
     pub fn no(alloc: Global) -> Result<Answer, Memory>
         ensures { IfOk result (λ a. (a.status ≡ Status.SaysNo) × (a.text.items ≡ lines (no_row ∷ []))) }
     {
-        Answer::of_row(alloc, Status::SaysNo, "no", &[])
+        let mut text = Text::new(alloc);
+        text.begin_row("no")?;
+        text.end_row()?;
+        Ok(Answer::of(Status::SaysNo, text))
     }
 
-    /// One row: what it says, and further fields.
-    fn of_row(
-        alloc: Global,
-        status: Status,
-        kind: &str,
-        fields: &[&str],
-    ) -> Result<Answer, Memory>
-        ensures { IfOk result (λ a. (a.status ≡ status) × (a.text.items ≡ lines ((kind.now ∷ texts_of fields.now) ∷ []))) }
+    /// This status and this text.
+    fn of(status: Status, text: Text) -> Answer
+        ensures status { result.status ≡ status }
+        ensures text { result.text.items ≡ text }
     {
-        let mut text = Text::new(alloc);
-        text.begin_row(kind)?;
-        for field in fields {
-            text.field(field)?;
-        }
-        text.end_row()?;
-        Ok(Answer {
+        Answer {
             status,
             text: text.into_bytes(),
-        })
+        }
     }
 }
 
@@ -93,26 +92,5 @@ pub fn say<O: Sink>(answer: Result<Answer, Memory>, output: &mut O) -> Status
     match emit(output, &answer.text) {
         Ok(()) => answer.status,
         Err(_) => Status::WriteFault,
-    }
-}
-
-/// A number, or `none`.
-fn number_or_none<I: Integer + Drop>(buffer: &mut Buffer, n: Option<I>) -> &str
-    ensures { result.now ≡ option_map_or I.text n (codes "none") }
-{
-    match n {
-        Some(n) => buffer.format(n),
-        None => "none",
-    }
-}
-
-/// The name of a claim.
-pub fn claim_name(claim: Claim) -> &'static str
-    ensures { result.now ≡ claim_field claim }
-{
-    match claim {
-        Claim::Optimal => "optimal",
-        Claim::Infeasible => "infeasible",
-        Claim::StillOpen => "open",
     }
 }

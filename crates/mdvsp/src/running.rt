@@ -24,11 +24,15 @@ pub fn run<I: Source, O: Sink>(
     output: &mut O,
 ) -> Status
     ensures ends { Ends (record {
-        words = words_of words.now;
-        left = I.left input.old; left_after = I.left input.new;
-        taken = O.taken output.old; taken_after = O.taken output.new;
-        source_faults = I.faults input.old; source_faults_after = I.faults input.new;
-        sink_faults = O.faults output.old; sink_faults_after = O.faults output.new;
+      words = words_of words.now;
+      left = I.left input.old;
+      left_after = I.left input.new;
+      taken = O.taken output.old;
+      taken_after = O.taken output.new;
+      source_faults = I.faults input.old;
+      source_faults_after = I.faults input.new;
+      sink_faults = O.faults output.old;
+      sink_faults_after = O.faults output.new;
     }) result }
     ensures untouched { ¬ (AreAccepted (words_of words.now)) → input.new ≡ input.old }
     ensures never_falls { (I.faults input.old ≤ I.faults input.new) × (O.faults output.old ≤ O.faults output.new) }
@@ -47,11 +51,15 @@ fn obey<I: Source, O: Sink>(
     output: &mut O,
 ) -> Status
     ensures ends { Ends (record {
-        words = command_words command;
-        left = I.left input.old; left_after = I.left input.new;
-        taken = O.taken output.old; taken_after = O.taken output.new;
-        source_faults = I.faults input.old; source_faults_after = I.faults input.new;
-        sink_faults = O.faults output.old; sink_faults_after = O.faults output.new;
+      words = command_words command;
+      left = I.left input.old;
+      left_after = I.left input.new;
+      taken = O.taken output.old;
+      taken_after = O.taken output.new;
+      source_faults = I.faults input.old;
+      source_faults_after = I.faults input.new;
+      sink_faults = O.faults output.old;
+      sink_faults_after = O.faults output.new;
     }) result }
     ensures never_falls { (I.faults input.old ≤ I.faults input.new) × (O.faults output.old ≤ O.faults output.new) }
 {

@@ -6,13 +6,13 @@ ghost use Rattle.mdvsp.specs.Outcome.{input_limit};
 ghost use Rattle.mdvsp.specs.Owed.{IsSolveText, status_of};
 
 use crate::answer::Answer;
-use crate::writing::write_document;
 use crate::form_error::FormError;
 use crate::lines::rows_before_result;
 use crate::planning::first_answer;
 use crate::reader::{Input, read_instance};
 use crate::status::Status;
 use crate::words::Command;
+use crate::writing::write_document;
 use std::alloc::Global;
 use vs_check::Claim;
 use vs_types::Memory;

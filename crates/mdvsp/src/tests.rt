@@ -5,16 +5,27 @@ use std::test::Fail;
 use vs_io::{MemSink, MemSource, slurp};
 
 /// Three stops, a depot at one of them, and a vehicle for two trips that follow each other at once.
-const STOPS: &str = "instance,1\nstop,D\nstop,P\nstop,Q\ndeadhead,D,P,10,0\ndeadhead,P,D,10,0\ndeadhead,D,Q,10,0\ndeadhead,Q,D,10,0\ndeadhead,P,Q,15,0\ndeadhead,Q,P,15,0\n";
+const STOPS: &str =
+    "instance,1\nstop,D\nstop,P\nstop,Q\ndeadhead,D,P,10,0\ndeadhead,P,D,10,0\ndeadhead,D,Q,10,0\ndeadhead,Q,D,10,0\ndeadhead,P,Q,15,0\ndeadhead,Q,P,15,0\n";
+
 const LAYER: &str = "layer,L1,D,2,1000,1,0\n";
+
 const ONE_VEHICLE: &str = "layer,L1,D,1,1000,1,0\n";
+
 const TRIPS: &str = "trip,t1,P,8:00,Q,8:30,0,L1\ntrip,t2,Q,8:30,P,9:00,0,L1\n";
+
 const LATE_TRIPS: &str = "trip,t1,P,8:00,Q,8:30,0,L1\ntrip,t2,Q,8:29,P,9:00,0,L1\n";
+
 const HEAD: &str = "result,1,optimal\ncost,1080\nbound,1080\nnodes,1\n";
+
 const BLOCK: &str = "block,L1,t1,t2\n";
+
 const TABLE: &str = "table,1,cost\nfleet,L1,0\nprice,L1,t1,1010000,0\nprice,L1,t2,0,-10000\n";
+
 const END: &str = "leaf,1\nend\n";
+
 const ZERO_TABLE: &str = "table,1,cost\nfleet,L1,0\nprice,L1,t1,0,0\nprice,L1,t2,0,0\n";
+
 const REFUSED: &str = "refused,0,90,NotThisForm\n";
 
 /// The parts, one after another.
@@ -53,16 +64,74 @@ fn judges_documents(rt: HostRuntime) -> Result<(), Fail> {
     let open = "result,1,open\ncost,1080\nbound,60\nnodes,1\n";
     let apart = "block,L1,t1\nblock,L1,t2\n";
     let cases: [(&str, [&str; 7], Status, &str); 10] = [
-        ("holds", [STOPS, LAYER, TRIPS, HEAD, BLOCK, TABLE, END], Status::Done, "yes,optimal,1080,1080\n"),
-        ("a link broken", [STOPS, LAYER, TRIPS, HEAD, BLOCK, broken, END], Status::SaysNo, "no\n"),
-        ("cost too low", [STOPS, LAYER, TRIPS, cheap, BLOCK, TABLE, END], Status::SaysNo, "no\n"),
-        ("bound too high", [STOPS, LAYER, TRIPS, bold, BLOCK, TABLE, END], Status::SaysNo, "no\n"),
-        ("claim too bold", [STOPS, LAYER, TRIPS, modest, BLOCK, TABLE, END], Status::SaysNo, "no\n"),
-        ("open", [STOPS, LAYER, TRIPS, open, BLOCK, TABLE, END], Status::Done, "yes,open,1080,60\n"),
-        ("no connection", [STOPS, LAYER, LATE_TRIPS, HEAD, BLOCK, TABLE, END], Status::SaysNo, "no\n"),
-        ("a trip left out", [STOPS, LAYER, TRIPS, HEAD, "block,L1,t1\n", TABLE, END], Status::SaysNo, "no\n"),
-        ("one vehicle short", [STOPS, ONE_VEHICLE, TRIPS, HEAD, apart, TABLE, END], Status::SaysNo, "no\n"),
-        ("no trips", [STOPS, LAYER, "", "result,1,optimal\ncost,0\nbound,0\nnodes,0\n", "", "table,1,cost\nfleet,L1,0\n", END], Status::Done, "yes,optimal,0,0\n"),
+        (
+            "holds",
+            [STOPS, LAYER, TRIPS, HEAD, BLOCK, TABLE, END],
+            Status::Done,
+            "yes,optimal,1080,1080\n",
+        ),
+        (
+            "a link broken",
+            [STOPS, LAYER, TRIPS, HEAD, BLOCK, broken, END],
+            Status::SaysNo,
+            "no\n",
+        ),
+        (
+            "cost too low",
+            [STOPS, LAYER, TRIPS, cheap, BLOCK, TABLE, END],
+            Status::SaysNo,
+            "no\n",
+        ),
+        (
+            "bound too high",
+            [STOPS, LAYER, TRIPS, bold, BLOCK, TABLE, END],
+            Status::SaysNo,
+            "no\n",
+        ),
+        (
+            "claim too bold",
+            [STOPS, LAYER, TRIPS, modest, BLOCK, TABLE, END],
+            Status::SaysNo,
+            "no\n",
+        ),
+        (
+            "open",
+            [STOPS, LAYER, TRIPS, open, BLOCK, TABLE, END],
+            Status::Done,
+            "yes,open,1080,60\n",
+        ),
+        (
+            "no connection",
+            [STOPS, LAYER, LATE_TRIPS, HEAD, BLOCK, TABLE, END],
+            Status::SaysNo,
+            "no\n",
+        ),
+        (
+            "a trip left out",
+            [STOPS, LAYER, TRIPS, HEAD, "block,L1,t1\n", TABLE, END],
+            Status::SaysNo,
+            "no\n",
+        ),
+        (
+            "one vehicle short",
+            [STOPS, ONE_VEHICLE, TRIPS, HEAD, apart, TABLE, END],
+            Status::SaysNo,
+            "no\n",
+        ),
+        (
+            "no trips",
+            [
+                STOPS,
+                LAYER,
+                "",
+                "result,1,optimal\ncost,0\nbound,0\nnodes,0\n",
+                "",
+                "table,1,cost\nfleet,L1,0\n",
+                END,
+            ],
+            Status::Done,
+            "yes,optimal,0,0\n",
+        ),
     ];
     for (case, input, status, written) in cases {
         let (ended, text) = outcome(rt.alloc(), &["check"], &input)?;
@@ -77,29 +146,218 @@ fn refuses_other_forms(rt: HostRuntime) -> Result<(), Fail> {
     let layer_two = "layer,L1,D,2001,1000,1,0\n";
     let cases: [(&str, [&str; 7]); 24] = [
         ("empty", ["", "", "", "", "", "", ""]),
-        ("stop with a field more", ["instance,1\nstop,D,E\n", LAYER, "", HEAD, "", TABLE, END]),
-        ("stop with a field less", ["instance,1\nstop\n", LAYER, "", HEAD, "", TABLE, END]),
-        ("header with a field more", ["instance,1,2\n", "", "", HEAD, "", TABLE, END]),
-        ("deadhead with a field less", [STOPS, "deadhead,D,P,10\n", "", HEAD, BLOCK, TABLE, END]),
-        ("layer with a field more", [STOPS, "layer,L1,D,2,1000,1,0,0\n", TRIPS, HEAD, BLOCK, TABLE, END]),
-        ("trip without a layer", [STOPS, LAYER, "trip,t1,P,8:00,Q,8:30,0\n", HEAD, BLOCK, TABLE, END]),
-        ("name of 33 letters", ["instance,1\nstop,abcdefghijklmnopqrstuvwxyzabcdefg\n", "", "", HEAD, "", TABLE, END]),
-        ("stop twice", ["instance,1\nstop,D\nstop,D\nstop,P\nstop,Q\n", LAYER, TRIPS, HEAD, BLOCK, TABLE, END]),
-        ("undeclared depot", [STOPS, "layer,L1,X,2,1000,1,0\n", TRIPS, HEAD, BLOCK, TABLE, END]),
-        ("number of 11 digits", [STOPS, "layer,L1,D,00000000002,1000,1,0\n", TRIPS, HEAD, BLOCK, TABLE, END]),
-        ("time of 48:00", [STOPS, LAYER, "trip,t1,P,8:00,Q,48:00,0,L1\n", HEAD, BLOCK, TABLE, END]),
-        ("end not after the start", [STOPS, LAYER, "trip,t1,P,8:00,Q,8:00,0,L1\n", HEAD, BLOCK, TABLE, END]),
-        ("fleet of 2001", [STOPS, layer_two, TRIPS, HEAD, BLOCK, TABLE, END]),
-        ("open deadheads", ["instance,1\nstop,P\nstop,Q\nstop,R\ndeadhead,P,Q,15,0\ndeadhead,Q,R,5,0\n", "layer,L1,P,2,0,0,0\n", "", "result,1,optimal\ncost,0\nbound,0\nnodes,0\n", "", "table,1,cost\nfleet,L1,0\n", END]),
-        ("price for another trip", [STOPS, LAYER, TRIPS, HEAD, BLOCK, "table,1,cost\nfleet,L1,0\nprice,L1,t2,0,0\nprice,L1,t1,0,0\n", END]),
-        ("two tables", [STOPS, LAYER, TRIPS, HEAD, BLOCK, TABLE, "table,2,cost\nfleet,L1,0\nprice,L1,t1,0,0\nprice,L1,t2,0,0\nleaf,1\nend\n"]),
-        ("no cost and no bound", [STOPS, LAYER, TRIPS, "result,1,infeasible\ncost,none\nbound,none\nnodes,1\n", "", TABLE, END]),
-        ("no last line feed", [STOPS, LAYER, TRIPS, HEAD, BLOCK, TABLE, "leaf,1\nend"]),
-        ("no end", [STOPS, LAYER, TRIPS, HEAD, BLOCK, TABLE, "leaf,1\n"]),
-        ("a row after the end", [STOPS, LAYER, TRIPS, HEAD, BLOCK, TABLE, "leaf,1\nend\nend\n"]),
-        ("layer before stops", [LAYER, STOPS, TRIPS, HEAD, BLOCK, TABLE, END]),
-        ("a quote", [STOPS, LAYER, TRIPS, "\"result\",1,optimal\ncost,1080\nbound,1080\nnodes,1\n", BLOCK, TABLE, END]),
-        ("a price out of range", [STOPS, LAYER, TRIPS, HEAD, BLOCK, "table,1,cost\nfleet,L1,0\nprice,L1,t1,1000000000000000001,0\nprice,L1,t2,0,0\n", END]),
+        (
+            "stop with a field more",
+            ["instance,1\nstop,D,E\n", LAYER, "", HEAD, "", TABLE, END],
+        ),
+        (
+            "stop with a field less",
+            ["instance,1\nstop\n", LAYER, "", HEAD, "", TABLE, END],
+        ),
+        (
+            "header with a field more",
+            ["instance,1,2\n", "", "", HEAD, "", TABLE, END],
+        ),
+        (
+            "deadhead with a field less",
+            [STOPS, "deadhead,D,P,10\n", "", HEAD, BLOCK, TABLE, END],
+        ),
+        (
+            "layer with a field more",
+            [
+                STOPS,
+                "layer,L1,D,2,1000,1,0,0\n",
+                TRIPS,
+                HEAD,
+                BLOCK,
+                TABLE,
+                END,
+            ],
+        ),
+        (
+            "trip without a layer",
+            [
+                STOPS,
+                LAYER,
+                "trip,t1,P,8:00,Q,8:30,0\n",
+                HEAD,
+                BLOCK,
+                TABLE,
+                END,
+            ],
+        ),
+        (
+            "name of 33 letters",
+            [
+                "instance,1\nstop,abcdefghijklmnopqrstuvwxyzabcdefg\n",
+                "",
+                "",
+                HEAD,
+                "",
+                TABLE,
+                END,
+            ],
+        ),
+        (
+            "stop twice",
+            [
+                "instance,1\nstop,D\nstop,D\nstop,P\nstop,Q\n",
+                LAYER,
+                TRIPS,
+                HEAD,
+                BLOCK,
+                TABLE,
+                END,
+            ],
+        ),
+        (
+            "undeclared depot",
+            [
+                STOPS,
+                "layer,L1,X,2,1000,1,0\n",
+                TRIPS,
+                HEAD,
+                BLOCK,
+                TABLE,
+                END,
+            ],
+        ),
+        (
+            "number of 11 digits",
+            [
+                STOPS,
+                "layer,L1,D,00000000002,1000,1,0\n",
+                TRIPS,
+                HEAD,
+                BLOCK,
+                TABLE,
+                END,
+            ],
+        ),
+        (
+            "time of 48:00",
+            [
+                STOPS,
+                LAYER,
+                "trip,t1,P,8:00,Q,48:00,0,L1\n",
+                HEAD,
+                BLOCK,
+                TABLE,
+                END,
+            ],
+        ),
+        (
+            "end not after the start",
+            [
+                STOPS,
+                LAYER,
+                "trip,t1,P,8:00,Q,8:00,0,L1\n",
+                HEAD,
+                BLOCK,
+                TABLE,
+                END,
+            ],
+        ),
+        (
+            "fleet of 2001",
+            [STOPS, layer_two, TRIPS, HEAD, BLOCK, TABLE, END],
+        ),
+        (
+            "open deadheads",
+            [
+                "instance,1\nstop,P\nstop,Q\nstop,R\ndeadhead,P,Q,15,0\ndeadhead,Q,R,5,0\n",
+                "layer,L1,P,2,0,0,0\n",
+                "",
+                "result,1,optimal\ncost,0\nbound,0\nnodes,0\n",
+                "",
+                "table,1,cost\nfleet,L1,0\n",
+                END,
+            ],
+        ),
+        (
+            "price for another trip",
+            [
+                STOPS,
+                LAYER,
+                TRIPS,
+                HEAD,
+                BLOCK,
+                "table,1,cost\nfleet,L1,0\nprice,L1,t2,0,0\nprice,L1,t1,0,0\n",
+                END,
+            ],
+        ),
+        (
+            "two tables",
+            [
+                STOPS,
+                LAYER,
+                TRIPS,
+                HEAD,
+                BLOCK,
+                TABLE,
+                "table,2,cost\nfleet,L1,0\nprice,L1,t1,0,0\nprice,L1,t2,0,0\nleaf,1\nend\n",
+            ],
+        ),
+        (
+            "no cost and no bound",
+            [
+                STOPS,
+                LAYER,
+                TRIPS,
+                "result,1,infeasible\ncost,none\nbound,none\nnodes,1\n",
+                "",
+                TABLE,
+                END,
+            ],
+        ),
+        (
+            "no last line feed",
+            [STOPS, LAYER, TRIPS, HEAD, BLOCK, TABLE, "leaf,1\nend"],
+        ),
+        (
+            "no end",
+            [STOPS, LAYER, TRIPS, HEAD, BLOCK, TABLE, "leaf,1\n"],
+        ),
+        (
+            "a row after the end",
+            [
+                STOPS,
+                LAYER,
+                TRIPS,
+                HEAD,
+                BLOCK,
+                TABLE,
+                "leaf,1\nend\nend\n",
+            ],
+        ),
+        (
+            "layer before stops",
+            [LAYER, STOPS, TRIPS, HEAD, BLOCK, TABLE, END],
+        ),
+        (
+            "a quote",
+            [
+                STOPS,
+                LAYER,
+                TRIPS,
+                "\"result\",1,optimal\ncost,1080\nbound,1080\nnodes,1\n",
+                BLOCK,
+                TABLE,
+                END,
+            ],
+        ),
+        (
+            "a price out of range",
+            [
+                STOPS,
+                LAYER,
+                TRIPS,
+                HEAD,
+                BLOCK,
+                "table,1,cost\nfleet,L1,0\nprice,L1,t1,1000000000000000001,0\nprice,L1,t2,0,0\n",
+                END,
+            ],
+        ),
     ];
     for (case, input) in cases {
         let (ended, text) = outcome(rt.alloc(), &["check"], &input)?;
@@ -115,10 +373,35 @@ fn plans_without_a_search(rt: HostRuntime) -> Result<(), Fail> {
     let late_head = "result,1,open\ncost,none\nbound,61\nnodes,0\n";
     let words = ["solve", "--nodes", "0"];
     let cases: [(&str, [&str; 4], Status, [&str; 4]); 4] = [
-        ("two trips", [STOPS, LAYER, TRIPS, ""], Status::StillOpen, [zero_head, BLOCK, ZERO_TABLE, END]),
-        ("what follows isn't read", [STOPS, LAYER, TRIPS, "result,\"\r\nstop"], Status::StillOpen, [zero_head, BLOCK, ZERO_TABLE, END]),
-        ("one vehicle short", [STOPS, ONE_VEHICLE, LATE_TRIPS, ""], Status::StillOpen, [late_head, "", ZERO_TABLE, END]),
-        ("no trips", [STOPS, LAYER, "", ""], Status::Done, ["result,1,optimal\ncost,0\nbound,0\nnodes,0\n", "table,1,cost\n", "fleet,L1,0\n", END]),
+        (
+            "two trips",
+            [STOPS, LAYER, TRIPS, ""],
+            Status::StillOpen,
+            [zero_head, BLOCK, ZERO_TABLE, END],
+        ),
+        (
+            "what follows isn't read",
+            [STOPS, LAYER, TRIPS, "result,\"\r\nstop"],
+            Status::StillOpen,
+            [zero_head, BLOCK, ZERO_TABLE, END],
+        ),
+        (
+            "one vehicle short",
+            [STOPS, ONE_VEHICLE, LATE_TRIPS, ""],
+            Status::StillOpen,
+            [late_head, "", ZERO_TABLE, END],
+        ),
+        (
+            "no trips",
+            [STOPS, LAYER, "", ""],
+            Status::Done,
+            [
+                "result,1,optimal\ncost,0\nbound,0\nnodes,0\n",
+                "table,1,cost\n",
+                "fleet,L1,0\n",
+                END,
+            ],
+        ),
     ];
     for (case, input, status, written) in cases {
         let (ended, text) = outcome(rt.alloc(), &words, &input)?;
@@ -139,13 +422,22 @@ fn judges_what_it_plans(rt: HostRuntime) -> Result<(), Fail> {
         (ONE_VEHICLE, LATE_TRIPS, "yes,open,none,61\n"),
     ];
     for (layer, trips, verdict) in cases {
-        let (_, plan) = outcome(rt.alloc(), &["solve", "--nodes", "0"], &[STOPS, layer, trips])?;
+        let (_, plan) = outcome(
+            rt.alloc(),
+            &["solve", "--nodes", "0"],
+            &[STOPS, layer, trips],
+        )?;
         let mut both = joined(rt.alloc(), &[STOPS, layer, trips])?;
         both.extend_from_slice(&plan)?;
         let words = owned(rt.alloc(), &["check"])?;
         let mut source = MemSource::new(both, 64, Vec::new(rt.alloc()));
-        let mut sink = MemSink::new(rt.alloc(), 64, 64, Vec::new(rt.alloc())).map_err(|_| AllocError)?;
-        assert_eq!(rt; run(rt.alloc(), &words, &mut source, &mut sink), Status::Done);
+        let mut sink = MemSink::new(rt.alloc(), 64, 64, Vec::new(rt.alloc())).map_err(
+            |_| AllocError,
+        )?;
+        assert_eq!(rt;
+            run(rt.alloc(), &words, &mut source, &mut sink),
+            Status::Done
+        );
         assert_eq!(rt; sink.taken(), verdict.as_bytes());
     }
     Ok(())
@@ -165,8 +457,13 @@ fn tells_wrong_words(rt: HostRuntime) -> Result<(), Fail> {
     for (words, written) in cases {
         let words = owned(rt.alloc(), words)?;
         let mut source = MemSource::new(joined(rt.alloc(), &["left"])?, 64, Vec::new(rt.alloc()));
-        let mut sink = MemSink::new(rt.alloc(), 64, 64, Vec::new(rt.alloc())).map_err(|_| AllocError)?;
-        assert_eq!(rt; run(rt.alloc(), &words, &mut source, &mut sink), Status::BadWords);
+        let mut sink = MemSink::new(rt.alloc(), 64, 64, Vec::new(rt.alloc())).map_err(
+            |_| AllocError,
+        )?;
+        assert_eq!(rt;
+            run(rt.alloc(), &words, &mut source, &mut sink),
+            Status::BadWords
+        );
         assert_eq!(rt; sink.taken(), written.as_bytes());
         let left = slurp(rt.alloc(), &mut source, 9).map_err(|_| AllocError)?;
         assert_eq!(rt; left.as_slice(), b"left".as_slice());
@@ -177,10 +474,38 @@ fn tells_wrong_words(rt: HostRuntime) -> Result<(), Fail> {
 #[test]
 fn ends_where_a_stream_fails(rt: HostRuntime) -> Result<(), Fail> {
     let cases: [(&[&str], &[&str], &[u64], &[u64], Status, &str); 4] = [
-        (&["solve", "--nodes", "0"], &[STOPS, LAYER, TRIPS], &[3], &[], Status::ReadFault, ""),
-        (&["solve", "--nodes", "0"], &[STOPS, LAYER, TRIPS], &[], &[2], Status::WriteFault, "result,1,open\nco"),
-        (&["check"], &[STOPS, LAYER, TRIPS, HEAD, BLOCK, TABLE, END], &[5], &[], Status::ReadFault, ""),
-        (&["check"], &[STOPS, LAYER, TRIPS, HEAD, BLOCK, TABLE, END], &[], &[2], Status::WriteFault, "yes,optimal,1080"),
+        (
+            &["solve", "--nodes", "0"],
+            &[STOPS, LAYER, TRIPS],
+            &[3],
+            &[],
+            Status::ReadFault,
+            "",
+        ),
+        (
+            &["solve", "--nodes", "0"],
+            &[STOPS, LAYER, TRIPS],
+            &[],
+            &[2],
+            Status::WriteFault,
+            "result,1,open\nco",
+        ),
+        (
+            &["check"],
+            &[STOPS, LAYER, TRIPS, HEAD, BLOCK, TABLE, END],
+            &[5],
+            &[],
+            Status::ReadFault,
+            "",
+        ),
+        (
+            &["check"],
+            &[STOPS, LAYER, TRIPS, HEAD, BLOCK, TABLE, END],
+            &[],
+            &[2],
+            Status::WriteFault,
+            "yes,optimal,1080",
+        ),
     ];
     for (words, input, failing_takes, failing_puts, status, written) in cases {
         let words = owned(rt.alloc(), words)?;

@@ -22,7 +22,7 @@ pub returns-in_err-document-clause-none : goal.returns-in_err-document-clause-no
 returns-in_err-document-clause-none c =
     let p = err_from_is_err_and c.from_residual-in_err-document.result c.from_residual-in_err-document.ensures.1 in
     rw (p.1, p.2) (λ t. no_document c.args.rows.now c.first_result-start.result c.in_ok-input.input.instance c.in_ok-input.input.names
-        c.first_result-start.ensures c.in_ok-input.ensures.only (c.in_err-document.ensures.none (let same : c.in_err-document.field-0.0 ≡ NotThisForm = cc t in ap Err same)))
+    c.first_result-start.ensures c.in_ok-input.ensures.only (c.in_err-document.ensures.none (let same : c.in_err-document.field-0.0 ≡ NotThisForm = cc t in ap Err same)))
 
 pub returns-clause-found : goal.returns-clause-found
 returns-clause-found c = record {
