@@ -28,6 +28,457 @@ const ZERO_TABLE: &str = "table,1,cost\nfleet,L1,0\nprice,L1,t1,0,0\nprice,L1,t2
 
 const REFUSED: &str = "refused,0,90,NotThisForm\n";
 
+const BROKEN_TABLE: &str = "table,1,cost\nfleet,L1,0\nprice,L1,t1,1010000,0\nprice,L1,t2,0,-1\n";
+
+const NO_TRIP_HEAD: &str = "result,1,optimal\ncost,0\nbound,0\nnodes,0\n";
+
+const NO_TRIP_TABLE: &str = "table,1,cost\nfleet,L1,0\n";
+
+/// What a document is like, the input, how the run ends, and what it writes.
+type Judged = (&'static str, [&'static str; 7], Status, &'static str);
+
+const DOCUMENTS: [Judged; 10] = [
+    (
+        "holds",
+        [STOPS, LAYER, TRIPS, HEAD, BLOCK, TABLE, END],
+        Status::Done,
+        "yes,optimal,1080,1080\n",
+    ),
+    (
+        "a link broken",
+        [STOPS, LAYER, TRIPS, HEAD, BLOCK, BROKEN_TABLE, END],
+        Status::SaysNo,
+        "no\n",
+    ),
+    (
+        "cost too low",
+        [
+            STOPS,
+            LAYER,
+            TRIPS,
+            "result,1,optimal\ncost,1079\nbound,1080\nnodes,1\n",
+            BLOCK,
+            TABLE,
+            END,
+        ],
+        Status::SaysNo,
+        "no\n",
+    ),
+    (
+        "bound too high",
+        [
+            STOPS,
+            LAYER,
+            TRIPS,
+            "result,1,optimal\ncost,1080\nbound,1081\nnodes,1\n",
+            BLOCK,
+            TABLE,
+            END,
+        ],
+        Status::SaysNo,
+        "no\n",
+    ),
+    (
+        "claim too bold",
+        [
+            STOPS,
+            LAYER,
+            TRIPS,
+            "result,1,optimal\ncost,1080\nbound,60\nnodes,1\n",
+            BLOCK,
+            TABLE,
+            END,
+        ],
+        Status::SaysNo,
+        "no\n",
+    ),
+    (
+        "open",
+        [
+            STOPS,
+            LAYER,
+            TRIPS,
+            "result,1,open\ncost,1080\nbound,60\nnodes,1\n",
+            BLOCK,
+            TABLE,
+            END,
+        ],
+        Status::Done,
+        "yes,open,1080,60\n",
+    ),
+    (
+        "no connection",
+        [STOPS, LAYER, LATE_TRIPS, HEAD, BLOCK, TABLE, END],
+        Status::SaysNo,
+        "no\n",
+    ),
+    (
+        "a trip left out",
+        [STOPS, LAYER, TRIPS, HEAD, "block,L1,t1\n", TABLE, END],
+        Status::SaysNo,
+        "no\n",
+    ),
+    (
+        "one vehicle short",
+        [
+            STOPS,
+            ONE_VEHICLE,
+            TRIPS,
+            HEAD,
+            "block,L1,t1\nblock,L1,t2\n",
+            TABLE,
+            END,
+        ],
+        Status::SaysNo,
+        "no\n",
+    ),
+    (
+        "no trips",
+        [STOPS, LAYER, "", NO_TRIP_HEAD, "", NO_TRIP_TABLE, END],
+        Status::Done,
+        "yes,optimal,0,0\n",
+    ),
+];
+
+/// What a text is like that isn't of the first form, and the text.
+type Refused = (&'static str, [&'static str; 7]);
+
+const OTHER_FORMS: [Refused; 30] = [
+    ("empty", ["", "", "", "", "", "", ""]),
+    (
+        "header with a field more",
+        [
+            "instance,1,2\n",
+            "",
+            "",
+            NO_TRIP_HEAD,
+            "",
+            "table,1,cost\n",
+            END,
+        ],
+    ),
+    (
+        "header with a field less",
+        [
+            "instance\n",
+            "",
+            "",
+            NO_TRIP_HEAD,
+            "",
+            "table,1,cost\n",
+            END,
+        ],
+    ),
+    (
+        "stop with a field more",
+        [
+            "instance,1\nstop,D,E\n",
+            "layer,L1,D,2,0,0,0\n",
+            "",
+            NO_TRIP_HEAD,
+            "",
+            NO_TRIP_TABLE,
+            END,
+        ],
+    ),
+    (
+        "stop with a field less",
+        [
+            "instance,1\nstop,D\nstop\n",
+            "layer,L1,D,2,0,0,0\n",
+            "",
+            NO_TRIP_HEAD,
+            "",
+            NO_TRIP_TABLE,
+            END,
+        ],
+    ),
+    (
+        "deadhead with a field more",
+        [
+            "instance,1\nstop,D\nstop,P\ndeadhead,D,P,10,0,0\n",
+            "layer,L1,D,2,0,0,0\n",
+            "",
+            NO_TRIP_HEAD,
+            "",
+            NO_TRIP_TABLE,
+            END,
+        ],
+    ),
+    (
+        "deadhead with a field less",
+        [
+            "instance,1\nstop,D\nstop,P\ndeadhead,D,P,10\n",
+            "layer,L1,D,2,0,0,0\n",
+            "",
+            NO_TRIP_HEAD,
+            "",
+            NO_TRIP_TABLE,
+            END,
+        ],
+    ),
+    (
+        "layer with a field more",
+        [
+            STOPS,
+            "layer,L1,D,2,1000,1,0,0\n",
+            TRIPS,
+            HEAD,
+            BLOCK,
+            TABLE,
+            END,
+        ],
+    ),
+    (
+        "layer with a field less",
+        [
+            STOPS,
+            "layer,L1,D,2,1000,1\n",
+            TRIPS,
+            HEAD,
+            BLOCK,
+            TABLE,
+            END,
+        ],
+    ),
+    (
+        "trip with a field more",
+        [
+            STOPS,
+            LAYER,
+            "trip,t1,P,8:00,Q,8:30,0,L1,0\ntrip,t2,Q,8:30,P,9:00,0,L1\n",
+            HEAD,
+            BLOCK,
+            TABLE,
+            END,
+        ],
+    ),
+    (
+        "trip with a field less",
+        [
+            STOPS,
+            LAYER,
+            "trip,t1,P,8:00,Q,8:30,0\ntrip,t2,Q,8:30,P,9:00,0,L1\n",
+            HEAD,
+            BLOCK,
+            TABLE,
+            END,
+        ],
+    ),
+    (
+        "name of 33 letters",
+        [
+            "instance,1\nstop,D\nstop,abcdefghijklmnopqrstuvwxyzabcdefg\n",
+            "layer,L1,D,2,0,0,0\n",
+            "",
+            NO_TRIP_HEAD,
+            "",
+            NO_TRIP_TABLE,
+            END,
+        ],
+    ),
+    (
+        "stop twice",
+        [
+            "instance,1\nstop,D\nstop,D\n",
+            "layer,L1,D,2,0,0,0\n",
+            "",
+            NO_TRIP_HEAD,
+            "",
+            NO_TRIP_TABLE,
+            END,
+        ],
+    ),
+    (
+        "undeclared depot",
+        [
+            STOPS,
+            "layer,L1,X,2,1000,1,0\n",
+            TRIPS,
+            HEAD,
+            BLOCK,
+            TABLE,
+            END,
+        ],
+    ),
+    (
+        "number of 11 digits",
+        [
+            STOPS,
+            "layer,L1,D,00000000002,1000,1,0\n",
+            TRIPS,
+            HEAD,
+            BLOCK,
+            TABLE,
+            END,
+        ],
+    ),
+    (
+        "time of 48:00",
+        [
+            STOPS,
+            LAYER,
+            "trip,t1,P,8:00,Q,48:00,0,L1\ntrip,t2,Q,8:30,P,9:00,0,L1\n",
+            HEAD,
+            BLOCK,
+            TABLE,
+            END,
+        ],
+    ),
+    (
+        "end not after the start",
+        [
+            STOPS,
+            LAYER,
+            "trip,t1,P,8:00,Q,8:00,0,L1\ntrip,t2,Q,8:30,P,9:00,0,L1\n",
+            HEAD,
+            BLOCK,
+            TABLE,
+            END,
+        ],
+    ),
+    (
+        "fleet of 2001",
+        [
+            STOPS,
+            "layer,L1,D,2001,1000,1,0\n",
+            TRIPS,
+            HEAD,
+            BLOCK,
+            TABLE,
+            END,
+        ],
+    ),
+    (
+        "open deadheads",
+        [
+            "instance,1\nstop,P\nstop,Q\nstop,R\ndeadhead,P,Q,15,0\ndeadhead,Q,R,5,0\n",
+            "layer,L1,P,2,0,0,0\n",
+            "",
+            NO_TRIP_HEAD,
+            "",
+            NO_TRIP_TABLE,
+            END,
+        ],
+    ),
+    (
+        "price for another trip",
+        [
+            STOPS,
+            LAYER,
+            TRIPS,
+            HEAD,
+            BLOCK,
+            "table,1,cost\nfleet,L1,0\nprice,L1,t2,0,0\nprice,L1,t1,0,0\n",
+            END,
+        ],
+    ),
+    (
+        "price with a field more",
+        [
+            STOPS,
+            LAYER,
+            TRIPS,
+            HEAD,
+            BLOCK,
+            "table,1,cost\nfleet,L1,0\nprice,L1,t1,0,0,0\nprice,L1,t2,0,0\n",
+            END,
+        ],
+    ),
+    (
+        "fleet with a field less",
+        [
+            STOPS,
+            LAYER,
+            TRIPS,
+            HEAD,
+            BLOCK,
+            "table,1,cost\nfleet,L1\nprice,L1,t1,0,0\nprice,L1,t2,0,0\n",
+            END,
+        ],
+    ),
+    (
+        "two tables",
+        [
+            STOPS,
+            LAYER,
+            TRIPS,
+            HEAD,
+            BLOCK,
+            TABLE,
+            "table,2,cost\nfleet,L1,0\nprice,L1,t1,0,0\nprice,L1,t2,0,0\nleaf,1\nend\n",
+        ],
+    ),
+    (
+        "no cost and no bound",
+        [
+            STOPS,
+            LAYER,
+            TRIPS,
+            "result,1,infeasible\ncost,none\nbound,none\nnodes,1\n",
+            "",
+            TABLE,
+            END,
+        ],
+    ),
+    (
+        "no last line feed",
+        [STOPS, LAYER, TRIPS, HEAD, BLOCK, TABLE, "leaf,1\nend"],
+    ),
+    (
+        "no end",
+        [STOPS, LAYER, TRIPS, HEAD, BLOCK, TABLE, "leaf,1\n"],
+    ),
+    (
+        "a row after the end",
+        [
+            STOPS,
+            LAYER,
+            TRIPS,
+            HEAD,
+            BLOCK,
+            TABLE,
+            "leaf,1\nend\nend\n",
+        ],
+    ),
+    (
+        "layer before stops",
+        [
+            "instance,1\nstop,D\n",
+            "layer,L1,D,2,0,0,0\n",
+            "stop,P\n",
+            NO_TRIP_HEAD,
+            "",
+            NO_TRIP_TABLE,
+            END,
+        ],
+    ),
+    (
+        "a quote",
+        [
+            STOPS,
+            LAYER,
+            TRIPS,
+            "\"result\",1,optimal\ncost,1080\nbound,1080\nnodes,1\n",
+            BLOCK,
+            TABLE,
+            END,
+        ],
+    ),
+    (
+        "a price out of range",
+        [
+            STOPS,
+            LAYER,
+            TRIPS,
+            HEAD,
+            BLOCK,
+            "table,1,cost\nfleet,L1,0\nprice,L1,t1,1000000000000000001,0\nprice,L1,t2,0,0\n",
+            END,
+        ],
+    ),
+];
+
 /// The parts, one after another.
 fn joined(alloc: Global, parts: &[&str]) -> Result<Vec<u8>, AllocError> {
     let mut text = Vec::new(alloc);
@@ -57,83 +508,7 @@ fn outcome(alloc: Global, words: &[&str], input: &[&str]) -> Result<(Status, Vec
 
 #[test]
 fn judges_documents(rt: HostRuntime) -> Result<(), Fail> {
-    let broken = "table,1,cost\nfleet,L1,0\nprice,L1,t1,1010000,0\nprice,L1,t2,0,-1\n";
-    let cheap = "result,1,optimal\ncost,1079\nbound,1080\nnodes,1\n";
-    let bold = "result,1,optimal\ncost,1080\nbound,1081\nnodes,1\n";
-    let modest = "result,1,optimal\ncost,1080\nbound,60\nnodes,1\n";
-    let open = "result,1,open\ncost,1080\nbound,60\nnodes,1\n";
-    let apart = "block,L1,t1\nblock,L1,t2\n";
-    let cases: [(&str, [&str; 7], Status, &str); 10] = [
-        (
-            "holds",
-            [STOPS, LAYER, TRIPS, HEAD, BLOCK, TABLE, END],
-            Status::Done,
-            "yes,optimal,1080,1080\n",
-        ),
-        (
-            "a link broken",
-            [STOPS, LAYER, TRIPS, HEAD, BLOCK, broken, END],
-            Status::SaysNo,
-            "no\n",
-        ),
-        (
-            "cost too low",
-            [STOPS, LAYER, TRIPS, cheap, BLOCK, TABLE, END],
-            Status::SaysNo,
-            "no\n",
-        ),
-        (
-            "bound too high",
-            [STOPS, LAYER, TRIPS, bold, BLOCK, TABLE, END],
-            Status::SaysNo,
-            "no\n",
-        ),
-        (
-            "claim too bold",
-            [STOPS, LAYER, TRIPS, modest, BLOCK, TABLE, END],
-            Status::SaysNo,
-            "no\n",
-        ),
-        (
-            "open",
-            [STOPS, LAYER, TRIPS, open, BLOCK, TABLE, END],
-            Status::Done,
-            "yes,open,1080,60\n",
-        ),
-        (
-            "no connection",
-            [STOPS, LAYER, LATE_TRIPS, HEAD, BLOCK, TABLE, END],
-            Status::SaysNo,
-            "no\n",
-        ),
-        (
-            "a trip left out",
-            [STOPS, LAYER, TRIPS, HEAD, "block,L1,t1\n", TABLE, END],
-            Status::SaysNo,
-            "no\n",
-        ),
-        (
-            "one vehicle short",
-            [STOPS, ONE_VEHICLE, TRIPS, HEAD, apart, TABLE, END],
-            Status::SaysNo,
-            "no\n",
-        ),
-        (
-            "no trips",
-            [
-                STOPS,
-                LAYER,
-                "",
-                "result,1,optimal\ncost,0\nbound,0\nnodes,0\n",
-                "",
-                "table,1,cost\nfleet,L1,0\n",
-                END,
-            ],
-            Status::Done,
-            "yes,optimal,0,0\n",
-        ),
-    ];
-    for (case, input, status, written) in cases {
+    for (case, input, status, written) in DOCUMENTS {
         let (ended, text) = outcome(rt.alloc(), &["check"], &input)?;
         assert_eq!(rt; ended, status, "{case}");
         assert_eq!(rt; text.as_slice(), written.as_bytes(), "{case}");
@@ -143,223 +518,7 @@ fn judges_documents(rt: HostRuntime) -> Result<(), Fail> {
 
 #[test]
 fn refuses_other_forms(rt: HostRuntime) -> Result<(), Fail> {
-    let layer_two = "layer,L1,D,2001,1000,1,0\n";
-    let cases: [(&str, [&str; 7]); 24] = [
-        ("empty", ["", "", "", "", "", "", ""]),
-        (
-            "stop with a field more",
-            ["instance,1\nstop,D,E\n", LAYER, "", HEAD, "", TABLE, END],
-        ),
-        (
-            "stop with a field less",
-            ["instance,1\nstop\n", LAYER, "", HEAD, "", TABLE, END],
-        ),
-        (
-            "header with a field more",
-            ["instance,1,2\n", "", "", HEAD, "", TABLE, END],
-        ),
-        (
-            "deadhead with a field less",
-            [STOPS, "deadhead,D,P,10\n", "", HEAD, BLOCK, TABLE, END],
-        ),
-        (
-            "layer with a field more",
-            [
-                STOPS,
-                "layer,L1,D,2,1000,1,0,0\n",
-                TRIPS,
-                HEAD,
-                BLOCK,
-                TABLE,
-                END,
-            ],
-        ),
-        (
-            "trip without a layer",
-            [
-                STOPS,
-                LAYER,
-                "trip,t1,P,8:00,Q,8:30,0\n",
-                HEAD,
-                BLOCK,
-                TABLE,
-                END,
-            ],
-        ),
-        (
-            "name of 33 letters",
-            [
-                "instance,1\nstop,abcdefghijklmnopqrstuvwxyzabcdefg\n",
-                "",
-                "",
-                HEAD,
-                "",
-                TABLE,
-                END,
-            ],
-        ),
-        (
-            "stop twice",
-            [
-                "instance,1\nstop,D\nstop,D\nstop,P\nstop,Q\n",
-                LAYER,
-                TRIPS,
-                HEAD,
-                BLOCK,
-                TABLE,
-                END,
-            ],
-        ),
-        (
-            "undeclared depot",
-            [
-                STOPS,
-                "layer,L1,X,2,1000,1,0\n",
-                TRIPS,
-                HEAD,
-                BLOCK,
-                TABLE,
-                END,
-            ],
-        ),
-        (
-            "number of 11 digits",
-            [
-                STOPS,
-                "layer,L1,D,00000000002,1000,1,0\n",
-                TRIPS,
-                HEAD,
-                BLOCK,
-                TABLE,
-                END,
-            ],
-        ),
-        (
-            "time of 48:00",
-            [
-                STOPS,
-                LAYER,
-                "trip,t1,P,8:00,Q,48:00,0,L1\n",
-                HEAD,
-                BLOCK,
-                TABLE,
-                END,
-            ],
-        ),
-        (
-            "end not after the start",
-            [
-                STOPS,
-                LAYER,
-                "trip,t1,P,8:00,Q,8:00,0,L1\n",
-                HEAD,
-                BLOCK,
-                TABLE,
-                END,
-            ],
-        ),
-        (
-            "fleet of 2001",
-            [STOPS, layer_two, TRIPS, HEAD, BLOCK, TABLE, END],
-        ),
-        (
-            "open deadheads",
-            [
-                "instance,1\nstop,P\nstop,Q\nstop,R\ndeadhead,P,Q,15,0\ndeadhead,Q,R,5,0\n",
-                "layer,L1,P,2,0,0,0\n",
-                "",
-                "result,1,optimal\ncost,0\nbound,0\nnodes,0\n",
-                "",
-                "table,1,cost\nfleet,L1,0\n",
-                END,
-            ],
-        ),
-        (
-            "price for another trip",
-            [
-                STOPS,
-                LAYER,
-                TRIPS,
-                HEAD,
-                BLOCK,
-                "table,1,cost\nfleet,L1,0\nprice,L1,t2,0,0\nprice,L1,t1,0,0\n",
-                END,
-            ],
-        ),
-        (
-            "two tables",
-            [
-                STOPS,
-                LAYER,
-                TRIPS,
-                HEAD,
-                BLOCK,
-                TABLE,
-                "table,2,cost\nfleet,L1,0\nprice,L1,t1,0,0\nprice,L1,t2,0,0\nleaf,1\nend\n",
-            ],
-        ),
-        (
-            "no cost and no bound",
-            [
-                STOPS,
-                LAYER,
-                TRIPS,
-                "result,1,infeasible\ncost,none\nbound,none\nnodes,1\n",
-                "",
-                TABLE,
-                END,
-            ],
-        ),
-        (
-            "no last line feed",
-            [STOPS, LAYER, TRIPS, HEAD, BLOCK, TABLE, "leaf,1\nend"],
-        ),
-        (
-            "no end",
-            [STOPS, LAYER, TRIPS, HEAD, BLOCK, TABLE, "leaf,1\n"],
-        ),
-        (
-            "a row after the end",
-            [
-                STOPS,
-                LAYER,
-                TRIPS,
-                HEAD,
-                BLOCK,
-                TABLE,
-                "leaf,1\nend\nend\n",
-            ],
-        ),
-        (
-            "layer before stops",
-            [LAYER, STOPS, TRIPS, HEAD, BLOCK, TABLE, END],
-        ),
-        (
-            "a quote",
-            [
-                STOPS,
-                LAYER,
-                TRIPS,
-                "\"result\",1,optimal\ncost,1080\nbound,1080\nnodes,1\n",
-                BLOCK,
-                TABLE,
-                END,
-            ],
-        ),
-        (
-            "a price out of range",
-            [
-                STOPS,
-                LAYER,
-                TRIPS,
-                HEAD,
-                BLOCK,
-                "table,1,cost\nfleet,L1,0\nprice,L1,t1,1000000000000000001,0\nprice,L1,t2,0,0\n",
-                END,
-            ],
-        ),
-    ];
-    for (case, input) in cases {
+    for (case, input) in OTHER_FORMS {
         let (ended, text) = outcome(rt.alloc(), &["check"], &input)?;
         assert_eq!(rt; ended, Status::BadInput, "{case}");
         assert_eq!(rt; text.as_slice(), REFUSED.as_bytes(), "{case}");

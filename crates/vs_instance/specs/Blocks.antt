@@ -45,7 +45,7 @@ metres_between p [] = 0
 metres_between p (i ∷ []) = 0
 metres_between p (i ∷ j ∷ rest) = metres_of (way_between p i.0 j.0) + metres_between p (j ∷ rest)
 
--- the metres of the pull-out, of every trip, of every way between two trips, and of the pull-in
+-- all metres driven: out of the depot, with passengers, between trips, and back into the depot
 abbrev pub block_metres : Problem → LayerNo → List TripNo → ℕ
 block_metres p l trips = metres_of (way_out p l.0 (first_of trips)) + sum_by (λ i. (trip_of p i.0).metres) trips
     + metres_between p trips + metres_of (way_in p l.0 (last_of trips))

@@ -55,7 +55,7 @@ HasOwnBlock p l i = IsBlock p l (i ∷ [])
 abbrev pub IsStart : Problem → TripNo → ℤ → Type 0
 IsStart p i start =
     ((l : LayerNo) × HasOwnBlock p l i × (start ≡ pos (1000 * block_cost p l (i ∷ [])))
-        × ((m : LayerNo) → HasOwnBlock p m i → block_cost p l (i ∷ []) ≤ block_cost p m (i ∷ [])))
+    × ((m : LayerNo) → HasOwnBlock p m i → block_cost p l (i ∷ []) ≤ block_cost p m (i ∷ [])))
     ⊎ (((l : LayerNo) → ¬ (HasOwnBlock p l i)) × (start ≡ pos 0))
 
 -- the value at the starting multipliers, where each trip may be run in every layer that permits it

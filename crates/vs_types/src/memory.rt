@@ -2,8 +2,8 @@ ghost use Rattle.std.specs.Prelude.{◌≡◌};
 
 use std::alloc::{AllocError, AllocFailed};
 
-/// There was no memory for the answer. It may come in place of any other answer of a call that
-/// allocates, and what the call was lent is then as it was.
+/// There was no memory for the answer. Whatever a call that allocates would have answered, it may
+/// answer this instead, and what it was lent is then as it was.
 #[derive(Clone, Copy, Debug, PartialEq, Eq)]
 pub struct Memory;
 

@@ -10,11 +10,11 @@ use vs_check::Plan;
 use vs_instance::Instance;
 use vs_types::Memory;
 
-/// A plan by a simple rule. Trips are taken by start and then by number. A trip goes to the end of the
-/// first block, in the order in which blocks were opened, whose layer permits it, whose last trip connects
-/// to it, and from which there is a pull-in after it. Else it opens a block in the lowest layer that permits
-/// it, has a vehicle left and has a pull-out to it and a pull-in from it. None exactly where a trip can do
-/// neither; there may be a plan all the same.
+/// A plan by a simple rule. Trips are taken by start and then by number. Each goes to the end of the
+/// oldest block that it can join: one whose layer permits it and has a pull-in after it, and whose last
+/// trip connects to it. A trip that can join none opens a block in the lowest layer that permits it, has a
+/// vehicle left, and has a pull-out to it and a pull-in from it. None exactly where a trip can do neither;
+/// there may be a plan all the same.
 pub fn greedy(alloc: Global, instance: &Instance) -> Result<Option<Plan>, Memory>
     ensures given { IfOk result (λ r. IfSome r (λ plan. GreedyGives instance.now (blocks_of plan))) }
     ensures plan { IfOk result (λ r. IfSome r (λ plan. IsPlan instance.now (blocks_of plan))) }
