@@ -36,3 +36,4 @@ pub mod LawTrips
 pub mod LawDocuments
 pub mod LawAlike
 pub mod LawVerdicts
+pub mod LawBounds

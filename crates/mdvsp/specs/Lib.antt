@@ -19,5 +19,6 @@ pub mod Words
 pub mod Greedy
 pub mod SolveAnswer
 pub mod Owed
+pub mod Laws
 pub mod Outcome
 pub mod Answered

@@ -3,6 +3,7 @@
 ghost use Rattle.std.specs.Prelude.{◌≡◌, ℕ, List, [], ◌∷◌, ◌++◌};
 ghost use Rattle.mdvsp.specs.declared.status.Status.{Status};
 ghost use Rattle.mdvsp.specs.declared.status.Status.TheVariants.{Done};
+ghost use Rattle.mdvsp.specs.Laws.{IsDoneWhereShown};
 ghost use Rattle.mdvsp.specs.Owed.{OwesDocument, CheckOwes, yes_row};
 ghost use Rattle.mdvsp.specs.Rows.{Row, lines};
 
@@ -16,4 +17,11 @@ pub fn solved_documents_hold()
 /// No input has two verdicts: `check` is owed `yes`, `no` or a refusal, and only one of these.
 pub fn one_verdict()
     ensures { (bytes : List ℕ) (a b : Status) (r s : List Row) → CheckOwes bytes a r → CheckOwes bytes b s → a ≡ b }
+{}
+
+/// Without a search a run is done exactly where there is a greedy plan and it costs no more than the table
+/// of zeros is worth. Else it is open.
+pub fn done_where_shown()
+    ensures { (bytes : List ℕ) (answer : Status) (rows : List Row) (owed : OwesDocument bytes answer rows)
+        → IsDoneWhereShown bytes answer rows owed }
 {}
