@@ -35,24 +35,24 @@ const NO_TRIP_HEAD: &str = "result,1,optimal\ncost,0\nbound,0\nnodes,0\n";
 const NO_TRIP_TABLE: &str = "table,1,cost\nfleet,L1,0\n";
 
 /// What a document is like, the input, how the run ends, and what it writes.
-type Judged = (&'static str, [&'static str; 7], Status, &'static str);
+type Judged = (&'static str, &'static [&'static str], Status, &'static str);
 
 const DOCUMENTS: [Judged; 10] = [
     (
         "holds",
-        [STOPS, LAYER, TRIPS, HEAD, BLOCK, TABLE, END],
+        &[STOPS, LAYER, TRIPS, HEAD, BLOCK, TABLE, END],
         Status::Done,
         "yes,optimal,1080,1080\n",
     ),
     (
         "a link broken",
-        [STOPS, LAYER, TRIPS, HEAD, BLOCK, BROKEN_TABLE, END],
+        &[STOPS, LAYER, TRIPS, HEAD, BLOCK, BROKEN_TABLE, END],
         Status::SaysNo,
         "no\n",
     ),
     (
         "cost too low",
-        [
+        &[
             STOPS,
             LAYER,
             TRIPS,
@@ -66,7 +66,7 @@ const DOCUMENTS: [Judged; 10] = [
     ),
     (
         "bound too high",
-        [
+        &[
             STOPS,
             LAYER,
             TRIPS,
@@ -80,7 +80,7 @@ const DOCUMENTS: [Judged; 10] = [
     ),
     (
         "claim too bold",
-        [
+        &[
             STOPS,
             LAYER,
             TRIPS,
@@ -94,7 +94,7 @@ const DOCUMENTS: [Judged; 10] = [
     ),
     (
         "open",
-        [
+        &[
             STOPS,
             LAYER,
             TRIPS,
@@ -108,19 +108,19 @@ const DOCUMENTS: [Judged; 10] = [
     ),
     (
         "no connection",
-        [STOPS, LAYER, LATE_TRIPS, HEAD, BLOCK, TABLE, END],
+        &[STOPS, LAYER, LATE_TRIPS, HEAD, BLOCK, TABLE, END],
         Status::SaysNo,
         "no\n",
     ),
     (
         "a trip left out",
-        [STOPS, LAYER, TRIPS, HEAD, "block,L1,t1\n", TABLE, END],
+        &[STOPS, LAYER, TRIPS, HEAD, "block,L1,t1\n", TABLE, END],
         Status::SaysNo,
         "no\n",
     ),
     (
         "one vehicle short",
-        [
+        &[
             STOPS,
             ONE_VEHICLE,
             TRIPS,
@@ -134,20 +134,20 @@ const DOCUMENTS: [Judged; 10] = [
     ),
     (
         "no trips",
-        [STOPS, LAYER, "", NO_TRIP_HEAD, "", NO_TRIP_TABLE, END],
+        &[STOPS, LAYER, "", NO_TRIP_HEAD, "", NO_TRIP_TABLE, END],
         Status::Done,
         "yes,optimal,0,0\n",
     ),
 ];
 
 /// What a text is like that isn't of the first form, and the text.
-type Refused = (&'static str, [&'static str; 7]);
+type Refused = (&'static str, &'static [&'static str]);
 
 const OTHER_FORMS: [Refused; 30] = [
-    ("empty", ["", "", "", "", "", "", ""]),
+    ("empty", &["", "", "", "", "", "", ""]),
     (
         "header with a field more",
-        [
+        &[
             "instance,1,2\n",
             "",
             "",
@@ -159,7 +159,7 @@ const OTHER_FORMS: [Refused; 30] = [
     ),
     (
         "header with a field less",
-        [
+        &[
             "instance\n",
             "",
             "",
@@ -171,7 +171,7 @@ const OTHER_FORMS: [Refused; 30] = [
     ),
     (
         "stop with a field more",
-        [
+        &[
             "instance,1\nstop,D,E\n",
             "layer,L1,D,2,0,0,0\n",
             "",
@@ -183,7 +183,7 @@ const OTHER_FORMS: [Refused; 30] = [
     ),
     (
         "stop with a field less",
-        [
+        &[
             "instance,1\nstop,D\nstop\n",
             "layer,L1,D,2,0,0,0\n",
             "",
@@ -195,7 +195,7 @@ const OTHER_FORMS: [Refused; 30] = [
     ),
     (
         "deadhead with a field more",
-        [
+        &[
             "instance,1\nstop,D\nstop,P\ndeadhead,D,P,10,0,0\n",
             "layer,L1,D,2,0,0,0\n",
             "",
@@ -207,7 +207,7 @@ const OTHER_FORMS: [Refused; 30] = [
     ),
     (
         "deadhead with a field less",
-        [
+        &[
             "instance,1\nstop,D\nstop,P\ndeadhead,D,P,10\n",
             "layer,L1,D,2,0,0,0\n",
             "",
@@ -219,7 +219,7 @@ const OTHER_FORMS: [Refused; 30] = [
     ),
     (
         "layer with a field more",
-        [
+        &[
             STOPS,
             "layer,L1,D,2,1000,1,0,0\n",
             TRIPS,
@@ -231,7 +231,7 @@ const OTHER_FORMS: [Refused; 30] = [
     ),
     (
         "layer with a field less",
-        [
+        &[
             STOPS,
             "layer,L1,D,2,1000,1\n",
             TRIPS,
@@ -243,7 +243,7 @@ const OTHER_FORMS: [Refused; 30] = [
     ),
     (
         "trip with a field more",
-        [
+        &[
             STOPS,
             LAYER,
             "trip,t1,P,8:00,Q,8:30,0,L1,0\ntrip,t2,Q,8:30,P,9:00,0,L1\n",
@@ -255,7 +255,7 @@ const OTHER_FORMS: [Refused; 30] = [
     ),
     (
         "trip with a field less",
-        [
+        &[
             STOPS,
             LAYER,
             "trip,t1,P,8:00,Q,8:30,0\ntrip,t2,Q,8:30,P,9:00,0,L1\n",
@@ -267,7 +267,7 @@ const OTHER_FORMS: [Refused; 30] = [
     ),
     (
         "name of 33 letters",
-        [
+        &[
             "instance,1\nstop,D\nstop,abcdefghijklmnopqrstuvwxyzabcdefg\n",
             "layer,L1,D,2,0,0,0\n",
             "",
@@ -279,7 +279,7 @@ const OTHER_FORMS: [Refused; 30] = [
     ),
     (
         "stop twice",
-        [
+        &[
             "instance,1\nstop,D\nstop,D\n",
             "layer,L1,D,2,0,0,0\n",
             "",
@@ -291,7 +291,7 @@ const OTHER_FORMS: [Refused; 30] = [
     ),
     (
         "undeclared depot",
-        [
+        &[
             STOPS,
             "layer,L1,X,2,1000,1,0\n",
             TRIPS,
@@ -303,7 +303,7 @@ const OTHER_FORMS: [Refused; 30] = [
     ),
     (
         "number of 11 digits",
-        [
+        &[
             STOPS,
             "layer,L1,D,00000000002,1000,1,0\n",
             TRIPS,
@@ -315,7 +315,7 @@ const OTHER_FORMS: [Refused; 30] = [
     ),
     (
         "time of 48:00",
-        [
+        &[
             STOPS,
             LAYER,
             "trip,t1,P,8:00,Q,48:00,0,L1\ntrip,t2,Q,8:30,P,9:00,0,L1\n",
@@ -327,7 +327,7 @@ const OTHER_FORMS: [Refused; 30] = [
     ),
     (
         "end not after the start",
-        [
+        &[
             STOPS,
             LAYER,
             "trip,t1,P,8:00,Q,8:00,0,L1\ntrip,t2,Q,8:30,P,9:00,0,L1\n",
@@ -339,7 +339,7 @@ const OTHER_FORMS: [Refused; 30] = [
     ),
     (
         "fleet of 2001",
-        [
+        &[
             STOPS,
             "layer,L1,D,2001,1000,1,0\n",
             TRIPS,
@@ -351,7 +351,7 @@ const OTHER_FORMS: [Refused; 30] = [
     ),
     (
         "open deadheads",
-        [
+        &[
             "instance,1\nstop,P\nstop,Q\nstop,R\ndeadhead,P,Q,15,0\ndeadhead,Q,R,5,0\n",
             "layer,L1,P,2,0,0,0\n",
             "",
@@ -363,7 +363,7 @@ const OTHER_FORMS: [Refused; 30] = [
     ),
     (
         "price for another trip",
-        [
+        &[
             STOPS,
             LAYER,
             TRIPS,
@@ -375,7 +375,7 @@ const OTHER_FORMS: [Refused; 30] = [
     ),
     (
         "price with a field more",
-        [
+        &[
             STOPS,
             LAYER,
             TRIPS,
@@ -387,7 +387,7 @@ const OTHER_FORMS: [Refused; 30] = [
     ),
     (
         "fleet with a field less",
-        [
+        &[
             STOPS,
             LAYER,
             TRIPS,
@@ -399,7 +399,7 @@ const OTHER_FORMS: [Refused; 30] = [
     ),
     (
         "two tables",
-        [
+        &[
             STOPS,
             LAYER,
             TRIPS,
@@ -411,7 +411,7 @@ const OTHER_FORMS: [Refused; 30] = [
     ),
     (
         "no cost and no bound",
-        [
+        &[
             STOPS,
             LAYER,
             TRIPS,
@@ -423,15 +423,15 @@ const OTHER_FORMS: [Refused; 30] = [
     ),
     (
         "no last line feed",
-        [STOPS, LAYER, TRIPS, HEAD, BLOCK, TABLE, "leaf,1\nend"],
+        &[STOPS, LAYER, TRIPS, HEAD, BLOCK, TABLE, "leaf,1\nend"],
     ),
     (
         "no end",
-        [STOPS, LAYER, TRIPS, HEAD, BLOCK, TABLE, "leaf,1\n"],
+        &[STOPS, LAYER, TRIPS, HEAD, BLOCK, TABLE, "leaf,1\n"],
     ),
     (
         "a row after the end",
-        [
+        &[
             STOPS,
             LAYER,
             TRIPS,
@@ -443,7 +443,7 @@ const OTHER_FORMS: [Refused; 30] = [
     ),
     (
         "layer before stops",
-        [
+        &[
             "instance,1\nstop,D\n",
             "layer,L1,D,2,0,0,0\n",
             "stop,P\n",
@@ -455,7 +455,7 @@ const OTHER_FORMS: [Refused; 30] = [
     ),
     (
         "a quote",
-        [
+        &[
             STOPS,
             LAYER,
             TRIPS,
@@ -467,7 +467,7 @@ const OTHER_FORMS: [Refused; 30] = [
     ),
     (
         "a price out of range",
-        [
+        &[
             STOPS,
             LAYER,
             TRIPS,
@@ -509,7 +509,7 @@ fn outcome(alloc: Global, words: &[&str], input: &[&str]) -> Result<(Status, Vec
 #[test]
 fn judges_documents(rt: HostRuntime) -> Result<(), Fail> {
     for (case, input, status, written) in DOCUMENTS {
-        let (ended, text) = outcome(rt.alloc(), &["check"], &input)?;
+        let (ended, text) = outcome(rt.alloc(), &["check"], input)?;
         assert_eq!(rt; ended, status, "{case}");
         assert_eq!(rt; text.as_slice(), written.as_bytes(), "{case}");
     }
@@ -519,7 +519,7 @@ fn judges_documents(rt: HostRuntime) -> Result<(), Fail> {
 #[test]
 fn refuses_other_forms(rt: HostRuntime) -> Result<(), Fail> {
     for (case, input) in OTHER_FORMS {
-        let (ended, text) = outcome(rt.alloc(), &["check"], &input)?;
+        let (ended, text) = outcome(rt.alloc(), &["check"], input)?;
         assert_eq!(rt; ended, Status::BadInput, "{case}");
         assert_eq!(rt; text.as_slice(), REFUSED.as_bytes(), "{case}");
     }
