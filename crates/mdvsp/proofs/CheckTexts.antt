@@ -1,12 +1,12 @@
 -- Where an instance's records end and a document's rows begin.
-use Rattle.std.proofs.Common.{◌≡◌, ℕ, zero, suc, ◌+◌, ◌-◌, ◌<◌, ◌≤◌, ◌⊎◌, inl, inr, ⊎_elim, Bool, true, false, T, eqb, List, [], ◌∷◌, ◌++◌, length, take, drop, get_or, ap, refl, sym, ◌∙◌, subst, codes, arith}
-use Rattle.std.proofs.lemmas.List.{length-append, get_or_append_left, take-append-drop}
+use Rattle.std.proofs.Common.{◌≡◌, ℕ, zero, suc, ◌+◌, ◌-◌, ◌<◌, inl, inr, Bool, false, T, eqb, List, [], ◌∷◌, ◌++◌, length, take, drop, get_or, ap, refl, sym, ◌∙◌, subst, codes, arith}
+use Rattle.std.proofs.lemmas.List.{length-append, get_or_append_left}
 use Rattle.std.proofs.Math.Seq.{get_or-append_right, take-append_seam, drop-append_seam}
 use Rattle.vs_instance.specs.Problem.{Problem}
 use Rattle.vs_check.specs.declared.document.Document.{Document}
 use Rattle.mdvsp.specs.Rows.{Row, Field}
 use Rattle.mdvsp.specs.Names.{NameLists, HaveCounts}
-use Rattle.mdvsp.specs.InstanceText.{InstanceText, Declared, nothing_yet, Adds, AddAll, AddsStop, AddsDeadhead, AddsLayer, AddsTrip}
+use Rattle.mdvsp.specs.InstanceText.{InstanceText, Declared, nothing_yet, Adds, AddAll}
 use Rattle.mdvsp.specs.DocumentText.{DocumentText}
 use Rattle.mdvsp.specs.FirstForm.{IsResultRow, IsFirstResult, CheckRows, IsFirstDocument, AreInOrder}
 use Rattle.mdvsp.specs.Owed.{AreCheckRows}

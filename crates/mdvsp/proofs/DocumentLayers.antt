@@ -1,10 +1,10 @@
 -- The rows of a table, layer by layer.
-use Rattle.std.proofs.Common.{◌≡◌, ℕ, zero, suc, ◌+◌, ◌-◌, ◌*◌, ◌<◌, ◌≤◌, Bool, false, if◌then◌else◌, ◌==◌, filter, List, [], ◌∷◌, ◌++◌, length, get_or, map, drop, take, slice_range, refl, sym, ap, ◌∙◌, subst, ◌⊎◌, inl, inr, arith, ℤ, pos, All, flat_map, codes, decimal, length-append}
+use Rattle.std.proofs.Common.{◌≡◌, ℕ, zero, suc, ◌+◌, ◌-◌, ◌*◌, ◌<◌, ◌≤◌, Bool, false, if◌then◌else◌, ◌==◌, filter, List, [], ◌∷◌, ◌++◌, length, get_or, map, drop, take, refl, sym, ap, ◌∙◌, subst, inl, inr, arith, ℤ, pos, All, flat_map, codes, decimal, length-append}
 use Rattle.std.specs.Int.{bit_at}
 use Rattle.std.specs.List.{range_with_len}
 use Rattle.std.proofs.lemmas.Bool.{cases_lt}
 use Rattle.std.proofs.lemmas.Fmt.{decimal_digit}
-use Rattle.std.proofs.lemmas.List.{get_or_past, get_or_at, get_or_append_left, get_or_push, length_push, append-nil, append_assoc, append_cancel_left, drop_at, take_at, drop-append-le, take-append-le, take_all, length-map, length-take, length-drop}
+use Rattle.std.proofs.lemmas.List.{get_or_past, get_or_at, length_push, append-nil, append_assoc, drop_at, take_at, drop-append-le, take-append-le, length-map, length-drop}
 use Rattle.std.proofs.lemmas.List.Elements.{All-push, All-append, All-nil, All-take, All-drop}
 use Rattle.std.proofs.lemmas.Nat.{row_fits}
 use Rattle.vs_instance.specs.Problem.{Problem}
@@ -14,8 +14,8 @@ use Rattle.vs_check.specs.declared.table.Table.{Table}
 use Rattle.vs_check.specs.Table.{IsPrice, Fits, prices_in}
 use Rattle.mdvsp.specs.Rows.{Row}
 use Rattle.mdvsp.specs.Names.{NameLists}
-use Rattle.mdvsp.specs.DocumentText.{name_of, layer_rows, table_rows, permitted_trips, IsBlankElsewhere}
-use Rattle.mdvsp.specs.DocumentParts.{fleet_line, price_line, layer_lines, ArePrices, AddsPrices, ReadsPrices, ReadsLayer, ReadsTable, IsWhole, IsEmptyTable}
+use Rattle.mdvsp.specs.DocumentText.{name_of, layer_rows, table_rows}
+use Rattle.mdvsp.specs.DocumentParts.{fleet_line, price_line, layer_lines, ArePrices, ReadsPrices, ReadsLayer, ReadsTable, IsWhole, IsEmptyTable}
 use Rattle.mdvsp.proofs.DocumentPrices.{zero_price}
 use Rattle.mdvsp.proofs.DocumentRows.{first_of_drop, rest_of_drop, drop_row}
 

@@ -1,13 +1,13 @@
 -- The rows of blocks, one after the other.
-use Rattle.std.proofs.Common.{◌≡◌, ℕ, zero, suc, ◌+◌, ◌<◌, ◌≤◌, List, [], ◌∷◌, ◌++◌, length, get_or, map, refl, sym, ap, ◌∙◌, subst, ◌⊎◌, inl, inr, arith, codes, flat_map, length-append}
-use Rattle.std.proofs.lemmas.Bool.{cases_lt, cases_order}
+use Rattle.std.proofs.Common.{◌≡◌, ℕ, suc, ◌+◌, ◌<◌, ◌≤◌, List, [], ◌∷◌, ◌++◌, length, refl, sym, ap, ◌∙◌, subst, inl, inr, arith, length-append}
+use Rattle.std.proofs.lemmas.Bool.{cases_lt}
 use Rattle.std.proofs.lemmas.List.{get_or_past, get_or_append_left, get_or_push, length_push, length-map, append-nil}
 use Rattle.std.proofs.lemmas.List.Concat.{flat_map-append}
 use Rattle.vs_types.specs.declared.numbers.TripNo.{TripNo}
 use Rattle.vs_instance.specs.Plan.{LayerBlock, all_trips}
 use Rattle.mdvsp.specs.Rows.{Row}
 use Rattle.mdvsp.specs.Names.{NameLists}
-use Rattle.mdvsp.specs.DocumentText.{name_of, block_row}
+use Rattle.mdvsp.specs.DocumentText.{name_of}
 use Rattle.mdvsp.specs.DocumentParts.{row_at, block_at, kind_of, IsBlockKind, IsBlockRow, IsPlanAt}
 
 -- the blocks before this row, which have so many trips

@@ -1,11 +1,11 @@
 -- The price rows of a layer, trip by trip.
-use Rattle.std.proofs.Common.{◌≡◌, ℕ, zero, suc, ◌+◌, ◌-◌, ◌<◌, ◌≤◌, Bool, true, false, cond, List, [], ◌∷◌, ◌++◌, length, get_or, map, drop, refl, sym, ap, ◌∙◌, subst, ◌⊎◌, inl, inr, arith, ℤ, pos, All, eqb, filter, rules, ◌↔◌}
+use Rattle.std.proofs.Common.{◌≡◌, ℕ, suc, ◌+◌, ◌-◌, ◌<◌, ◌≤◌, Bool, true, false, cond, List, [], ◌∷◌, ◌++◌, length, get_or, map, drop, refl, sym, ap, ◌∙◌, subst, inl, inr, arith, ℤ, pos, All, eqb, filter, rules, ◌↔◌}
 use Rattle.std.specs.Int.{bit_at}
 use Rattle.std.specs.List.{range_with_len}
 use Rattle.std.proofs.lemmas.Bool.{cases_lt, eq-eqb, ne_eqb, false≢true}
 use Rattle.vs_types.specs.LayerSet.{Has}
 use Rattle.vs_instance.specs.declared.trip.Trip.{Trip}
-use Rattle.std.proofs.lemmas.List.{get_or_append_left, get_or_push, length_push, append-nil, append_assoc, get_or_past}
+use Rattle.std.proofs.lemmas.List.{get_or_append_left, get_or_push, length_push, append-nil, append_assoc}
 use Rattle.std.proofs.lemmas.List.Elements.{All-push, All-nil}
 use Rattle.vs_instance.specs.Problem.{Problem}
 use Rattle.vs_instance.specs.Ways.{Permitted, trip_of}
@@ -15,7 +15,7 @@ use Rattle.vs_check.specs.Table.{IsPrice}
 use Rattle.mdvsp.specs.Rows.{Row}
 use Rattle.mdvsp.specs.Names.{NameLists}
 use Rattle.mdvsp.specs.DocumentText.{name_of}
-use Rattle.mdvsp.specs.DocumentParts.{price_line, price_lines, ArePrices, AddsPrices, ReadsPrices}
+use Rattle.mdvsp.specs.DocumentParts.{price_line, price_lines, ArePrices, ReadsPrices}
 use Rattle.mdvsp.proofs.DocumentRows.{first_of_drop}
 
 abbrev line_of : NameLists → ℕ → (ℕ → ℤ) → (ℕ → ℤ) → ℕ → Row

@@ -1,7 +1,7 @@
 -- Rows from a place on.
-use Rattle.std.proofs.Common.{◌≡◌, ℕ, suc, ◌+◌, ◌<◌, ◌≤◌, List, [], ◌∷◌, ◌++◌, length, get_or, drop, refl, sym, ap, ◌∙◌, ◌⊎◌, inl, inr, arith}
+use Rattle.std.proofs.Common.{◌≡◌, ℕ, ◌+◌, ◌<◌, List, [], ◌∷◌, length, get_or, drop, sym, ap, ◌∙◌, inl, inr, arith}
 use Rattle.std.proofs.lemmas.Bool.{cases_lt}
-use Rattle.std.proofs.lemmas.List.{get_or-drop, drop_more, get_or_past, drop-drop, length-drop}
+use Rattle.std.proofs.lemmas.List.{get_or-drop, drop_more, get_or_past, drop-drop}
 use Rattle.mdvsp.specs.Rows.{Row}
 
 pub first_of_drop : (rows : List Row) (at : ℕ) (row : Row) (rest : List Row) → drop at rows ≡ row ∷ rest → get_or rows at [] ≡ row

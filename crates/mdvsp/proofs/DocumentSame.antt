@@ -1,10 +1,10 @@
 -- Rows that say one thing say no other.
-use Rattle.std.proofs.Common.{◌≡◌, ℕ, zero, suc, ◌+◌, ◌-◌, ◌*◌, ◌/◌, ◌%◌, ◌<◌, ◌≤◌, List, [], ◌∷◌, ◌++◌, length, get_or, map, drop, refl, sym, ap, ◌∙◌, subst, ◌⊎◌, inl, inr, arith, All, Option, Some, None, ℤ, pos, negsuc, codes, decimal}
+use Rattle.std.proofs.Common.{◌≡◌, ℕ, zero, suc, ◌+◌, ◌-◌, ◌*◌, ◌/◌, ◌%◌, ◌<◌, ◌≤◌, List, [], ◌∷◌, length, get_or, map, drop, refl, sym, ap, ◌∙◌, subst, inl, inr, arith, All, Option, Some, None, ℤ, pos, negsuc, codes}
 use Rattle.std.specs.Fmt.{signed_decimal}
 use Rattle.std.specs.Int.{bit_at}
 use Rattle.std.proofs.lemmas.Bool.{cases_lt, cases_order, cases_eq}
 use Rattle.std.proofs.lemmas.Int.{ints}
-use Rattle.std.proofs.lemmas.List.{length-map, ext_get_or, get_or-take, get_or-drop}
+use Rattle.std.proofs.lemmas.List.{ext_get_or, get_or-take, get_or-drop}
 use Rattle.std.proofs.lemmas.List.Elements.{All-tail, All-head}
 use Rattle.std.proofs.lemmas.Nat.{div-add-mod', mod_below, div_below}
 use Rattle.vs_types.specs.declared.numbers.LayerNo.{LayerNo}
@@ -16,15 +16,15 @@ use Rattle.vs_instance.specs.HoldingTable.{price_of}
 use Rattle.vs_check.specs.declared.claim.Claim.{Claim}
 use Rattle.vs_check.specs.declared.claim.Claim.TheVariants.{Optimal, Infeasible, StillOpen}
 use Rattle.vs_check.specs.declared.table.Table.{Table}
-use Rattle.vs_check.specs.Table.{IsPrice, Fits, prices_in}
+use Rattle.vs_check.specs.Table.{IsPrice, prices_in}
 use Rattle.mdvsp.specs.Rows.{Field, Row}
 use Rattle.mdvsp.specs.Names.{NameLists}
 use Rattle.mdvsp.specs.NameRules.{AreNames}
 use Rattle.mdvsp.specs.declared.document.head.Head.{Head}
-use Rattle.mdvsp.specs.DocumentText.{name_of, block_row, claim_field, number_field, IsBetween, IsBlankElsewhere}
-use Rattle.mdvsp.specs.DocumentParts.{row_at, block_at, kind_of, price_line, price_lines, fleet_line, layer_lines, IsBlockKind, IsBlockRow, IsPlanAt, IsHeadAt, IsCost, IsWhole, ArePrices}
+use Rattle.mdvsp.specs.DocumentText.{name_of, block_row, claim_field, number_field, IsBetween}
+use Rattle.mdvsp.specs.DocumentParts.{row_at, block_at, kind_of, price_lines, layer_lines, IsBlockKind, IsBlockRow, IsPlanAt, IsHeadAt, IsCost, IsWhole, ArePrices}
 use Rattle.mdvsp.proofs.DocumentNumbers.{same_signed, same_number, digit_of, starts}
-use Rattle.mdvsp.proofs.DocumentPrices.{lines_with, lines_without, lines_end}
+use Rattle.mdvsp.proofs.DocumentPrices.{lines_with, lines_without}
 use Rattle.mdvsp.proofs.DocumentLayers.{of_layer, rows_from, rows_at, same_fronts, layer_size, price_anywhere, prices_in_all}
 
 -- a name is that of one number

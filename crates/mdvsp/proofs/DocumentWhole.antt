@@ -1,17 +1,15 @@
 -- The parts of a document, and the document that has them.
-use Rattle.std.proofs.Common.{◌≡◌, ℕ, zero, suc, ◌+◌, ◌-◌, ◌*◌, ◌<◌, ◌≤◌, Bool, false, List, [], ◌∷◌, ◌++◌, length, get_or, map, drop, refl, sym, ap, ◌∙◌, subst, ◌⊎◌, inl, inr, arith, All, Option, Some, None, IsSome, IfSome, ℤ, pos, negsuc, codes, decimal, flat_map}
+use Rattle.std.proofs.Common.{◌≡◌, ℕ, suc, ◌+◌, ◌-◌, ◌<◌, ◌≤◌, Bool, false, List, [], ◌∷◌, ◌++◌, length, get_or, map, drop, refl, sym, ap, ◌∙◌, subst, arith, All, Option, Some, None, IsSome, IfSome, ℤ, pos, negsuc, codes, decimal, flat_map}
 use Rattle.std.specs.List.{enumerate_from}
-use Rattle.std.specs.Fmt.{signed_decimal}
 use Rattle.std.proofs.lemmas.Bool.{false≢true}
 use Rattle.std.proofs.lemmas.Fmt.{decimal_digit}
-use Rattle.std.proofs.lemmas.List.{append-nil, append_assoc, length-drop, drop_all, drop-drop, get_or-drop, drop_more, get_or_default, get_or_append_left, length-map, get_or-map, take_at, drop_at}
+use Rattle.std.proofs.lemmas.List.{append-nil, append_assoc, length-drop, drop_all, drop-drop, get_or-drop, get_or_default, get_or_append_left, length-map, get_or-map, drop_at}
 use Rattle.std.proofs.lemmas.List.Elements.{All-nil, All-cons, All-head}
-use Rattle.vs_types.specs.declared.numbers.TripNo.{TripNo}
 use Rattle.vs_instance.specs.Problem.{Problem}
 use Rattle.vs_instance.specs.Plan.{LayerBlock, all_trips}
 use Rattle.vs_check.specs.declared.document.Document.{Document}
 use Rattle.vs_check.specs.declared.shape.Shape.{Shape}
-use Rattle.vs_check.specs.declared.shape.Shape.TheVariants.{Leaf, Split}
+use Rattle.vs_check.specs.declared.shape.Shape.TheVariants.{Leaf}
 use Rattle.vs_check.specs.declared.table.Table.{Table}
 use Rattle.vs_check.specs.Blocks.{blocks_of}
 use Rattle.vs_check.specs.Form.{IsReadBlock, IsReadFor}
@@ -20,13 +18,13 @@ use Rattle.mdvsp.specs.Rows.{Field, Row}
 use Rattle.mdvsp.specs.Names.{NameLists}
 use Rattle.mdvsp.specs.NameRules.{AreNames}
 use Rattle.mdvsp.specs.declared.document.head.Head.{Head}
-use Rattle.mdvsp.specs.DocumentText.{DocumentText, HasText, IsTreeOf, IsShapeOf, IsBetween, IsBlankElsewhere, AreShapeRows, IsShapeRow, head_rows, block_row, table_rows, number_field}
-use Rattle.mdvsp.specs.DocumentParts.{row_at, block_at, kind_of, claim_row, cost_row, number_row, IsHeadAt, IsCost, IsBlockKind, IsBlockRow, IsNamedBlock, IsPlanAt, IsWhole, ReadsTable, AreParts, HasParts, leaf_line, end_line}
+use Rattle.mdvsp.specs.DocumentText.{DocumentText, HasText, IsTreeOf, IsShapeOf, IsBetween, IsBlankElsewhere, AreShapeRows, head_rows, block_row, table_rows, number_field}
+use Rattle.mdvsp.specs.DocumentParts.{block_at, kind_of, claim_row, cost_row, number_row, IsHeadAt, IsCost, IsNamedBlock, IsPlanAt, IsWhole, ReadsTable, AreParts, HasParts, leaf_line, end_line}
 use Rattle.mdvsp.specs.FirstForm.{IsFirstDocument}
 use Rattle.mdvsp.specs.Alike.{AreAlike, TableText, text_of_table}
 use Rattle.mdvsp.proofs.DocumentRows.{first_of_drop, rest_of_drop, drop_row, row_within}
 use Rattle.mdvsp.proofs.DocumentLayers.{rows_from, same_fronts, table_line, table_rows_are, rows_size}
-use Rattle.mdvsp.proofs.DocumentSame.{same_plans, same_heads, same_tables, AreSameHeads, AreSameTables}
+use Rattle.mdvsp.proofs.DocumentSame.{same_plans, same_heads, same_tables, AreSameTables}
 
 -- two rows at the end
 pub ends_with : (rows : List Row) (at : ℕ) (first last : Row) → at ≤ length rows → length rows - at ≡ 2 → get_or rows at [] ≡ first → get_or rows (at + 1) [] ≡ last

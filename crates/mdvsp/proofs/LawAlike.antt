@@ -1,5 +1,5 @@
 -- Documents that are alike hold alike.
-use Rattle.std.proofs.Common.{◌≡◌, ℕ, zero, suc, ◌*◌, ◌<◌, true, List, [], ◌∷◌, length, get_or, map, drop, slice_get, refl, sym, ap, ◌∙◌, subst, arith, All, Option, Some, None, unwrap_or, MatchBool, MatchOption, ℤ, pos, ◌+ℤ◌, ◌-ℤ◌, ◌*ℤ◌, ◌≤ℤ◌, ◌<ℤ◌}
+use Rattle.std.proofs.Common.{◌≡◌, ℕ, zero, suc, ◌<◌, true, List, [], ◌∷◌, length, get_or, map, drop, slice_get, refl, sym, ap, ◌∙◌, subst, arith, All, Option, Some, None, unwrap_or, MatchBool, MatchOption, ℤ, pos, ◌+ℤ◌, ◌-ℤ◌, ◌*ℤ◌, ◌≤ℤ◌, ◌<ℤ◌}
 use Rattle.std.specs.List.{range_with_len}
 use Rattle.std.proofs.lemmas.List.Elements.{All-cons, All-head, All-nil, All-tail}
 use Rattle.vs_types.specs.declared.layer_set.LayerSet.{LayerSet}

@@ -17,7 +17,7 @@ use Rattle.vs_check.specs.Worth.{IsWorth}
 use Rattle.mdvsp.specs.declared.status.Status.{Status}
 use Rattle.mdvsp.specs.declared.status.Status.TheVariants as status
 use Rattle.mdvsp.specs.Owed.{status_of}
-use Rattle.mdvsp.specs.SolveAnswer.{SolveAnswer, LeafPlace, AreWorths, leaves_from, IsBoundOf, IsAmong}
+use Rattle.mdvsp.specs.SolveAnswer.{SolveAnswer, LeafPlace, AreWorths, leaves_from, IsBoundOf}
 
 -- the worth of one leaf
 one_worth : (p : Problem) (d : Document) (place : LeafPlace) (worths : List Bound) → AreWorths p d (place ∷ []) worths

@@ -1,5 +1,5 @@
 -- The rows of a document are plain.
-use Rattle.std.proofs.Common.{◌≡◌, ℕ, suc, ◌+◌, ◌-◌, ◌*◌, ◌<◌, ◌≤◌, Bool, true, false, cond, ltb, ltb-true, List, [], ◌∷◌, ◌++◌, length, map, get_or, flat_map, codes, decimal, refl, sym, ap, subst, ◌⊎◌, inl, inr, arith, All, Option, Some, None, IfSome, ℤ, pos, negsuc, if◌then◌else◌}
+use Rattle.std.proofs.Common.{◌≡◌, ℕ, suc, ◌*◌, ◌<◌, ◌≤◌, Bool, true, false, cond, ltb, ltb-true, List, [], ◌∷◌, ◌++◌, length, map, get_or, flat_map, codes, decimal, refl, sym, ap, subst, ◌⊎◌, inl, inr, arith, All, Option, Some, None, IfSome, ℤ, pos, negsuc, if◌then◌else◌}
 use Rattle.std.specs.Fmt.{signed_decimal}
 use Rattle.std.specs.List.{enumerate_from, range_with_len}
 use Rattle.std.specs.Str.Parse.{AllDigits}

@@ -1,5 +1,5 @@
 -- Answers that are owed.
-use Rattle.std.proofs.Common.{◌≡◌, ◌∙◌, ℕ, ◌≤◌, length, take, arith, List, [], ◌∷◌, Result, Ok, Err, inl, inr, refl, sym, subst, IfOk}
+use Rattle.std.proofs.Common.{◌≡◌, ◌∙◌, ℕ, length, take, arith, List, [], ◌∷◌, Result, Ok, Err, inl, inr, refl, sym, subst, IfOk}
 use Rattle.std.proofs.lemmas.List.{take_all}
 use Rattle.vs_types.specs.declared.memory.Memory.{Memory}
 use Rattle.vs_instance.specs.Problem.{Problem}

@@ -1,5 +1,5 @@
 -- How runs end, by what was answered and what was written.
-use Rattle.std.proofs.Common.{◌≡◌, ℕ, ◌+◌, ◌<◌, ◌≤◌, ◌⊎◌, inl, inr, ⊎_elim, List, [], ◌∷◌, ◌++◌, length, Option, Some, None, Result, Ok, Err, ap, refl, sym, ◌∙◌, subst, arith, IfOk, IfSome, append-nil}
+use Rattle.std.proofs.Common.{◌≡◌, ℕ, ◌≤◌, ◌⊎◌, inl, inr, ⊎_elim, List, [], ◌∷◌, ◌++◌, length, Some, None, Result, Ok, Err, ap, refl, sym, ◌∙◌, subst, arith, IfOk, append-nil}
 use Rattle.std.specs.Option.{option_map}
 use Rattle.vs_types.specs.declared.memory.Memory.{Memory}
 use Rattle.vs_io.specs.Bytes.{Takes, TakesAll, Appends, AppendsPrefix}
@@ -8,7 +8,7 @@ use Rattle.mdvsp.specs.declared.status.Status.{Status}
 use Rattle.mdvsp.specs.declared.status.Status.TheVariants.{Done, SaysNo, BadWords, BadInput, ReadFault, WriteFault, NoMemory, TooLong, Infeasible, StillOpen}
 use Rattle.mdvsp.specs.declared.words.Command.{Command}
 use Rattle.mdvsp.specs.Answered.{IsOwedFor, IsSaid}
-use Rattle.mdvsp.specs.Outcome.{Run, Told, Ends, IsOwed, IsTold, TookFew, input_limit}
+use Rattle.mdvsp.specs.Outcome.{Run, Told, Ends, IsOwed, IsTold, input_limit}
 use Rattle.mdvsp.specs.Owed.{Owes}
 use Rattle.mdvsp.specs.Rows.{Row, lines}
 use Rattle.mdvsp.specs.Words.{DepartAt, command_words, words_row}

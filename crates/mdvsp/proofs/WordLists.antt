@@ -1,10 +1,10 @@
 -- Where lists of words part.
-use Rattle.std.proofs.Common.{Bool, true, String, Bor, string_bytes, codes, inl, inr, ⊎_elim, ◌⊎◌, ◌≡◌, ℕ, ◌+◌, ◌-◌, ◌<◌, ◌≤◌, List, [], ◌∷◌, length, take, get_or, T, eqb, subst, T, eqb, subst, refl, ap, sym, ◌∙◌, arith}
+use Rattle.std.proofs.Common.{Bool, true, String, Bor, string_bytes, codes, inl, inr, ⊎_elim, ◌≡◌, ℕ, ◌+◌, ◌-◌, ◌<◌, ◌≤◌, List, [], length, take, get_or, T, eqb, subst, T, eqb, subst, refl, ap, sym, ◌∙◌, arith}
 use Rattle.std.proofs.lemmas.Slice.Eq.{bytes_eq-Decides}
 use Rattle.std.specs.Str.{bytes_eq}
 use Rattle.std.proofs.lemmas.List.{length-map, take_more_same, get_or-take, get_or-map, take_all, length-take}
 use Rattle.std.specs.declared.alloc.Global.{Global}
-use Rattle.mdvsp.specs.Words.{words_of, texts_of, DepartsFrom, DepartAt, IsWordAt, Begin, AreAccepted, check_words, solve_words}
+use Rattle.mdvsp.specs.Words.{words_of, texts_of, DepartsFrom, DepartAt, IsWordAt, check_words, solve_words}
 
 -- up to a place the words are those accepted
 pub record AlikeBelow (words accepted : List (List ℕ)) (place : ℕ) : Type 0 where

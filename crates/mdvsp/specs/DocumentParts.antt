@@ -1,5 +1,5 @@
 -- What the parts of a document of the first form are, by their places among the rows.
-use Rattle.std.specs.Prelude.{◌≡◌, ℕ, ◌+◌, ◌-◌, ◌<◌, ◌≤◌, false, List, [], ◌∷◌, ◌++◌, length, map, filter, flat_map, All, codes, decimal, ◌==◌, ℤ, pos, negsuc, Option, Some, None, IfSome, drop, slice_index_or}
+use Rattle.std.specs.Prelude.{◌≡◌, ℕ, ◌+◌, ◌-◌, ◌<◌, ◌≤◌, false, List, [], ◌∷◌, ◌++◌, length, map, filter, All, codes, ◌==◌, ℤ, pos, negsuc, Option, Some, None, IfSome, drop, slice_index_or}
 use Rattle.std.specs.Fmt.{signed_decimal}
 use Rattle.std.specs.Int.{bit_at}
 use Rattle.std.specs.List.{range_with_len}

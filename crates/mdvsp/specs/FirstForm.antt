@@ -1,5 +1,5 @@
 -- The form of text that is read so far.
-use Rattle.std.specs.Prelude.{◌≡◌, ℕ, false, List, [], ◌∷◌, ◌++◌, All, codes, ◌⊎◌, IsSome, slice_index_or, ◌||◌, ◌==◌, ◌<◌, ◌≤◌, Bool, length, map, filter, take_while, not, ◌&&◌}
+use Rattle.std.specs.Prelude.{◌≡◌, ℕ, false, List, [], ◌∷◌, ◌++◌, All, codes, ◌⊎◌, IsSome, slice_index_or, ◌||◌, ◌==◌, ◌<◌, ◌≤◌, length}
 use Rattle.std.specs.List.{before_first}
 use Rattle.vs_instance.specs.Problem.{Problem}
 use Rattle.vs_check.specs.declared.document.Document.{Document}

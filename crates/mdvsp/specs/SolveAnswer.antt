@@ -1,5 +1,5 @@
 -- What a document has to be that a search of so many nodes answers.
-use Rattle.std.specs.Prelude.{◌≡◌, ℕ, ◌+◌, ◌-◌, ◌<◌, ◌≤◌, Bool, true, false, not, List, [], ◌∷◌, ◌++◌, length, set, count_by, ℤ, pos, ◌≤ℤ◌, ◌⊎◌, Option, Some, None, IfSome, MatchOption, bit_and, int_lt, slice_get}
+use Rattle.std.specs.Prelude.{◌≡◌, ℕ, ◌+◌, ◌-◌, ◌<◌, ◌≤◌, Bool, true, false, not, List, [], ◌∷◌, length, set, count_by, ℤ, ◌≤ℤ◌, ◌⊎◌, Option, Some, None, IfSome, MatchOption, bit_and, int_lt, slice_get}
 use Rattle.vs_types.specs.declared.layer_set.LayerSet.{LayerSet}
 use Rattle.vs_instance.specs.Problem.{Problem}
 use Rattle.vs_instance.specs.Lagrangian.{IsStartingValue}

@@ -1,5 +1,5 @@
 -- Parts of a document that have names and so can be written.
-use Rattle.std.specs.Prelude.{ℕ, ◌<◌, List, ◌∷◌, length, map, All, codes}
+use Rattle.std.specs.Prelude.{ℕ, ◌<◌, ◌∷◌, length, map, All, codes}
 use Rattle.vs_types.specs.LayerSet.{Has, members}
 use Rattle.vs_types.specs.declared.layer_set.LayerSet.{LayerSet}
 use Rattle.vs_types.specs.declared.numbers.TripNo.{TripNo}

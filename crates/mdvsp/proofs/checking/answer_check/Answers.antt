@@ -1,4 +1,4 @@
-use Rattle.std.proofs.Common.{◌≡◌, Err, ap}
+use Rattle.std.proofs.Common.{Err, ap}
 use Rattle.mdvsp.proofs.OwedAnswers.{refusal_owed, yes_owed, no_owed}
 use Rattle.mdvsp.proofs.checking.answer_check.Goals as goal
 

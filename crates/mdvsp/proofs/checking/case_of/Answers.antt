@@ -1,4 +1,4 @@
-use Rattle.std.proofs.Common.{◌≡◌, ◌++◌, take, drop, sym, ap, Err}
+use Rattle.std.proofs.Common.{◌≡◌, take, drop, sym, ap, Err}
 use Rattle.mdvsp.specs.declared.form_error.FormError.TheVariants.{NotThisForm}
 use Rattle.std.proofs.lemmas.List.{take-append-drop}
 use Rattle.std.proofs.lemmas.Result.{err_from_is_err_and}

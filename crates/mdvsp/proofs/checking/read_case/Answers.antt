@@ -1,4 +1,4 @@
-use Rattle.std.proofs.Common.{◌≡◌, List, subst}
+use Rattle.std.proofs.Common.{List, subst}
 use Rattle.mdvsp.specs.FirstForm.{CheckRows}
 use Rattle.mdvsp.specs.Rows.{Row}
 use Rattle.mdvsp.proofs.checking.read_case.Goals as goal

@@ -1,7 +1,5 @@
-use Rattle.std.proofs.Common.{◌≡◌, [], ◌∷◌, List, subst, sym}
+use Rattle.std.proofs.Common.{List, subst, sym}
 use Rattle.vs_check.specs.declared.bound.Bound.{Bound}
-use Rattle.vs_check.specs.declared.bound.Bound.TheVariants.{AtLeast}
-use Rattle.vs_check.specs.declared.claim.Claim.{Claim}
 use Rattle.mdvsp.specs.SolveAnswer.{IsBoundOf}
 use Rattle.mdvsp.proofs.LawBounds.{Tells, bound_tells, status_tells, worth_is}
 use Rattle.mdvsp.proofs.laws.done_where_shown.Goals as goal

@@ -1,4 +1,4 @@
-use Rattle.std.proofs.Common.{◌≡◌, Err, ap}
+use Rattle.std.proofs.Common.{Err, ap}
 use Rattle.mdvsp.proofs.CheckTexts.{names_counts}
 use Rattle.mdvsp.proofs.OwedAnswers.{solve_refusal_owed, document_owed}
 use Rattle.mdvsp.proofs.solving.answer_solve.Goals as goal

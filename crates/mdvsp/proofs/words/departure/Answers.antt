@@ -1,6 +1,5 @@
-use Rattle.std.proofs.Common.{◌≡◌, [], length, refl, sym, ◌∙◌, subst, true, arith}
+use Rattle.std.proofs.Common.{[]}
 use Rattle.std.proofs.lemmas.List.{length-map}
-use Rattle.mdvsp.specs.Words.{IsWordAt, words_of, texts_of}
 use Rattle.mdvsp.proofs.WordLists.{alike_more, text_read}
 use Rattle.mdvsp.proofs.words.departure.Goals as goal
 

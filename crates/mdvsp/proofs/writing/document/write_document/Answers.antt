@@ -1,9 +1,9 @@
-use Rattle.std.proofs.Common.{◌≡◌, ℕ, List, ◌∷◌, [], ◌++◌, sym, ap, ◌∙◌}
+use Rattle.std.proofs.Common.{◌≡◌, List, ◌∷◌, [], ◌++◌, sym, ap, ◌∙◌}
 use Rattle.std.specs.Prelude.{codes, map, flat_map}
 use Rattle.std.specs.List.{enumerate_from}
-use Rattle.std.proofs.lemmas.List.{append_assoc, append-nil}
+use Rattle.std.proofs.lemmas.List.{append_assoc}
 use Rattle.vs_check.specs.Blocks.{blocks_of}
-use Rattle.mdvsp.specs.Rows.{Row, line, lines}
+use Rattle.mdvsp.specs.Rows.{Row, lines}
 use Rattle.mdvsp.specs.DocumentText.{head_rows, block_row, table_rows, shape_row}
 use Rattle.mdvsp.proofs.LinesAppend.{lines-append}
 use Rattle.mdvsp.proofs.writing.document.write_document.Goals as goal

@@ -1,4 +1,4 @@
-use Rattle.std.proofs.Common.{◌≡◌, ℕ, ◌+◌, ◌*◌, ◌<◌, ◌≤◌, Bool, true, false, cond, eqb, List, ◌∷◌, [], ◌++◌, length, get_or, sym, ap, ◌∙◌, arith, rules}
+use Rattle.std.proofs.Common.{◌≡◌, ℕ, ◌+◌, ◌*◌, ◌<◌, Bool, cond, eqb, List, ◌∷◌, [], ◌++◌, length, get_or, sym, ap, ◌∙◌, arith, rules}
 use Rattle.std.specs.Prelude.{flat_map, filter, codes, pos, ℤ}
 use Rattle.std.specs.Fmt.{signed_decimal}
 use Rattle.std.specs.List.{range_with_len}
@@ -11,8 +11,8 @@ use mir.Syntax.{w64}
 use Rattle.vs_instance.specs.Ways.{trip_of}
 use Rattle.vs_instance.specs.HoldingTable.{price_of}
 use Rattle.vs_check.specs.Table.{prices_in}
-use Rattle.mdvsp.specs.Rows.{Row, line, lines}
-use Rattle.mdvsp.specs.DocumentText.{name_of, price_row, permitted_trips}
+use Rattle.mdvsp.specs.Rows.{Row, line}
+use Rattle.mdvsp.specs.DocumentText.{name_of, price_row}
 use Rattle.mdvsp.proofs.WrittenRows.{lines-map, flat_map-filter, numbered_more, numbered_all, price_read}
 use Rattle.mdvsp.proofs.writing.prices.write_layer.Goals as goal
 use Rattle.mdvsp.proofs.writing.prices.write_layer.Goals.{then-has+in_ok-write_price, else-has}

@@ -1,10 +1,10 @@
-use Rattle.std.proofs.Common.{◌≡◌, [], ◌∷◌, ◌++◌, length, take, cond, eqb}
+use Rattle.std.proofs.Common.{◌≡◌, [], ◌++◌, length, take, cond, eqb}
 use Rattle.std.specs.Prelude.{flat_map}
-use Rattle.std.specs.List.{range_with_len, enumerate_from}
+use Rattle.std.specs.List.{range_with_len}
 use Rattle.std.specs.Int.{bit_at}
 use Rattle.vs_instance.specs.Ways.{trip_of}
-use Rattle.mdvsp.specs.Rows.{line, lines}
-use Rattle.mdvsp.specs.DocumentText.{name_of, layer_rows, table_rows, price_row}
+use Rattle.mdvsp.specs.Rows.{line}
+use Rattle.mdvsp.specs.DocumentText.{price_row}
 use Rattle.mdvsp.proofs.writing.prices.write_layer.Given as goal
 
 -- the prices so far are written

@@ -1,4 +1,4 @@
-use Rattle.std.proofs.Common.{◌≡◌, ℕ, ◌++◌, sym, ap, ◌∙◌, arith}
+use Rattle.std.proofs.Common.{◌++◌, sym, ap, ◌∙◌, arith}
 use Rattle.vs_check.specs.declared.shape.Shape.{Shape}
 use Rattle.mdvsp.specs.Rows.{line}
 use Rattle.mdvsp.specs.DocumentText.{shape_row}

@@ -1,8 +1,7 @@
-use Rattle.std.proofs.Common.{◌≡◌, List, [], ◌∷◌, ◌++◌, length, take}
+use Rattle.std.proofs.Common.{◌≡◌, ◌++◌, take}
 use Rattle.std.specs.Prelude.{flat_map}
-use Rattle.std.specs.List.{range_with_len}
-use Rattle.mdvsp.specs.Rows.{line, lines}
-use Rattle.mdvsp.specs.DocumentText.{name_of, block_row, layer_rows, table_rows, price_row, shape_row}
+use Rattle.mdvsp.specs.Rows.{line}
+use Rattle.mdvsp.specs.DocumentText.{shape_row}
 use Rattle.mdvsp.proofs.writing.shapes.write_shapes.Given as goal
 
 -- the rows so far are written

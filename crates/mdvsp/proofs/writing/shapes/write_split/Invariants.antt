@@ -1,10 +1,8 @@
-use Rattle.std.proofs.Common.{◌≡◌, [], ◌∷◌, ◌++◌, length, take, cond, eqb}
+use Rattle.std.proofs.Common.{◌≡◌, [], ◌∷◌, ◌++◌, take, cond, eqb}
 use Rattle.std.specs.Prelude.{flat_map}
-use Rattle.std.specs.List.{range_with_len, enumerate_from}
+use Rattle.std.specs.List.{range_with_len}
 use Rattle.std.specs.Int.{bit_at}
-use Rattle.vs_instance.specs.Ways.{trip_of}
-use Rattle.mdvsp.specs.Rows.{line, lines}
-use Rattle.mdvsp.specs.DocumentText.{name_of, layer_rows, table_rows, price_row}
+use Rattle.mdvsp.specs.DocumentText.{name_of}
 use Rattle.mdvsp.proofs.writing.shapes.write_split.Given as goal
 
 -- the layers so far are written
