@@ -28,7 +28,8 @@ const ZERO_TABLE: &str = "table,1,cost\nfleet,L1,0\nprice,L1,t1,0,0\nprice,L1,t2
 
 const REFUSED: &str = "refused,0,90,NotThisForm\n";
 
-const BROKEN_TABLE: &str = "table,1,cost\nfleet,L1,0\nprice,L1,t1,1010000,0\nprice,L1,t2,0,-1\n";
+const BROKEN_TABLE: &str =
+    "table,1,cost\nfleet,L1,0\nprice,L1,t1,1010000,-1\nprice,L1,t2,0,-10000\n";
 
 const NO_TRIP_HEAD: &str = "result,1,optimal\ncost,0\nbound,0\nnodes,0\n";
 
