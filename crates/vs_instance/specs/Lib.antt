@@ -5,6 +5,7 @@ pub mod Codes
 pub mod Instance
 pub mod Pieces
 pub mod Blocks
+pub mod BlockPieces
 pub mod Plan
 pub mod Restriction
 pub mod HoldingTable
