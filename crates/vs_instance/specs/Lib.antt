@@ -1,4 +1,5 @@
 pub mod Problem
+pub mod Firsts
 pub mod WayMap
 pub mod Ways
 pub mod Codes
