@@ -41,6 +41,22 @@ module _ (p : Problem) (l : LayerNo) where
   pub chain_of_block : (trips : List TripNo) → IsBlock p l trips → IsChain p l trips
   chain_of_block trips block = chain_of trips block.of_instance block.permitted block.connected
 
+-- the last of a trip and those after it
+abbrev pub last_trip : TripNo → List TripNo → TripNo
+last_trip i [] = i
+last_trip i (j ∷ rest) = last_trip j rest
+
+-- the first trip of such is one of the instance, permitted in the layer
+pub first_of_chain : (p : Problem) (l : LayerNo) (i : TripNo) (rest : List TripNo) → IsChain p l (i ∷ rest) → (i.0 < length p.trips) × Permitted p l.0 i.0
+first_of_chain p l i [] chain = chain
+first_of_chain p l i (j ∷ rest) chain = (chain.0, chain.1)
+
+-- the last trip of such
+pub last_of_chain : (p : Problem) (l : LayerNo) (i : TripNo) (rest : List TripNo) → IsChain p l (i ∷ rest)
+    → ((last_trip i rest).0 < length p.trips) × Permitted p l.0 (last_trip i rest).0
+last_of_chain p l i [] chain = chain
+last_of_chain p l i (j ∷ rest) chain = last_of_chain p l j rest chain.3
+
 -- the last of a list is the last of what follows its first
 pub last_of-cons : (i j : TripNo) (rest : List TripNo) → last_of (i ∷ j ∷ rest) ≡ last_of (j ∷ rest)
 last_of-cons i j rest =
@@ -65,13 +81,14 @@ rated-after p l a b c d x y m n first second third =
     ∙ rated-add p l (b - a) ((c - b) + (d - c)) x (y + (m + n))
     ∙ ap (λ (t : ℕ). rated p l (b - a) x + t) (rated-add p l (c - b) (d - c) y (m + n))
 
-abbrev trips_cost : Problem → LayerNo → List TripNo → ℕ
+-- the costs of all trips, those of all links, and the metres of all trips
+abbrev pub trips_cost : Problem → LayerNo → List TripNo → ℕ
 trips_cost p l trips = sum_by (λ i. trip_piece p l.0 i.0) trips
 
-abbrev links_cost : Problem → LayerNo → List TripNo → ℕ
+abbrev pub links_cost : Problem → LayerNo → List TripNo → ℕ
 links_cost p l trips = sum_by cost_of (links_between p l trips)
 
-abbrev trips_metres : Problem → List TripNo → ℕ
+abbrev pub trips_metres : Problem → List TripNo → ℕ
 trips_metres p trips = sum_by (λ i. (trip_of p i.0).metres) trips
 
 -- what the trips and links of a chain cost that ends with the trip last
@@ -80,17 +97,11 @@ record IsRated (p : Problem) (l : LayerNo) (first last : TripNo) (trips : List T
   cost : trips_cost p l trips + links_cost p l trips
       ≡ rated p l.0 ((trip_of p last.0).end - (trip_of p first.0).start) (trips_metres p trips + metres_between p trips)
 
-last_trip : TripNo → List TripNo → TripNo
-last_trip i [] = i
-last_trip i (j ∷ rest) = last_trip j rest
-
-last_of-is : (i : TripNo) (rest : List TripNo) → last_of (i ∷ rest) ≡ (last_trip i rest).0
-unfolding last_trip
+pub last_of-is : (i : TripNo) (rest : List TripNo) → last_of (i ∷ rest) ≡ (last_trip i rest).0
 last_of-is i [] = refl
 last_of-is i (j ∷ rest) = last_of-cons i j rest ∙ last_of-is j rest
 
 chain_cost : (p : Problem) (l : LayerNo) (i : TripNo) (rest : List TripNo) → IsInstance p → IsChain p l (i ∷ rest) → IsRated p l i (last_trip i rest) (i ∷ rest)
-unfolding last_trip
 chain_cost p l i [] inst chain =
     let lasts = (trip_of-IsTrip p inst i.0 chain.0).lasts in
     let metres : (trip_of p i.0).metres ≡ 0 + (trip_of p i.0).metres + 0 = omega arith in
