@@ -2,3 +2,5 @@ pub mod Totals
 pub mod BlockPrices
 pub mod PlanPrices
 pub mod Duality
+pub mod PriceNumbers
+pub mod PricePlaces
