@@ -4,3 +4,8 @@ pub mod PlanPrices
 pub mod Duality
 pub mod PriceNumbers
 pub mod PricePlaces
+pub mod RunningTotals
+pub mod Rounding
+pub mod SetPrices
+pub mod NoBreaks
+pub mod FirstBreaks

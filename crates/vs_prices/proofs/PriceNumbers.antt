@@ -25,6 +25,9 @@ pub piece_of : (cost : ℤ) → IsCost cost → IsPieceOf cost
 piece_of (pos n) is = record { piece = n; is = refl; small = omega (arith, ints, is.1) }
 piece_of (negsuc n) is = absurd (omega (arith, ints, is.0))
 
+pub passed_cost : (cost : ℤ) → IsCost cost → to_z w64 (of_z w64 cost) ≡ cost
+passed_cost cost is = let fits : FitsSigned w64 cost = omega (arith, ints, is.0, is.1) in to_z-of_z w64 cost fits
+
 pub small_piece : (cost : ℤ) (n : ℕ) → IsCost cost → cost ≡ pos n → n ≤ 20000000000
 small_piece cost n is e = omega (arith, ints, is.1)
 
@@ -71,3 +74,6 @@ difference_fits x s y is_x is_s is_y =
     let low = is_s.low in
     let high = is_s.high in
     omega (arith, ints, is_x.0, is_x.1, is_y.0, is_y.1)
+
+pub same_difference : (x x' s s' y y' : ℤ) → x ≡ x' → s ≡ s' → y ≡ y' → x +ℤ s -ℤ y ≡ x' +ℤ s' -ℤ y'
+same_difference x x' s s' y y' e f g = omega (arith, ints)
