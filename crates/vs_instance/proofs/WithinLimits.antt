@@ -8,7 +8,8 @@ use Rattle.vs_instance.specs.declared.misfit.Misfit.{Misfit}
 use Rattle.vs_instance.specs.declared.limits.TheConstants.{MAX_FLEET, MAX_FIXED, MAX_PER_MINUTE, MAX_PER_METRE, MAX_METRES, TWO_DAYS}
 use Rattle.vs_instance.specs.Problem.{Problem}
 use Rattle.vs_instance.specs.Instance.{IsLayer, IsTrip}
-use Rattle.vs_instance.specs.Misfits.{layer_misfits, trip_misfits, when}
+use Rattle.vs_instance.specs.Misfits.{layer_misfits, trip_misfits}
+use Rattle.vs_instance.specs.Firsts.{when}
 use Rattle.vs_instance.proofs.Empty.{None, both_none, none-append, false_from_none, none_from_false}
 
 -- a number that isn't misfit for being more than its limit

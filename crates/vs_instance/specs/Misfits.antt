@@ -15,6 +15,7 @@ use Rattle.vs_instance.specs.declared.misfit.NewError.TheVariants as error
 use Rattle.vs_instance.specs.declared.misfit.Field.TheVariants as field
 use Rattle.vs_instance.specs.declared.misfit.Place.TheVariants as place
 use Rattle.vs_instance.specs.declared.limits.TheConstants.{MAX_STOPS, MAX_LAYERS, MAX_TRIPS, MAX_FLEET, MAX_FIXED, MAX_PER_MINUTE, MAX_PER_METRE, MAX_MINUTES, MAX_METRES, TWO_DAYS}
+use Rattle.vs_instance.specs.Firsts.{when, first}
 use Rattle.vs_instance.specs.Problem.{Problem, pair_cmp}
 use Rattle.vs_instance.specs.Instance.{IsInstance}
 
@@ -39,10 +40,6 @@ are_twins d e = (d.from.0 == e.from.0) && (d.to.0 == e.to.0)
 pub record MakeInstance (parts : Parts) : Type 0 where
   pub once : AllPairs (λ d e. are_twins d e ≡ Bool.false) parts.deadheads.items
   pub instance : IsInstance (problem_of parts)
-
--- the misfit where the test is true
-abbrev pub when : Bool → Misfit → List Misfit
-when wrong misfit = if wrong then misfit ∷ [] else []
 
 abbrev pub layer_misfits : ℕ → Layer → List Misfit
 layer_misfits l layer = let at = place.Layer (record { 0 = l }) in
@@ -123,7 +120,7 @@ misfits_of parts =
 
 -- the first of all
 abbrev pub first_misfit : List Misfit → Option Misfit
-first_misfit misfits = slice_get misfits 0
+first_misfit misfits = first misfits
 
 -- the error is a misfit
 abbrev pub IsMisfit : NewError → Type 0
