@@ -31,10 +31,12 @@ module _ (p : Problem) (l : LayerNo) where
     of_instance 0 i (omega arith),
     permitted 0 i (omega arith),
     connected 0 i (omega arith),
-    chain_of (j ∷ rest) (λ k d within. of_instance (suc k) d (omega arith)) (λ k d within. permitted (suc k) d (omega arith))
+    chain_of (j ∷ rest) (λ k d within. of_instance (suc k) d (omega arith))
+        (λ k d within. permitted (suc k) d (omega arith))
         (λ k d within.
         let next : suc k + 1 ≡ suc (k + 1) = omega arith in
-        subst (λ (n : ℕ). Connects p (get_or (j ∷ rest) k d).0 (get_or (i ∷ j ∷ rest) n d).0) next (connected (suc k) d (omega arith))),
+        subst (λ (n : ℕ). Connects p (get_or (j ∷ rest) k d).0 (get_or (i ∷ j ∷ rest) n d).0) next
+        (connected (suc k) d (omega arith))),
   )
 
   -- the trips of a block are such
@@ -47,7 +49,8 @@ last_trip i [] = i
 last_trip i (j ∷ rest) = last_trip j rest
 
 -- the first trip of such is one of the instance, permitted in the layer
-pub first_of_chain : (p : Problem) (l : LayerNo) (i : TripNo) (rest : List TripNo) → IsChain p l (i ∷ rest) → (i.0 < length p.trips) × Permitted p l.0 i.0
+pub first_of_chain : (p : Problem) (l : LayerNo) (i : TripNo) (rest : List TripNo) → IsChain p l (i ∷ rest)
+    → (i.0 < length p.trips) × Permitted p l.0 i.0
 first_of_chain p l i [] chain = chain
 first_of_chain p l i (j ∷ rest) chain = (chain.0, chain.1)
 
@@ -101,7 +104,8 @@ pub last_of-is : (i : TripNo) (rest : List TripNo) → last_of (i ∷ rest) ≡ 
 last_of-is i [] = refl
 last_of-is i (j ∷ rest) = last_of-cons i j rest ∙ last_of-is j rest
 
-chain_cost : (p : Problem) (l : LayerNo) (i : TripNo) (rest : List TripNo) → IsInstance p → IsChain p l (i ∷ rest) → IsRated p l i (last_trip i rest) (i ∷ rest)
+chain_cost : (p : Problem) (l : LayerNo) (i : TripNo) (rest : List TripNo) → IsInstance p → IsChain p l (i ∷ rest)
+    → IsRated p l i (last_trip i rest) (i ∷ rest)
 chain_cost p l i [] inst chain =
     let lasts = (trip_of-IsTrip p inst i.0 chain.0).lasts in
     let metres : (trip_of p i.0).metres ≡ 0 + (trip_of p i.0).metres + 0 = omega arith in
@@ -123,9 +127,12 @@ chain_cost p l i (j ∷ rest) inst chain =
     let costs = ap cost_of link.costs in
     let in_order = after.in_order in
     let parts = rated-after p l.0 (trip_of p i.0).start (trip_of p i.0).end (trip_of p j.0).start (trip_of p last.0).end
-    (trip_of p i.0).metres link.way.metres (trips_metres p (j ∷ rest)) (metres_between p (j ∷ rest)) (omega arith) (omega arith) in_order in
-    let driven : rated p l.0 ((trip_of p last.0).end - (trip_of p i.0).start) (trips_metres p (i ∷ j ∷ rest) + metres_between p (i ∷ j ∷ rest))
-    ≡ rated p l.0 ((trip_of p last.0).end - (trip_of p i.0).start) ((trip_of p i.0).metres + trips_metres p (j ∷ rest) + (link.way.metres + metres_between p (j ∷ rest))) =
+    (trip_of p i.0).metres link.way.metres (trips_metres p (j ∷ rest)) (metres_between p (j ∷ rest)) (omega arith)
+    (omega arith) in_order in
+    let driven : rated p l.0 ((trip_of p last.0).end - (trip_of p i.0).start)
+    (trips_metres p (i ∷ j ∷ rest) + metres_between p (i ∷ j ∷ rest))
+    ≡ rated p l.0 ((trip_of p last.0).end - (trip_of p i.0).start)
+    ((trip_of p i.0).metres + trips_metres p (j ∷ rest) + (link.way.metres + metres_between p (j ∷ rest))) =
     ap (rated p l.0 ((trip_of p last.0).end - (trip_of p i.0).start)) (omega (arith, metres, between)) in
     record {
       in_order = omega arith;
@@ -133,13 +140,16 @@ chain_cost p l i (j ∷ rest) inst chain =
     }
 
 -- the way out, the chain and the way back, all together
-whole_cost : (p : Problem) (l fixed start end trips between cost : ℕ) (out back : Way) → out.minutes ≤ start → start ≤ end
+whole_cost : (p : Problem) (l fixed start end trips between cost : ℕ) (out back : Way) → out.minutes ≤ start
+    → start ≤ end
     → cost ≡ rated p l (end - start) (trips + between)
     → fixed + rated p l (end + back.minutes - (start - out.minutes)) (out.metres + trips + between + back.metres)
     ≡ fixed + rated p l out.minutes out.metres + cost + rated p l back.minutes back.metres
 whole_cost p l fixed start end trips between cost out back in_time in_order is =
-    let time : end + back.minutes - (start - out.minutes) ≡ out.minutes + ((end - start) + back.minutes) = omega arith in
-    let driven : out.metres + trips + between + back.metres ≡ out.metres + ((trips + between) + back.metres) = omega arith in
+    let time : end + back.minutes - (start - out.minutes) ≡ out.minutes + ((end - start) + back.minutes) =
+    omega arith in
+    let driven : out.metres + trips + between + back.metres ≡ out.metres + ((trips + between) + back.metres) =
+    omega arith in
     let all = ap (λ (t : ℕ). rated p l t (out.metres + trips + between + back.metres)) time
     ∙ ap (rated p l (out.minutes + ((end - start) + back.minutes))) driven in
     let first = rated-add p l out.minutes ((end - start) + back.minutes) out.metres ((trips + between) + back.metres) in
@@ -151,7 +161,9 @@ blocks_cost_their_pieces p l [] inst block = absurd (omega (arith, block.some_tr
 blocks_cost_their_pieces p l (i ∷ rest) inst block =
     let trips = i ∷ rest in
     let last = last_of trips in
-    let chain = subst (λ (k : ℕ). IsRated p l i (record { 0 = k }) trips) (sym (last_of-is i rest)) (chain_cost p l i rest inst (chain_of_block p l trips block)) in
+    let chain =
+    subst (λ (k : ℕ). IsRated p l i (record { 0 = k }) trips) (sym (last_of-is i rest))
+    (chain_cost p l i rest inst (chain_of_block p l trips block)) in
     let out = out_taken p l.0 i.0 block.pull_out in
     let back = in_taken p l.0 last block.pull_in in
     let out_minutes = ap minutes_of out.is in
@@ -160,12 +172,16 @@ blocks_cost_their_pieces p l (i ∷ rest) inst block =
     let back_metres = ap metres_of back.is in
     let out_cost = ap cost_of out.costs in
     let back_cost = ap cost_of back.costs in
-    let minutes : pull_in_minute p l trips - pull_out_minute p l trips ≡ (trip_of p last).end + back.way.minutes - ((trip_of p i.0).start - out.way.minutes) =
+    let minutes : pull_in_minute p l trips - pull_out_minute p l trips ≡ (trip_of p last).end
+    + back.way.minutes - ((trip_of p i.0).start - out.way.minutes) =
     omega (arith, out_minutes, back_minutes) in
-    let metres : block_metres p l trips ≡ out.way.metres + trips_metres p trips + metres_between p trips + back.way.metres =
+    let metres : block_metres p l trips ≡ out.way.metres + trips_metres p trips + metres_between p trips
+    + back.way.metres =
     omega (arith, out_metres, back_metres) in
     let time = ap (λ (t : ℕ). (layer_of p l.0).per_minute * t) minutes in
     let driven = ap (λ (m : ℕ). (layer_of p l.0).per_metre * m) metres in
-    let whole = whole_cost p l.0 (layer_of p l.0).fixed (trip_of p i.0).start (trip_of p last).end (trips_metres p trips) (metres_between p trips)
+    let whole =
+    whole_cost p l.0 (layer_of p l.0).fixed (trip_of p i.0).start (trip_of p last).end (trips_metres p trips)
+    (metres_between p trips)
     (trips_cost p l trips + links_cost p l trips) out.way back.way out.time chain.in_order chain.cost in
     omega (arith, time, driven, whole, out_cost, back_cost)

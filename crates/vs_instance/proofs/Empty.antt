@@ -31,9 +31,11 @@ module _ {X M : Type 0} (f : ℕ → X → List M) where
   each_none n [] e k j d within is = absurd (omega arith)
   each_none n (x ∷ xs) e zero j d within is =
       let here : n ≡ j = omega arith in
-      subst (λ (i : ℕ). None (f i x)) here (both_none (f n x) (flat_map (λ e. f e.0 e.1) (enumerate_from (n + 1) xs)) e).0
+      subst (λ (i : ℕ). None (f i x)) here
+      (both_none (f n x) (flat_map (λ e. f e.0 e.1) (enumerate_from (n + 1) xs)) e).0
   each_none n (x ∷ xs) e (suc k) j d within is =
-      each_none (n + 1) xs (both_none (f n x) (flat_map (λ e. f e.0 e.1) (enumerate_from (n + 1) xs)) e).1 k j d (omega arith) (omega arith)
+      each_none (n + 1) xs (both_none (f n x) (flat_map (λ e. f e.0 e.1) (enumerate_from (n + 1) xs)) e).1 k j d
+      (omega arith) (omega arith)
 
   pub none_each : (n : ℕ) (xs : List X) → ((k j : ℕ) (d : X) → k < length xs → n + k ≡ j → None (f j (get_or xs k d)))
       → None (flat_map (λ e. f e.0 e.1) (enumerate_from n xs))

@@ -30,18 +30,24 @@ module _ (p : Problem) (l i : ℕ) where
   out_taken has =
       taken _ _ _ _ has (λ w is time.
       let cost = (layer_of p l).fixed + rated p l w.minutes w.metres in
-      ap (option_and_then (λ (v : Way). cond (leb v.minutes (trip_of p i).start) (Some ((layer_of p l).fixed + rated p l v.minutes v.metres)) None)) is
+      ap (option_and_then
+      (λ (v : Way). cond (leb v.minutes (trip_of p i).start)
+      (Some ((layer_of p l).fixed + rated p l v.minutes v.metres)) None)) is
       ∙ ap (λ (b : Bool). cond b (Some cost) None) (le-leb w.minutes (trip_of p i).start time))
 
-  pub link_taken : (j : ℕ) → Connects p i j → IsTaken (way_between p i j) (λ w. (trip_of p i).end + w.minutes ≤ (trip_of p j).start) (link_piece p l i j)
+  pub link_taken : (j : ℕ) → Connects p i j
+      → IsTaken (way_between p i j) (λ w. (trip_of p i).end + w.minutes ≤ (trip_of p j).start) (link_piece p l i j)
       (λ w. rated p l ((trip_of p j).start - (trip_of p i).end) w.metres)
   link_taken j connects =
       taken _ _ _ _ connects (λ w is time.
       let cost = rated p l ((trip_of p j).start - (trip_of p i).end) w.metres in
-      ap (option_and_then (λ (v : Way). cond (leb ((trip_of p i).end + v.minutes) (trip_of p j).start) (Some (rated p l ((trip_of p j).start - (trip_of p i).end) v.metres)) None)) is
+      ap (option_and_then
+      (λ (v : Way). cond (leb ((trip_of p i).end + v.minutes) (trip_of p j).start)
+      (Some (rated p l ((trip_of p j).start - (trip_of p i).end) v.metres)) None)) is
       ∙ ap (λ (b : Bool). cond b (Some cost) None) (le-leb ((trip_of p i).end + w.minutes) (trip_of p j).start time))
 
-  pub in_taken : HasPullIn p l i → IsTaken (way_in p l i) (λ w. Unit {0}) (in_piece p l i) (λ w. rated p l w.minutes w.metres)
+  pub in_taken : HasPullIn p l i
+      → IsTaken (way_in p l i) (λ w. Unit {0}) (in_piece p l i) (λ w. rated p l w.minutes w.metres)
   in_taken has =
       taken _ _ _ _ (some_way (way_in p l i) has) (λ w is time.
       ap (option_map (λ (v : Way). rated p l v.minutes v.metres)) is)
