@@ -9,3 +9,4 @@ pub mod Rounding
 pub mod SetPrices
 pub mod NoBreaks
 pub mod FirstBreaks
+pub mod Worths

@@ -1,8 +1,8 @@
 -- A value in 1/1000 of a unit, rounded up to whole units.
-use Rattle.std.proofs.Common.{◌≡◌, ◌<◌, sym, subst, true, false, arith, lit<, FitsSigned, to_z, of_z, ℤ, pos, negsuc, ◌+ℤ◌, ◌*ℤ◌, ◌≤ℤ◌, ◌<ℤ◌}
-use Rattle.std.specs.Prelude.{int_div, int_rem, unsigned_abs}
+use Rattle.std.proofs.Common.{◌≡◌, ◌<◌, refl, sym, subst, Bool, true, false, cond, arith, lit<, FitsSigned, to_z, of_z, ℤ, pos, negsuc, ◌+ℤ◌, ◌*ℤ◌, ◌≤ℤ◌, ◌<ℤ◌}
+use Rattle.std.specs.Prelude.{int_div, int_lt, int_rem, unsigned_abs}
 use Rattle.std.proofs.lemmas.Int.{ints, to_z-of_z, quot-rem, rem_below, quot_is, rem_is, quot_fits}
-use Rattle.vs_prices.specs.Worth.{IsRoundedUp}
+use Rattle.vs_prices.specs.Worth.{IsRoundedUp, rounded_up}
 use lib.Signed.{lt_z, quot_z, rem_z}
 use mir.Syntax.{w128}
 
@@ -33,6 +33,20 @@ IsRoundedUp-whole value none =
     down_by_parts value (int_div value (pos 1000)) (int_rem value (pos 1000)) (quot-rem value (pos 1000)) none
     (between_abs (int_rem value (pos 1000)) (rem_below value (pos 1000) (lit< tt))).0
 
+above_zero : (r : ℤ) → lt_z (pos 0) r ≡ true → pos 0 <ℤ r
+above_zero r h = grind (arith, ints)
+
+not_above_zero : (r : ℤ) → lt_z (pos 0) r ≡ false → r ≤ℤ pos 0
+not_above_zero r h = grind (arith, ints)
+
+-- either way it is the least whole number of units
+pub rounded_up-IsRoundedUp : (value : ℤ) → IsRoundedUp value (rounded_up value)
+rounded_up-IsRoundedUp value = by_rest (int_lt (pos 0) (int_rem value (pos 1000))) refl
+  where
+    by_rest : (b : Bool) → int_lt (pos 0) (int_rem value (pos 1000)) ≡ b → IsRoundedUp value (cond b (int_div value (pos 1000) +ℤ pos 1) (int_div value (pos 1000)))
+    by_rest true some = IsRoundedUp-next value (above_zero (int_rem value (pos 1000)) some)
+    by_rest false none = IsRoundedUp-whole value (not_above_zero (int_rem value (pos 1000)) none)
+
 scale_fits : FitsSigned w128 (pos 1000)
 scale_fits = omega (arith, ints)
 
@@ -55,12 +69,6 @@ quotient_is v f = quot_is w128 v (pos 1000) f scale_fits (quot_fits w128 v (pos 
 
 rest_is : (v : ℤ) → FitsSigned w128 v → rest v (pos 1000) ≡ int_rem v (pos 1000)
 rest_is v f = rem_is w128 v (pos 1000) f scale_fits
-
-above_zero : (r : ℤ) → lt_z (pos 0) r ≡ true → pos 0 <ℤ r
-above_zero r h = grind (arith, ints)
-
-not_above_zero : (r : ℤ) → lt_z (pos 0) r ≡ false → r ≤ℤ pos 0
-not_above_zero r h = grind (arith, ints)
 
 next_at_scale : (v : ℤ) → FitsSigned w128 v → lt_z (pos 0) (rest v (pos 1000)) ≡ true → IsRoundedUp v (to_z w128 (of_z w128 (quotient v (pos 1000) +ℤ pos 1)))
 next_at_scale v f h =
