@@ -1,6 +1,6 @@
 use Rattle.std.proofs.Common.{◌≡◌, All, length}
-use Rattle.vs_check.specs.Table.{IsPrice}
-use Rattle.vs_check.proofs.verdict.tests.prices.Given as goal
+use Rattle.vs_prices.specs.Table.{IsPrice}
+use Rattle.vs_prices.proofs.tests.prices.Given as goal
 
 abbrev pub invariant-loop-n : goal.invariant-loop-n
 invariant-loop-n l = record {
