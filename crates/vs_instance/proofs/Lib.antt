@@ -5,9 +5,11 @@ pub mod Gathered
 pub mod Detours
 pub mod Elements
 pub mod Empty
-pub mod Limits
+pub mod WithinLimits
 pub mod Given
 pub mod Closed
 pub mod Judged
 pub mod Known
+pub mod PieceLemmas
+pub mod BlockPieces
 pub mod Examples

@@ -62,14 +62,18 @@ Contains-filter p (y ∷ xs) x (suc k, within, is) passes =
     elim (p y) as (λ b. Contains (cond b (y ∷ filter p xs) (filter p xs)) x)
     [ true ↦ Contains-cons y (filter p xs) x rest | false ↦ rest ]
 
+-- a layer below 16 that stands in the set is a member
+pub Contains-members_below : (set : LayerSet) (l : ℕ) → l < 16 → Has set l → Contains (members set) l
+Contains-members_below set l within has =
+    Contains-filter (λ k. eqb (bit_at set.0 k) 1) layer_numbers l (Contains-layer_numbers l within) (eq-eqb _ _ has)
+
 -- the members are those layers that stand in the set
 pub Contains-members : (set : LayerSet) (l : ℕ) → set.0 < 2 ^ 16 → Contains (members set) l ↔ Has set l
 Contains-members set l fits = (
   (λ among. eqb-true (bit_at set.0 l) 1
       (All-contains (λ k. eqb (bit_at set.0 k) 1 ≡ true) (members set) l
       (filter_passes (λ k. eqb (bit_at set.0 k) 1) layer_numbers) among)),
-  (λ has. Contains-filter (λ k. eqb (bit_at set.0 k) 1) layer_numbers l
-      (Contains-layer_numbers l (Has-below set l fits has)) (eq-eqb _ _ has)),
+  (λ has. Contains-members_below set l (Has-below set l fits has) has),
 )
 
 IsStrictlyIncreasing-layer_numbers : IsStrictlyIncreasing layer_numbers

@@ -1,0 +1,4 @@
+pub mod Totals
+pub mod BlockPrices
+pub mod PlanPrices
+pub mod Duality
