@@ -3,7 +3,7 @@ use Rattle.std.proofs.Common.{◌≡◌, ℕ, zero, suc, ◌+◌, ◌-◌, ◌*�
 use Rattle.std.specs.Prelude.{IsSomeAnd, sum_by}
 use Rattle.std.specs.List.{AllAdjacentBelow}
 use Rattle.std.proofs.lemmas.Grind.{flat_map-append}
-use Rattle.std.proofs.lemmas.List.{take_more, append-nil, get_or-map, length-map}
+use Rattle.std.proofs.lemmas.List.{take_all, take_more, append-nil, get_or-map, length-map}
 use Rattle.std.proofs.lemmas.List.Sums.{sum_by-cons, sum_by-append, sum_by_more, sum_by_more_le, count_by-le-length}
 use Rattle.std.proofs.lemmas.Nat.{mul-le}
 use Rattle.vs_types.specs.declared.numbers.TripNo.{TripNo}
@@ -63,3 +63,7 @@ inside_pairs blocks i inside = omega (arith, length-map blocks pair_of)
 
 pub count_pairs : (blocks : List Block) → length (pairs_of blocks) ≡ length blocks
 count_pairs blocks = length-map blocks pair_of
+
+-- past the last block all are taken
+pub whole_plan : (blocks : List Block) (i : ℕ) → length blocks ≤ i → take i (pairs_of blocks) ≡ pairs_of blocks
+whole_plan blocks i past = take_all i (pairs_of blocks) (omega (arith, length-map blocks pair_of))

@@ -6,19 +6,16 @@ ghost use Rattle.vs_instance.specs.Plan.{IsPlan, plan_cost};
 ghost use Rattle.vs_instance.specs.Ways.{trip_of, way};
 
 use crate::block::Block;
-use vs_instance::{Instance, Way};
+use vs_instance::{Instance, MAX_METRES, MAX_MINUTES, MAX_TRIPS, TWO_DAYS, Way};
 use vs_types::{LayerNo, StopNo, TripNo};
 
-/// No vehicle is back in its depot later than at this minute.
+/// No vehicle is back in its depot later than at this minute: the last of two days, and the longest way.
 pub const MAX_PULL_IN: u32 = 4_319;
-
-/// No block has more trips than this: each ends a minute or more after it starts, within two days.
-const MAX_BLOCK_TRIPS: u64 = 2_880;
 
 /// No block costs more cost units than this for each of its trips.
 pub const MAX_COST_PER_TRIP: u64 = 50_000_000_000;
 
-/// No plan costs more cost units than this.
+/// No plan costs more cost units than this, since it has at most 2,000 trips.
 pub const MAX_PLAN_COST: i64 = 100_000_000_000_000;
 
 /// The minutes and metres of the way from stop k to stop s, both 0 where there is none.
@@ -28,8 +25,8 @@ fn way_or_none(instance: &Instance, k: StopNo, s: StopNo) -> Way
     requires to { s.0 < instance.now.stops }
     ensures minutes { result.minutes ≡ minutes_of (way instance.now k.0 s.0) }
     ensures metres { result.metres ≡ metres_of (way instance.now k.0 s.0) }
-    ensures few_minutes { result.minutes ≤ 1440 }
-    ensures few_metres { result.metres ≤ 1000000 }
+    ensures few_minutes { result.minutes ≤ MAX_MINUTES }
+    ensures few_metres { result.metres ≤ MAX_METRES }
 {
     match instance.way(k, s) {
         Some(way) => way,
@@ -61,9 +58,9 @@ fn run_times(instance: &Instance, l: LayerNo, trips: &[TripNo]) -> (u32, u32)
 fn trips_metres(instance: &Instance, trips: &[TripNo]) -> u64
     requires instance { IsInstance instance.now }
     requires trips { All (λ i. i.0 < length instance.now.trips) trips.now }
-    requires few { length trips.now ≤ MAX_BLOCK_TRIPS }
+    requires few { length trips.now ≤ TWO_DAYS }
     ensures value { result ≡ sum_by (λ i. (trip_of instance.now i.0).metres) trips.now }
-    ensures limit { result ≤ 1000000 * length trips.now }
+    ensures limit { result ≤ MAX_METRES * length trips.now }
 {
     let mut metres = 0;
     for i in trips {
@@ -76,9 +73,9 @@ fn trips_metres(instance: &Instance, trips: &[TripNo]) -> u64
 fn ways_metres(instance: &Instance, trips: &[TripNo]) -> u64
     requires instance { IsInstance instance.now }
     requires trips { All (λ i. i.0 < length instance.now.trips) trips.now }
-    requires few { length trips.now ≤ MAX_BLOCK_TRIPS }
+    requires few { length trips.now ≤ TWO_DAYS }
     ensures value { result ≡ metres_between instance.now trips.now }
-    ensures limit { result ≤ 1000000 * length trips.now }
+    ensures limit { result ≤ MAX_METRES * length trips.now }
 {
     let mut metres = 0;
     for place in 1..trips.len() {
@@ -94,7 +91,7 @@ fn run_metres(instance: &Instance, l: LayerNo, trips: &[TripNo]) -> u64
     requires instance { IsInstance instance.now }
     requires block { IsBlock instance.now l trips.now }
     ensures value { result ≡ block_metres instance.now l trips.now }
-    ensures limit { result ≤ 2000000 * length trips.now + 2000000 }
+    ensures limit { result ≤ 2 * MAX_METRES * (length trips.now + 1) }
 {
     let depot = instance.layer(l).depot;
     let first = instance.trip(trips[0]);
@@ -112,7 +109,7 @@ fn run_cost(instance: &Instance, l: LayerNo, trips: &[TripNo]) -> u64
     requires block { IsBlock instance.now l trips.now }
     ensures value { result ≡ block_cost instance.now l trips.now }
     ensures limit { result ≤ MAX_COST_PER_TRIP * length trips.now }
-    ensures few_trips { length trips.now ≤ MAX_BLOCK_TRIPS }
+    ensures few_trips { length trips.now ≤ TWO_DAYS }
 {
     let rates = instance.layer(l);
     let (out, back) = run_times(instance, l, trips);
@@ -151,7 +148,7 @@ pub fn blocks_cost(instance: &Instance, blocks: &[Block]) -> i64
     ensures value { result ≡ pos (plan_cost instance.now (pairs_of blocks.now)) }
     ensures limit { result ≤ℤ MAX_PLAN_COST }
 {
-    prove!(instance.trips() <= 2000);
+    prove!(instance.trips() <= MAX_TRIPS);
     let mut cost = 0;
     for block in blocks {
         cost += run_cost(instance, block.layer, &block.trips);

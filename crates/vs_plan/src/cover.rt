@@ -1,6 +1,7 @@
 ghost use Rattle.std.specs.Prelude.{◌≡◌, ℕ, ◌+◌, ◌<◌, ◌^◌, ◌==◌, ◌++◌, length, All, IfOk, count_by, slice_index};
 ghost use Rattle.vs_plan.specs.Blocks.{CanBeJudged, pairs_of};
-ghost use Rattle.vs_plan.specs.PlanFaults.{first_fault, times_of, twice_faults, uncovered_faults};
+ghost use Rattle.vs_instance.specs.Firsts.{first};
+ghost use Rattle.vs_plan.specs.PlanFaults.{times_of, twice_faults, uncovered_faults};
 
 use crate::block::Block;
 use crate::plan_fault::PlanFault;
@@ -36,7 +37,7 @@ fn times_run(alloc: Global, instance: &Instance, blocks: &[Block]) -> Result<Vec
 /// The first trip that stands more than once.
 fn twice_fault(times: &[u32]) -> Option<PlanFault>
     requires { length times.now < 2 ^ 32 }
-    ensures { result ≡ first_fault (twice_faults times.now) }
+    ensures { result ≡ first (twice_faults times.now) }
 {
     for (i, count) in times.iter().enumerate() {
         if *count > 1 {
@@ -49,7 +50,7 @@ fn twice_fault(times: &[u32]) -> Option<PlanFault>
 /// The first trip that stands nowhere.
 fn uncovered_fault(times: &[u32]) -> Option<PlanFault>
     requires { length times.now < 2 ^ 32 }
-    ensures { result ≡ first_fault (uncovered_faults times.now) }
+    ensures { result ≡ first (uncovered_faults times.now) }
 {
     for (i, count) in times.iter().enumerate() {
         if *count < 1 {
@@ -67,7 +68,7 @@ pub fn cover_fault(
 ) -> Result<Option<PlanFault>, Memory>
     requires { CanBeJudged instance.now (pairs_of blocks.now) }
     ensures { let times = times_of instance.now (pairs_of blocks.now) in
-        IfOk result (λ fault. fault ≡ first_fault (twice_faults times ++ uncovered_faults times)) }
+        IfOk result (λ fault. fault ≡ first (twice_faults times ++ uncovered_faults times)) }
 {
     let times = times_run(alloc, instance, blocks)?;
     match twice_fault(&times) {

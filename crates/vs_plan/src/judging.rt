@@ -1,6 +1,7 @@
 ghost use Rattle.std.specs.Prelude.{◌≡◌, ℕ, ◌<◌, ◌^◌, length, IfOk, IfErr, pos, ◌≤ℤ◌};
 ghost use Rattle.vs_plan.specs.Blocks.{CanBeJudged, IsOfInstance, blocks_of, pair_of, pairs_of};
-ghost use Rattle.vs_plan.specs.PlanFaults.{IsFault, IsFirstFault, arrival_faults, block_faults, blocks_faults, first_fault, fleet_faults, place_faults};
+ghost use Rattle.vs_instance.specs.Firsts.{first};
+ghost use Rattle.vs_plan.specs.PlanFaults.{IsFault, IsFirstFault, arrival_faults, block_faults, blocks_faults, fleet_faults, place_faults};
 ghost use Rattle.vs_plan.specs.declared.costs.TheConstants.{MAX_PLAN_COST};
 ghost use Rattle.vs_instance.specs.Plan.{IsPlan, plan_cost, vehicles_used};
 
@@ -18,7 +19,7 @@ use vs_types::LayerNo;
 fn arrival_fault(instance: &Instance, b: u32, block: &Block, place: u32) -> Option<PlanFault>
     requires block { IsOfInstance instance.now (pair_of block.now) }
     requires place { place < length block.now.trips.items }
-    ensures { result ≡ first_fault
+    ensures { result ≡ first
         (arrival_faults instance.now b block.now.layer block.now.trips.items place) }
 {
     let trip = block.trips[place as usize];
@@ -39,7 +40,7 @@ fn arrival_fault(instance: &Instance, b: u32, block: &Block, place: u32) -> Opti
 fn place_fault(instance: &Instance, b: u32, block: &Block, place: u32) -> Option<PlanFault>
     requires block { IsOfInstance instance.now (pair_of block.now) }
     requires place { place < length block.now.trips.items }
-    ensures { result ≡ first_fault
+    ensures { result ≡ first
         (place_faults instance.now b block.now.layer block.now.trips.items place) }
 {
     prove!(block.layer.0 < instance.layers());
@@ -53,7 +54,7 @@ fn place_fault(instance: &Instance, b: u32, block: &Block, place: u32) -> Option
 fn block_fault(instance: &Instance, b: u32, block: &Block) -> Option<PlanFault>
     requires block { IsOfInstance instance.now (pair_of block.now) }
     requires few { length block.now.trips.items < 2 ^ 32 }
-    ensures { result ≡ first_fault (block_faults instance.now b (pair_of block.now)) }
+    ensures { result ≡ first (block_faults instance.now b (pair_of block.now)) }
 {
     for place in 0..block.trips.len() as u32 {
         if let Some(fault) = place_fault(instance, b, block, place) {
@@ -69,7 +70,7 @@ fn block_fault(instance: &Instance, b: u32, block: &Block) -> Option<PlanFault>
 /// The first fault of the blocks by themselves.
 fn blocks_fault(instance: &Instance, blocks: &[Block]) -> Option<PlanFault>
     requires { CanBeJudged instance.now (pairs_of blocks.now) }
-    ensures { result ≡ first_fault (blocks_faults instance.now (pairs_of blocks.now)) }
+    ensures { result ≡ first (blocks_faults instance.now (pairs_of blocks.now)) }
 {
     for (b, block) in blocks.iter().enumerate() {
         if let Some(fault) = block_fault(instance, b as u32, block) {
@@ -89,7 +90,7 @@ fn vehicles_used(blocks: &[Block], l: LayerNo) -> usize
 /// The first layer of which more vehicles are used than it has.
 fn fleet_fault(instance: &Instance, blocks: &[Block]) -> Option<PlanFault>
     requires { length blocks.now < 2 ^ 32 }
-    ensures { result ≡ first_fault (fleet_faults instance.now (pairs_of blocks.now)) }
+    ensures { result ≡ first (fleet_faults instance.now (pairs_of blocks.now)) }
 {
     for l in 0..instance.layers() {
         let used = vehicles_used(blocks, LayerNo(l)) as u32;
