@@ -4,3 +4,4 @@ pub mod PlanTrips
 pub mod OpenBlocks
 pub mod Orders
 pub mod Placing
+pub mod Faultless

@@ -2,11 +2,15 @@
 use Rattle.std.proofs.Common.{◌≡◌, ℕ, zero, suc, ◌+◌, ◌<◌, ◌≤◌, Bool, cond, eqb, ltb, eq-eqb, ne_eqb, lt-ltb, le-ltb, List, [], ◌∷◌, length, count_by, refl, sym, ap, ◌∙◌, inl, inr, arith, All}
 use Rattle.std.proofs.lemmas.Bool.{cases_order}
 use Rattle.std.proofs.lemmas.List.Elements.{All-head, All-tail, All-weaker, All-nil, All-append}
+use Rattle.std.specs.Prelude.{slice_index}
+use Rattle.std.proofs.lemmas.List.{ext_get_or}
+use Rattle.std.proofs.lemmas.List.FromFn.{get_or-map-range_with_len, length-map-range_with_len}
 use Rattle.std.proofs.lemmas.List.Sums.{sum_by-cons}
 use Rattle.vs_types.specs.declared.numbers.TripNo.{TripNo}
 use Rattle.vs_instance.specs.Problem.{Problem}
 use Rattle.vs_instance.specs.Blocks.{IsBlock}
-use Rattle.vs_instance.specs.Plan.{IsPlan, LayerBlock, all_trips}
+use Rattle.vs_plan.specs.PlanFaults.{times_of}
+use Rattle.vs_instance.specs.Plan.{IsPlan, LayerBlock, all_trips, times_run}
 
 -- how many of the trips have a number below n, and how many number n
 abbrev below : ℕ → List TripNo → ℕ
@@ -71,3 +75,12 @@ plan_trips p blocks plan =
     (All-weaker (λ (b : LayerBlock). IsBlock p b.0 b.1) (λ (b : LayerBlock). All (λ (t : TripNo). t.0 < length p.trips) b.1)
     (λ b is. is.of_instance) blocks plan.each_block) in
     sym (below_all (length p.trips) (all_trips blocks) within) ∙ each_once (length p.trips) (all_trips blocks) plan.once
+
+-- a list that counts how often each trip stands is that of the definition
+pub counts-times_of : (p : Problem) (blocks : List LayerBlock) (times : List ℕ) → length times ≡ length p.trips
+    → ((i : ℕ) → i < length p.trips → slice_index times i ≡ times_run blocks i) → times ≡ times_of p blocks
+counts-times_of p blocks times size counted =
+    ext_get_or 0 times (times_of p blocks) (size ∙ sym (length-map-range_with_len (times_run blocks) 0 (length p.trips)))
+    (λ i inside.
+    let within : i < length p.trips = omega (arith, size) in
+    counted i within ∙ sym (get_or-map-range_with_len (times_run blocks) 0 (length p.trips) i i 0 within (omega arith)))

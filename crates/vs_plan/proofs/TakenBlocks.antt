@@ -1,9 +1,10 @@
 -- Blocks taken one by one.
-use Rattle.std.proofs.Common.{◌≡◌, ℕ, zero, suc, ◌+◌, ◌-◌, ◌*◌, ◌<◌, ◌≤◌, ◌==◌, List, [], ◌∷◌, ◌++◌, length, get_or, take, All, refl, sym, ap, ◌∙◌, subst, arith, count_by, cond, Option, Some, None, length-append}
+use Rattle.std.proofs.Common.{◌≡◌, ℕ, zero, suc, ◌+◌, ◌-◌, ◌*◌, ◌<◌, ◌≤◌, ◌==◌, ◌^◌, List, [], ◌∷◌, ◌++◌, length, get_or, take, All, refl, sym, ap, ◌∙◌, subst, arith, count_by, cond, Option, Some, None, length-append}
 use Rattle.std.specs.Prelude.{IsSomeAnd, sum_by}
 use Rattle.std.specs.List.{AllAdjacentBelow}
 use Rattle.std.proofs.lemmas.Grind.{flat_map-append}
 use Rattle.std.proofs.lemmas.List.{take_all, take_more, append-nil, get_or-map, length-map}
+use Rattle.std.proofs.lemmas.List.Elements.{All-head, All-tail}
 use Rattle.std.proofs.lemmas.List.Sums.{sum_by-cons, sum_by-append, sum_by_more, sum_by_more_le, count_by-le-length}
 use Rattle.std.proofs.lemmas.Nat.{mul-le}
 use Rattle.vs_types.specs.declared.numbers.TripNo.{TripNo}
@@ -13,7 +14,7 @@ use Rattle.vs_instance.specs.Instance.{IsInstance}
 use Rattle.vs_instance.specs.Plan.{LayerBlock, all_trips, plan_cost, times_run}
 use Rattle.vs_instance.specs.Problem.{Problem}
 use Rattle.vs_instance.specs.Ways.{Connects, trip_of, no_trip, way_between}
-use Rattle.vs_plan.specs.Blocks.{pair_of, pairs_of}
+use Rattle.vs_plan.specs.Blocks.{CanBeJudged, pair_of, pairs_of}
 use Rattle.vs_plan.specs.declared.block.Block.{Block}
 
 -- a block among others, as a pair
@@ -30,6 +31,14 @@ length-all_trips : (bs : List LayerBlock) → length (all_trips bs) ≡ sum_by (
 length-all_trips [] = refl
 length-all_trips (b ∷ bs) =
     length-append b.1 (all_trips bs) ∙ (ap (λ n. length b.1 + n) (length-all_trips bs) ∙ sym (sum_by-cons (λ (x : LayerBlock). length x.1) b bs))
+
+blocks-le-trips : (bs : List LayerBlock) → All (λ b. 0 < length b.1) bs → length bs ≤ length (all_trips bs)
+blocks-le-trips [] some = omega arith
+blocks-le-trips (b ∷ bs) some =
+    let here = All-head (λ (x : LayerBlock). 0 < length x.1) b bs some in
+    let rest = blocks-le-trips bs (All-tail (λ (x : LayerBlock). 0 < length x.1) b bs some) in
+    let size = length-append b.1 (all_trips bs) in
+    omega arith
 
 -- one more block
 pub record OneMore (p : Problem) (bs : List LayerBlock) (i : ℕ) (b : LayerBlock) : Type 0 where
@@ -67,3 +76,10 @@ count_pairs blocks = length-map blocks pair_of
 -- past the last block all are taken
 pub whole_plan : (blocks : List Block) (i : ℕ) → length blocks ≤ i → take i (pairs_of blocks) ≡ pairs_of blocks
 whole_plan blocks i past = take_all i (pairs_of blocks) (omega (arith, length-map blocks pair_of))
+
+-- blocks of an instance are no more than their trips
+pub few_blocks : (p : Problem) (blocks : List Block) → CanBeJudged p (pairs_of blocks) → length blocks < 2 ^ 32
+few_blocks p blocks can =
+    let few = can.few_trips in
+    let each = blocks-le-trips (pairs_of blocks) (λ k d within. (can.of_instance k d within).some_trip) in
+    omega (arith, each, few, length-map blocks pair_of)

@@ -37,11 +37,15 @@ abbrev pub place_faults : Problem → ℕ → LayerNo → List TripNo → ℕ �
 place_faults p b l trips place =
     when (not (is_permitted p l.0 (trip_at trips place))) (NotPermitted b place) ++ arrival_faults p b l trips place
 
--- of block b, its trips in order, and last how the vehicle gets back to its depot
+-- of block b: at its trips in order, and in how its vehicle gets back to the depot
+abbrev pub trips_faults : Problem → ℕ → LayerNo → List TripNo → List PlanFault
+trips_faults p b l trips = flat_map (place_faults p b l trips) (numbers (length trips))
+
+abbrev pub return_faults : Problem → ℕ → LayerNo → List TripNo → List PlanFault
+return_faults p b l trips = when (is_none (in_piece p l.0 (last_of trips))) (NoPullIn b)
+
 abbrev pub block_faults : Problem → ℕ → LayerBlock → List PlanFault
-block_faults p b block =
-    flat_map (place_faults p b block.0 block.1) (numbers (length block.1))
-    ++ when (is_none (in_piece p block.0.0 (last_of block.1))) (NoPullIn b)
+block_faults p b block = trips_faults p b block.0 block.1 ++ return_faults p b block.0 block.1
 
 abbrev pub blocks_faults : Problem → List LayerBlock → List PlanFault
 blocks_faults p blocks = flat_map (λ e. block_faults p e.0 e.1) (enumerate_from 0 blocks)
@@ -50,23 +54,39 @@ blocks_faults p blocks = flat_map (λ e. block_faults p e.0 e.1) (enumerate_from
 abbrev pub times_of : Problem → List LayerBlock → List ℕ
 times_of p blocks = map (times_run blocks) (numbers (length p.trips))
 
+-- trip i, which stands so often
+abbrev pub twice : ℕ → ℕ → List PlanFault
+twice i times = when (nat_lt 1 times) (Twice (record { 0 = i }))
+
+abbrev pub uncovered : ℕ → ℕ → List PlanFault
+uncovered i times = when (times == 0) (Uncovered (record { 0 = i }))
+
 -- of trips that stand so often in number order, those that stand more than once, and those that stand nowhere
 abbrev pub twice_faults : List ℕ → List PlanFault
-twice_faults times = flat_map (λ e. when (nat_lt 1 e.1) (Twice (record { 0 = e.0 }))) (enumerate_from 0 times)
+twice_faults times = flat_map (λ e. twice e.0 e.1) (enumerate_from 0 times)
 
 abbrev pub uncovered_faults : List ℕ → List PlanFault
-uncovered_faults times = flat_map (λ e. when (e.1 == 0) (Uncovered (record { 0 = e.0 }))) (enumerate_from 0 times)
+uncovered_faults times = flat_map (λ e. uncovered e.0 e.1) (enumerate_from 0 times)
 
 -- the layers of which more vehicles are used than there are, in number order, with how many are used
-abbrev pub fleet_faults : Problem → List LayerBlock → List PlanFault
-fleet_faults p blocks =
-    flat_map (λ l. when (nat_lt (layer_of p l).fleet (vehicles_used blocks l)) (Fleet (record { 0 = l }) (vehicles_used blocks l)))
-    (numbers (length p.layers))
+abbrev pub layer_faults : Problem → List LayerBlock → ℕ → List PlanFault
+layer_faults p blocks l =
+    when (nat_lt (layer_of p l).fleet (vehicles_used blocks l)) (Fleet (record { 0 = l }) (vehicles_used blocks l))
 
--- all that is wrong, in order: the blocks, the trips that are run too often, those that aren't run, and the fleets
+abbrev pub fleet_faults : Problem → List LayerBlock → List PlanFault
+fleet_faults p blocks = flat_map (layer_faults p blocks) (numbers (length p.layers))
+
+-- the trips that are run too often, and then those that aren't run
+abbrev pub cover_faults : Problem → List LayerBlock → List PlanFault
+cover_faults p blocks = twice_faults (times_of p blocks) ++ uncovered_faults (times_of p blocks)
+
+-- of the blocks together: the trips that they run too often or not at all, and the vehicles that they use
+abbrev pub joint_faults : Problem → List LayerBlock → List PlanFault
+joint_faults p blocks = cover_faults p blocks ++ fleet_faults p blocks
+
+-- all that is wrong, in order: each block by itself, and then the blocks together
 abbrev pub faults_of : Problem → List LayerBlock → List PlanFault
-faults_of p blocks =
-    blocks_faults p blocks ++ twice_faults (times_of p blocks) ++ uncovered_faults (times_of p blocks) ++ fleet_faults p blocks
+faults_of p blocks = blocks_faults p blocks ++ joint_faults p blocks
 
 -- the error is a fault
 abbrev pub IsFault : PlanError → Type 0

@@ -4,7 +4,8 @@ use Rattle.vs_types.specs.declared.numbers.TripNo.{TripNo}
 use Rattle.vs_instance.specs.Plan.{LayerBlock, times_run}
 use Rattle.vs_plan.specs.Blocks.{pairs_of, pair_of}
 use Rattle.vs_plan.specs.Blocks.{IsOfInstance}
-use Rattle.vs_plan.proofs.TakenBlocks.{one_more, pair_at, inside_pairs, count_pairs}
+use Rattle.vs_plan.proofs.TakenBlocks.{one_more, pair_at, inside_pairs, whole_plan}
+use Rattle.vs_plan.proofs.PlanTrips.{counts-times_of}
 use Rattle.vs_plan.proofs.cover.times_run.Goals as goal
 
 pub count_trips-requires-clause-trips : goal.count_trips-requires-clause-trips
@@ -12,7 +13,7 @@ count_trips-requires-clause-trips c =
     let bs = c.args.blocks.now in
     let b = c.block-item.result in
     let read = subst (IsOfInstance c.args.instance.now) (pair_at bs c.loop-block.block-index b (pair_of b) c.loop-block-test.true c.block-item.is)
-    (c.requires.read c.loop-block.block-index (pair_of b) (inside_pairs bs c.loop-block.block-index c.loop-block-test.true)) in
+    (c.requires.of_instance c.loop-block.block-index (pair_of b) (inside_pairs bs c.loop-block.block-index c.loop-block-test.true)) in
     let trips = subst (All (λ (t : TripNo). t.0 < length c.args.instance.now.trips)) (sym c.deref.ensures.value) read.trips in
     let size = ap length c.deref_mut.ensures.value in
     λ k d h. omega (arith, trips k d h, size, c.loop-block.invariant.size)
@@ -31,8 +32,8 @@ pub loop-block-preserved : goal.loop-block-preserved
 loop-block-preserved c =
     let more = one_more c.args.instance.now c.args.blocks.now c.loop-block.block-index c.block-item.result c.loop-block-test.true c.block-item.is in
     let size = ap length c.deref_mut.ensures.value in
-    let len : length c.count_trips.new.counts ≡ c.loop-block.counts.len = omega (arith, size, c.count_trips.auto.counts, c.loop-block.counts.ok.0) in
-    let whole = take_at c.count_trips.new.counts (drop (length c.count_trips.new.counts) c.loop-block.counts.items) c.loop-block.counts.len len in
+    let len : length c.count_trips.new.counts ≡ c.loop-block.times.len = omega (arith, size, c.count_trips.auto.counts, c.loop-block.times.ok.0) in
+    let whole = take_at c.count_trips.new.counts (drop (length c.count_trips.new.counts) c.loop-block.times.items) c.loop-block.times.len len in
     record {
       size = ap length whole ∙ omega (arith, size, c.count_trips.auto.counts, c.loop-block.invariant.size);
       counted = λ k h.
@@ -42,14 +43,8 @@ loop-block-preserved c =
           ap (λ (xs : List ℕ). slice_index xs k) whole ∙ omega (arith, c.count_trips.ensures k inside, before, counted, more.times k, c.loop-block.invariant.counted k h);
     }
 
-pub returns : goal.returns
-returns c =
-    let bs = c.args.blocks.now in
-    let full : length (pairs_of bs) ≤ c.loop-block.block-index = omega (arith, count_pairs bs, c.loop-block-test.false) in
-    let whole = take_all c.loop-block.block-index (pairs_of bs) full in
-    let ones = rw c.deref-2.ensures.value at c.are_all_one.ensures in
-    let counted : (k : ℕ) → k < length c.args.instance.now.trips → slice_index c.loop-block.counts.items k ≡ times_run (pairs_of bs) k =
-    λ k h. c.loop-block.invariant.counted k h ∙ ap (λ (xs : List LayerBlock). times_run xs k) whole in (
-      λ yes i h. sym (counted i h) ∙ ones.0 yes i (omega (arith, c.loop-block.invariant.size)),
-      λ once. ones.1 (λ i h. let inside : i < length c.args.instance.now.trips = omega (arith, c.loop-block.invariant.size) in counted i inside ∙ once i inside),
-    )
+pub returns-clause-times : goal.returns-clause-times
+returns-clause-times c =
+    let whole = whole_plan c.args.blocks.now c.loop-block.block-index c.loop-block-test.false in
+    counts-times_of c.args.instance.now (pairs_of c.args.blocks.now) c.loop-block.times.items c.loop-block.invariant.size
+    (λ k inside. c.loop-block.invariant.counted k inside ∙ ap (λ (xs : List LayerBlock). times_run xs k) whole)
