@@ -5,3 +5,5 @@ pub mod OpenBlocks
 pub mod Orders
 pub mod Placing
 pub mod Faultless
+pub mod GreedyOnce
+pub mod CheckedPlans

@@ -44,7 +44,11 @@ fn place_fault(instance: &Instance, b: u32, block: &Block, place: u32) -> Option
         (place_faults instance.now b block.now.layer block.now.trips.items place) }
 {
     prove!(block.layer.0 < instance.layers());
-    if !instance.trip(block.trips[place as usize]).layers.has(block.layer) {
+    if !instance
+        .trip(block.trips[place as usize])
+        .layers
+        .has(block.layer)
+    {
         return Some(PlanFault::NotPermitted(b, place));
     }
     arrival_fault(instance, b, block, place)

@@ -1,8 +1,10 @@
-use Rattle.std.proofs.Common.{List, [], ◌<◌, take, get_or, length, sym, ap, ◌∙◌, subst, arith, rules}
+use Rattle.std.proofs.Common.{◌≡◌, ℕ, List, [], ◌<◌, ◌≤◌, take, get_or, length, sym, ap, ◌∙◌, subst, arith, rules}
 use Rattle.std.proofs.lemmas.List.{take_all, take_more}
 use Rattle.vs_types.specs.declared.numbers.TripNo.{TripNo}
 use Rattle.vs_plan.specs.Blocks.{pairs_of}
-use Rattle.vs_plan.specs.Greedy.{IsOrder, Places}
+use Rattle.vs_instance.specs.Problem.{Problem}
+use Rattle.vs_instance.specs.Plan.{LayerBlock}
+use Rattle.vs_plan.specs.Greedy.{GreedyGives, IsOrder, Places}
 use Rattle.vs_plan.proofs.Placing.{IsPlan-from_places, Places-push, order_below, partly_from_places, stuck_at}
 use Rattle.vs_plan.proofs.planning.greedy.Goals as goal
 
@@ -33,17 +35,23 @@ loop-i-preserved c =
       left = search rules;
     }
 
-pub returns-clause-plan : goal.returns-clause-plan
-returns-clause-plan c =
-    let p = c.args.instance.now in
-    let all = take_all c.loop-i.i-index c.deref-i-items.result.now c.loop-i-test.false ∙ c.deref-i-items.ensures.value in
-    IsPlan-from_places p c.in_ok-order.order.items (pairs_of c.loop-i.draft.blocks.items) c.in_ok-order.ensures.order
-    (subst (λ (xs : List TripNo). Places p [] xs (pairs_of c.loop-i.draft.blocks.items)) all c.loop-i.invariant.placed)
+-- once all trips are taken they are placed
+placed_all : (p : Problem) (order taken : List TripNo) (blocks : List LayerBlock) (i : ℕ) → taken ≡ order → length taken ≤ i
+    → Places p [] (take i taken) blocks → Places p [] order blocks
+placed_all p order taken blocks i same past placed =
+    subst (λ (xs : List TripNo). Places p [] xs blocks) (take_all i taken past ∙ same) placed
 
-pub returns-clause-count : goal.returns-clause-count
-returns-clause-count c =
-    let p = c.args.instance.now in
-    let all = take_all c.loop-i.i-index c.deref-i-items.result.now c.loop-i-test.false ∙ c.deref-i-items.ensures.value in
-    let partly = partly_from_places p c.in_ok-order.order.items (pairs_of c.loop-i.draft.blocks.items) (order_below p c.in_ok-order.order.items c.in_ok-order.ensures.order)
-    (subst (λ (xs : List TripNo). Places p [] xs (pairs_of c.loop-i.draft.blocks.items)) all c.loop-i.invariant.placed) in
-    partly.count ∙ c.in_ok-order.ensures.count
+pub of-requires : goal.of-requires
+of-requires c =
+    IsPlan-from_places c.args.instance.now c.in_ok-order.order.items (pairs_of c.loop-i.draft.blocks.items) c.in_ok-order.ensures.order
+    (placed_all c.args.instance.now c.in_ok-order.order.items c.deref-i-items.result.now (pairs_of c.loop-i.draft.blocks.items)
+    c.loop-i.i-index c.deref-i-items.ensures.value c.loop-i-test.false c.loop-i.invariant.placed)
+
+pub returns-clause-given : goal.returns-clause-given
+returns-clause-given c =
+    subst (GreedyGives c.args.instance.now) (sym c.of.ensures.blocks) (record {
+      order = c.in_ok-order.order.items;
+      is_order = c.in_ok-order.ensures.order;
+      placed = placed_all c.args.instance.now c.in_ok-order.order.items c.deref-i-items.result.now (pairs_of c.loop-i.draft.blocks.items)
+          c.loop-i.i-index c.deref-i-items.ensures.value c.loop-i-test.false c.loop-i.invariant.placed;
+    })
