@@ -3,7 +3,7 @@ ghost use Rattle.vs_connect.specs.Cost.{IsCost};
 ghost use Rattle.vs_instance.specs.HoldingTable.{scaled};
 ghost use Rattle.vs_instance.specs.Pieces.{out_piece, trip_piece, link_piece, in_piece};
 
-use vs_instance::{Instance, Layer};
+use vs_instance::{Instance, Layer, MAX_METRES, MAX_PER_METRE, MAX_PER_MINUTE, TWO_DAYS};
 use vs_types::{LayerNo, SCALE, TripNo};
 
 /// No move and no trip costs more cost units than this, within the limits of an instance.
@@ -11,10 +11,10 @@ pub const MAX_PIECE: i64 = 20_000_000_000;
 
 /// So many minutes and metres at the rates of a layer, in cost units.
 fn rated(layer: &Layer, minutes: u32, metres: u64) -> u64
-    requires per_minute { layer.now.per_minute ≤ 1000000 }
-    requires per_metre { layer.now.per_metre ≤ 10000 }
-    requires minutes { minutes < 2880 }
-    requires metres { metres ≤ 1000000 }
+    requires per_minute { layer.now.per_minute ≤ MAX_PER_MINUTE }
+    requires per_metre { layer.now.per_metre ≤ MAX_PER_METRE }
+    requires minutes { minutes < TWO_DAYS }
+    requires metres { metres ≤ MAX_METRES }
     ensures value { result ≡ layer.now.per_minute * minutes + layer.now.per_metre * metres }
     ensures limit { result ≤ 15000000000 }
 {

@@ -11,7 +11,7 @@ use crate::plan_fault::PlanError;
 use std::alloc::Global;
 use std::marker::Model;
 use std::snapshot::Snapshot;
-use vs_instance::Instance;
+use vs_instance::{Instance, MAX_TRIPS};
 
 /// A plan of an instance, with what it costs. It remembers which instance that is, at no cost.
 #[derive(Drop)]
@@ -48,6 +48,7 @@ impl CheckedPlan {
         ensures blocks { result.blocks ≡ blocks_of plan }
         ensures checked { IsChecked result }
     {
+        prove!(instance.trips() <= MAX_TRIPS);
         let cost = blocks_cost(instance, &plan.blocks);
         CheckedPlan {
             instance: Snapshot::of(instance),
@@ -95,6 +96,7 @@ pub fn check_plan(
     ensures fault { IfErr result (λ e. IsFirstFault instance.now (blocks_of plan) e.1) }
     ensures refused { IfErr result (λ e. IsFault e.1 → ¬ (IsPlan instance.now (blocks_of plan))) }
 {
+    prove!(instance.trips() <= MAX_TRIPS);
     match judge(alloc, instance, &plan) {
         Ok(cost) => Ok(CheckedPlan {
             instance: Snapshot::of(instance),

@@ -1,11 +1,12 @@
-ghost use Rattle.std.specs.Prelude.{◌≡◌, ℕ, ◌+◌, ◌<◌, ◌^◌, ◌==◌, ◌++◌, length, All, IfOk, count_by, slice_index};
+ghost use Rattle.std.specs.Prelude.{◌≡◌, ℕ, ◌+◌, ◌<◌, ◌≤◌, ◌^◌, ◌==◌, length, All, IfOk, count_by, slice_index};
 ghost use Rattle.vs_plan.specs.Blocks.{CanBeJudged, pairs_of};
-ghost use Rattle.vs_plan.specs.PlanFaults.{first_fault, times_of, twice_faults, uncovered_faults};
+ghost use Rattle.vs_instance.specs.Firsts.{first};
+ghost use Rattle.vs_plan.specs.PlanFaults.{cover_faults, times_of, twice_faults, uncovered_faults};
 
 use crate::block::Block;
 use crate::plan_fault::PlanFault;
 use std::alloc::Global;
-use vs_instance::Instance;
+use vs_instance::{Instance, MAX_TRIPS};
 use vs_types::{Memory, TripNo};
 
 /// Counts each of the trips once more.
@@ -24,7 +25,8 @@ fn count_trips(counts: &mut [u32], trips: &[TripNo])
 /// How often each trip of the instance stands in the blocks, in number order.
 fn times_run(alloc: Global, instance: &Instance, blocks: &[Block]) -> Result<Vec<u32>, Memory>
     requires { CanBeJudged instance.now (pairs_of blocks.now) }
-    ensures { IfOk result (λ times. times.items ≡ times_of instance.now (pairs_of blocks.now)) }
+    ensures times { IfOk result (λ times. times.items ≡ times_of instance.now (pairs_of blocks.now)) }
+    ensures few { IfOk result (λ times. length times.items ≤ MAX_TRIPS) }
 {
     let mut times = vec![in alloc; 0; instance.trips() as usize]?;
     for block in blocks {
@@ -35,8 +37,8 @@ fn times_run(alloc: Global, instance: &Instance, blocks: &[Block]) -> Result<Vec
 
 /// The first trip that stands more than once.
 fn twice_fault(times: &[u32]) -> Option<PlanFault>
-    requires { length times.now < 2 ^ 32 }
-    ensures { result ≡ first_fault (twice_faults times.now) }
+    requires { length times.now ≤ MAX_TRIPS }
+    ensures { result ≡ first (twice_faults times.now) }
 {
     for (i, count) in times.iter().enumerate() {
         if *count > 1 {
@@ -48,8 +50,8 @@ fn twice_fault(times: &[u32]) -> Option<PlanFault>
 
 /// The first trip that stands nowhere.
 fn uncovered_fault(times: &[u32]) -> Option<PlanFault>
-    requires { length times.now < 2 ^ 32 }
-    ensures { result ≡ first_fault (uncovered_faults times.now) }
+    requires { length times.now ≤ MAX_TRIPS }
+    ensures { result ≡ first (uncovered_faults times.now) }
 {
     for (i, count) in times.iter().enumerate() {
         if *count < 1 {
@@ -66,8 +68,7 @@ pub fn cover_fault(
     blocks: &[Block],
 ) -> Result<Option<PlanFault>, Memory>
     requires { CanBeJudged instance.now (pairs_of blocks.now) }
-    ensures { let times = times_of instance.now (pairs_of blocks.now) in
-        IfOk result (λ fault. fault ≡ first_fault (twice_faults times ++ uncovered_faults times)) }
+    ensures { IfOk result (λ fault. fault ≡ first (cover_faults instance.now (pairs_of blocks.now))) }
 {
     let times = times_run(alloc, instance, blocks)?;
     match twice_fault(&times) {
