@@ -1,0 +1,4 @@
+pub mod PlanFlaws
+pub mod LeafFlaws
+pub mod Flawless
+pub mod Claims

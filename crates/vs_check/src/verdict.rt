@@ -11,7 +11,7 @@ use crate::document::Document;
 use crate::flaw::Flaw;
 use crate::shape::Shape;
 use std::alloc::Global;
-use vs_instance::Instance;
+use vs_instance::{Instance, MAX_TRIPS};
 use vs_plan::{PlanError, judge};
 use vs_prices::{Bound, Table, broken, permitted_sets, worth};
 use vs_types::Memory;
@@ -132,6 +132,7 @@ pub fn check(alloc: Global, instance: &Instance, document: &Document) -> Result<
     ensures holds { IfOk result (λ verdict. (verdict ≡ Verdict.Yes) ↔ HoldingDocument instance.now document.now) }
     ensures proves { IfOk result (λ verdict. verdict ≡ Verdict.Yes → ProvesItsClaim instance.now document.now) }
 {
+    prove!(instance.trips() <= MAX_TRIPS);
     Ok(match first_flaw(alloc, instance, document)? {
         None => Verdict::Yes,
         Some(flaw) => Verdict::No(flaw),

@@ -107,11 +107,11 @@ module _ (p : Problem) (table : Table) (l : ℕ) where
       none_if (may_run p l i) (move_breaks p table l i) (λ runs. none_from_moves holds i inside (eqb-true _ 1 runs))))
 
 module _ (p : Problem) (table : Table) where
-  holds_nowhere_broken : None (breaks_of p table) → HoldingTable p table
+  pub holds_nowhere_broken : None (breaks_of p table) → HoldingTable p table
   holds_nowhere_broken none l inside =
       holds_from_none p table l (number_none (layer_breaks p table) 0 (length p.layers) none l (omega arith) (omega arith))
 
-  nowhere_broken : HoldingTable p table → None (breaks_of p table)
+  pub nowhere_broken : HoldingTable p table → None (breaks_of p table)
   nowhere_broken holds =
       none_numbers (layer_breaks p table) 0 (length p.layers) (λ l from within.
       let inside : l < length p.layers = omega arith in none_from_holds p table l (holds l inside))

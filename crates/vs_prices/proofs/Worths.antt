@@ -47,7 +47,7 @@ module _ (p : Problem) (sets : List LayerSet) (table : Table) where
       by_test false above = match_true table.ray _ _ is (not_positive (table_value p sets table) above, refl)
   value_worth false is = match_false table.ray _ _ is (rounded_up-IsRoundedUp (table_value p sets table))
 
-  worth_of-IsWorth : IsWorth p sets table (worth_of p sets table)
+  pub worth_of-IsWorth : IsWorth p sets table (worth_of p sets table)
   worth_of-IsWorth = value_worth table.ray refl
 
   -- what a table is worth is the function's value
