@@ -2,3 +2,4 @@ pub mod PlanFlaws
 pub mod LeafFlaws
 pub mod Flawless
 pub mod Claims
+pub mod NamedFlaws
