@@ -22,6 +22,7 @@ pub checked_block : (p : Problem) (c : Checked) (blocks : List Block) (k : ℕ) 
     → pairs_of blocks ≡ c.blocks → k < length blocks → b ≡ get_or blocks k b → IsBlock p b.layer b.trips.items
 checked_block p c blocks k b checked same are within is =
     let here : k < length c.blocks = omega (arith, inside_pairs blocks k within, ap length are) in
-    let at = ap (λ (bs : List LayerBlock). get_or bs k (pair_of b)) (sym are) ∙ pair_at blocks k b (pair_of b) within is in
+    let at = ap (λ (bs : List LayerBlock). get_or bs k (pair_of b)) (sym are)
+    ∙ pair_at blocks k b (pair_of b) within is in
     let found = subst (λ (x : LayerBlock). IsBlock c.problem x.0 x.1) at (checked.plan.each_block k (pair_of b) here) in
     subst (λ (q : Problem). IsBlock q b.layer b.trips.items) same found

@@ -23,8 +23,11 @@ abbrev pub coded_trip_no : Coded TripNo
 coded_trip_no = code_by ℕ coded_ℕ (λ i. i.0) (λ n. record { 0 = n }) (λ _. refl)
 
 abbrev pub coded_block : Coded LayerBlock
-coded_block = code_by (ℕ × List TripNo) (coded× coded_ℕ (coded_list coded_trip_no)) (λ b. (b.0.0, b.1)) (λ c. (record { 0 = c.0 }, c.1)) (λ _. refl)
+coded_block =
+    code_by (ℕ × List TripNo) (coded× coded_ℕ (coded_list coded_trip_no)) (λ b. (b.0.0, b.1))
+    (λ c. (record { 0 = c.0 }, c.1)) (λ _. refl)
 
 abbrev pub coded_checked : Coded Checked
-coded_checked = code_by (Problem × (List LayerBlock × ℤ)) (coded× coded_problem (coded× (coded_list coded_block) coded_ℤ))
+coded_checked =
+    code_by (Problem × (List LayerBlock × ℤ)) (coded× coded_problem (coded× (coded_list coded_block) coded_ℤ))
     (λ c. (c.problem, (c.blocks, c.cost))) (λ c. record { problem = c.0; blocks = c.1.0; cost = c.1.1 }) (λ _. refl)

@@ -1,5 +1,5 @@
 -- The rule by which a first plan is made.
-use Rattle.std.specs.Prelude.{◌≡◌, ℕ, ◌+◌, ◌<◌, ◌≤◌, List, [], ◌∷◌, ◌++◌, length, set, AllPairs, Contains, ◌⊎◌, ◌↔◌, slice_index, slice_index_or}
+use Rattle.std.specs.Prelude.{◌≡◌, ℕ, ◌+◌, ◌<◌, List, [], ◌∷◌, ◌++◌, length, set, AllPairs, Contains, ◌⊎◌, ◌↔◌, slice_index, slice_index_or}
 use Rattle.vs_types.specs.declared.numbers.LayerNo.{LayerNo}
 use Rattle.vs_types.specs.declared.numbers.TripNo.{TripNo}
 use Rattle.vs_instance.specs.Problem.{Problem}
@@ -9,20 +9,23 @@ use Rattle.vs_instance.specs.Plan.{LayerBlock, vehicles_used}
 
 -- trip i is taken before trip j: it starts earlier, or at the same minute and has the lower number
 abbrev pub TakenBefore : Problem → TripNo → TripNo → Type 0
-TakenBefore p i j = ((trip_of p i.0).start < (trip_of p j.0).start) ⊎ (((trip_of p i.0).start ≡ (trip_of p j.0).start) × (i.0 < j.0))
+TakenBefore p i j =
+    ((trip_of p i.0).start < (trip_of p j.0).start) ⊎ (((trip_of p i.0).start ≡ (trip_of p j.0).start) × (i.0 < j.0))
 
 -- all trips of the instance, in the order in which they are taken
 pub record IsOrder (p : Problem) (order : List TripNo) : Type 0 where
   pub all : (i : TripNo) → Contains order i ↔ (i.0 < length p.trips)
   pub in_order : AllPairs (TakenBefore p) order
 
--- trip i can go to the end of a block: the layer permits it, the block's last trip connects to it, and there is a pull-in after it
+-- trip i can go to the end of a block: the layer permits it, the block's last trip connects to it, and there is a
+-- pull-in after it
 pub record CanJoin (p : Problem) (i : ℕ) (b : LayerBlock) : Type 0 where
   pub permitted : Permitted p b.0.0 i
   pub connected : Connects p (last_of b.1) i
   pub pull_in : HasPullIn p b.0.0 i
 
--- a vehicle of layer l can be taken for trip i: the layer permits it and has a vehicle left, and there are a pull-out and a pull-in
+-- a vehicle of layer l can be taken for trip i: the layer permits it and has a vehicle left, and there are a pull-out
+-- and a pull-in
 pub record CanOpen (p : Problem) (blocks : List LayerBlock) (i l : ℕ) : Type 0 where
   pub layer : l < length p.layers
   pub permitted : Permitted p l i

@@ -8,10 +8,12 @@ some c = grind (arith, nat_tests)
 
 pub block_times-requires : goal.block_times-requires
 block_times-requires c =
-    checked_block c.args.instance.now c.args.plan.now c.plan-plan.result.now.blocks.items 0 c.index-block.result.now c.plan-plan.ensures.checked
+    checked_block c.args.instance.now c.args.plan.now c.plan-plan.result.now.blocks.items 0 c.index-block.result.now
+    c.plan-plan.ensures.checked
     c.requires c.plan-plan.ensures.blocks (some c) c.index-block.ensures
 
 pub block_cost-requires : goal.block_cost-requires
 block_cost-requires c =
-    checked_block c.args.instance.now c.args.plan.now c.plan-plan.result.now.blocks.items 0 c.index-block.result.now c.plan-plan.ensures.checked
+    checked_block c.args.instance.now c.args.plan.now c.plan-plan.result.now.blocks.items 0 c.index-block.result.now
+    c.plan-plan.ensures.checked
     c.requires c.plan-plan.ensures.blocks (grind (arith, nat_tests)) c.index-block.ensures

@@ -24,9 +24,16 @@ new-requires c =
       layers = rw ls (two (λ (l : Layer). l.depot.0 < 4) c.depot-at_depot.result c.depot-at_stop.result
           (omega (arith, c.depot-at_depot.ensures)) (omega (arith, c.depot-at_stop.ensures)));
       deadheads = c.in_ok-deadheads.ensures.ends;
-      trip_stops = rw ts (two (λ (t : Trip). (t.from.0 < 4) × (t.to.0 < 4)) first.result c.args.second first.ensures.stops own.stops);
-      trip_times = rw ts (two (λ (t : Trip). (t.start < 2880) × (t.end < 2880)) first.result c.args.second first.ensures.times own.times);
-      trip_layers = rw ts (two (λ (t : Trip). (members t.layers ≢ []) × ((l : ℕ) → Has t.layers l → l < length c.in_ok-layers.layers.items))
-          first.result c.args.second (first.ensures.some_layer, λ l has. omega (arith, count, first.ensures.layers l has))
+      trip_stops =
+          rw ts (two (λ (t : Trip). (t.from.0 < 4)
+          × (t.to.0 < 4)) first.result c.args.second first.ensures.stops own.stops);
+      trip_times =
+          rw ts (two (λ (t : Trip). (t.start < 2880)
+          × (t.end < 2880)) first.result c.args.second first.ensures.times own.times);
+      trip_layers =
+          rw ts (two (λ (t : Trip). (members t.layers ≢ [])
+          × ((l : ℕ) → Has t.layers l → l < length c.in_ok-layers.layers.items))
+          first.result c.args.second
+          (first.ensures.some_layer, λ l has. omega (arith, count, first.ensures.layers l has))
           (own.some_layer, λ l has. omega (arith, count, own.layers l has)));
     }
