@@ -6,9 +6,8 @@ use Rattle.vs_types.specs.declared.numbers.LayerNo.{LayerNo}
 use Rattle.vs_types.specs.declared.numbers.TripNo.{TripNo}
 use Rattle.vs_instance.specs.Problem.{Problem}
 use Rattle.vs_instance.specs.Plan.{LayerBlock}
-use Rattle.vs_plan.specs.Greedy.{GreedyGetsStuck, GreedyGives, IsOrder, IsPlaced, IsStuck, Joins, Opens, Places, TakenBefore, block_at}
+use Rattle.vs_plan.specs.Greedy.{GreedyGetsStuck, GreedyGives, IsOrder, IsPlaced, IsStuck, Joins, Opens, Places, TakenBefore, block_at, longer}
 use Rattle.vs_plan.specs.Laws.{GreedyGivesOneAnswer}
-use Rattle.vs_plan.proofs.OpenBlocks.{longer}
 
 -- an element of a list is the first, or one of the rest
 uncons : (x : TripNo) (xs : List TripNo) (i : TripNo) (k : ℕ) → k < length (x ∷ xs) → get_or (x ∷ xs) k i ≡ i

@@ -16,14 +16,10 @@ use Rattle.vs_instance.specs.Problem.{Problem}
 use Rattle.vs_instance.specs.Ways.{Connects, Permitted, HasPullOut, HasPullIn}
 use Rattle.vs_instance.specs.Blocks.{IsBlock, first_of, last_of}
 use Rattle.vs_instance.specs.Plan.{LayerBlock, all_trips, vehicles_used}
-use Rattle.vs_plan.specs.Greedy.{CanJoin, CanOpen, block_at}
+use Rattle.vs_plan.specs.Greedy.{CanJoin, CanOpen, block_at, longer}
 
 abbrev pub no_block : LayerBlock
 no_block = (record { 0 = 0 }, [])
-
--- a block with one more trip
-abbrev pub longer : LayerBlock → TripNo → LayerBlock
-longer b i = (b.0, b.1 ++ i ∷ [])
 
 -- what stands at place k of the pairs
 pub block_at-pairs_of : (bs : List Block) (k : ℕ) (b : Block) → k < length bs → b ≡ get_or bs k b

@@ -10,8 +10,8 @@ use Rattle.vs_instance.specs.Problem.{Problem}
 use Rattle.vs_instance.specs.Ways.{layer_of, trip_of}
 use Rattle.vs_instance.specs.Blocks.{IsBlock}
 use Rattle.vs_instance.specs.Plan.{LayerBlock, IsPlan, all_trips, times_run, vehicles_used}
-use Rattle.vs_plan.specs.Greedy.{GreedyGetsStuck, IsOrder, IsPlaced, IsStuck, Joins, Opens, Places, TakenBefore, block_at}
-use Rattle.vs_plan.proofs.OpenBlocks.{longer, no_block, measure_joined, measure_opened, used_joined, used_opened_same, used_opened_other, block_joined, block_opened}
+use Rattle.vs_plan.specs.Greedy.{GreedyGetsStuck, IsOrder, IsPlaced, IsStuck, Joins, Opens, Places, TakenBefore, block_at, longer}
+use Rattle.vs_plan.proofs.OpenBlocks.{no_block, measure_joined, measure_opened, used_joined, used_opened_same, used_opened_other, block_joined, block_opened}
 
 -- how often trip i stands in a list
 abbrev times : ℕ → List TripNo → ℕ

@@ -29,9 +29,17 @@ impl Model for CheckedPlan {
 
     ghost coded = { coded_checked };
 
-    ghost view = { λ c. record { problem = c.instance.value; blocks = blocks_of c.plan; cost = c.cost } };
+    ghost view = { λ c. record {
+      problem = c.instance.value;
+      blocks = blocks_of c.plan;
+      cost = c.cost;
+    } };
 
-    ghost invariant = { λ c. IsChecked (record { problem = c.instance.value; blocks = blocks_of c.plan; cost = c.cost }) };
+    ghost invariant = { λ c. IsChecked (record {
+      problem = c.instance.value;
+      blocks = blocks_of c.plan;
+      cost = c.cost;
+    }) };
 }
 
 impl CheckedPlan {
