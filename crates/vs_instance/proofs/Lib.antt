@@ -12,4 +12,5 @@ pub mod Judged
 pub mod Known
 pub mod PieceLemmas
 pub mod BlockPieces
+pub mod PermittedSets
 pub mod Examples

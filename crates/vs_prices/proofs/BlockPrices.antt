@@ -67,7 +67,7 @@ module _ (p : Problem) (table : Table) (l : LayerNo) where
       let trips = sum_by-cons (λ (k : TripNo). trip_piece p l.0 k.0) i (j ∷ rest) in
       let links = sum_by-cons cost_of (link_piece p l.0 i.0 j.0) (links_between p l (j ∷ rest)) in
       let whole : trips_cost p l (i ∷ j ∷ rest) + links_cost p l (i ∷ j ∷ rest)
-          ≡ trip_piece p l.0 i.0 + cost + (trips_cost p l (j ∷ rest) + links_cost p l (j ∷ rest)) = omega (arith, trips, links) in
+      ≡ trip_piece p l.0 i.0 + cost + (trips_cost p l (j ∷ rest) + links_cost p l (j ∷ rest)) = omega (arith, trips, links) in
       let parts = ap (scaled ray) whole ∙ scaled-add_three ray (trip_piece p l.0 i.0) cost (trips_cost p l (j ∷ rest) + links_cost p l (j ∷ rest)) in
       omega (arith, ints, move, after, parts)
 

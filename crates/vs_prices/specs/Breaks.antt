@@ -21,17 +21,28 @@ exceeds price other ray (Some c) = int_lt (other +ℤ scaled ray c) price
 abbrev pub may_run : Problem → ℕ → ℕ → Bool
 may_run p l i = bit_at (trip_of p i).layers.0 l == 1
 
+-- entering trip i is worth more than its pull-out costs and a vehicle pays
+abbrev pub is_pull_out_broken : Problem → Table → ℕ → ℕ → Bool
+is_pull_out_broken p table l i = exceeds (into_price p table l i) (vehicle_price table l) table.ray (out_piece p l i)
+
+-- leaving trip i and its pull-in together cost less than nothing
+abbrev pub is_pull_in_broken : Problem → Table → ℕ → ℕ → Bool
+is_pull_in_broken p table l i = exceeds (pos 0) (from_price p table l i) table.ray (in_piece p l i)
+
+-- layer l may run trip j, and entering it is worth more than leaving trip i and the way between the two cost
+abbrev pub is_link_broken : Problem → Table → ℕ → ℕ → ℕ → Bool
+is_link_broken p table l i j =
+    may_run p l j && exceeds (into_price p table l j) (from_price p table l i) table.ray (link_piece p l i j)
+
 abbrev pub link_breaks : Problem → Table → ℕ → ℕ → ℕ → List BrokenAt
-link_breaks p table l i j =
-    when (may_run p l j && exceeds (into_price p table l j) (from_price p table l i) table.ray (link_piece p l i j))
-    (Link (record { 0 = l }) (record { 0 = i }) (record { 0 = j }))
+link_breaks p table l i j = when (is_link_broken p table l i j) (Link (record { 0 = l }) (record { 0 = i }) (record { 0 = j }))
 
 -- on the moves of layer l into trip i from the depot, from it to each trip, and from it to the depot
 abbrev pub move_breaks : Problem → Table → ℕ → ℕ → List BrokenAt
 move_breaks p table l i =
-    when (exceeds (into_price p table l i) (vehicle_price table l) table.ray (out_piece p l i)) (PullOut (record { 0 = l }) (record { 0 = i }))
+    when (is_pull_out_broken p table l i) (PullOut (record { 0 = l }) (record { 0 = i }))
     ++ flat_map (link_breaks p table l i) (range_with_len 0 (length p.trips))
-    ++ when (exceeds (pos 0) (from_price p table l i) table.ray (in_piece p l i)) (PullIn (record { 0 = l }) (record { 0 = i }))
+    ++ when (is_pull_in_broken p table l i) (PullIn (record { 0 = l }) (record { 0 = i }))
 
 abbrev pub trip_breaks : Problem → Table → ℕ → ℕ → List BrokenAt
 trip_breaks p table l i = if may_run p l i then move_breaks p table l i else []

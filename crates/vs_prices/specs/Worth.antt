@@ -1,5 +1,5 @@
 -- What a table shows of every plan within a restriction.
-use Rattle.std.specs.Prelude.{◌≡◌, ℕ, true, List, [], ◌∷◌, map, length, ℤ, pos, ◌+ℤ◌, ◌-ℤ◌, ◌*ℤ◌, ◌≤ℤ◌, ◌<ℤ◌, MatchBool, Option, Some, None}
+use Rattle.std.specs.Prelude.{◌≡◌, ℕ, true, List, [], ◌∷◌, map, length, ℤ, pos, ◌+ℤ◌, ◌-ℤ◌, ◌*ℤ◌, ◌≤ℤ◌, ◌<ℤ◌, MatchBool, if◌then◌else◌, int_lt, int_div, int_rem, Option, Some, None}
 use Rattle.std.specs.Int.{int_min}
 use Rattle.std.specs.List.{range_with_len}
 use Rattle.vs_types.specs.declared.layer_set.LayerSet.{LayerSet}
@@ -46,11 +46,21 @@ pub record IsRoundedUp (value n : ℤ) : Type 0 where
   pub reaches : value ≤ℤ (n *ℤ SCALE)
   pub least : (m : ℤ) → value ≤ℤ (m *ℤ SCALE) → n ≤ℤ m
 
+-- that number by division, whose rest has the sign of the value
+abbrev pub rounded_up : ℤ → ℤ
+rounded_up value = if int_lt (pos 0) (int_rem value SCALE) then int_div value SCALE +ℤ pos 1 else int_div value SCALE
+
 -- A cost table is worth its value in whole cost units, rounded up. A ray whose value is above 0 shows that there is no plan, and one whose value
 -- isn't shows nothing but that a plan costs 0 or more.
 abbrev pub IsWorth : Problem → List LayerSet → Table → Bound → Type 0
 IsWorth p sets table (AtLeast n) = MatchBool table.ray ((table_value p sets table ≤ℤ pos 0) × (n ≡ pos 0)) (IsRoundedUp (table_value p sets table) n)
 IsWorth p sets table NoPlan = (table.ray ≡ true) × (pos 0 <ℤ table_value p sets table)
+
+-- what a table is worth, as a function: IsWorth says what it means
+abbrev pub worth_of : Problem → List LayerSet → Table → Bound
+worth_of p sets table =
+    if table.ray then (if int_lt (pos 0) (table_value p sets table) then NoPlan else AtLeast (pos 0))
+    else AtLeast (rounded_up (table_value p sets table))
 
 -- a bound is at least another, where no number says that there is no plan
 abbrev pub Reaches : Bound → Option ℤ → Type 0

@@ -2,7 +2,7 @@ ghost use Rattle.std.specs.Prelude.{◌≡◌, ℕ, ◌<◌, ◌↔◌, Option, 
 ghost use Rattle.std.specs.List.{range_with_len};
 ghost use Rattle.vs_connect.specs.Cost.{IsCost};
 ghost use Rattle.vs_instance.specs.Firsts.{first};
-ghost use Rattle.vs_prices.specs.Breaks.{breaks_of, exceeds, layer_breaks, link_breaks, trip_breaks};
+ghost use Rattle.vs_prices.specs.Breaks.{breaks_of, exceeds, is_link_broken, is_pull_in_broken, is_pull_out_broken, layer_breaks, link_breaks, trip_breaks};
 ghost use Rattle.vs_prices.specs.Table.{Fits, HoldingTable, IsPrice};
 
 use crate::table::Table;
@@ -35,21 +35,57 @@ fn exceeds(price: i64, other: i64, cost: Option<i64>, ray: bool) -> bool
     }
 }
 
-/// The first trip to which trip i connects in layer l and where the prices break on the way.
+/// Whether entering trip i in layer l is worth more than its pull-out costs and a vehicle pays.
+fn is_pull_out_broken(instance: &Instance, table: &Table, l: LayerNo, i: TripNo) -> bool
+    requires fits { Fits instance.now table.now }
+    requires layer { l.0 < length instance.now.layers }
+    requires trip { i.0 < length instance.now.trips }
+    ensures { result ≡ is_pull_out_broken instance.now table.now l.0 i.0 }
+{
+    let into = table.into_price(instance, l, i);
+    let vehicle = table.vehicle_price(l);
+    exceeds(into, vehicle, out_cost(instance, l, i), table.ray)
+}
+
+/// Whether leaving trip i in layer l and its pull-in together cost less than nothing.
+fn is_pull_in_broken(instance: &Instance, table: &Table, l: LayerNo, i: TripNo) -> bool
+    requires fits { Fits instance.now table.now }
+    requires layer { l.0 < length instance.now.layers }
+    requires trip { i.0 < length instance.now.trips }
+    ensures { result ≡ is_pull_in_broken instance.now table.now l.0 i.0 }
+{
+    let from = table.from_price(instance, l, i);
+    exceeds(0, from, in_cost(instance, l, i), table.ray)
+}
+
+/// Whether layer l may run trip j, and entering it is worth more than leaving trip i and the way between the
+/// two cost, where there is one in time.
+fn is_link_broken(instance: &Instance, table: &Table, l: LayerNo, i: TripNo, j: TripNo) -> bool
+    requires fits { Fits instance.now table.now }
+    requires layer { l.0 < length instance.now.layers }
+    requires trip { i.0 < length instance.now.trips }
+    requires next { j.0 < length instance.now.trips }
+    ensures { result ≡ is_link_broken instance.now table.now l.0 i.0 j.0 }
+{
+    prove!(l.0 < instance.layers());
+    if !instance.trip(j).layers.has(l) {
+        return false;
+    }
+    let into = table.into_price(instance, l, j);
+    let from = table.from_price(instance, l, i);
+    exceeds(into, from, link_cost(instance, l, i, j), table.ray)
+}
+
+/// The first trip in order on the way to which from trip i the prices of layer l break.
 fn broken_after(instance: &Instance, table: &Table, l: LayerNo, i: TripNo) -> Option<BrokenAt>
     requires fits { Fits instance.now table.now }
     requires layer { l.0 < length instance.now.layers }
     requires trip { i.0 < length instance.now.trips }
     ensures { result ≡ first (flat_map (link_breaks instance.now table.now l.0 i.0) (range_with_len 0 (length instance.now.trips))) }
 {
-    let from = table.from_price(instance, l, i);
     for j in 0..instance.trips() {
-        let j = TripNo(j);
-        if instance.trip(j).layers.has(l) {
-            let cost = link_cost(instance, l, i, j);
-            if exceeds(table.into_price(instance, l, j), from, cost, table.ray) {
-                return Some(BrokenAt::Link(l, i, j));
-            }
+        if is_link_broken(instance, table, l, i, TripNo(j)) {
+            return Some(BrokenAt::Link(l, i, TripNo(j)));
         }
     }
     None
@@ -62,19 +98,17 @@ fn broken_at_trip(instance: &Instance, table: &Table, l: LayerNo, i: TripNo) -> 
     requires trip { i.0 < length instance.now.trips }
     ensures { result ≡ first (trip_breaks instance.now table.now l.0 i.0) }
 {
+    prove!(l.0 < instance.layers());
     if !instance.trip(i).layers.has(l) {
         return None;
     }
-    let into = table.into_price(instance, l, i);
-    let vehicle = table.vehicle_price(l);
-    if exceeds(into, vehicle, out_cost(instance, l, i), table.ray) {
+    if is_pull_out_broken(instance, table, l, i) {
         return Some(BrokenAt::PullOut(l, i));
     }
     if let Some(at) = broken_after(instance, table, l, i) {
         return Some(at);
     }
-    let from = table.from_price(instance, l, i);
-    if exceeds(0, from, in_cost(instance, l, i), table.ray) {
+    if is_pull_in_broken(instance, table, l, i) {
         return Some(BrokenAt::PullIn(l, i));
     }
     None

@@ -15,3 +15,6 @@ pub use laws::prices_bound_plans;
 pub use restriction::permitted_sets;
 pub use table::{MAX_PRICE, Table};
 pub use table_worth::worth;
+
+#[cfg(test)]
+mod tests;

@@ -1,12 +1,13 @@
-ghost use Rattle.std.specs.Prelude.{◌≡◌, ℕ, ◌<◌, List, length, map, ℤ, pos, neg_ℤ, ◌≤ℤ◌, ◌*ℤ◌};
+ghost use Rattle.std.specs.Prelude.{◌≡◌, ℕ, ◌<◌, length, map, ℤ, pos, neg_ℤ, ◌≤ℤ◌, ◌*ℤ◌};
 ghost use Rattle.std.specs.Int.{int_min};
 ghost use Rattle.std.specs.List.{range_with_len};
 ghost use Rattle.std.specs.Option.{option_map_or};
+ghost use Rattle.vs_instance.specs.Instance.{IsInstance};
 ghost use Rattle.vs_instance.specs.Lagrangian.{total};
-ghost use Rattle.vs_instance.specs.Restriction.{IsRestriction, set_of};
-ghost use Rattle.vs_types.specs.LayerSet.{Has};
+ghost use Rattle.vs_instance.specs.Restriction.{IsRestriction};
+ghost use Rattle.vs_types.specs.LayerSet.{Has, members};
 ghost use Rattle.vs_prices.specs.Table.{Fits, HoldingTable};
-ghost use Rattle.vs_prices.specs.Worth.{BoundsPlans, IsRoundedUp, IsWorth, fleet_price, least_price, trip_price};
+ghost use Rattle.vs_prices.specs.Worth.{BoundsPlans, IsRoundedUp, IsWorth, fleet_price, least, least_price, trip_price};
 
 use crate::bound::Bound;
 use crate::table::Table;
@@ -43,7 +44,7 @@ fn least_price(instance: &Instance, set: LayerSet, table: &Table, i: TripNo) -> 
     requires fits { Fits instance.now table.now }
     requires trip { i.0 < length instance.now.trips }
     requires set { (l : ℕ) → Has set l → l < length instance.now.layers }
-    ensures value { (sets : List LayerSet) → set ≡ set_of sets i.0 → result ≡ least_price instance.now sets table.now i.0 }
+    ensures value { result ≡ least (map (trip_price instance.now table.now i.0) (members set)) }
     ensures low { neg_ℤ (pos 3000000000000000000) ≤ℤ result }
     ensures high { result ≤ℤ pos 3000000000000000000 }
 {
@@ -78,6 +79,7 @@ fn vehicles_pay(instance: &Instance, table: &Table) -> i128
     ensures value { result ≡ total (map (fleet_price instance.now table.now) (range_with_len 0 (length instance.now.layers))) }
     ensures low { neg_ℤ (pos 100000000000000000000000) ≤ℤ result }
     ensures high { result ≤ℤ pos 100000000000000000000000 }
+    ensures instance { IsInstance instance.now }
 {
     let mut paid = 0;
     for l in 0..instance.layers() {

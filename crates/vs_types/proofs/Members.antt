@@ -1,5 +1,5 @@
 -- What the members of a set of layers are.
-use Rattle.std.proofs.Common.{◌≡◌, ℕ, zero, suc, ◌+◌, ◌-◌, ◌*◌, ◌/◌, ◌%◌, ◌^◌, ◌<◌, ◌≤◌, ◌↔◌, ◌⊎◌, inl, inr, Bool, true, false, cond, eqb, List, [], ◌∷◌, length, get_or, refl, sym, ap, ◌∙◌, subst, arith, rules, bit_and, bit_or, w16, lit<, add-one, IsTrue, not, nat_eq}
+use Rattle.std.proofs.Common.{◌≡◌, ◌≢◌, ℕ, zero, suc, ◌+◌, ◌-◌, ◌*◌, ◌/◌, ◌%◌, ◌^◌, ◌<◌, ◌≤◌, ◌↔◌, ◌⊎◌, inl, inr, Bool, true, false, cond, eqb, List, [], ◌∷◌, length, get_or, refl, sym, ap, ◌∙◌, subst, arith, rules, bit_and, bit_or, w16, lit<, add-one, IsTrue, not, nat_eq}
 use Rattle.std.specs.Prelude.{Contains, filter}
 use Rattle.std.specs.Int.{bit_at, trailing_zeros}
 use Rattle.std.specs.Int.Count.{ones, ones_in, ones_step}
@@ -205,3 +205,9 @@ IsLowest-trailing_zeros n some fits =
         ]
       ]),
     )
+
+-- a set with a layer below 16 isn't empty
+pub members-some : (set : LayerSet) (l : ℕ) → l < 16 → Has set l → members set ≢ []
+members-some set l within has empty =
+    let among = Contains-members_below set l within has in
+    omega (arith, among.1, ap length empty)
