@@ -76,6 +76,7 @@ impl CheckedPlan {
     /// What the plan costs, in cost units.
     pub fn cost(&self) -> i64
         ensures value { result ≡ self.now.cost }
+        ensures limit { result ≤ℤ MAX_PLAN_COST }
         ensures checked { IsChecked self.now }
     {
         self.cost

@@ -16,7 +16,7 @@ invariant_of-result c =
     let fits = c.blocks_cost-cost.type_inv in
     is_checked c.of.result.value c.args.instance.now
     (blocks_of c.args.plan) _ c.blocks_cost-cost.result c.trips.ensures.instance c.requires
-    (value c) c.of.ensures (omega (arith, ints))
+    (value c) c.blocks_cost-cost.ensures.limit c.of.ensures (omega (arith, ints))
 
 pub returns-clause-checked : goal.returns-clause-checked
 returns-clause-checked c = invariant_of-result c

@@ -1,6 +1,6 @@
 use Rattle.std.proofs.Common.{refl}
 use Rattle.mdvsp.proofs.FirstAnswer.{first_answer_solves}
-use Rattle.mdvsp.proofs.planning.answering.first_answer.Goals as goal
+use Rattle.mdvsp.proofs.planning.first_answer.Goals as goal
 
 pub returns-clause-solves : goal.returns-clause-solves
 returns-clause-solves c =
