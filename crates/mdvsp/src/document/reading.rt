@@ -21,6 +21,8 @@ use crate::rows::Rows;
 use std::alloc::Global;
 use vs_check::{Document, Shape};
 use vs_instance::Instance;
+use vs_plan::Plan;
+use vs_prices::Table;
 
 /// What the rows of a document of the first form give.
 #[derive(Drop)]

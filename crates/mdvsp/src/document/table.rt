@@ -13,8 +13,8 @@ use crate::form_error::FormError;
 use crate::reader::Names;
 use crate::rows::Rows;
 use std::alloc::Global;
-use vs_prices::Table;
 use vs_instance::Instance;
+use vs_prices::Table;
 use vs_types::{LayerNo, TripNo};
 
 /// The most that a price may be in either direction, in 1/1000 of a cost unit.

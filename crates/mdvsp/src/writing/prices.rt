@@ -6,8 +6,8 @@ ghost use Rattle.mdvsp.specs.DocumentText.{layer_rows, name_of};
 
 use crate::reader::Names;
 use crate::text::Text;
-use vs_prices::Table;
 use vs_instance::Instance;
+use vs_prices::Table;
 use vs_types::{LayerNo, Memory, TripNo};
 
 /// Writes a layer of a table: the price of a vehicle, and the prices of each trip that the layer may run.

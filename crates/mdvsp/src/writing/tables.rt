@@ -7,8 +7,8 @@ ghost use Rattle.mdvsp.specs.DocumentText.{table_rows};
 use super::prices::write_layer;
 use crate::reader::Names;
 use crate::text::Text;
-use vs_prices::Table;
 use vs_instance::Instance;
+use vs_prices::Table;
 use vs_types::{LayerNo, Memory};
 
 /// Writes the tables, numbered from 1 on.
