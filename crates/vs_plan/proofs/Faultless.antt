@@ -1,8 +1,7 @@
 -- Blocks without a fault are a plan, and a plan has none.
-use Rattle.std.proofs.Common.{◌≡◌, ℕ, ◌+◌, ◌-◌, ◌<◌, ◌≤◌, ◌==◌, Bool, true, false, cond, not, ltb, eqb, List, [], ◌++◌, length, get_or, map, Option, Some, None, ◌⊎◌, inl, inr, refl, sym, ap, ◌∙◌, subst, arith}
+use Rattle.std.proofs.Common.{◌≡◌, ℕ, ◌+◌, ◌-◌, ◌<◌, ◌==◌, Bool, true, false, cond, not, List, [], length, get_or, Option, Some, None, ◌⊎◌, inl, inr, refl, sym, ap, ◌∙◌, subst, arith}
 use Rattle.std.specs.Prelude.{IsSome, is_none}
-use Rattle.std.specs.Int.{bit_at}
-use Rattle.std.specs.List.{All, AllAdjacentBelow, range_with_len}
+use Rattle.std.specs.List.{All}
 use Rattle.std.proofs.lemmas.Bool.{cases_order, eq-eqb, eqb-true, eqb-false, ne_eqb, le-ltb, ltb-false, not-false}
 use Rattle.std.proofs.lemmas.List.{get_or_default}
 use Rattle.std.proofs.lemmas.List.FromFn.{get_or-map-range_with_len, length-map-range_with_len}
@@ -11,16 +10,15 @@ use Rattle.vs_types.specs.declared.numbers.LayerNo.{LayerNo}
 use Rattle.vs_types.specs.declared.numbers.TripNo.{TripNo}
 use Rattle.vs_instance.specs.Firsts.{first, when}
 use Rattle.vs_instance.specs.Problem.{Problem}
-use Rattle.vs_instance.specs.Ways.{Connects, HasPullIn, HasPullOut, Permitted, layer_of, trip_of}
-use Rattle.vs_instance.specs.Pieces.{in_piece, link_piece, out_piece}
-use Rattle.vs_instance.specs.Blocks.{IsBlock, first_of, last_of}
-use Rattle.vs_instance.specs.Plan.{IsPlan, LayerBlock, times_run, vehicles_used}
+use Rattle.vs_instance.specs.Ways.{Connects, HasPullOut, Permitted}
+use Rattle.vs_instance.specs.Blocks.{IsBlock, last_of}
+use Rattle.vs_instance.specs.Plan.{IsPlan, LayerBlock, times_run}
 use Rattle.vs_instance.proofs.Empty as empty
 use Rattle.vs_instance.proofs.Firsts.{none_from_first}
 use Rattle.vs_connect.proofs.PieceExistence.{pieces_exist}
 use Rattle.vs_plan.specs.declared.plan_fault.PlanFault.{PlanFault}
 use Rattle.vs_plan.specs.Blocks.{IsOfInstance}
-use Rattle.vs_plan.specs.PlanFaults.{arrival_faults, block_faults, blocks_faults, cover_faults, faults_of, fleet_faults, is_permitted, layer_faults, numbers, place_faults, return_faults, times_of, trip_at, trips_faults, twice, twice_faults, uncovered, uncovered_faults}
+use Rattle.vs_plan.specs.PlanFaults.{arrival_faults, block_faults, blocks_faults, cover_faults, faults_of, fleet_faults, layer_faults, place_faults, return_faults, times_of, trip_at, trips_faults, twice, uncovered}
 
 -- there is no fault in the list
 abbrev Clear : List PlanFault → Type 0
@@ -64,7 +62,8 @@ module _ (p : Problem) (b : ℕ) (l : LayerNo) (trips : List TripNo) where
             ((pieces_exist p).out l.0 (trip_at trips place)).0 (some_from_test _ (clear_when _ _ here));
         connected = λ later.
             let here = sym (cond_false (place == 0) _ _ (ne_eqb place 0 (omega arith))) ∙ parts.1 in
-            ((pieces_exist p).link l.0 (trip_at trips (place - 1)) (trip_at trips place)).0 (some_from_test _ (clear_when _ _ here));
+            ((pieces_exist p).link l.0 (trip_at trips (place - 1)) (trip_at trips place)).0
+            (some_from_test _ (clear_when _ _ here));
       }
 
   clear_from_right : (place : ℕ) → IsRight place → Clear (place_faults p b l trips place)
@@ -78,7 +77,9 @@ module _ (p : Problem) (b : ℕ) (l : LayerNo) (trips : List TripNo) where
       arrival (inr (inl below)) = absurd (omega arith)
       arrival (inr (inr later)) =
           cond_false (place == 0) _ _ (ne_eqb place 0 (omega arith))
-          ∙ when_clear _ _ (test_from_some _ (((pieces_exist p).link l.0 (trip_at trips (place - 1)) (trip_at trips place)).1 (right.connected later)))
+          ∙ when_clear _ _
+          (test_from_some _
+          (((pieces_exist p).link l.0 (trip_at trips (place - 1)) (trip_at trips place)).1 (right.connected later)))
 
 -- a block of the instance without a fault is one, and one has no fault
 module _ (p : Problem) (b : ℕ) (block : LayerBlock) where
@@ -91,14 +92,16 @@ module _ (p : Problem) (b : ℕ) (block : LayerBlock) where
     some_trip = is.some_trip;
     of_instance = is.trips;
     permitted = λ k d within.
-        subst (λ (t : TripNo). Permitted p block.0.0 t.0) (get_or_default block.1 k no_trip d within) (right k within).permitted;
+        subst (λ (t : TripNo). Permitted p block.0.0 t.0) (get_or_default block.1 k no_trip d within)
+        (right k within).permitted;
     connected = λ k d below.
         let here : k < length block.1 = omega arith in
         let next = (right (k + 1) below).connected (omega arith) in
         let before : k + 1 - 1 ≡ k = omega arith in
         let linked = subst (λ (n : ℕ). Connects p (trip_at block.1 n) (trip_at block.1 (k + 1))) before next in
         subst (λ (t : TripNo). Connects p t.0 (get_or block.1 (k + 1) d).0) (get_or_default block.1 k no_trip d here)
-        (subst (λ (t : TripNo). Connects p (trip_at block.1 k) t.0) (get_or_default block.1 (k + 1) no_trip d below) linked);
+        (subst (λ (t : TripNo). Connects p (trip_at block.1 k) t.0)
+        (get_or_default block.1 (k + 1) no_trip d below) linked);
     pull_out = (right 0 is.some_trip).pull_out refl;
     pull_in = ((pieces_exist p).back block.0.0 (last_of block.1)).0 (some_from_test _ (clear_when _ _ parts.1));
   }
@@ -109,12 +112,14 @@ module _ (p : Problem) (b : ℕ) (block : LayerBlock) where
       right : (k : ℕ) → k < length block.1 → IsRight p b block.0 block.1 k
       right k within =
           right_from_clear p b block.0 block.1 k
-          (empty.number_none (place_faults p b block.0 block.1) 0 (length block.1) parts.0 k (omega arith) (omega arith))
+          (empty.number_none (place_faults p b block.0 block.1) 0 (length block.1) parts.0 k (omega arith)
+          (omega arith))
 
   pub clear_from_block : IsBlock p block.0 block.1 → Clear (block_faults p b block)
   clear_from_block is =
       empty.none-append _ _
-      (empty.none_numbers (place_faults p b block.0 block.1) 0 (length block.1) (λ k from within. place k (omega arith)))
+      (empty.none_numbers (place_faults p b block.0 block.1) 0 (length block.1)
+      (λ k from within. place k (omega arith)))
       (when_clear _ _ (test_from_some _ (((pieces_exist p).back block.0.0 (last_of block.1)).1 is.pull_in)))
     where
       place : (k : ℕ) → k < length block.1 → Clear (place_faults p b block.0 block.1 k)
@@ -123,7 +128,8 @@ module _ (p : Problem) (b : ℕ) (block : LayerBlock) where
         pull_out = λ at. subst (λ (n : ℕ). HasPullOut p block.0.0 (trip_at block.1 n)) (sym at) is.pull_out;
         connected = λ later.
             let again : k - 1 + 1 ≡ k = omega arith in
-            subst (λ (n : ℕ). Connects p (trip_at block.1 (k - 1)) (trip_at block.1 n)) again (is.connected (k - 1) no_trip (omega arith));
+            subst (λ (n : ℕ). Connects p (trip_at block.1 (k - 1)) (trip_at block.1 n)) again
+            (is.connected (k - 1) no_trip (omega arith));
       })
 
 -- nothing is wrong, part by part
@@ -147,20 +153,33 @@ module _ (p : Problem) (blocks : List LayerBlock) where
     once = λ i within.
         let parts = empty.both_none _ _ none.cover_clear in
         let inside : i < length (times_of p blocks) = omega (arith, times_size) in
-        let often = ltb-false _ _ (clear_when _ _ (empty.each_none twice 0 (times_of p blocks) parts.0 i i 0 inside (omega arith))) in
-        let some = eqb-false _ _ (clear_when _ _ (empty.each_none uncovered 0 (times_of p blocks) parts.1 i i 0 inside (omega arith))) in
+        let often =
+        ltb-false _ _
+        (clear_when _ _ (empty.each_none twice 0 (times_of p blocks) parts.0 i i 0 inside (omega arith))) in
+        let some =
+        eqb-false _ _
+        (clear_when _ _ (empty.each_none uncovered 0 (times_of p blocks) parts.1 i i 0 inside (omega arith))) in
         sym (time_at i within) ∙ omega (arith, often, some);
     fleet = λ l within.
-        ltb-false _ _ (clear_when _ _ (empty.number_none (layer_faults p blocks) 0 (length p.layers) none.fleets_clear l (omega arith) (omega arith)));
+        ltb-false _ _
+        (clear_when _ _
+        (empty.number_none (layer_faults p blocks) 0 (length p.layers) none.fleets_clear l (omega arith)
+        (omega arith)));
   }
 
   pub faultless_from_plan : IsPlan p blocks → IsFaultless p blocks
   faultless_from_plan plan = record {
-    blocks_clear = empty.none_each (block_faults p) 0 blocks (λ k j d within is. clear_from_block p j (get_or blocks k d) (plan.each_block k d within));
+    blocks_clear =
+        empty.none_each (block_faults p) 0 blocks
+        (λ k j d within is. clear_from_block p j (get_or blocks k d) (plan.each_block k d within));
     cover_clear = empty.none-append _ _
-        (empty.none_each twice 0 (times_of p blocks) (λ k j d within is. when_clear _ _ (le-ltb 1 _ (omega (arith, once k d within)))))
-        (empty.none_each uncovered 0 (times_of p blocks) (λ k j d within is. when_clear _ _ (ne_eqb _ 0 (λ none. omega (arith, once k d within, none)))));
-    fleets_clear = empty.none_numbers (layer_faults p blocks) 0 (length p.layers) (λ l from within. when_clear _ _ (le-ltb _ _ (plan.fleet l (omega arith))));
+        (empty.none_each twice 0 (times_of p blocks)
+        (λ k j d within is. when_clear _ _ (le-ltb 1 _ (omega (arith, once k d within)))))
+        (empty.none_each uncovered 0 (times_of p blocks)
+        (λ k j d within is. when_clear _ _ (ne_eqb _ 0 (λ none. omega (arith, once k d within, none)))));
+    fleets_clear =
+        empty.none_numbers (layer_faults p blocks) 0 (length p.layers)
+        (λ l from within. when_clear _ _ (le-ltb _ _ (plan.fleet l (omega arith))));
   }
     where
       once : (k : ℕ) (d : ℕ) → k < length (times_of p blocks) → get_or (times_of p blocks) k d ≡ 1

@@ -1,18 +1,17 @@
 -- The greedy rule takes the trips in one order and places each in one way, so that it has one answer.
-use Rattle.std.proofs.Common.{◌≡◌, ℕ, zero, suc, ◌+◌, ◌<◌, List, [], ◌∷◌, ◌++◌, length, get_or, set, ◌⊎◌, inl, inr, refl, sym, ap, ◌∙◌, subst, arith}
+use Rattle.std.proofs.Common.{◌≡◌, ℕ, zero, suc, ◌<◌, List, [], ◌∷◌, ◌++◌, length, get_or, set, ◌⊎◌, inl, inr, refl, sym, ap, ◌∙◌, subst, arith}
 use Rattle.std.specs.List.{AllPairs, Contains}
 use Rattle.std.proofs.lemmas.Bool.{cases_order}
 use Rattle.vs_types.specs.declared.numbers.LayerNo.{LayerNo}
 use Rattle.vs_types.specs.declared.numbers.TripNo.{TripNo}
 use Rattle.vs_instance.specs.Problem.{Problem}
-use Rattle.vs_instance.specs.Ways.{trip_of}
 use Rattle.vs_instance.specs.Plan.{LayerBlock}
-use Rattle.vs_plan.specs.Greedy.{GreedyGetsStuck, GreedyGives, IsOrder, IsPlaced, IsStuck, Joins, Opens, Places, TakenBefore, block_at}
+use Rattle.vs_plan.specs.Greedy.{GreedyGetsStuck, GreedyGives, IsOrder, IsPlaced, IsStuck, Joins, Opens, Places, TakenBefore, block_at, longer}
 use Rattle.vs_plan.specs.Laws.{GreedyGivesOneAnswer}
-use Rattle.vs_plan.proofs.OpenBlocks.{longer}
 
 -- an element of a list is the first, or one of the rest
-uncons : (x : TripNo) (xs : List TripNo) (i : TripNo) (k : ℕ) → k < length (x ∷ xs) → get_or (x ∷ xs) k i ≡ i → (x ≡ i) ⊎ Contains xs i
+uncons : (x : TripNo) (xs : List TripNo) (i : TripNo) (k : ℕ) → k < length (x ∷ xs) → get_or (x ∷ xs) k i ≡ i
+    → (x ≡ i) ⊎ Contains xs i
 uncons x xs i zero within is = inl is
 uncons x xs i (suc k) within is = inr (k, omega arith, is)
 
@@ -33,7 +32,8 @@ module _ (p : Problem) where
   never_both_ways a b (inr e) (inr f) = let less = e.1 in let more = f.1 in omega arith
 
   -- the first of a list in order is taken before each of the rest
-  first_before : (x : TripNo) (xs : List TripNo) (i : TripNo) → AllPairs (TakenBefore p) (x ∷ xs) → Contains xs i → TakenBefore p x i
+  first_before : (x : TripNo) (xs : List TripNo) (i : TripNo) → AllPairs (TakenBefore p) (x ∷ xs) → Contains xs i
+      → TakenBefore p x i
   first_before x xs i pairs c =
       subst (TakenBefore p x) c.2 (pairs 0 (suc c.0) i (omega arith) (omega (arith, c.1)))
 
@@ -41,7 +41,8 @@ module _ (p : Problem) where
   rest_in_order x xs pairs j k d before within = pairs (suc j) (suc k) d (omega arith) (omega arith)
 
   -- of two lists in order, each first of which stands in the other, the firsts are the same
-  first_same : (x y : TripNo) (xs ys : List TripNo) → AllPairs (TakenBefore p) (x ∷ xs) → AllPairs (TakenBefore p) (y ∷ ys)
+  first_same : (x y : TripNo) (xs ys : List TripNo) → AllPairs (TakenBefore p) (x ∷ xs)
+      → AllPairs (TakenBefore p) (y ∷ ys)
       → (y ≡ x) ⊎ Contains ys x → (x ≡ y) ⊎ Contains xs y → x ≡ y
   first_same x y xs ys pairs pairs' (inl e) other = sym e
   first_same x y xs ys pairs pairs' (inr c) (inl e) = e
@@ -49,7 +50,8 @@ module _ (p : Problem) where
       absurd (never_both_ways x y (first_before x xs y pairs d) (first_before y ys x pairs' c))
 
   -- an element of the rest isn't the first
-  in_rest : (x y : TripNo) (xs ys : List TripNo) (i : TripNo) → AllPairs (TakenBefore p) (x ∷ xs) → x ≡ y → Contains xs i
+  in_rest : (x y : TripNo) (xs ys : List TripNo) (i : TripNo) → AllPairs (TakenBefore p) (x ∷ xs) → x ≡ y
+      → Contains xs i
       → (y ≡ i) ⊎ Contains ys i → Contains ys i
   in_rest x y xs ys i pairs same c (inl e) =
       let before = subst (TakenBefore p x) (sym (same ∙ e)) (first_before x xs i pairs c) in
@@ -74,22 +76,26 @@ module _ (p : Problem) where
 
   pub orders_same : (a b : List TripNo) → IsOrder p a → IsOrder p b → a ≡ b
   orders_same a b is_a is_b =
-      one_order a b is_a.in_order is_b.in_order (λ i c. (is_b.all i).1 ((is_a.all i).0 c)) (λ i c. (is_a.all i).1 ((is_b.all i).0 c))
+      one_order a b is_a.in_order is_b.in_order (λ i c. (is_b.all i).1 ((is_a.all i).0 c))
+      (λ i c. (is_a.all i).1 ((is_b.all i).0 c))
 
   -- a trip is placed in one way
-  joined_block : (old : List LayerBlock) (i : TripNo) (a b : List LayerBlock) (ja : Joins p old i a) (jb : Joins p old i b)
+  joined_block : (old : List LayerBlock) (i : TripNo) (a b : List LayerBlock) (ja : Joins p old i a)
+      (jb : Joins p old i b)
       → (ja.k ≡ jb.k) ⊎ ((ja.k < jb.k) ⊎ (jb.k < ja.k)) → ja.k ≡ jb.k
   joined_block old i a b ja jb (inl same) = same
   joined_block old i a b ja jb (inr (inl less)) = absurd (jb.first ja.k less ja.can)
   joined_block old i a b ja jb (inr (inr more)) = absurd (ja.first jb.k more jb.can)
 
-  opened_layer : (old : List LayerBlock) (i : TripNo) (a b : List LayerBlock) (oa : Opens p old i a) (ob : Opens p old i b)
+  opened_layer : (old : List LayerBlock) (i : TripNo) (a b : List LayerBlock) (oa : Opens p old i a)
+      (ob : Opens p old i b)
       → (oa.l.0 ≡ ob.l.0) ⊎ ((oa.l.0 < ob.l.0) ⊎ (ob.l.0 < oa.l.0)) → oa.l.0 ≡ ob.l.0
   opened_layer old i a b oa ob (inl same) = same
   opened_layer old i a b oa ob (inr (inl less)) = absurd (ob.lowest oa.l.0 less oa.can)
   opened_layer old i a b oa ob (inr (inr more)) = absurd (oa.lowest ob.l.0 more ob.can)
 
-  placed_once : (old : List LayerBlock) (i : TripNo) (a b : List LayerBlock) → IsPlaced p old i a → IsPlaced p old i b → a ≡ b
+  placed_once : (old : List LayerBlock) (i : TripNo) (a b : List LayerBlock) → IsPlaced p old i a
+      → IsPlaced p old i b → a ≡ b
   placed_once old i a b (inl ja) (inl jb) =
       let same = joined_block old i a b ja jb (cases_order ja.k jb.k) in
       ja.new_is ∙ ap (λ (k : ℕ). set old k (longer (block_at old k) i)) same ∙ sym jb.new_is
@@ -114,7 +120,8 @@ module _ (p : Problem) where
       let rest = places_split earlier later places.0 new places.2 in
       (rest.0, (places.0, places.1, rest.1), rest.2)
 
-  not_placed : (blocks : List LayerBlock) (i : TripNo) (new : List LayerBlock) → IsStuck p blocks i.0 → IsPlaced p blocks i new → ⊥
+  not_placed : (blocks : List LayerBlock) (i : TripNo) (new : List LayerBlock) → IsStuck p blocks i.0
+      → IsPlaced p blocks i new → ⊥
   not_placed blocks i new stuck (inl joins) = stuck.none joins.k joins.opened joins.can
   not_placed blocks i new stuck (inr opens) = stuck.no_layer opens.l.0 opens.can
 
@@ -130,7 +137,8 @@ module _ (p : Problem) where
       (subst (λ (ts : List TripNo). Places p [] ts a) same given.placed) in
       let mid = places_once stuck.earlier [] split.0 stuck.blocks split.1 stuck.placed in
       let next = split.2 in
-      not_placed stuck.blocks stuck.trip next.0 stuck.stuck (subst (λ (m : List LayerBlock). IsPlaced p m stuck.trip next.0) mid next.1)
+      not_placed stuck.blocks stuck.trip next.0 stuck.stuck
+      (subst (λ (m : List LayerBlock). IsPlaced p m stuck.trip next.0) mid next.1)
 
   pub one_answer : GreedyGivesOneAnswer p
   one_answer = record { once = gives_once; never_stuck = λ a given stuck. gives_or_stuck a given stuck }

@@ -34,7 +34,8 @@ order = ranks_by pair_cmp-total (λ (x : ℕ × ℕ). x)
 above : (s i t j : ℕ) → is_lt (pair_cmp (t, j) (s, i)) ≡ false → i ≢ j → (s < t) ⊎ ((s ≡ t) × (i < j))
 above s i t j not_below apart = grind (arith, nat_tests)
 
-module _ (p : Problem) (xs ys : List (ℕ × ℕ)) (starts : AreStarts p (length p.trips) xs) (moved : IsPermutation xs ys) (sorted : IsSorted pair_cmp ys) where
+module _ (p : Problem) (xs ys : List (ℕ × ℕ)) (starts : AreStarts p (length p.trips) xs)
+    (moved : IsPermutation xs ys) (sorted : IsSorted pair_cmp ys) where
   -- what holds of each pair
   abbrev IsStart : ℕ × ℕ → Type 0
   IsStart t = (t.0 ≡ (trip_of p t.1).start) × (t.1 < length p.trips)
@@ -78,20 +79,25 @@ module _ (p : Problem) (xs ys : List (ℕ × ℕ)) (starts : AreStarts p (length
       let starts_so : TakenBefore p (trip_at a) (trip_at b) =
       subst (λ (s : ℕ). (s < (trip_of p b.1).start) ⊎ ((s ≡ (trip_of p b.1).start) × (a.1 < b.1))) a_is.0
       (subst (λ (t : ℕ). (a.0 < t) ⊎ ((a.0 ≡ t) × (a.1 < b.1))) b_is.0 cases) in
-      subst (λ (x : TripNo). TakenBefore p x (get_or (map trip_at ys) j d)) (sym (get_or-map trip_at ys i (0, 0) d of_i))
+      subst (λ (x : TripNo). TakenBefore p x (get_or (map trip_at ys) j d))
+      (sym (get_or-map trip_at ys i (0, 0) d of_i))
       (subst (λ (y : TripNo). TakenBefore p (trip_at a) y) (sym (get_or-map trip_at ys j (0, 0) d of_j)) starts_so)
 
   all_below : All (λ (t : TripNo). t.0 < length p.trips) (map trip_at ys)
   all_below k d within =
       let of_k : k < length ys = omega (arith, length-map ys trip_at) in
-      subst (λ (t : TripNo). t.0 < length p.trips) (sym (get_or-map trip_at ys k (0, 0) d of_k)) (All-get_or IsStart ys k (0, 0) of_k starts_stay).1
+      subst (λ (t : TripNo). t.0 < length p.trips) (sym (get_or-map trip_at ys k (0, 0) d of_k))
+      (All-get_or IsStart ys k (0, 0) of_k starts_stay).1
 
   contained : (i : TripNo) → i.0 < length p.trips → Contains (map trip_at ys) i
   contained i within =
       let t : ℕ × ℕ = ((trip_of p i.0).start, i.0) in
       let in_xs : Contains xs t = (i.0, omega (arith, starts.size), starts.each i.0 t within) in
-      let in_ys = Contains-permutation xs ys t moved in_xs in
-      (in_ys.0, omega (arith, length-map ys trip_at, in_ys.1), get_or-map trip_at ys in_ys.0 t i in_ys.1 ∙ ap trip_at in_ys.2)
+      let in_ys = Contains-permutation xs ys t moved in_xs in (
+        in_ys.0,
+        omega (arith, length-map ys trip_at, in_ys.1),
+        get_or-map trip_at ys in_ys.0 t i in_ys.1 ∙ ap trip_at in_ys.2,
+      )
 
   pub IsOrder-from_sort : IsOrder p (map trip_at ys)
   IsOrder-from_sort = record {

@@ -10,8 +10,8 @@ use Rattle.vs_instance.specs.Problem.{Problem}
 use Rattle.vs_instance.specs.Ways.{layer_of, trip_of}
 use Rattle.vs_instance.specs.Blocks.{IsBlock}
 use Rattle.vs_instance.specs.Plan.{LayerBlock, IsPlan, all_trips, times_run, vehicles_used}
-use Rattle.vs_plan.specs.Greedy.{GreedyGetsStuck, IsOrder, IsPlaced, IsStuck, Joins, Opens, Places, TakenBefore, block_at}
-use Rattle.vs_plan.proofs.OpenBlocks.{longer, no_block, measure_joined, measure_opened, used_joined, used_opened_same, used_opened_other, block_joined, block_opened}
+use Rattle.vs_plan.specs.Greedy.{GreedyGetsStuck, IsOrder, IsPlaced, IsStuck, Joins, Opens, Places, TakenBefore, block_at, longer}
+use Rattle.vs_plan.proofs.OpenBlocks.{no_block, measure_joined, measure_opened, used_joined, used_opened_same, used_opened_other, block_joined, block_opened}
 
 -- how often trip i stands in a list
 abbrev times : ℕ → List TripNo → ℕ
@@ -82,7 +82,8 @@ module _ (p : Problem) where
   abbrev Is : LayerBlock → Type 0
   Is b = IsBlock p b.0 b.1
 
-  module _ (placed : List TripNo) (old : List LayerBlock) (i : TripNo) (within : i.0 < length p.trips) (so_far : Partly placed old) where
+  module _ (placed : List TripNo) (old : List LayerBlock) (i : TripNo) (within : i.0 < length p.trips)
+      (so_far : Partly placed old) where
     joined : (new : List LayerBlock) → Joins p old i new → Partly (placed ++ i ∷ []) new
     joined new joins =
         let b = block_at old joins.k in
@@ -91,15 +92,18 @@ module _ (p : Problem) where
           each_block = All-set Is old joins.k (longer b i) (block_joined p b i was within joins.can) so_far.each_block;
           runs = λ n. measure_joined (times n) (times-append n) i old joins.k joins.opened
               ∙ ap (λ (m : ℕ). m + times n (i ∷ [])) (so_far.runs n) ∙ sym (times-append n placed (i ∷ []));
-          fleet = λ l of_layer. subst (λ (n : ℕ). n ≤ (layer_of p l).fleet) (sym (used_joined old joins.k i l joins.opened)) (so_far.fleet l of_layer);
-          count = measure_joined (λ (xs : List TripNo). length xs) (λ xs ys. length-append xs ys) i old joins.k joins.opened
+          fleet = λ l of_layer. subst (λ (n : ℕ). n ≤ (layer_of p l).fleet)
+              (sym (used_joined old joins.k i l joins.opened)) (so_far.fleet l of_layer);
+          count = measure_joined (λ (xs : List TripNo). length xs)
+              (λ xs ys. length-append xs ys) i old joins.k joins.opened
               ∙ ap (λ (m : ℕ). m + 1) so_far.count ∙ sym (length_push placed i);
         })
 
     opened : (new : List LayerBlock) → Opens p old i new → Partly (placed ++ i ∷ []) new
     opened new opens =
         subst (Partly (placed ++ i ∷ [])) (sym opens.new_is) (record {
-          each_block = All-push Is old (opens.l, i ∷ []) so_far.each_block (block_opened p opens.l i old within opens.can);
+          each_block =
+              All-push Is old (opens.l, i ∷ []) so_far.each_block (block_opened p opens.l i old within opens.can);
           runs = λ n. measure_opened (times n) (times-append n) i old opens.l
               ∙ ap (λ (m : ℕ). m + times n (i ∷ [])) (so_far.runs n) ∙ sym (times-append n placed (i ∷ []));
           fleet = λ l of_layer. by_layer l of_layer (cases_eq opens.l.0 l);
@@ -111,7 +115,8 @@ module _ (p : Problem) where
             → vehicles_used (old ++ (opens.l, i ∷ []) ∷ []) l ≤ (layer_of p l).fleet
         by_layer l of_layer (inl same) =
             subst (λ (n : ℕ). vehicles_used (old ++ (opens.l, i ∷ []) ∷ []) n ≤ (layer_of p n).fleet) same
-            (let used = used_opened_same old (opens.l, i ∷ []) opens.l.0 refl in let left = opens.can.left in omega arith)
+            (let used = used_opened_same old (opens.l, i ∷ []) opens.l.0 refl in let left =
+            opens.can.left in omega arith)
         by_layer l of_layer (inr other) =
             let used = used_opened_other old (opens.l, i ∷ []) l other in
             let was = so_far.fleet l of_layer in
@@ -130,12 +135,16 @@ module _ (p : Problem) where
   }
 
   -- one more trip is placed at the end
-  pub Places-push : (trips : List TripNo) (old mid new : List LayerBlock) (i : TripNo) → Places p old trips mid → IsPlaced p mid i new
+  pub Places-push : (trips : List TripNo) (old mid new : List LayerBlock) (i : TripNo) → Places p old trips mid
+      → IsPlaced p mid i new
       → Places p old (trips ++ i ∷ []) new
-  Places-push [] old mid new i places placed = (new, subst (λ (b : List LayerBlock). IsPlaced p b i new) places placed, refl)
-  Places-push (t ∷ trips) old mid new i places placed = (places.0, places.1, Places-push trips places.0 mid new i places.2 placed)
+  Places-push [] old mid new i places placed =
+      (new, subst (λ (b : List LayerBlock). IsPlaced p b i new) places placed, refl)
+  Places-push (t ∷ trips) old mid new i places placed =
+      (places.0, places.1, Places-push trips places.0 mid new i places.2 placed)
 
-  partly_all : (trips placed : List TripNo) (old new : List LayerBlock) → All (λ t. t.0 < length p.trips) trips → Places p old trips new → Partly placed old
+  partly_all : (trips placed : List TripNo) (old new : List LayerBlock) → All (λ t. t.0 < length p.trips) trips
+      → Places p old trips new → Partly placed old
       → Partly (placed ++ trips) new
   partly_all [] placed old new below places so_far =
       subst (λ (xs : List TripNo). Partly xs new) (sym (append-nil placed)) (subst (Partly placed) (sym places) so_far)
@@ -143,13 +152,16 @@ module _ (p : Problem) where
       let within = All-head (λ (t : TripNo). t.0 < length p.trips) i trips below in
       let more = partly_more placed old i within so_far places.0 places.1 in
       subst (λ (xs : List TripNo). Partly xs new) (append_assoc placed (i ∷ []) trips)
-      (partly_all trips (placed ++ i ∷ []) places.0 new (All-tail (λ (t : TripNo). t.0 < length p.trips) i trips below) places.2 more)
+      (partly_all trips (placed ++ i ∷ []) places.0 new
+      (All-tail (λ (t : TripNo). t.0 < length p.trips) i trips below) places.2 more)
 
-  pub partly_from_places : (trips : List TripNo) (blocks : List LayerBlock) → All (λ t. t.0 < length p.trips) trips → Places p [] trips blocks → Partly trips blocks
+  pub partly_from_places : (trips : List TripNo) (blocks : List LayerBlock) → All (λ t. t.0 < length p.trips) trips
+      → Places p [] trips blocks → Partly trips blocks
   partly_from_places trips blocks below places = partly_all trips [] [] blocks below places partly_none
 
   -- once all trips are placed the blocks are a plan
-  pub IsPlan-from_places : (order : List TripNo) (blocks : List LayerBlock) → IsOrder p order → Places p [] order blocks → IsPlan p blocks
+  pub IsPlan-from_places : (order : List TripNo) (blocks : List LayerBlock) → IsOrder p order
+      → Places p [] order blocks → IsPlan p blocks
   IsPlan-from_places order blocks is places =
       let all = partly_from_places order blocks (order_below order is) places in
       record {
@@ -159,14 +171,18 @@ module _ (p : Problem) where
       }
 
   -- a trip that can be placed nowhere, after those before it in the order
-  pub stuck_at : (order : List TripNo) (k : ℕ) (d : TripNo) (blocks : List LayerBlock) → IsOrder p order → k < length order
+  pub stuck_at : (order : List TripNo) (k : ℕ) (d : TripNo) (blocks : List LayerBlock) → IsOrder p order
+      → k < length order
       → Places p [] (take k order) blocks → IsStuck p blocks (get_or order k d).0 → GreedyGetsStuck p
   stuck_at order k d blocks is within places stuck = record {
     earlier = take k order;
     trip = get_or order k d;
     later = drop (k + 1) order;
     blocks = blocks;
-    is_order = subst (IsOrder p) (sym (take-append-drop k order) ∙ ap (λ (xs : List TripNo). take k order ++ xs) (drop_more order k d within)) is;
+    is_order =
+        subst (IsOrder p)
+        (sym (take-append-drop k order)
+        ∙ ap (λ (xs : List TripNo). take k order ++ xs) (drop_more order k d within)) is;
     placed = places;
     stuck = stuck;
   }

@@ -1,5 +1,5 @@
 -- The blocks of a plan as pairs of a layer and its trips, and which of them can be judged.
-use Rattle.std.specs.Prelude.{ℕ, ◌<◌, ◌^◌, List, map, length, All}
+use Rattle.std.specs.Prelude.{◌<◌, ◌^◌, List, map, length, All}
 use Rattle.vs_instance.specs.Problem.{Problem}
 use Rattle.vs_instance.specs.Plan.{LayerBlock, all_trips}
 use Rattle.vs_plan.specs.declared.block.Block.{Block}

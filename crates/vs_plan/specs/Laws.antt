@@ -1,5 +1,5 @@
 -- What holds of the greedy rule and of faults in every instance.
-use Rattle.std.specs.Prelude.{◌≡◌, List, []}
+use Rattle.std.specs.Prelude.{◌≡◌, List}
 use Rattle.vs_instance.specs.Problem.{Problem}
 use Rattle.vs_instance.specs.Plan.{LayerBlock}
 use Rattle.vs_plan.specs.Greedy.{GreedyGives, GreedyGetsStuck}

@@ -29,9 +29,17 @@ impl Model for CheckedPlan {
 
     ghost coded = { coded_checked };
 
-    ghost view = { λ c. record { problem = c.instance.value; blocks = blocks_of c.plan; cost = c.cost } };
+    ghost view = { λ c. record {
+      problem = c.instance.value;
+      blocks = blocks_of c.plan;
+      cost = c.cost;
+    } };
 
-    ghost invariant = { λ c. IsChecked (record { problem = c.instance.value; blocks = blocks_of c.plan; cost = c.cost }) };
+    ghost invariant = { λ c. IsChecked (record {
+      problem = c.instance.value;
+      blocks = blocks_of c.plan;
+      cost = c.cost;
+    }) };
 }
 
 impl CheckedPlan {
@@ -68,6 +76,7 @@ impl CheckedPlan {
     /// What the plan costs, in cost units.
     pub fn cost(&self) -> i64
         ensures value { result ≡ self.now.cost }
+        ensures limit { result ≤ℤ MAX_PLAN_COST }
         ensures checked { IsChecked self.now }
     {
         self.cost

@@ -25,7 +25,8 @@ fn count_trips(counts: &mut [u32], trips: &[TripNo])
 /// How often each trip of the instance stands in the blocks, in number order.
 fn times_run(alloc: Global, instance: &Instance, blocks: &[Block]) -> Result<Vec<u32>, Memory>
     requires { CanBeJudged instance.now (pairs_of blocks.now) }
-    ensures times { IfOk result (λ times. times.items ≡ times_of instance.now (pairs_of blocks.now)) }
+    ensures times { IfOk result
+        (λ times. times.items ≡ times_of instance.now (pairs_of blocks.now)) }
     ensures few { IfOk result (λ times. length times.items ≤ MAX_TRIPS) }
 {
     let mut times = vec![in alloc; 0; instance.trips() as usize]?;
@@ -68,7 +69,8 @@ pub fn cover_fault(
     blocks: &[Block],
 ) -> Result<Option<PlanFault>, Memory>
     requires { CanBeJudged instance.now (pairs_of blocks.now) }
-    ensures { IfOk result (λ fault. fault ≡ first (cover_faults instance.now (pairs_of blocks.now))) }
+    ensures { IfOk result
+        (λ fault. fault ≡ first (cover_faults instance.now (pairs_of blocks.now))) }
 {
     let times = times_run(alloc, instance, blocks)?;
     match twice_fault(&times) {

@@ -1,5 +1,5 @@
-ghost use Rattle.std.specs.Prelude.{◌≡◌, ℕ, ◌<◌, ◌↔◌, ◌++◌, ◌∷◌, [], length, All, IfOk, OnOk, IsTrue, MatchBool, MatchOption, set, slice_index, slice_set, ◌-◌};
-ghost use Rattle.vs_plan.specs.Greedy.{AreLeft, CanJoin, CanOpen, IsPlaced, IsStuck, JoinsNone, block_at};
+ghost use Rattle.std.specs.Prelude.{◌≡◌, ◌<◌, ◌↔◌, [], length, All, IfOk, OnOk, IsTrue, MatchBool, MatchOption, slice_index};
+ghost use Rattle.vs_plan.specs.Greedy.{AreLeft, CanJoin, CanOpen, IsFirstToJoin, IsLowestToOpen, IsPlaced, IsStuck, JoinsNone, OpensNone, joined, one_fewer, opened};
 ghost use Rattle.vs_plan.specs.Blocks.{pair_of, pairs_of};
 ghost use Rattle.vs_plan.specs.Blocks.{IsOfInstance};
 ghost use Rattle.vs_instance.specs.Instance.{IsInstance};
@@ -54,9 +54,9 @@ impl Draft {
         requires instance { IsInstance instance.now }
         requires blocks { All (IsOfInstance instance.now) (pairs_of self.now.blocks.items) }
         requires trip { i.0 < length instance.now.trips }
-        ensures { MatchOption result (JoinsNone instance.now (pairs_of self.now.blocks.items) i.0) (λ k. (k < length self.now.blocks.items)
-            × CanJoin instance.now i.0 (block_at (pairs_of self.now.blocks.items) k)
-            × ((m : ℕ) → m < k → ¬ (CanJoin instance.now i.0 (block_at (pairs_of self.now.blocks.items) m)))) }
+        ensures { let blocks = pairs_of self.now.blocks.items in
+            MatchOption result (JoinsNone instance.now blocks i.0)
+            (IsFirstToJoin instance.now blocks i.0) }
     {
         for (k, block) in self.blocks.iter().enumerate() {
             if can_join(instance, block, i) {
@@ -85,9 +85,9 @@ impl Draft {
         requires instance { IsInstance instance.now }
         requires left { AreLeft instance.now (pairs_of self.now.blocks.items) self.now.left.items }
         requires trip { i.0 < length instance.now.trips }
-        ensures { MatchOption result ((l : ℕ) → ¬ (CanOpen instance.now (pairs_of self.now.blocks.items) i.0 l))
-            (λ l. CanOpen instance.now (pairs_of self.now.blocks.items) i.0 l.0
-            × ((m : ℕ) → m < l.0 → ¬ (CanOpen instance.now (pairs_of self.now.blocks.items) i.0 m))) }
+        ensures { let blocks = pairs_of self.now.blocks.items in
+            MatchOption result (OpensNone instance.now blocks i.0)
+            (λ l. IsLowestToOpen instance.now blocks i.0 l.0) }
     {
         for l in 0..instance.layers() {
             if self.can_open(instance, i, LayerNo(l)) {
@@ -100,8 +100,8 @@ impl Draft {
     /// Puts trip i to the end of block k.
     fn join(&mut self, k: usize, i: TripNo) -> Result<(), Memory>
         requires { k < length self.old.blocks.items }
-        ensures blocks { OnOk result (pairs_of self.new.blocks.items ≡ set (pairs_of self.old.blocks.items) k
-            ((block_at (pairs_of self.old.blocks.items) k).0, (block_at (pairs_of self.old.blocks.items) k).1 ++ i ∷ [])) }
+        ensures blocks { OnOk result
+            (pairs_of self.new.blocks.items ≡ joined (pairs_of self.old.blocks.items) k i) }
         ensures left { self.new.left.items ≡ self.old.left.items }
     {
         self.blocks[k].trips.push(i)?;
@@ -112,8 +112,9 @@ impl Draft {
     fn open(&mut self, alloc: Global, l: LayerNo, i: TripNo) -> Result<(), Memory>
         requires layer { l.0 < length self.old.left.items }
         requires left { 0 < slice_index self.old.left.items l.0 }
-        ensures blocks { OnOk result (pairs_of self.new.blocks.items ≡ pairs_of self.old.blocks.items ++ (l, i ∷ []) ∷ []) }
-        ensures left { OnOk result (self.new.left.items ≡ slice_set self.old.left.items l.0 (slice_index self.old.left.items l.0 - 1)) }
+        ensures blocks { OnOk result
+            (pairs_of self.new.blocks.items ≡ opened (pairs_of self.old.blocks.items) l i) }
+        ensures left { OnOk result (self.new.left.items ≡ one_fewer self.old.left.items l.0) }
     {
         let trips = vec![in alloc; i]?;
         self.blocks.push(Block { layer: l, trips })?;
@@ -128,11 +129,14 @@ impl Draft {
         requires blocks { All (IsOfInstance instance.now) (pairs_of self.old.blocks.items) }
         requires left { AreLeft instance.now (pairs_of self.old.blocks.items) self.old.left.items }
         requires trip { i.0 < length instance.now.trips }
-        ensures placed { IfOk result (λ is. MatchBool is
-            (IsPlaced instance.now (pairs_of self.old.blocks.items) i (pairs_of self.new.blocks.items))
-            (IsStuck instance.now (pairs_of self.old.blocks.items) i.0)) }
-        ensures left { OnOk result (AreLeft instance.now (pairs_of self.new.blocks.items) self.new.left.items) }
-        ensures blocks { OnOk result (All (IsOfInstance instance.now) (pairs_of self.new.blocks.items)) }
+        ensures placed { let old = pairs_of self.old.blocks.items in
+            IfOk result (λ is. MatchBool is
+            (IsPlaced instance.now old i (pairs_of self.new.blocks.items))
+            (IsStuck instance.now old i.0)) }
+        ensures left { OnOk result
+            (AreLeft instance.now (pairs_of self.new.blocks.items) self.new.left.items) }
+        ensures blocks { OnOk result
+            (All (IsOfInstance instance.now) (pairs_of self.new.blocks.items)) }
     {
         if let Some(k) = self.first_to_join(instance, i) {
             self.join(k, i)?;

@@ -135,7 +135,8 @@ fn joint_fault(
     blocks: &[Block],
 ) -> Result<Option<PlanFault>, Memory>
     requires { CanBeJudged instance.now (pairs_of blocks.now) }
-    ensures { IfOk result (λ fault. fault ≡ first (joint_faults instance.now (pairs_of blocks.now))) }
+    ensures { IfOk result
+        (λ fault. fault ≡ first (joint_faults instance.now (pairs_of blocks.now))) }
 {
     match cover_fault(alloc, instance, blocks)? {
         Some(fault) => Ok(Some(fault)),

@@ -22,3 +22,6 @@ pub use laws::{blocks_cost_their_pieces, greedy_gives_one_answer};
 pub use plan::Plan;
 pub use plan_fault::{PlanError, PlanFault};
 pub use planning::greedy;
+
+#[cfg(test)]
+mod tests;

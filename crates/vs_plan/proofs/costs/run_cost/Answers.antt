@@ -7,7 +7,8 @@ use Rattle.vs_plan.proofs.costs.run_cost.Goals as goal
 few : (c : goal.After-run_metres-metres) → length c.args.trips.now ≤ 2880
 few c = few_in_block c.args.instance.now c.args.l c.args.trips.now c.requires.instance c.requires.block
 
-within : (c : goal.After-run_metres-metres) → c.layer-rates.result.now.fixed + c.layer-rates.result.now.per_minute * c.from-minutes.result
+within : (c : goal.After-run_metres-metres)
+    → c.layer-rates.result.now.fixed + c.layer-rates.result.now.per_minute * c.from-minutes.result
     + c.layer-rates.result.now.per_metre * c.run_metres-metres.result ≤ 50000000000 * length c.args.trips.now
 within c =
     let l = c.requires.instance.layers c.args.l.0 no_layer c.requires.block.layer in

@@ -4,5 +4,10 @@ use Rattle.vs_plan.proofs.costs.ways_metres.Goals as goal
 
 pub returns-clause-value : goal.returns-clause-value
 returns-clause-value c =
-    let short : length (drop (c.loop-place.place - 1) c.args.trips.now) ≤ 1 = omega (arith, length-drop (c.loop-place.place - 1) c.args.trips.now) in
-    omega (arith, no_ways c.args.instance.now (drop (c.loop-place.place - 1) c.args.trips.now) short, c.loop-place.invariant.value)
+    let short : length (drop (c.loop-place.place - 1) c.args.trips.now) ≤ 1 =
+    omega (arith, length-drop (c.loop-place.place - 1) c.args.trips.now) in
+    omega (
+      arith,
+      no_ways c.args.instance.now (drop (c.loop-place.place - 1) c.args.trips.now) short,
+      c.loop-place.invariant.value,
+    )

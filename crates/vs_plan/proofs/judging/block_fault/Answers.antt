@@ -7,14 +7,17 @@ pub returns-in-Some : goal.returns-in-Some
 returns-in-Some c =
     let p = c.args.instance.now in
     let trips = c.args.block.now.trips.items in
-    let found = first_below-found (place_faults p c.args.b c.args.block.now.layer trips) c.loop-place.place (length trips) _
+    let found =
+    first_below-found (place_faults p c.args.b c.args.block.now.layer trips) c.loop-place.place (length trips) _
     c.loop-place.invariant c.in-Some.fault (omega arith) c.in-Some.ensures in
-    sym (first-stop (trips_faults p c.args.b c.args.block.now.layer trips) (return_faults p c.args.b c.args.block.now.layer trips) c.in-Some.fault (sym found))
+    sym (first-stop (trips_faults p c.args.b c.args.block.now.layer trips)
+    (return_faults p c.args.b c.args.block.now.layer trips) c.in-Some.fault (sym found))
 
 pub loop-place-preserved : goal.loop-place-preserved
 loop-place-preserved c =
     let trips = c.args.block.now.trips.items in
-    first_below-step (place_faults c.args.instance.now c.args.b c.args.block.now.layer trips) c.loop-place.place (length trips) _
+    first_below-step (place_faults c.args.instance.now c.args.b c.args.block.now.layer trips) c.loop-place.place
+    (length trips) _
     c.loop-place.invariant (omega arith) c.in_default.ensures
 
 pub returns : goal.returns
@@ -22,6 +25,8 @@ returns c =
     let p = c.args.instance.now in
     let trips = c.args.block.now.trips.items in
     let none = sym c.loop-place.invariant
-    ∙ first_below-past (place_faults p c.args.b c.args.block.now.layer trips) c.loop-place.place (length trips) (omega arith) in
+    ∙ first_below-past (place_faults p c.args.b c.args.block.now.layer trips) c.loop-place.place (length trips)
+    (omega arith) in
     c.return_fault.ensures
-    ∙ sym (first-skip (trips_faults p c.args.b c.args.block.now.layer trips) (return_faults p c.args.b c.args.block.now.layer trips) none)
+    ∙ sym (first-skip (trips_faults p c.args.b c.args.block.now.layer trips)
+    (return_faults p c.args.b c.args.block.now.layer trips) none)

@@ -16,12 +16,15 @@ pub block_fault-requires-clause-block : goal.block_fault-requires-clause-block
 block_fault-requires-clause-block c =
     let bs = c.args.blocks.now in
     let b = c.index-blocks-b.result in
-    subst (IsOfInstance c.args.instance.now) (pair_at bs c.loop-b.b b (pair_of b) c.loop-b-test.true c.index-blocks-b.is)
+    subst (IsOfInstance c.args.instance.now)
+    (pair_at bs c.loop-b.b b (pair_of b) c.loop-b-test.true c.index-blocks-b.is)
     (c.requires.of_instance c.loop-b.b (pair_of b) (inside_pairs bs c.loop-b.b c.loop-b-test.true))
 
 pub block_fault-requires-clause-few : goal.block_fault-requires-clause-few
 block_fault-requires-clause-few c =
-    let more = one_more c.args.instance.now c.args.blocks.now c.loop-b.b c.index-blocks-b.result c.loop-b-test.true c.index-blocks-b.is in
+    let more =
+    one_more c.args.instance.now c.args.blocks.now c.loop-b.b c.index-blocks-b.result c.loop-b-test.true
+    c.index-blocks-b.is in
     omega (arith, more.within, c.requires.few_trips)
 
 pub returns-in-Some : goal.returns-in-Some
@@ -31,7 +34,8 @@ returns-in-Some c =
     let at = pair_at bs c.loop-b.b b (pair_of b) c.loop-b-test.true c.index-blocks-b.is in
     sym (first_from-here (block_faults c.args.instance.now) (pairs_of bs) c.loop-b.b (pair_of b) c.in-Some.fault
     (inside_pairs bs c.loop-b.b c.loop-b-test.true)
-    (ap (λ (x : LayerBlock). first (block_faults c.args.instance.now c.loop-b.b x)) at ∙ sym c.block_fault.ensures ∙ c.in-Some.is))
+    (ap (λ (x : LayerBlock). first (block_faults c.args.instance.now c.loop-b.b x)) at ∙ sym c.block_fault.ensures
+    ∙ c.in-Some.is))
     ∙ c.loop-b.invariant
 
 pub loop-b-preserved : goal.loop-b-preserved
@@ -39,8 +43,10 @@ loop-b-preserved c =
     let bs = c.args.blocks.now in
     let b = c.index-blocks-b.result in
     let at = pair_at bs c.loop-b.b b (pair_of b) c.loop-b-test.true c.index-blocks-b.is in
-    first_from-more (block_faults c.args.instance.now) (pairs_of bs) c.loop-b.b (pair_of b) (inside_pairs bs c.loop-b.b c.loop-b-test.true)
-    (ap (λ (x : LayerBlock). first (block_faults c.args.instance.now c.loop-b.b x)) at ∙ sym c.block_fault.ensures ∙ c.in_default.is)
+    first_from-more (block_faults c.args.instance.now) (pairs_of bs) c.loop-b.b (pair_of b)
+    (inside_pairs bs c.loop-b.b c.loop-b-test.true)
+    (ap (λ (x : LayerBlock). first (block_faults c.args.instance.now c.loop-b.b x)) at ∙ sym c.block_fault.ensures
+    ∙ c.in_default.is)
     ∙ c.loop-b.invariant
 
 pub returns : goal.returns

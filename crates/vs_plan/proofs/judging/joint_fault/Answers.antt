@@ -18,4 +18,5 @@ pub returns-in-None : goal.returns-in-None
 returns-in-None c =
     let p = c.args.instance.now in
     let bs = pairs_of c.args.blocks.now in
-    c.fleet_fault.ensures ∙ sym (first-skip (cover_faults p bs) (fleet_faults p bs) (sym c.in_ok-fault.ensures ∙ c.in-None.is))
+    c.fleet_fault.ensures
+    ∙ sym (first-skip (cover_faults p bs) (fleet_faults p bs) (sym c.in_ok-fault.ensures ∙ c.in-None.is))

@@ -21,16 +21,21 @@ module _ (p : Problem) (slice blocks : List Block) (same : slice ≡ blocks) (fa
 
 pub returns-in-Some-clause-refused : goal.returns-in-Some-clause-refused
 returns-in-Some-clause-refused c = λ _.
-    refuses c.args.instance.now (blocks_of c.args.plan.now) c.in-Some.fault (sym (found c.args.instance.now _ _ c.as_slice-blocks.ensures.value _ c.in_ok-fault.ensures) ∙ c.in-Some.is)
+    refuses c.args.instance.now (blocks_of c.args.plan.now) c.in-Some.fault
+    (sym (found c.args.instance.now _ _ c.as_slice-blocks.ensures.value _ c.in_ok-fault.ensures) ∙ c.in-Some.is)
 
 pub blocks_cost-requires : goal.blocks_cost-requires
 blocks_cost-requires c =
     subst (λ (bs : List Block). IsPlan c.args.instance.now (pairs_of bs)) (sym c.as_slice-blocks.ensures.value)
-    (is_plan c.args.instance.now _ _ c.as_slice-blocks.ensures.value _ c.in_ok-fault.ensures c.requires.of_instance c.in-None.is)
+    (is_plan c.args.instance.now _ _ c.as_slice-blocks.ensures.value _ c.in_ok-fault.ensures c.requires.of_instance
+    c.in-None.is)
 
 pub returns-in-None-clause-plan : goal.returns-in-None-clause-plan
 returns-in-None-clause-plan c =
     let value = c.blocks_cost.ensures.value
     ∙ ap (λ (bs : List Block). pos (plan_cost c.args.instance.now (pairs_of bs))) c.as_slice-blocks.ensures.value in
-    let fits = c.blocks_cost.type_inv in
-    (is_plan c.args.instance.now _ _ c.as_slice-blocks.ensures.value _ c.in_ok-fault.ensures c.requires.of_instance c.in-None.is, omega (arith, ints))
+    let fits = c.blocks_cost.type_inv in (
+      is_plan c.args.instance.now _ _ c.as_slice-blocks.ensures.value _ c.in_ok-fault.ensures c.requires.of_instance
+          c.in-None.is,
+      omega (arith, ints),
+    )

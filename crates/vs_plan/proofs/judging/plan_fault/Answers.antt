@@ -10,11 +10,13 @@ pub returns-in-Some : goal.returns-in-Some
 returns-in-Some c =
     let p = c.args.instance.now in
     let bs = pairs_of c.args.blocks.now in
-    sym (first-stop (blocks_faults p bs) (joint_faults p bs) c.in-Some.fault (sym c.blocks_fault.ensures ∙ c.in-Some.is))
+    sym (first-stop (blocks_faults p bs) (joint_faults p bs) c.in-Some.fault
+    (sym c.blocks_fault.ensures ∙ c.in-Some.is))
 
 pub returns-in-None : goal.returns-in-None
 returns-in-None c =
     let p = c.args.instance.now in
     let bs = pairs_of c.args.blocks.now in
     subst (λ (o : Option PlanFault). IfOk c.joint_fault.result (λ fault. fault ≡ o))
-    (sym (first-skip (blocks_faults p bs) (joint_faults p bs) (sym c.blocks_fault.ensures ∙ c.in-None.is))) c.joint_fault.ensures
+    (sym (first-skip (blocks_faults p bs) (joint_faults p bs) (sym c.blocks_fault.ensures ∙ c.in-None.is)))
+    c.joint_fault.ensures

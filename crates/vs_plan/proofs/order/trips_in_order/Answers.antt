@@ -11,6 +11,7 @@ returns-clause-order c =
     let ys = c.sort_unstable.new.self.items in
     let n : c.loop-i.i ≡ length p.trips = omega arith in
     let starts : AreStarts p (length p.trips) xs = subst (λ (k : ℕ). AreStarts p k xs) n c.loop-i.invariant in
-    let all : take c.loop-i-2.i-index c.deref-i-items.result.now ≡ ys = take_all _ _ c.loop-i-2-test.false ∙ c.deref-i-items.ensures.value in
+    let all : take c.loop-i-2.i-index c.deref-i-items.result.now ≡ ys =
+    take_all _ _ c.loop-i-2-test.false ∙ c.deref-i-items.ensures.value in
     subst (IsOrder p) (sym (c.loop-i-2.invariant ∙ ap (map trip_at) all))
     (IsOrder-from_sort p xs ys starts c.sort_unstable.ensures.permutation c.sort_unstable.ensures.sorted)
