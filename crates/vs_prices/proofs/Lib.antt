@@ -11,3 +11,4 @@ pub mod NoBreaks
 pub mod FirstBreaks
 pub mod Worths
 pub mod RealBreaks
+pub mod Examples
