@@ -1,0 +1,4 @@
+pub mod ReaderNames
+pub mod ReaderNumbers
+pub mod Parts
+pub mod RowPlaces

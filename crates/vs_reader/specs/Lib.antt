@@ -1,0 +1,15 @@
+pub mod Rows
+pub mod RowEnds
+pub mod Numbers
+pub mod Names
+pub mod NameRules
+pub mod NameCodes
+pub mod Kinds
+pub mod InstanceText
+pub mod Rules
+pub mod Judged
+pub mod Refusals
+pub mod Texts
+pub mod Drafts
+pub mod Left
+pub mod ReadErrors
