@@ -1,7 +1,7 @@
 -- What a draft holds, and what is true of it.
 use Rattle.std.specs.Prelude.{◌≡◌, ℕ, ◌<◌, ◌≤◌, Bool, if◌then◌else◌, List, [], ◌∷◌, ◌++◌, length, All, AllPairs, Option}
 use Rattle.vs_types.specs.LayerSet.{Has}
-use Rattle.vs_reader.specs.declared.limits.TheConstants.{MAX_STOPS, MAX_LAYERS, MAX_TRIPS}
+use Rattle.vs_instance.specs.declared.limits.TheConstants.{MAX_STOPS, MAX_LAYERS, MAX_TRIPS, TWO_DAYS}
 use Rattle.vs_reader.specs.declared.draft.Draft.{Draft}
 use Rattle.vs_reader.specs.declared.kind.Kind.{Kind}
 use Rattle.vs_reader.specs.Rows.{Field, Row, field_of}
@@ -65,6 +65,6 @@ pub record IsSound (d : Declared) : Type 0 where
   pub depots : All (λ l. l.depot.0 < length d.names.stops) d.layers
   pub deadheads : All (λ h. (h.from.0 < length d.names.stops) × (h.to.0 < length d.names.stops)) d.deadheads
   pub trip_stops : All (λ t. (t.from.0 < length d.names.stops) × (t.to.0 < length d.names.stops)) d.trips
-  pub trip_times : All (λ t. (t.start < 2880) × (t.end < 2880)) d.trips
+  pub trip_times : All (λ t. (t.start < TWO_DAYS) × (t.end < 2880)) d.trips
   pub some_layer : All (λ t. (l : ℕ) × Has t.layers l) d.trips
   pub trip_layers : All (λ t. (l : ℕ) → Has t.layers l → l < length d.names.layers) d.trips

@@ -1,6 +1,6 @@
 ghost use Rattle.std.specs.Prelude.{◌≡◌, ◌≤◌, List, [], length, codes, slice_index_or};
 ghost use Rattle.csv.specs.Records.{fields_of};
-ghost use Rattle.vs_reader.specs.declared.limits.TheConstants.{MAX_LAYERS};
+ghost use Rattle.vs_instance.specs.declared.limits.TheConstants.{MAX_LAYERS};
 ghost use Rattle.vs_reader.specs.Rows.{Row, field_of};
 ghost use Rattle.vs_reader.specs.Refusals.{misfit_row};
 ghost use Rattle.vs_reader.specs.InstanceText.{AddsStop, AddsDeadhead, AddsLayer, AddsTrip, nothing_yet};

@@ -18,7 +18,7 @@ mod rows;
 mod time;
 
 pub use input::Input;
-pub use limits::{MAX_BYTES, MAX_LAYERS, MAX_STOPS, MAX_TRIPS};
+pub use limits::MAX_BYTES;
 pub use names::Names;
 pub use reading::read;
 pub use refused::{ReadError, Refused, Why};

@@ -77,10 +77,11 @@ impl NameList {
     {
         let alloc = *self.names.allocator();
         let number = self.names.len() as u32;
-        self.names.push(text(alloc, name)?)?;
-        if self.numbers.insert(text(alloc, name)?, number).is_err() {
-            return Err(Memory);
-        }
+        let added = text(alloc, name)?;
+        let key = text(alloc, name)?;
+        self.names.reserve(1)?;
+        self.numbers.insert(key, number)?;
+        self.names.push(added)?;
         Ok(())
     }
 }

@@ -1,7 +1,7 @@
-ghost use Rattle.std.specs.Prelude.{◌≡◌, IsTrue, ◌↔◌};
+ghost use Rattle.std.specs.Prelude.{◌≡◌};
 ghost use Rattle.csv.specs.Records.{fields_of};
 ghost use Rattle.vs_reader.specs.Rows.{field_of};
-ghost use Rattle.vs_reader.specs.Kinds.{header, is_result};
+ghost use Rattle.vs_reader.specs.Kinds.{is_header, is_result};
 ghost use Rattle.vs_reader.specs.declared.record.RecordError.TheVariants as error;
 
 use crate::kind::is_text;
@@ -51,7 +51,7 @@ pub fn field(record: &ByteRecord, k: usize) -> &[u8]
 
 /// Whether a record is `instance`, `1`.
 pub fn is_header(record: &ByteRecord) -> bool
-    ensures { IsTrue result ↔ (fields_of record.now ≡ header) }
+    ensures { result ≡ is_header (fields_of record.now) }
 {
     record.len() == 2 && is_text(field(record, 0), "instance") && is_text(field(record, 1), "1")
 }

@@ -1,7 +1,7 @@
 //! The records of each kind, judged in the order of their rules.
 ghost use Rattle.std.specs.Prelude.{◌≡◌, ℕ, ◌<◌, ◌≤◌, [], ◌∷◌, length, drop, codes};
 ghost use Rattle.csv.specs.Records.{fields_of};
-ghost use Rattle.vs_reader.specs.declared.limits.TheConstants.{MAX_LAYERS};
+ghost use Rattle.vs_instance.specs.declared.limits.TheConstants.{MAX_LAYERS};
 ghost use Rattle.vs_reader.specs.Rows.{field_of};
 ghost use Rattle.vs_reader.specs.Numbers.{IsNumber, IsTime};
 ghost use Rattle.vs_reader.specs.Names.{Names as Numbered};
@@ -9,7 +9,7 @@ ghost use Rattle.vs_reader.specs.InstanceText.{DeadheadRow, LayerRow, TripRow, N
 ghost use Rattle.vs_reader.specs.Rules.{WritesName, WritesNumber, WritesTime, new_name, known_name, layer_names, stop_rules, deadhead_rules, layer_rules, trip_rules};
 ghost use Rattle.vs_reader.specs.Judged.{Judged};
 
-use crate::limits::{MAX_LAYERS, MAX_STOPS, MAX_TRIPS};
+use vs_instance::{MAX_LAYERS, MAX_STOPS, MAX_TRIPS};
 use crate::name::name;
 use crate::names::Names;
 use crate::number::number;
@@ -32,7 +32,7 @@ pub fn stop<'r>(names: &Names, record: &'r ByteRecord) -> Result<&'r [u8], Why>
     if names.stop_of(name).is_some() {
         return Err(Why::NameTwice);
     }
-    if names.stops() >= MAX_STOPS {
+    if names.stops() >= MAX_STOPS as usize {
         return Err(Why::TooMany);
     }
     Ok(name.as_bytes())
@@ -77,7 +77,7 @@ pub fn layer(names: &Names, record: &ByteRecord) -> Result<Layer, Why>
     let fixed = written_number(field(record, 4))?;
     let per_minute = written_number(field(record, 5))?;
     let per_metre = written_number(field(record, 6))?;
-    if names.layers() >= MAX_LAYERS {
+    if names.layers() >= MAX_LAYERS as usize {
         return Err(Why::TooMany);
     }
     Ok(Layer {
@@ -109,7 +109,7 @@ pub fn trip(names: &Names, record: &ByteRecord) -> Result<Trip, Why>
     let end = written_time(field(record, 5))?;
     let metres = written_number(field(record, 6))?;
     let layers = named_layers(names, record)?;
-    if names.trips() >= MAX_TRIPS {
+    if names.trips() >= MAX_TRIPS as usize {
         return Err(Why::TooMany);
     }
     Ok(Trip {
@@ -156,10 +156,10 @@ fn known_stop(names: &Names, field: &[u8]) -> Result<StopNo, Why>
     names.stop_of(name).ok_or(Why::UnknownName)
 }
 
-/// The layer that a field names.
+/// The one layer that a field names.
 fn known_layer(names: &Names, field: &[u8]) -> Result<LayerNo, Why>
-    ensures { Judged (known_name names.now.layers field.now)
-        (λ l. Numbered names.now.layers field.now l.0) result }
+    ensures { Judged (known_name names.now.layers field.now) (λ l. Numbered names.now.layers field.now l.0
+        × ((j : ℕ) → Numbered names.now.layers field.now j → j ≡ l.0)) result }
 {
     let name = written_name(field)?;
     names.layer_of(name).ok_or(Why::UnknownName)

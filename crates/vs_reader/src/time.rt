@@ -1,4 +1,5 @@
 ghost use Rattle.std.specs.Prelude.{◌≡◌, ℕ, ◌<◌, MatchOption};
+ghost use Rattle.vs_instance.specs.declared.limits.TheConstants.{TWO_DAYS};
 ghost use Rattle.vs_reader.specs.Numbers.{IsTime};
 
 use crate::number::digits;
@@ -8,7 +9,7 @@ use crate::number::digits;
 pub fn time(field: &[u8]) -> Option<u32>
     ensures { MatchOption result
         ((t : ℕ) → ¬ (IsTime field.now t))
-        (λ t. IsTime field.now t × (t < 2880)) }
+        (λ t. IsTime field.now t × (t < TWO_DAYS)) }
 {
     if field.len() < 3 {
         return None;
