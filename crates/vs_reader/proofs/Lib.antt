@@ -6,3 +6,11 @@ pub mod RecordFields
 pub mod ReaderNumbers
 pub mod Parts
 pub mod RowPlaces
+pub mod RowBuilderLemmas
+pub mod CsvRecords
+pub mod LeftLemmas
+pub mod RowsSayOne
+pub mod KindLemmas
+pub mod DeclaredLemmas
+pub mod DeclaredParts
+pub mod RefusedLemmas

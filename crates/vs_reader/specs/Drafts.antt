@@ -1,54 +1,22 @@
 -- What a draft holds, and what is true of it.
-use Rattle.std.specs.Prelude.{◌≡◌, ℕ, ◌<◌, ◌≤◌, Bool, if◌then◌else◌, List, [], ◌∷◌, ◌++◌, length, All, AllPairs, Option}
+use Rattle.std.specs.Prelude.{◌≡◌, ℕ, ◌<◌, ◌≤◌, List, length, All, AllPairs}
 use Rattle.vs_types.specs.LayerSet.{Has}
 use Rattle.vs_instance.specs.declared.limits.TheConstants.{MAX_STOPS, MAX_LAYERS, MAX_TRIPS, TWO_DAYS}
 use Rattle.vs_reader.specs.declared.draft.Draft.{Draft}
-use Rattle.vs_reader.specs.declared.kind.Kind.{Kind}
-use Rattle.vs_reader.specs.Rows.{Field, Row, field_of}
-use Rattle.vs_reader.specs.Kinds.{kind_of}
+use Rattle.vs_reader.specs.Rows.{Field, Row}
 use Rattle.vs_reader.specs.InstanceText.{Declared, Adds}
-use Rattle.vs_reader.specs.Refusals.{numbers_of, is_layer, is_deadhead, is_trip}
+use Rattle.vs_reader.specs.Refusals.{is_layer, is_deadhead, is_trip}
+use Rattle.vs_reader.specs.RecordNumbers.{with_number}
 
 abbrev pub declared_of : Draft → Declared
 declared_of d = record { names = d.names; deadheads = d.deadheads.items; layers = d.layers.items; trips = d.trips.items }
 
--- the draft has the numbers of these records that declare deadheads, layers and trips
-pub record HasNumbers (d : Draft) (records : List Row) : Type 0 where
-  pub deadheads : d.deadhead_rows.items ≡ numbers_of is_deadhead records
-  pub layers : d.layer_rows.items ≡ numbers_of is_layer records
-  pub trips : d.trip_rows.items ≡ numbers_of is_trip records
-
--- the numbers are the same, or one more deadhead, layer or trip has this one
-pub record SameNumbers (old new : Draft) : Type 0 where
-  pub deadheads : new.deadhead_rows.items ≡ old.deadhead_rows.items
-  pub layers : new.layer_rows.items ≡ old.layer_rows.items
-  pub trips : new.trip_rows.items ≡ old.trip_rows.items
-
-pub record NumbersDeadhead (number : ℕ) (old new : Draft) : Type 0 where
-  pub deadheads : new.deadhead_rows.items ≡ old.deadhead_rows.items ++ number ∷ []
-  pub layers : new.layer_rows.items ≡ old.layer_rows.items
-  pub trips : new.trip_rows.items ≡ old.trip_rows.items
-
-pub record NumbersLayer (number : ℕ) (old new : Draft) : Type 0 where
-  pub deadheads : new.deadhead_rows.items ≡ old.deadhead_rows.items
-  pub layers : new.layer_rows.items ≡ old.layer_rows.items ++ number ∷ []
-  pub trips : new.trip_rows.items ≡ old.trip_rows.items
-
-pub record NumbersTrip (number : ℕ) (old new : Draft) : Type 0 where
-  pub deadheads : new.deadhead_rows.items ≡ old.deadhead_rows.items
-  pub layers : new.layer_rows.items ≡ old.layer_rows.items
-  pub trips : new.trip_rows.items ≡ old.trip_rows.items ++ number ∷ []
-
--- a number is added to these where the record is of the kind
-abbrev pub with_number : (Option Kind → Bool) → ℕ → Row → List ℕ → List ℕ
-with_number is_of number row numbers = if is_of (kind_of (field_of row 0)) then numbers ++ number ∷ [] else numbers
-
 -- the record of this number adds to the draft what it declares, and its number
 pub record AddsRecord (number : ℕ) (old : Draft) (row : Row) (new : Draft) : Type 0 where
   pub declared : Adds (declared_of old) row (declared_of new)
-  pub deadheads : new.deadhead_rows.items ≡ with_number is_deadhead number row old.deadhead_rows.items
-  pub layers : new.layer_rows.items ≡ with_number is_layer number row old.layer_rows.items
-  pub trips : new.trip_rows.items ≡ with_number is_trip number row old.trip_rows.items
+  pub deadheads : new.numbers.deadheads.items ≡ with_number is_deadhead number row old.numbers.deadheads.items
+  pub layers : new.numbers.layers.items ≡ with_number is_layer number row old.numbers.layers.items
+  pub trips : new.numbers.trips.items ≡ with_number is_trip number row old.numbers.trips.items
 
 abbrev pub AreApart : List Field → Type 0
 AreApart names = AllPairs (λ f g. ¬ (f ≡ g)) names

@@ -1,5 +1,6 @@
 pub mod Rows
 pub mod RowEnds
+pub mod RowBuilding
 pub mod Numbers
 pub mod Names
 pub mod NameRules
@@ -10,6 +11,8 @@ pub mod Rules
 pub mod Judged
 pub mod Refusals
 pub mod Texts
+pub mod RecordNumbers
 pub mod Drafts
 pub mod Left
 pub mod ReadErrors
+pub mod Declarations

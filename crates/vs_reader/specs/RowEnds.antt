@@ -1,5 +1,5 @@
 -- Rows that stand in one list of bytes, by where their fields and they themselves end.
-use Rattle.std.specs.Prelude.{ℕ, ◌+◌, ◌≤◌, List, [], ◌∷◌, length, All, slice_range, sum_by}
+use Rattle.std.specs.Prelude.{ℕ, ◌+◌, ◌≤◌, List, [], ◌∷◌, length, All, slice_range}
 use Rattle.std.specs.List.Sorted.{IsNonDecreasing}
 use Rattle.vs_reader.specs.Rows.{Row}
 
@@ -25,7 +25,9 @@ end_of start (end ∷ ends) = end_of end ends
 
 -- the bytes of a row and its fields, counted together, and those of all rows
 abbrev pub row_weight : Row → ℕ
-row_weight row = sum_by (λ field. length field + 1) row
+row_weight [] = 0
+row_weight (field ∷ row) = length field + 1 + row_weight row
 
 abbrev pub weight_of : List Row → ℕ
-weight_of rows = sum_by row_weight rows
+weight_of [] = 0
+weight_of (row ∷ rows) = row_weight row + weight_of rows

@@ -1,48 +1,45 @@
-ghost use Rattle.std.specs.Prelude.{◌≡◌, ◌≤◌, List, [], length, codes, slice_index_or};
+ghost use Rattle.std.specs.Prelude.{◌≡◌, ◌≤◌, [], length, codes};
 ghost use Rattle.csv.specs.Records.{fields_of};
 ghost use Rattle.vs_instance.specs.declared.limits.TheConstants.{MAX_LAYERS};
-ghost use Rattle.vs_reader.specs.Rows.{Row, field_of};
-ghost use Rattle.vs_reader.specs.Refusals.{misfit_row};
+ghost use Rattle.vs_reader.specs.Rows.{field_of};
 ghost use Rattle.vs_reader.specs.InstanceText.{AddsStop, AddsDeadhead, AddsLayer, AddsTrip, nothing_yet};
 ghost use Rattle.vs_reader.specs.Rules.{rules, stop_rules, deadhead_rules, layer_rules, trip_rules};
 ghost use Rattle.vs_reader.specs.Judged.{JudgedOrMemory};
-ghost use Rattle.vs_reader.specs.Drafts.{declared_of, HasNumbers, AddsRecord, SameNumbers, NumbersDeadhead, NumbersLayer, NumbersTrip};
+ghost use Rattle.vs_reader.specs.Drafts.{declared_of, AddsRecord};
+ghost use Rattle.vs_reader.specs.RecordNumbers.{HasNumbers, NumbersDeadhead, NumbersLayer, NumbersTrip};
 
 use crate::kind::Kind;
 use crate::names::Names;
 use crate::record::{RecordError, field};
+use crate::record_numbers::RecordNumbers;
 use crate::records;
 use crate::refused::Why;
 use csv::ByteRecord;
 use std::alloc::Global;
-use vs_instance::{Deadhead, Layer, Misfit, Place, Trip};
+use vs_instance::{Deadhead, Layer, Trip};
 
 /// What the records read so far declare, and the numbers of these records.
 #[derive(Drop)]
 pub struct Draft {
     pub names: Names,
     pub deadheads: Vec<Deadhead>,
-    pub deadhead_rows: Vec<u32>,
     pub layers: Vec<Layer>,
-    pub layer_rows: Vec<u32>,
     pub trips: Vec<Trip>,
-    pub trip_rows: Vec<u32>,
+    pub numbers: RecordNumbers,
 }
 
 impl Draft {
     /// Nothing yet.
     pub fn new(alloc: Global) -> Draft
         ensures declared { declared_of result ≡ nothing_yet }
-        ensures numbers { HasNumbers result [] }
+        ensures numbers { HasNumbers result.numbers [] }
     {
         Draft {
             names: Names::new(alloc),
             deadheads: Vec::new(alloc),
-            deadhead_rows: Vec::new(alloc),
             layers: Vec::new(alloc),
-            layer_rows: Vec::new(alloc),
             trips: Vec::new(alloc),
-            trip_rows: Vec::new(alloc),
+            numbers: RecordNumbers::new(alloc),
         }
     }
 
@@ -66,7 +63,7 @@ impl Draft {
         requires { field_of (fields_of record.now) 0 ≡ codes "stop" }
         ensures { JudgedOrMemory (stop_rules self.old.names (fields_of record.now))
             (AddsStop (declared_of self.old) (fields_of record.now) (declared_of self.new)
-                × SameNumbers self.old self.new) result }
+                × self.new.numbers ≡ self.old.numbers) result }
     {
         let name = records::stop(&self.names, record)?;
         self.names.add_stop(name)?;
@@ -78,11 +75,11 @@ impl Draft {
         requires { field_of (fields_of record.now) 0 ≡ codes "deadhead" }
         ensures { JudgedOrMemory (deadhead_rules self.old.names (fields_of record.now))
             (AddsDeadhead (declared_of self.old) (fields_of record.now) (declared_of self.new)
-                × NumbersDeadhead number self.old self.new) result }
+                × NumbersDeadhead number self.old.numbers self.new.numbers) result }
     {
         let deadhead = records::deadhead(&self.names, record)?;
         self.deadheads.push(deadhead)?;
-        self.deadhead_rows.push(number)?;
+        self.numbers.deadheads.push(number)?;
         Ok(())
     }
 
@@ -91,12 +88,12 @@ impl Draft {
         requires { field_of (fields_of record.now) 0 ≡ codes "layer" }
         ensures { JudgedOrMemory (layer_rules self.old.names (fields_of record.now))
             (AddsLayer (declared_of self.old) (fields_of record.now) (declared_of self.new)
-                × NumbersLayer number self.old self.new) result }
+                × NumbersLayer number self.old.numbers self.new.numbers) result }
     {
         let layer = records::layer(&self.names, record)?;
         self.names.add_layer(field(record, 1))?;
         self.layers.push(layer)?;
-        self.layer_rows.push(number)?;
+        self.numbers.layers.push(number)?;
         Ok(())
     }
 
@@ -106,35 +103,12 @@ impl Draft {
         requires layers { length self.old.names.layers ≤ MAX_LAYERS }
         ensures { JudgedOrMemory (trip_rules self.old.names (fields_of record.now))
             (AddsTrip (declared_of self.old) (fields_of record.now) (declared_of self.new)
-                × NumbersTrip number self.old self.new) result }
+                × NumbersTrip number self.old.numbers self.new.numbers) result }
     {
         let trip = records::trip(&self.names, record)?;
         self.names.add_trip(field(record, 1))?;
         self.trips.push(trip)?;
-        self.trip_rows.push(number)?;
+        self.numbers.trips.push(number)?;
         Ok(())
     }
-
-    /// The number of the record that a misfit is told at, 0 where it concerns the deadheads of three stops.
-    pub fn misfit_row(&self, misfit: Misfit) -> u32
-        ensures { (records : List Row) → HasNumbers self.now records → result ≡ misfit_row records misfit }
-    {
-        match misfit {
-            Misfit::Range(_, Place::Layer(l)) => row_at(&self.layer_rows, l.0),
-            Misfit::Range(_, Place::Deadhead(n))
-            | Misfit::SelfDeadhead(n)
-            | Misfit::DeadheadTwice(n) => row_at(&self.deadhead_rows, n),
-            Misfit::Range(_, Place::Trip(i)) | Misfit::EndNotAfterStart(i) => {
-                row_at(&self.trip_rows, i.0)
-            }
-            Misfit::NotClosed(..) | Misfit::LongerMinutes(..) | Misfit::LongerMetres(..) => 0,
-        }
-    }
-}
-
-/// The number at a place, 0 past the end.
-fn row_at(rows: &[u32], k: u32) -> u32
-    ensures { result ≡ slice_index_or rows.now k 0 }
-{
-    rows.get(k as usize).copied().unwrap_or(0)
 }

@@ -12,9 +12,11 @@ mod names;
 mod number;
 mod reading;
 mod record;
+mod record_numbers;
 mod records;
 mod refused;
 mod rows;
+mod text_records;
 mod time;
 
 pub use input::Input;
