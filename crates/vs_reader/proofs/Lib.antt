@@ -14,3 +14,6 @@ pub mod KindLemmas
 pub mod DeclaredLemmas
 pub mod DeclaredParts
 pub mod RefusedLemmas
+pub mod HeaderLemmas
+pub mod Progress
+pub mod TextLemmas

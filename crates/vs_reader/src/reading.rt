@@ -1,10 +1,10 @@
-ghost use Rattle.std.specs.Prelude.{◌≡◌, ◌≤◌, ◌<◌, ◌^◌, ℕ, List, [], ◌∷◌, length, IfOk, IfErr, IsTrue, MatchBool};
+ghost use Rattle.std.specs.Prelude.{◌≡◌, ◌≤◌, ◌<◌, ◌^◌, ℕ, List, [], ◌∷◌, length, IfOk, IfErr, IsTrue, MatchBool, true};
 ghost use Rattle.csv.specs.Records.{fields_of};
 ghost use Rattle.vs_instance.specs.Problem.{Problem};
 ghost use Rattle.vs_reader.specs.declared.limits.TheConstants.{MAX_BYTES};
 ghost use Rattle.vs_reader.specs.Rows.{Row};
 ghost use Rattle.vs_reader.specs.Names.{NameLists};
-ghost use Rattle.vs_reader.specs.Kinds.{header, HasHeader};
+ghost use Rattle.vs_reader.specs.Kinds.{HasHeader};
 ghost use Rattle.vs_reader.specs.InstanceText.{AddAll, Makes, nothing_yet};
 ghost use Rattle.vs_reader.specs.Refusals.{HasMisfit};
 ghost use Rattle.vs_reader.specs.RecordNumbers.{HasNumbers};
@@ -71,7 +71,7 @@ pub fn read(alloc: Global, bytes: &[u8]) -> Result<Input, ReadError>
 /// Whether the next record is `instance`, `1`.
 fn read_header(records: &mut TextRecords) -> Result<bool, Memory>
     ensures { IfOk result (λ is_one. (rows : List Row) → AreLeft records.old rows → MatchBool is_one
-        ((more : List Row) × (rows ≡ header ∷ more) × AreLeft records.new more)
+        (HasHeader rows × GivesNext records.new rows true)
         (¬ (HasHeader rows))) }
 {
     Ok(records.next()? && is_header(&records.current))
