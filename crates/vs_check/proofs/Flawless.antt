@@ -1,11 +1,10 @@
 -- A document that was read has no flaw exactly where it holds.
-use Rattle.std.proofs.Common.{◌≡◌, ℕ, ◌+◌, ◌<◌, ◌↔◌, Bool, true, false, not, List, [], ◌∷◌, length, get_or, inl, inr, refl, sym, ap, ◌∙◌, subst, arith, Option, Some, None as nothing, ℤ, pos}
+use Rattle.std.proofs.Common.{◌≡◌, ℕ, Bool, true, false, not, List, [], ◌∷◌, get_or, inl, inr, refl, sym, ap, ◌∙◌, subst, arith, Option, Some, None as nothing, ℤ, pos}
 use Rattle.std.specs.Prelude.{IfNone, MatchOption}
 use Rattle.std.specs.List.{All, slice_get}
-use Rattle.std.specs.Ordering.{int_eq}
 use Rattle.std.proofs.lemmas.Bool.Decides.{Decides-int_eq}
 use Rattle.std.proofs.lemmas.Option.{none-some, slice_get_cases}
-use Rattle.vs_instance.specs.Firsts.{first, when}
+use Rattle.vs_instance.specs.Firsts.{first}
 use Rattle.vs_instance.specs.Problem.{Problem}
 use Rattle.vs_instance.specs.Plan.{IsPlan, LayerBlock, plan_cost}
 use Rattle.vs_instance.specs.Restriction.{permitted_sets}
@@ -16,19 +15,18 @@ use Rattle.vs_plan.specs.PlanFaults.{faults_of}
 use Rattle.vs_plan.specs.declared.plan_fault.PlanFault.{PlanFault}
 use Rattle.vs_plan.proofs.Faultless.{faultless, plan_from_faultless}
 use Rattle.vs_prices.specs.Breaks.{breaks_of}
-use Rattle.vs_prices.specs.Table.{Fits, HoldingTable}
-use Rattle.vs_prices.specs.Worth.{IsWorth, Reaches, worth_of}
+use Rattle.vs_prices.specs.Table.{HoldingTable}
+use Rattle.vs_prices.specs.Worth.{Reaches, worth_of}
 use Rattle.vs_prices.specs.declared.bound.Bound.{Bound}
 use Rattle.vs_prices.specs.declared.broken_at.BrokenAt.{BrokenAt}
 use Rattle.vs_prices.specs.declared.table.Table.{Table}
 use Rattle.vs_prices.proofs.NoBreaks.{holds_nowhere_broken, nowhere_broken}
 use Rattle.vs_prices.proofs.Worths.{worth_is, worth_of-IsWorth}
 use Rattle.vs_check.specs.declared.document.Document.{Document}
-use Rattle.vs_check.specs.declared.shape.Shape.{Shape}
 use Rattle.vs_check.specs.declared.shape.Shape.TheVariants.{Leaf}
-use Rattle.vs_check.specs.Flaws.{broken_flaws, claim_flaws, cost_flaws, flaws_of, named_flaws, plan_flaws, shape_flaws, table_flaws, tables_flaws}
+use Rattle.vs_check.specs.Flaws.{broken_flaws, cost_flaws, flaws_of, named_flaws, plan_flaws, shape_flaws, table_flaws, tables_flaws}
 use Rattle.vs_check.specs.Form.{IsReadFor}
-use Rattle.vs_check.specs.HoldingDocument.{HasLeaf, HasPlan, HoldingDocument, ReachesBound, claim_found}
+use Rattle.vs_check.specs.HoldingDocument.{HasLeaf, HoldingDocument, ReachesBound, claim_found}
 use Rattle.vs_check.proofs.LeafFlaws.{none_from_reaches, reaches_from_none}
 use Rattle.vs_check.proofs.PlanFlaws.{claims_same, right_cost, same_claims}
 
@@ -40,11 +38,13 @@ module _ (p : Problem) (blocks : List LayerBlock) where
   abbrev IsPlanAt : Option ℤ → Type 0
   IsPlanAt cost = MatchOption cost (blocks ≡ []) (λ c. IsPlan p blocks × (c ≡ pos (plan_cost p blocks)))
 
-  plan_from_none : CanBeJudged p blocks → (cost : Option ℤ) → IfNone cost (blocks ≡ []) → None (plan_flaws p blocks cost) → IsPlanAt cost
+  plan_from_none : CanBeJudged p blocks → (cost : Option ℤ) → IfNone cost (blocks ≡ [])
+      → None (plan_flaws p blocks cost) → IsPlanAt cost
   plan_from_none judged nothing empty none = empty
   plan_from_none judged (Some cost) empty none = by_first (first (faults_of p blocks)) refl none
     where
-      by_first : (f : Option PlanFault) → first (faults_of p blocks) ≡ f → None (cost_flaws p blocks cost f) → IsPlan p blocks × (cost ≡ pos (plan_cost p blocks))
+      by_first : (f : Option PlanFault) → first (faults_of p blocks) ≡ f → None (cost_flaws p blocks cost f)
+          → IsPlan p blocks × (cost ≡ pos (plan_cost p blocks))
       by_first nothing is none = (
         plan_from_faultless p blocks judged.of_instance (faultless p blocks is),
         (Decides-int_eq cost (pos (plan_cost p blocks))).0 (not_true _ (false_from_none _ _ none)),
@@ -63,7 +63,8 @@ module _ (p : Problem) (tables : List Table) where
   tables_hold : None (tables_flaws p tables) → All (HoldingTable p) tables
   tables_hold none t d inside =
       let here = each_none (table_flaws p) 0 tables none t t d inside (omega arith) in
-      holds_nowhere_broken p (get_or tables t d) (none_from_first (breaks_of p (get_or tables t d)) (broken_none t _ here))
+      holds_nowhere_broken p (get_or tables t d)
+      (none_from_first (breaks_of p (get_or tables t d)) (broken_none t _ here))
 
   none_from_tables : All (HoldingTable p) tables → None (tables_flaws p tables)
   none_from_tables holds =
@@ -72,7 +73,11 @@ module _ (p : Problem) (tables : List Table) where
 
 module _ (p : Problem) (bound : Option ℤ) (table : Table) where
   reaches_bound : None (named_flaws p bound (Some table)) → ReachesBound p table bound
-  reaches_bound none = (worth_of p (permitted_sets p) table, worth_of-IsWorth p (permitted_sets p) table, reaches_from_none 0 _ bound none)
+  reaches_bound none = (
+    worth_of p (permitted_sets p) table,
+    worth_of-IsWorth p (permitted_sets p) table,
+    reaches_from_none 0 _ bound none,
+  )
 
   none_from_bound : ReachesBound p table bound → None (named_flaws p bound (Some table))
   none_from_bound reaches =
@@ -93,8 +98,13 @@ module _ (p : Problem) (d : Document) where
         | inl found ↦ absurd (none-some found.0 (sym is ∙ found.2))
         | inr past ↦ absurd (omega (arith, read.leaf.2, past.0))
       ]
-      by_table (Some table) is =
-          (read.leaf.0, table, read.leaf.1, is, reaches_bound p d.bound table (sym (one_leaf read.leaf.0 table read.leaf.1 is) ∙ none))
+      by_table (Some table) is = (
+        read.leaf.0,
+        table,
+        read.leaf.1,
+        is,
+        reaches_bound p d.bound table (sym (one_leaf read.leaf.0 table read.leaf.1 is) ∙ none),
+      )
 
   none_from_leaf : HasLeaf p d → None (shape_flaws p d d.shape.items)
   none_from_leaf leaf = one_leaf leaf.0 leaf.1 leaf.2 leaf.3 ∙ none_from_bound p d.bound leaf.1 leaf.4

@@ -1,5 +1,5 @@
 -- The flaws of a plan beside a printed cost, and those of a claim.
-use Rattle.std.proofs.Common.{◌≡◌, ℕ, Bool, true, false, not, List, [], ◌∷◌, refl, sym, ap, ◌∙◌, subst, Option, Some, None as nothing, ℤ, pos}
+use Rattle.std.proofs.Common.{◌≡◌, Bool, true, false, not, List, [], refl, sym, ap, ◌∙◌, subst, Option, Some, None as nothing, ℤ, pos}
 use Rattle.std.specs.Ordering.{int_eq}
 use Rattle.std.proofs.lemmas.Bool.{false_from_ne_true}
 use Rattle.std.proofs.lemmas.Bool.Decides.{Decides-int_eq}
@@ -11,7 +11,6 @@ use Rattle.vs_plan.specs.declared.plan_fault.PlanFault.{PlanFault}
 use Rattle.vs_plan.proofs.Faultless.{refuses}
 use Rattle.vs_check.specs.declared.claim.Claim.{Claim}
 use Rattle.vs_check.specs.declared.claim.Claim.TheVariants.{Optimal, Infeasible, StillOpen}
-use Rattle.vs_check.specs.declared.flaw.Flaw.{Flaw}
 use Rattle.vs_check.specs.declared.flaw.Flaw.TheVariants.{Plan, CostDiffers}
 use Rattle.vs_check.specs.Flaws.{cost_flaws, plan_flaws, same_claim}
 
@@ -36,7 +35,8 @@ module _ (p : Problem) (blocks : List LayerBlock) where
   pub right_cost : (cost : ℤ) → IsPlan p blocks → cost ≡ pos (plan_cost p blocks) → plan_flaws p blocks (Some cost) ≡ []
   right_cost cost plan is =
       at_no_fault cost plan
-      ∙ ap (λ (b : Bool). when (not b) (CostDiffers cost (pos (plan_cost p blocks)))) (same_cost cost (pos (plan_cost p blocks)) is)
+      ∙ ap (λ (b : Bool). when (not b) (CostDiffers cost (pos (plan_cost p blocks))))
+      (same_cost cost (pos (plan_cost p blocks)) is)
 
   pub wrong_cost : (cost found : ℤ) → IsPlan p blocks → found ≡ pos (plan_cost p blocks) → (cost ≡ found → ⊥)
       → Some (CostDiffers cost found) ≡ first (plan_flaws p blocks (Some cost))
@@ -46,7 +46,8 @@ module _ (p : Problem) (blocks : List LayerBlock) where
       (other_cost cost (pos (plan_cost p blocks)) (λ e. apart (e ∙ sym is))))
       ∙ ap (λ (n : ℤ). Some (CostDiffers cost n)) (sym is))
 
-  pub faulty : (cost : ℤ) (fault : PlanFault) → first (faults_of p blocks) ≡ Some fault → Some (Plan fault) ≡ first (plan_flaws p blocks (Some cost))
+  pub faulty : (cost : ℤ) (fault : PlanFault) → first (faults_of p blocks) ≡ Some fault
+      → Some (Plan fault) ≡ first (plan_flaws p blocks (Some cost))
   faulty cost fault is = sym (ap (λ (f : Option PlanFault). first (cost_flaws p blocks cost f)) is)
 
 -- the test of claims

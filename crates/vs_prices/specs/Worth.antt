@@ -35,11 +35,16 @@ least_price p sets table i = least (map (trip_price p table i) (members (set_of 
 abbrev pub fleet_price : Problem → Table → ℕ → ℤ
 fleet_price p table l = vehicle_price table l *ℤ pos (layer_of p l).fleet
 
--- what all trips pay in their cheapest layers, less what all vehicles pay, in 1/1000 of a cost unit
+-- what all trips pay in their cheapest layers, and what all vehicles of all layers pay
+abbrev pub trips_pay : Problem → List LayerSet → Table → ℤ
+trips_pay p sets table = total (map (least_price p sets table) (range_with_len 0 (length p.trips)))
+
+abbrev pub vehicles_pay : Problem → Table → ℤ
+vehicles_pay p table = total (map (fleet_price p table) (range_with_len 0 (length p.layers)))
+
+-- the one less the other, in 1/1000 of a cost unit
 abbrev pub table_value : Problem → List LayerSet → Table → ℤ
-table_value p sets table =
-    total (map (least_price p sets table) (range_with_len 0 (length p.trips)))
-    -ℤ total (map (fleet_price p table) (range_with_len 0 (length p.layers)))
+table_value p sets table = trips_pay p sets table -ℤ vehicles_pay p table
 
 -- n is the least whole number of cost units that is no less than the value
 pub record IsRoundedUp (value n : ℤ) : Type 0 where
@@ -50,10 +55,12 @@ pub record IsRoundedUp (value n : ℤ) : Type 0 where
 abbrev pub rounded_up : ℤ → ℤ
 rounded_up value = if int_lt (pos 0) (int_rem value SCALE) then int_div value SCALE +ℤ pos 1 else int_div value SCALE
 
--- A cost table is worth its value in whole cost units, rounded up. A ray whose value is above 0 shows that there is no plan, and one whose value
+-- A cost table is worth its value in whole cost units, rounded up. A ray whose value is above 0 shows that there is no
+-- plan, and one whose value
 -- isn't shows nothing but that a plan costs 0 or more.
 abbrev pub IsWorth : Problem → List LayerSet → Table → Bound → Type 0
-IsWorth p sets table (AtLeast n) = MatchBool table.ray ((table_value p sets table ≤ℤ pos 0) × (n ≡ pos 0)) (IsRoundedUp (table_value p sets table) n)
+IsWorth p sets table (AtLeast n) =
+    MatchBool table.ray ((table_value p sets table ≤ℤ pos 0) × (n ≡ pos 0)) (IsRoundedUp (table_value p sets table) n)
 IsWorth p sets table NoPlan = (table.ray ≡ true) × (pos 0 <ℤ table_value p sets table)
 
 -- what a table is worth, as a function: IsWorth says what it means
@@ -75,4 +82,5 @@ IsBoundOn NoPlan cost = ⊥
 
 -- no plan within the sets costs less than the bound
 abbrev pub BoundsPlans : Problem → List LayerSet → Bound → Type 0
-BoundsPlans p sets bound = (blocks : List LayerBlock) → IsPlan p blocks → IsWithin sets blocks → IsBoundOn bound (plan_cost p blocks)
+BoundsPlans p sets bound =
+    (blocks : List LayerBlock) → IsPlan p blocks → IsWithin sets blocks → IsBoundOn bound (plan_cost p blocks)

@@ -1,16 +1,15 @@
-use Rattle.std.proofs.Common.{◌≡◌, ◌<◌, ℕ, List, [], ◌∷◌, length, sym, subst, arith}
-use Rattle.std.specs.List.{All}
+use Rattle.std.proofs.Common.{◌≡◌, ◌<◌, List, [], ◌∷◌, length, sym, subst, arith}
 use Rattle.std.proofs.lemmas.List.Elements.{All-cons, All-nil}
 use Rattle.vs_types.specs.declared.numbers.LayerNo.{LayerNo}
 use Rattle.vs_types.specs.declared.numbers.TripNo.{TripNo}
 use Rattle.vs_instance.specs.Problem.{Problem}
-use Rattle.vs_instance.specs.Plan.{LayerBlock}
 use Rattle.vs_plan.specs.Blocks.{CanBeJudged, IsOfInstance, pairs_of}
 use Rattle.vs_plan.specs.declared.block.Block.{Block}
 use Rattle.vs_check.proofs.tests.both.Goals as goal
 
 -- one block of the first layer and the first two trips
-judged : (p : Problem) (trips : List TripNo) → trips ≡ record { 0 = 0 } ∷ record { 0 = 1 } ∷ [] → length p.layers ≡ 1 → length p.trips ≡ 2
+judged : (p : Problem) (trips : List TripNo) → trips ≡ record { 0 = 0 } ∷ record { 0 = 1 } ∷ []
+    → length p.layers ≡ 1 → length p.trips ≡ 2
     → CanBeJudged p ((record { 0 = 0 }, trips) ∷ [])
 judged p trips is layers count =
     let first : LayerNo = record { 0 = 0 } in
@@ -19,7 +18,8 @@ judged p trips is layers count =
         layer = omega arith;
         some_trip = omega arith;
         trips = All-cons (λ (i : TripNo). i.0 < length p.trips) (record { 0 = 0 }) (record { 0 = 1 } ∷ []) (omega arith)
-            (All-cons (λ (i : TripNo). i.0 < length p.trips) (record { 0 = 1 }) [] (omega arith) (All-nil (λ (i : TripNo). i.0 < length p.trips)));
+            (All-cons (λ (i : TripNo). i.0 < length p.trips) (record { 0 = 1 }) [] (omega arith)
+            (All-nil (λ (i : TripNo). i.0 < length p.trips)));
       }) (All-nil (IsOfInstance p));
       few_trips = omega arith;
     })

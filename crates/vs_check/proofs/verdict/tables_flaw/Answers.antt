@@ -1,4 +1,4 @@
-use Rattle.std.proofs.Common.{List, length, arith, sym, ap, ◌∙◌, Option}
+use Rattle.std.proofs.Common.{sym, ap, ◌∙◌, Option}
 use Rattle.vs_instance.specs.Firsts.{first}
 use Rattle.vs_instance.proofs.Firsts.{first_from-here, first_from-more, first_from-past}
 use Rattle.vs_prices.specs.declared.broken_at.BrokenAt.{BrokenAt}
@@ -28,4 +28,6 @@ loop-t-preserved c =
     ∙ c.loop-t.invariant
 
 pub returns : goal.returns
-returns c = sym (first_from-past (table_flaws c.args.instance.now) c.args.tables.now c.loop-t.t c.loop-t-test.false) ∙ c.loop-t.invariant
+returns c =
+    sym (first_from-past (table_flaws c.args.instance.now) c.args.tables.now c.loop-t.t c.loop-t-test.false)
+    ∙ c.loop-t.invariant
