@@ -31,7 +31,8 @@ use Rattle.vs_check.specs.HoldingDocument.{claim_found}
 -- beside a printed cost: the first fault of the blocks, and where they have none, a cost that isn't theirs
 abbrev pub cost_flaws : Problem → List LayerBlock → ℤ → Option PlanFault → List Flaw
 cost_flaws p blocks cost (Some fault) = Plan fault ∷ []
-cost_flaws p blocks cost None = when (not (int_eq cost (pos (plan_cost p blocks)))) (CostDiffers cost (pos (plan_cost p blocks)))
+cost_flaws p blocks cost None =
+    when (not (int_eq cost (pos (plan_cost p blocks)))) (CostDiffers cost (pos (plan_cost p blocks)))
 
 abbrev pub plan_flaws : Problem → List LayerBlock → Option ℤ → List Flaw
 plan_flaws p blocks None = []

@@ -1,12 +1,10 @@
 -- Where a table is said to break, it does.
-use Rattle.std.proofs.Common.{◌≡◌, ℕ, ◌+◌, ◌<◌, ◌≤◌, Bool, true, false, ◌&&◌, cond, eqb, List, [], length, refl, sym, arith, Option, Some, None, IfSome, ℤ, pos, ◌+ℤ◌, ◌<ℤ◌}
+use Rattle.std.proofs.Common.{◌≡◌, ℕ, ◌<◌, Bool, true, false, ◌&&◌, cond, List, [], length, refl, sym, arith, Option, Some, None, IfSome, ℤ, pos, ◌+ℤ◌, ◌<ℤ◌}
 use Rattle.std.specs.Prelude.{IsSomeAnd, int_lt}
 use Rattle.std.specs.List.{All}
 use Rattle.std.proofs.lemmas.Bool.{eqb-true, false≢true}
 use Rattle.std.proofs.lemmas.Int.{ints}
 use Rattle.std.proofs.lemmas.List.Elements.{All-append, All-nil}
-use Rattle.vs_types.specs.declared.numbers.LayerNo.{LayerNo}
-use Rattle.vs_types.specs.declared.numbers.TripNo.{TripNo}
 use Rattle.vs_instance.specs.Firsts.{first}
 use Rattle.vs_instance.specs.Problem.{Problem}
 use Rattle.vs_instance.specs.Pieces.{out_piece, link_piece, in_piece}
@@ -38,7 +36,8 @@ module _ (p : Problem) (table : Table) where
   abbrev Broken : BrokenAt → Type 0
   Broken at = IsBroken p table at
 
-  moves_broken : (l i : ℕ) → l < length p.layers → i < length p.trips → may_run p l i ≡ true → All Broken (move_breaks p table l i)
+  moves_broken : (l i : ℕ) → l < length p.layers → i < length p.trips → may_run p l i ≡ true
+      → All Broken (move_breaks p table l i)
   moves_broken l i layer trip runs =
       let permitted = eqb-true _ 1 runs in
       let out : BrokenAt = PullOut (record { 0 = l }) (record { 0 = i }) in
@@ -46,9 +45,15 @@ module _ (p : Problem) (table : Table) where
       All-append Broken _ _
       (All-append Broken _ _
       (All-when Broken (is_pull_out_broken p table l i) out
-      (λ is. (layer, trip, permitted, worth_more (into_price p table l i) (vehicle_price table l) table.ray (out_piece p l i) is)))
+      (λ is. (
+        layer,
+        trip,
+        permitted,
+        worth_more (into_price p table l i) (vehicle_price table l) table.ray (out_piece p l i) is,
+      )))
       (All-numbers Broken (link_breaks p table l i) 0 (length p.trips) (λ j from within.
-      All-when Broken (is_link_broken p table l i j) (Link (record { 0 = l }) (record { 0 = i }) (record { 0 = j })) (λ is.
+      All-when Broken (is_link_broken p table l i j) (Link (record { 0 = l }) (record { 0 = i }) (record { 0 = j }))
+      (λ is.
       let both = and_both (may_run p l j) _ is in
       let next : j < length p.trips = omega arith in (
         layer,
@@ -63,12 +68,15 @@ module _ (p : Problem) (table : Table) where
 
   layer_broken : (l : ℕ) → l < length p.layers → All Broken (layer_breaks p table l)
   layer_broken l layer =
-      All-append Broken _ _ (All-when Broken (int_lt (vehicle_price table l) (pos 0)) (Fleet (record { 0 = l })) (λ is. (layer, below (vehicle_price table l) (pos 0) is)))
+      All-append Broken _ _
+      (All-when Broken (int_lt (vehicle_price table l) (pos 0)) (Fleet (record { 0 = l }))
+      (λ is. (layer, below (vehicle_price table l) (pos 0) is)))
       (All-numbers Broken (trip_breaks p table l) 0 (length p.trips) (λ i from within.
       all_if Broken (may_run p l i) (move_breaks p table l i) (λ runs. moves_broken l i layer (omega arith) runs)))
 
   pub all_broken : All Broken (breaks_of p table)
-  all_broken = All-numbers Broken (layer_breaks p table) 0 (length p.layers) (λ l from within. layer_broken l (omega arith))
+  all_broken =
+      All-numbers Broken (layer_breaks p table) 0 (length p.layers) (λ l from within. layer_broken l (omega arith))
 
   -- so the first is one
   pub first_broken : (at : Option BrokenAt) → at ≡ first (breaks_of p table) → IfSome at Broken

@@ -10,7 +10,8 @@ use Rattle.vs_plan.specs.declared.block.Block.{Block}
 use Rattle.vs_check.proofs.tests.both.Goals as goal
 
 -- one block of the first layer and the first two trips
-judged : (p : Problem) (trips : List TripNo) → trips ≡ record { 0 = 0 } ∷ record { 0 = 1 } ∷ [] → length p.layers ≡ 1 → length p.trips ≡ 2
+judged : (p : Problem) (trips : List TripNo) → trips ≡ record { 0 = 0 } ∷ record { 0 = 1 } ∷ []
+    → length p.layers ≡ 1 → length p.trips ≡ 2
     → CanBeJudged p ((record { 0 = 0 }, trips) ∷ [])
 judged p trips is layers count =
     let first : LayerNo = record { 0 = 0 } in
@@ -19,7 +20,8 @@ judged p trips is layers count =
         layer = omega arith;
         some_trip = omega arith;
         trips = All-cons (λ (i : TripNo). i.0 < length p.trips) (record { 0 = 0 }) (record { 0 = 1 } ∷ []) (omega arith)
-            (All-cons (λ (i : TripNo). i.0 < length p.trips) (record { 0 = 1 }) [] (omega arith) (All-nil (λ (i : TripNo). i.0 < length p.trips)));
+            (All-cons (λ (i : TripNo). i.0 < length p.trips) (record { 0 = 1 }) [] (omega arith)
+            (All-nil (λ (i : TripNo). i.0 < length p.trips)));
       }) (All-nil (IsOfInstance p));
       few_trips = omega arith;
     })
