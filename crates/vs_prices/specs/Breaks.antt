@@ -55,3 +55,14 @@ layer_breaks p table l =
 -- layer by layer; in each its vehicles' price, and then trip by trip
 abbrev pub breaks_of : Problem → Table → List BrokenAt
 breaks_of p table = flat_map (layer_breaks p table) (range_with_len 0 (length p.layers))
+
+-- what it means that a table breaks there: some vehicle's price is below 0, or a move that there is, in a layer that may run its trips, is worth
+-- more than it costs
+abbrev pub IsBroken : Problem → Table → BrokenAt → Type 0
+IsBroken p table (Fleet l) = (l.0 < length p.layers) × (vehicle_price table l.0 <ℤ pos 0)
+IsBroken p table (PullOut l i) = (l.0 < length p.layers) × (i.0 < length p.trips) × Permitted p l.0 i.0
+    × IsSomeAnd (out_piece p l.0 i.0) (λ c. (vehicle_price table l.0 +ℤ scaled table.ray c) <ℤ into_price p table l.0 i.0)
+IsBroken p table (Link l i j) = (l.0 < length p.layers) × (i.0 < length p.trips) × (j.0 < length p.trips) × Permitted p l.0 i.0 × Permitted p l.0 j.0
+    × IsSomeAnd (link_piece p l.0 i.0 j.0) (λ c. (from_price p table l.0 i.0 +ℤ scaled table.ray c) <ℤ into_price p table l.0 j.0)
+IsBroken p table (PullIn l i) = (l.0 < length p.layers) × (i.0 < length p.trips) × Permitted p l.0 i.0
+    × IsSomeAnd (in_piece p l.0 i.0) (λ c. (from_price p table l.0 i.0 +ℤ scaled table.ray c) <ℤ pos 0)

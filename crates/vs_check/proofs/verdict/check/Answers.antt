@@ -1,10 +1,11 @@
-use Rattle.std.proofs.Common.{refl, sym, ap, ◌∙◌}
+use Rattle.std.proofs.Common.{Some, refl, sym, ap, ◌∙◌}
 use Rattle.std.proofs.lemmas.Option.{none-some}
 use Rattle.vs_instance.specs.Firsts.{first}
 use Rattle.vs_instance.proofs.Firsts.{none_from_first}
 use Rattle.vs_check.specs.Flaws.{flaws_of}
 use Rattle.vs_check.proofs.Claims.{prove_their_claims}
 use Rattle.vs_check.proofs.Flawless.{holds_from_none, none_from_holds}
+use Rattle.vs_check.proofs.NamedFlaws.{verdict_named}
 use Rattle.vs_check.proofs.verdict.check.Goals as goal
 
 pub returns-in-None-clause-holds : goal.returns-in-None-clause-holds
@@ -26,3 +27,7 @@ returns-in-Some-clause-holds c =
       λ yes. cc,
       λ holds. absurd (none-some c.in-Some.flaw (sym (ap first (none_from_holds p d holds)) ∙ sym c.in_ok-first_flaw.ensures ∙ c.in-Some.is)),
     )
+
+pub returns-in-Some-clause-of_instance : goal.returns-in-Some-clause-of_instance
+returns-in-Some-clause-of_instance c =
+    verdict_named c.args.instance.now c.args.document.now (Some c.in-Some.flaw) (sym c.in-Some.is ∙ c.in_ok-first_flaw.ensures)

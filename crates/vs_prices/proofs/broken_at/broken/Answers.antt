@@ -2,6 +2,7 @@ use Rattle.std.proofs.Common.{Some, None, length, sym, ◌∙◌, arith}
 use Rattle.vs_instance.proofs.Firsts.{first_below-step, first_below-found, first_below-past}
 use Rattle.vs_prices.specs.Breaks.{layer_breaks}
 use Rattle.vs_prices.proofs.NoBreaks.{none_where_holds}
+use Rattle.vs_prices.proofs.RealBreaks.{first_broken}
 use Rattle.vs_prices.proofs.broken_at.broken.Goals as goal
 
 pub returns-in-Some-clause-first : goal.returns-in-Some-clause-first
@@ -11,6 +12,9 @@ returns-in-Some-clause-first c =
 
 pub returns-in-Some-clause-holds : goal.returns-in-Some-clause-holds
 returns-in-Some-clause-holds c = none_where_holds c.args.instance.now c.args.table.now (Some c.in-Some.at) (returns-in-Some-clause-first c)
+
+pub returns-in-Some-clause-broken : goal.returns-in-Some-clause-broken
+returns-in-Some-clause-broken c = first_broken c.args.instance.now c.args.table.now (Some c.in-Some.at) (returns-in-Some-clause-first c)
 
 pub loop-l-preserved : goal.loop-l-preserved
 loop-l-preserved c =
