@@ -32,9 +32,9 @@ use Rattle.vs_check.specs.declared.flaw.Flaw.TheVariants.{Plan, CostDiffers, Tab
 use Rattle.vs_check.specs.declared.shape.Shape.{Shape}
 use Rattle.vs_check.specs.declared.shape.Shape.TheVariants.{Leaf, Split}
 use Rattle.vs_check.specs.HoldingDocument.{claim_found}
-use Rattle.vs_check.specs.Flaws.{IsBreakOf, IsFaultOf, IsFlawOf, IsVerdictOf, broken_flaws, cost_flaws, flaws_of, leaf_flaws, named_flaws, plan_flaws, same_claim, shape_flaws, table_flaws, tables_flaws, verdict_of}
+use Rattle.vs_check.specs.Flaws.{IsBreakWithin, IsFaultWithin, IsFlawWithin, IsVerdictWithin, broken_flaws, cost_flaws, flaws_of, leaf_flaws, named_flaws, plan_flaws, same_claim, shape_flaws, table_flaws, tables_flaws, verdict_of}
 
-break_of : (p : Problem) (table : Table) (at : BrokenAt) → IsBroken p table at → IsBreakOf p at
+break_of : (p : Problem) (table : Table) (at : BrokenAt) → IsBroken p table at → IsBreakWithin (length p.layers) (length p.trips) at
 break_of p table (broken.Fleet l) is = is.0
 break_of p table (broken.PullOut l i) is = (is.0, is.1)
 break_of p table (broken.Link l i j) is = (is.0, is.1, is.2)
@@ -42,10 +42,10 @@ break_of p table (broken.PullIn l i) is = (is.0, is.1)
 
 module _ (p : Problem) where
   abbrev OfFault : PlanFault → Type 0
-  OfFault f = IsFaultOf p f
+  OfFault f = IsFaultWithin (length p.layers) (length p.trips) f
 
   abbrev OfFlaw : Flaw → Type 0
-  OfFlaw f = IsFlawOf p f
+  OfFlaw f = IsFlawWithin (length p.layers) (length p.trips) f
 
   times_size : (blocks : List LayerBlock) → length (times_of p blocks) ≡ length p.trips
   times_size blocks = length-map-range_with_len (times_run blocks) 0 (length p.trips)
@@ -80,7 +80,7 @@ module _ (p : Problem) where
       (All-numbers OfFault (layer_faults p blocks) 0 (length p.layers) (λ l from within.
       All-when OfFault (nat_lt (layer_of p l).fleet (vehicles_used blocks l)) (fault.Fleet (record { 0 = l }) (vehicles_used blocks l)) (λ _. omega arith))))
 
-  one_flaw : (flaw : Flaw) → IsFlawOf p flaw → All OfFlaw (flaw ∷ [])
+  one_flaw : (flaw : Flaw) → IsFlawWithin (length p.layers) (length p.trips) flaw → All OfFlaw (flaw ∷ [])
   one_flaw flaw is = All-cons OfFlaw flaw [] is (All-nil OfFlaw)
 
   cost_named : (blocks : List LayerBlock) (cost : ℤ) (f : Option PlanFault) → first (faults_of p blocks) ≡ f → All OfFlaw (cost_flaws p blocks cost f)
@@ -119,6 +119,6 @@ module _ (p : Problem) where
       (All-when OfFlaw (not (same_claim d.claim (claim_found d.cost d.bound))) (ClaimDiffers d.claim (claim_found d.cost d.bound)) (λ _. tt))
 
   -- so the verdict does
-  pub verdict_named : (d : Document) (flaw : Option Flaw) → flaw ≡ first (flaws_of p d) → IsVerdictOf p (verdict_of flaw)
+  pub verdict_named : (d : Document) (flaw : Option Flaw) → flaw ≡ first (flaws_of p d) → IsVerdictWithin (length p.layers) (length p.trips) (verdict_of flaw)
   verdict_named d None is = tt
   verdict_named d (Some flaw) is = first_holds OfFlaw (flaws_of p d) flaw (all_named d) (sym is)
