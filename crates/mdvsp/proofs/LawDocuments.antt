@@ -147,5 +147,6 @@ solved_holds bytes answer rows owed =
         };
       };
       holds = owed.solves.holds;
+      proves = owed.proves;
       rows_are = refl;
     })

@@ -9,6 +9,7 @@ pub mod InstanceText
 pub mod Kinds
 pub mod Drafts
 pub mod DocumentText
+pub mod FlawRows
 pub mod DocumentParts
 pub mod Alike
 pub mod WrittenParts
