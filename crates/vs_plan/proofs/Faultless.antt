@@ -81,11 +81,11 @@ module _ (p : Problem) (b : ℕ) (l : LayerNo) (trips : List TripNo) where
           (test_from_some _
           (((pieces_exist p).link l.0 (trip_at trips (place - 1)) (trip_at trips place)).1 (right.connected later)))
 
--- a block of the instance without a fault is one, and one has no fault
 module _ (p : Problem) (b : ℕ) (block : LayerBlock) where
   abbrev no_trip : TripNo
   no_trip = record { 0 = 0 }
 
+  -- a block of the instance without a fault is a block
   pub block_from_clear : IsOfInstance p block → Clear (block_faults p b block) → IsBlock p block.0 block.1
   block_from_clear is clear = record {
     layer = is.layer;
@@ -115,6 +115,7 @@ module _ (p : Problem) (b : ℕ) (block : LayerBlock) where
           (empty.number_none (place_faults p b block.0 block.1) 0 (length block.1) parts.0 k (omega arith)
           (omega arith))
 
+  -- a block has no fault
   pub clear_from_block : IsBlock p block.0 block.1 → Clear (block_faults p b block)
   clear_from_block is =
       empty.none-append _ _
@@ -145,6 +146,7 @@ module _ (p : Problem) (blocks : List LayerBlock) where
   times_size : length (times_of p blocks) ≡ length p.trips
   times_size = length-map-range_with_len (times_run blocks) 0 (length p.trips)
 
+  -- blocks of the instance without a fault are a plan
   pub plan_from_faultless : All (IsOfInstance p) blocks → IsFaultless p blocks → IsPlan p blocks
   plan_from_faultless are none = record {
     each_block = λ k d within.
@@ -167,6 +169,7 @@ module _ (p : Problem) (blocks : List LayerBlock) where
         (omega arith)));
   }
 
+  -- a plan has no fault
   pub faultless_from_plan : IsPlan p blocks → IsFaultless p blocks
   faultless_from_plan plan = record {
     blocks_clear =
@@ -187,16 +190,23 @@ module _ (p : Problem) (blocks : List LayerBlock) where
           let inside : k < length p.trips = omega (arith, times_size) in
           get_or_default (times_of p blocks) k d 0 within ∙ time_at k inside ∙ plan.once k inside
 
+  -- a plan has an empty list of faults
+  pub faults_of-plan : IsPlan p blocks → faults_of p blocks ≡ []
+  faults_of-plan plan =
+      let none = faultless_from_plan plan in
+      empty.none-append _ _ none.blocks_clear (empty.none-append _ _ none.cover_clear none.fleets_clear)
+
   -- a first fault refutes that the blocks are a plan
   pub refuses : (fault : PlanFault) → first (faults_of p blocks) ≡ Some fault → ¬ (IsPlan p blocks)
-  refuses fault is plan =
-      let none = faultless_from_plan plan in
-      let all = empty.none-append _ _ none.blocks_clear (empty.none-append _ _ none.cover_clear none.fleets_clear) in
-      none-some fault (sym (ap first all) ∙ is)
+  refuses fault is plan = none-some fault (sym (ap first (faults_of-plan plan)) ∙ is)
+
+  -- an empty list of faults has nothing wrong in any part
+  pub faultless_from_none : faults_of p blocks ≡ [] → IsFaultless p blocks
+  faultless_from_none none =
+      let parts = empty.both_none _ _ none in
+      let both = empty.both_none _ _ parts.1 in
+      record { blocks_clear = parts.0; cover_clear = both.0; fleets_clear = both.1 }
 
   -- no first fault is none at all
   pub faultless : first (faults_of p blocks) ≡ None → IsFaultless p blocks
-  faultless none =
-      let parts = empty.both_none _ _ (none_from_first (faults_of p blocks) none) in
-      let both = empty.both_none _ _ parts.1 in
-      record { blocks_clear = parts.0; cover_clear = both.0; fleets_clear = both.1 }
+  faultless none = faultless_from_none (none_from_first (faults_of p blocks) none)

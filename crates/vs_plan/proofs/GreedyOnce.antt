@@ -74,6 +74,7 @@ module _ (p : Problem) where
       (λ i c. in_rest y x ys xs i pairs' (sym same) c (among' i (later y ys i c))) in
       ap (λ (t : TripNo). t ∷ xs) same ∙ ap (λ (ts : List TripNo). y ∷ ts) rest
 
+  -- two orders of the trips of an instance are one
   pub orders_same : (a b : List TripNo) → IsOrder p a → IsOrder p b → a ≡ b
   orders_same a b is_a is_b =
       one_order a b is_a.in_order is_b.in_order (λ i c. (is_b.all i).1 ((is_a.all i).0 c))

@@ -18,6 +18,7 @@ use Rattle.vs_instance.specs.Blocks.{IsBlock, first_of, last_of}
 use Rattle.vs_instance.specs.Plan.{LayerBlock, all_trips, vehicles_used}
 use Rattle.vs_plan.specs.Greedy.{CanJoin, CanOpen, block_at, longer}
 
+-- what is read past the end of blocks
 abbrev pub no_block : LayerBlock
 no_block = (record { 0 = 0 }, [])
 
@@ -26,6 +27,7 @@ pub block_at-pairs_of : (bs : List Block) (k : ℕ) (b : Block) → k < length b
     → block_at (pairs_of bs) k ≡ pair_of b
 block_at-pairs_of bs k b within is = get_or-map pair_of bs k b no_block within ∙ ap pair_of (sym is)
 
+-- a block that gained a trip makes the pairs where that block did
 pub pairs_of-join : (bs : List Block) (k : ℕ) (b c : Block) (i : TripNo) → k < length bs → b ≡ get_or bs k b
     → c.layer ≡ b.layer
     → c.trips.items ≡ b.trips.items ++ i ∷ []
@@ -41,6 +43,7 @@ module _ (bs xs : List Block) (k : ℕ) (b : Block) (are : xs ≡ bs) (within : 
   pub block_at-read : block_at (pairs_of bs) k ≡ pair_of b
   block_at-read = ap (λ (ys : List Block). block_at (pairs_of ys) k) (sym are) ∙ block_at-pairs_of xs k b within is
 
+  -- a block that is read is of the instance, where all are
   pub read_at : (p : Problem) → All (IsOfInstance p) (pairs_of bs) → IsOfInstance p (pair_of b)
   read_at p read =
       let here : k < length (pairs_of bs) = omega (arith, length-map bs pair_of, ap length are) in
@@ -48,6 +51,7 @@ module _ (bs xs : List Block) (k : ℕ) (b : Block) (are : xs ≡ bs) (within : 
 
 -- what adds up over joined lists of trips grows by what a trip that is placed adds
 module _ (m : List TripNo → ℕ) (adds : (xs ys : List TripNo) → m (xs ++ ys) ≡ m xs + m ys) (i : TripNo) where
+  -- after a trip joined a block
   pub measure_joined : (bs : List LayerBlock) (k : ℕ) → k < length bs
       → m (all_trips (set bs k (longer (get_or bs k no_block) i))) ≡ m (all_trips bs) + m (i ∷ [])
   measure_joined [] k within = absurd (omega arith)
@@ -62,6 +66,7 @@ module _ (m : List TripNo → ℕ) (adds : (xs ys : List TripNo) → m (xs ++ ys
       let g = adds b.1 (all_trips bs) in
       omega arith
 
+  -- after a trip opened a block
   pub measure_opened : (bs : List LayerBlock) (l : LayerNo)
       → m (all_trips (bs ++ (l, i ∷ []) ∷ [])) ≡ m (all_trips bs) + m (i ∷ [])
   measure_opened bs l =
@@ -78,11 +83,13 @@ used_opened : (bs : List LayerBlock) (b : LayerBlock) (l : ℕ)
     → vehicles_used (bs ++ b ∷ []) l ≡ vehicles_used bs l + cond (eqb b.0.0 l) 1 0
 used_opened bs b l = sum_by_push (λ (b : LayerBlock). cond (eqb b.0.0 l) 1 0) bs b
 
+-- a block that is opened takes a vehicle of its own layer
 pub used_opened_same : (bs : List LayerBlock) (b : LayerBlock) (l : ℕ) → b.0.0 ≡ l
     → vehicles_used (bs ++ b ∷ []) l ≡ vehicles_used bs l + 1
 used_opened_same bs b l same =
     used_opened bs b l ∙ ap (λ (t : Bool). vehicles_used bs l + cond t 1 0) (eq-eqb b.0.0 l same)
 
+-- and none of another layer
 pub used_opened_other : (bs : List LayerBlock) (b : LayerBlock) (l : ℕ) → b.0.0 ≢ l
     → vehicles_used (bs ++ b ∷ []) l ≡ vehicles_used bs l
 used_opened_other bs b l other =
@@ -134,6 +141,7 @@ module _ (p : Problem) where
           ap (λ (n : ℕ). (get_or (b.1 ++ i ∷ []) n (record { 0 = 0 })).0) place
           ∙ ap (λ (t : TripNo). t.0) (get_or_push b.1 i (record { 0 = 0 }) (length b.1) refl)
 
+  -- a trip for which a vehicle can be taken is a block by itself
   pub block_opened : (l : LayerNo) (i : TripNo) (blocks : List LayerBlock) → i.0 < length p.trips
       → CanOpen p blocks i.0 l.0 → IsBlock p l (i ∷ [])
   block_opened l i blocks within can = record {

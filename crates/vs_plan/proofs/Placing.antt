@@ -69,6 +69,7 @@ module _ (p : Problem) where
       apart : AllPairs (λ a b. a.0 ≢ b.0) order
       apart j k d before within = taken_apart (get_or order j d) (get_or order k d) (is.in_order j k d before within)
 
+  -- the trips of an order are of the instance
   pub order_below : (order : List TripNo) → IsOrder p order → All (λ t. t.0 < length p.trips) order
   order_below order is k d within = (is.all (get_or order k d)).0 (All-contains_itself order k d within)
 
@@ -122,10 +123,12 @@ module _ (p : Problem) where
             let was = so_far.fleet l of_layer in
             omega arith
 
+    -- one more trip is placed
     pub partly_more : (new : List LayerBlock) → IsPlaced p old i new → Partly (placed ++ i ∷ []) new
     partly_more new (inl joins) = joined new joins
     partly_more new (inr opens) = opened new opens
 
+  -- no trip is placed yet
   pub partly_none : Partly [] []
   partly_none = record {
     each_block = All-nil Is;
@@ -155,6 +158,7 @@ module _ (p : Problem) where
       (partly_all trips (placed ++ i ∷ []) places.0 new
       (All-tail (λ (t : TripNo). t.0 < length p.trips) i trips below) places.2 more)
 
+  -- what is known once these trips are placed
   pub partly_from_places : (trips : List TripNo) (blocks : List LayerBlock) → All (λ t. t.0 < length p.trips) trips
       → Places p [] trips blocks → Partly trips blocks
   partly_from_places trips blocks below places = partly_all trips [] [] blocks below places partly_none

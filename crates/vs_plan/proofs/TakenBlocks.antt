@@ -60,6 +60,7 @@ one_more_at p bs i d inside =
       few_times = λ k. count_by-le-length (λ t. t.0 == k) (all_trips (take i bs));
     }
 
+-- what one more block adds, where blocks are taken one by one
 pub one_more : (p : Problem) (blocks : List Block) (i : ℕ) (block : Block) → i < length blocks
     → block ≡ get_or blocks i block
     → OneMore p (pairs_of blocks) i (pair_of block)
@@ -68,10 +69,11 @@ one_more p blocks i block inside is =
     subst (OneMore p (pairs_of blocks) i) (pair_at blocks i block (pair_of block) inside is)
     (one_more_at p (pairs_of blocks) i (pair_of block) inside')
 
--- there are as many pairs as blocks
+-- a place of a block is one of its pair
 pub inside_pairs : (blocks : List Block) (i : ℕ) → i < length blocks → i < length (pairs_of blocks)
 inside_pairs blocks i inside = omega (arith, length-map blocks pair_of)
 
+-- there are as many pairs as blocks
 pub count_pairs : (blocks : List Block) → length (pairs_of blocks) ≡ length blocks
 count_pairs blocks = length-map blocks pair_of
 

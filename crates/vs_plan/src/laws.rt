@@ -2,7 +2,12 @@
 
 ghost use Rattle.vs_instance.specs.Problem.{Problem};
 ghost use Rattle.vs_instance.specs.BlockPieces.{BlocksCostTheirPieces};
-ghost use Rattle.vs_plan.specs.Laws.{GreedyGivesOneAnswer};
+ghost use Rattle.vs_plan.specs.Laws.{FaultlessBlocksArePlans, GreedyGivesOneAnswer};
+
+/// The list of faults is empty exactly where the blocks are a plan, so that judging goes by nothing else.
+pub fn faultless_blocks_are_plans()
+    ensures { (p : Problem) → FaultlessBlocksArePlans p }
+{}
 
 /// The greedy rule gives one plan or gets stuck, and never both.
 pub fn greedy_gives_one_answer()

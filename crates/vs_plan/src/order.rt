@@ -11,12 +11,12 @@ pub fn trips_in_order(alloc: Global, instance: &Instance) -> Result<Vec<TripNo>,
     ensures count { IfOk result (λ order. length order.items ≡ length instance.now.trips) }
 {
     let mut starts = Vec::new(alloc);
-    for i in 0..instance.trips() {
+    'trips: for i in 0..instance.trips() {
         starts.push((instance.trip(TripNo(i)).start, i))?;
     }
     starts.sort_unstable();
     let mut order = Vec::new(alloc);
-    for (_, i) in &starts {
+    'sorted: for (_, i) in &starts {
         order.push(TripNo(*i))?;
     }
     Ok(order)

@@ -7,11 +7,11 @@ use Rattle.vs_plan.proofs.order.trips_in_order.Goals as goal
 pub returns-clause-order : goal.returns-clause-order
 returns-clause-order c =
     let p = c.args.instance.now in
-    let xs = c.loop-i.starts.items in
+    let xs = c.trips.starts.items in
     let ys = c.sort_unstable.new.self.items in
-    let n : c.loop-i.i ≡ length p.trips = omega arith in
-    let starts : AreStarts p (length p.trips) xs = subst (λ (k : ℕ). AreStarts p k xs) n c.loop-i.invariant in
-    let all : take c.loop-i-2.i-index c.deref-i-items.result.now ≡ ys =
-    take_all _ _ c.loop-i-2-test.false ∙ c.deref-i-items.ensures.value in
-    subst (IsOrder p) (sym (c.loop-i-2.invariant ∙ ap (map trip_at) all))
+    let n : c.trips.i ≡ length p.trips = omega arith in
+    let starts : AreStarts p (length p.trips) xs = subst (λ (k : ℕ). AreStarts p k xs) n c.trips.invariant in
+    let all : take c.sorted.i-index c.deref-i-items.result.now ≡ ys =
+    take_all _ _ c.sorted-test.false ∙ c.deref-i-items.ensures.value in
+    subst (IsOrder p) (sym (c.sorted.invariant ∙ ap (map trip_at) all))
     (IsOrder-from_sort p xs ys starts c.sort_unstable.ensures.permutation c.sort_unstable.ensures.sorted)
