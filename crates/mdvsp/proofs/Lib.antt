@@ -29,7 +29,6 @@ pub mod ZeroTable
 pub mod FirstAnswer
 pub mod WrittenRows
 pub mod LawPlain
-pub mod LawTrips
 pub mod LawDocuments
 pub mod LawAlike
 pub mod LawVerdicts
