@@ -11,7 +11,7 @@ use Rattle.vs_plan.specs.declared.plan_fault.PlanFault.{PlanFault}
 use Rattle.vs_plan.proofs.Faultless.{refuses}
 use Rattle.vs_check.specs.declared.claim.Claim.{Claim}
 use Rattle.vs_check.specs.declared.claim.Claim.TheVariants.{Optimal, Infeasible, StillOpen}
-use Rattle.vs_check.specs.declared.flaw.Flaw.TheVariants.{Plan, CostDiffers}
+use Rattle.vs_check.specs.declared.flaw.Flaw.TheVariants.{CostDiffers}
 use Rattle.vs_check.specs.Flaws.{cost_flaws, plan_flaws, same_claim}
 
 pub same_cost : (x y : ℤ) → x ≡ y → int_eq x y ≡ true
@@ -45,10 +45,6 @@ module _ (p : Problem) (blocks : List LayerBlock) where
       ∙ ap (λ (b : Bool). when (not b) (CostDiffers cost (pos (plan_cost p blocks))))
       (other_cost cost (pos (plan_cost p blocks)) (λ e. apart (e ∙ sym is))))
       ∙ ap (λ (n : ℤ). Some (CostDiffers cost n)) (sym is))
-
-  pub faulty : (cost : ℤ) (fault : PlanFault) → first (faults_of p blocks) ≡ Some fault
-      → Some (Plan fault) ≡ first (plan_flaws p blocks (Some cost))
-  faulty cost fault is = sym (ap (λ (f : Option PlanFault). first (cost_flaws p blocks cost f)) is)
 
 -- the test of claims
 pub claims_same : (a b : Claim) → same_claim a b ≡ true → a ≡ b

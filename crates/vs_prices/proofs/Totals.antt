@@ -9,10 +9,6 @@ use Rattle.std.proofs.lemmas.List.Elements.{All-head, All-tail}
 use Rattle.std.proofs.lemmas.List.Sums.{sum_by-cons}
 use Rattle.vs_instance.specs.Lagrangian.{total}
 
-pub total-append : (xs ys : List ℤ) → total (xs ++ ys) ≡ total xs +ℤ total ys
-total-append [] ys = omega (arith, ints)
-total-append (x ∷ xs) ys = let rest = total-append xs ys in omega (arith, ints)
-
 pub total-map_append : {A : Type 0} (f : A → ℤ) (xs ys : List A)
     → total (map f (xs ++ ys)) ≡ total (map f xs) +ℤ total (map f ys)
 total-map_append f [] ys = omega (arith, ints)

@@ -189,17 +189,3 @@ fn breaks_where_a_move_is_worth_more_than_it_costs(rt: HostRuntime) -> Result<()
     }
     Ok(())
 }
-
-#[test]
-fn no_number_is_more_than_no_plan(rt: HostRuntime) {
-    let cases = [
-        (Bound::AtLeast(60), Some(60), true),
-        (Bound::AtLeast(60), Some(61), false),
-        (Bound::AtLeast(60), None, false),
-        (Bound::NoPlan, Some(61), true),
-        (Bound::NoPlan, None, true),
-    ];
-    for (found, bound, reaches) in cases {
-        assert_eq!(rt; found.reaches(bound), reaches);
-    }
-}
