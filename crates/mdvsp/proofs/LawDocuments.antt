@@ -5,12 +5,12 @@ use Rattle.std.proofs.lemmas.List.{get_or_default, length_push}
 use Rattle.std.proofs.lemmas.List.Elements.{All-head, All-nil, All-push}
 use Rattle.std.proofs.lemmas.List.Quantifiers.{all_pairs_push}
 use Rattle.vs_instance.specs.Problem.{Problem}
-use Rattle.vs_check.specs.declared.bound.Bound.TheVariants.{AtLeast, NoPlan}
+use Rattle.vs_prices.specs.declared.bound.Bound.TheVariants.{AtLeast, NoPlan}
 use Rattle.vs_check.specs.declared.document.Document.{Document}
 use Rattle.vs_check.specs.declared.shape.Shape.{Shape}
 use Rattle.vs_check.specs.declared.shape.Shape.TheVariants.{Leaf}
-use Rattle.vs_check.specs.declared.table.Table.{Table}
-use Rattle.vs_check.specs.Blocks.{blocks_of}
+use Rattle.vs_prices.specs.declared.table.Table.{Table}
+use Rattle.vs_plan.specs.Blocks.{blocks_of}
 use Rattle.vs_check.specs.HoldingDocument.{ReachesBound}
 use Rattle.mdvsp.specs.declared.status.Status.{Status}
 use Rattle.mdvsp.specs.Rows.{Field, Row, AreLines, lines}
@@ -80,14 +80,14 @@ module _ (p : Problem) (d : Document) (budget : ℕ) (solves : SolveAnswer p bud
       ap ray_of (sym solves.holds.leaf.3)
       ∙ ap (λ (t : ℕ). ray_of (slice_get d.tables.items t)) leaf_is
       ∙ ap (λ (tables : List Table). ray_of (slice_get tables 0)) zero.1
-      ∙ zero.2.0
+      ∙ zero.2.cost
 
   first_document : IsFirstDocument d
   first_document = record {
     bound = number_reached p solves.holds.leaf.1 d.bound cost_table solves.holds.leaf.4;
     table = zero.0;
     one_table = zero.1;
-    cost_table = zero.2.0;
+    cost_table = zero.2.cost;
     one_leaf = one_leaf;
   }
 
@@ -97,7 +97,7 @@ module _ (p : Problem) (d : Document) (budget : ℕ) (solves : SolveAnswer p bud
   document_text : (names : NameLists) → DocumentText p names (document_rows p names d) d
   document_text names = record {
     has_text = solves.has_text;
-    few_trips = few_in_plan p d.cost (blocks_of d.plan) few solves.holds.plan solves.has_text.blocks;
+    few_trips = few_in_plan p d.cost (blocks_of d.plan) few solves.holds.plan;
     shape_rows = map (shape_row names) d.shape.items;
     shapes_are = shape_rows names;
     rows_are = refl;

@@ -6,68 +6,10 @@ use Rattle.std.proofs.lemmas.List.Sums.{sum_by-cons}
 use Rattle.vs_types.specs.declared.numbers.TripNo.{TripNo}
 use Rattle.vs_instance.specs.Problem.{Problem}
 use Rattle.vs_instance.specs.Plan.{IsPlan, LayerBlock, all_trips, plan_cost}
-use Rattle.vs_check.specs.Form.{IsReadBlock}
-use Rattle.mdvsp.proofs.LawPlain.{all_flat}
-
--- how many of the trips have a number below n, and how many number n
-abbrev below : ℕ → List TripNo → ℕ
-below n trips = count_by (λ t. ltb t.0 n) trips
-
-abbrev of_number : ℕ → List TripNo → ℕ
-of_number n trips = count_by (λ t. eqb t.0 n) trips
-
-one_below : (k n : ℕ) → cond (ltb k (suc n)) 1 0 ≡ cond (ltb k n) 1 0 + cond (eqb k n) 1 0
-one_below k n = elim (cases_order k n) [
-  | inl same ↦ rw (lt-ltb k (suc n) (omega arith), le-ltb k n (omega arith), eq-eqb k n same) refl
-  | inr other ↦ elim other [
-    | inl less ↦ rw (lt-ltb k (suc n) (omega arith), lt-ltb k n less, ne_eqb k n (omega arith)) refl
-    | inr more ↦ rw (le-ltb k (suc n) (omega arith), le-ltb k n (omega arith), ne_eqb k n (omega arith)) refl
-  ]
-]
-
--- the first counts, or it doesn't
-count-cons : (test : TripNo → Bool) (t : TripNo) (trips : List TripNo) → count_by test (t ∷ trips) ≡ cond (test t) 1 0 + count_by test trips
-count-cons test t trips = sum_by-cons (λ x. cond (test x) 1 0) t trips
-
-below_more : (n : ℕ) (trips : List TripNo) → below (suc n) trips ≡ below n trips + of_number n trips
-below_more n [] = refl
-below_more n (t ∷ trips) = omega (
-  arith,
-  one_below t.0 n,
-  below_more n trips,
-  count-cons (λ x. ltb x.0 (suc n)) t trips,
-  count-cons (λ x. ltb x.0 n) t trips,
-  count-cons (λ x. eqb x.0 n) t trips,
-)
-
-below_none : (trips : List TripNo) → below 0 trips ≡ 0
-below_none [] = refl
-below_none (t ∷ trips) =
-    let counted : Bool → ℕ = λ b. cond b 1 0 in
-    let no : counted (ltb t.0 0) ≡ 0 = ap counted (le-ltb t.0 0 (omega arith)) in
-    omega (arith, no, below_none trips, count-cons (λ x. ltb x.0 0) t trips)
-
-below_all : (n : ℕ) (trips : List TripNo) → All (λ t. t.0 < n) trips → below n trips ≡ length trips
-below_all n [] all = refl
-below_all n (t ∷ trips) all =
-    let counted : Bool → ℕ = λ b. cond b 1 0 in
-    let yes : counted (ltb t.0 n) ≡ 1 = ap counted (lt-ltb t.0 n (All-head (λ (u : TripNo). u.0 < n) t trips all)) in
-    omega (arith, yes, below_all n trips (All-tail (λ (u : TripNo). u.0 < n) t trips all), count-cons (λ x. ltb x.0 n) t trips)
-
-each_once : (n : ℕ) (trips : List TripNo) → ((i : ℕ) → i < n → of_number i trips ≡ 1) → below n trips ≡ n
-each_once zero trips once = below_none trips
-each_once (suc n) trips once = omega (arith, below_more n trips, each_once n trips (λ i lt. once i (omega arith)), once n (omega arith))
-
-trips_within : (p : Problem) (blocks : List LayerBlock) → All (IsReadBlock p) blocks → All (λ t. t.0 < length p.trips) (all_trips blocks)
-trips_within p blocks are = all_flat (λ (t : TripNo). t.0 < length p.trips) (λ (b : LayerBlock). b.1) blocks
-    (All-weaker (IsReadBlock p) (λ (b : LayerBlock). All (λ (t : TripNo). t.0 < length p.trips) b.1) (λ b is. is.trips) blocks are)
-
-plan_trips : (p : Problem) (blocks : List LayerBlock) → IsPlan p blocks → All (IsReadBlock p) blocks → length (all_trips blocks) ≡ length p.trips
-plan_trips p blocks plan are =
-    sym (below_all (length p.trips) (all_trips blocks) (trips_within p blocks are)) ∙ each_once (length p.trips) (all_trips blocks) plan.once
+use Rattle.vs_plan.proofs.PlanTrips.{plan_trips}
 
 -- so few that 32 bits count them
 pub few_in_plan : (p : Problem) (cost : Option ℤ) (blocks : List LayerBlock) → length p.trips ≤ 2000
-    → MatchOption cost (blocks ≡ []) (λ n. IsPlan p blocks × (n ≡ pos (plan_cost p blocks))) → All (IsReadBlock p) blocks → length (all_trips blocks) < 4294967296
-few_in_plan p None blocks few none are = let no_trips : length (all_trips blocks) ≡ 0 = ap (λ (bs : List LayerBlock). length (all_trips bs)) none in omega arith
-few_in_plan p (Some n) blocks few plan are = let size = plan_trips p blocks plan.0 are in omega arith
+    → MatchOption cost (blocks ≡ []) (λ n. IsPlan p blocks × (n ≡ pos (plan_cost p blocks))) → length (all_trips blocks) < 4294967296
+few_in_plan p None blocks few none = let no_trips : length (all_trips blocks) ≡ 0 = ap (λ (bs : List LayerBlock). length (all_trips bs)) none in omega arith
+few_in_plan p (Some n) blocks few plan = let size = plan_trips p blocks plan.0 in omega arith

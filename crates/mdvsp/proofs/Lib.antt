@@ -25,9 +25,6 @@ pub mod CheckTexts
 pub mod OwedAnswers
 pub mod RunEnds
 pub mod WordLists
-pub mod Orders
-pub mod OpenBlocks
-pub mod Placing
 pub mod ZeroTable
 pub mod FirstAnswer
 pub mod WrittenRows

@@ -16,7 +16,7 @@ pub mod FirstForm
 pub mod BeforeResult
 pub mod Status
 pub mod Words
-pub mod Greedy
+pub mod PricedPlan
 pub mod SolveAnswer
 pub mod Owed
 pub mod Laws

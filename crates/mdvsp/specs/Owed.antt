@@ -1,11 +1,12 @@
 -- What a call has to answer, and what it has to write.
-use Rattle.std.specs.Prelude.{◌≡◌, ℕ, false, List, [], ◌∷◌, length, replicate, ◌*◌, codes, pos, MatchOption, ◌⊎◌}
+use Rattle.std.specs.Prelude.{◌≡◌, ℕ, false, List, [], ◌∷◌, codes, MatchOption, ◌⊎◌}
 use Rattle.vs_instance.specs.Problem.{Problem}
 use Rattle.vs_check.specs.declared.claim.Claim.{Claim}
 use Rattle.vs_check.specs.declared.claim.Claim.TheVariants.{Optimal, Infeasible, StillOpen}
 use Rattle.vs_check.specs.declared.document.Document.{Document}
-use Rattle.vs_check.specs.declared.table.Table.{Table}
-use Rattle.vs_check.specs.Blocks.{blocks_of}
+use Rattle.vs_prices.specs.declared.table.Table.{Table}
+use Rattle.vs_prices.specs.Table.{AreZeros, Fits}
+use Rattle.vs_plan.specs.Blocks.{blocks_of}
 use Rattle.vs_check.specs.HoldingDocument.{HoldingDocument}
 use Rattle.mdvsp.specs.declared.status.Status.{Status}
 use Rattle.mdvsp.specs.declared.status.Status.TheVariants as status
@@ -13,7 +14,7 @@ use Rattle.mdvsp.specs.Rows.{Row}
 use Rattle.mdvsp.specs.Names.{NameLists}
 use Rattle.mdvsp.specs.DocumentText.{claim_field, number_field, document_rows}
 use Rattle.mdvsp.specs.FirstForm.{CheckText, CheckRows, SolveText}
-use Rattle.mdvsp.specs.Greedy.{GreedyGives, GreedyGetsStuck}
+use Rattle.vs_plan.specs.Greedy.{GreedyGives, GreedyGetsStuck}
 use Rattle.mdvsp.specs.SolveAnswer.{SolveAnswer}
 use Rattle.mdvsp.specs.Words.{check_words, solve_words}
 
@@ -64,12 +65,11 @@ IsSolveText bytes = (p : Problem) × (names : NameLists) × SolveText bytes p na
 abbrev pub HasGreedyPlan : Problem → Document → Type 0
 HasGreedyPlan p d = MatchOption d.cost (GreedyGetsStuck p) (λ _. GreedyGives p (blocks_of d.plan))
 
--- a table in which every price is 0
-abbrev pub IsZeroTable : Problem → Table → Type 0
-IsZeroTable p table = (table.ray ≡ false)
-    × (table.into.items ≡ replicate (length p.layers * length p.trips) (pos 0))
-    × (table.from.items ≡ replicate (length p.layers * length p.trips) (pos 0))
-    × (table.fleet.items ≡ replicate (length p.layers) (pos 0))
+-- a cost table of the instance in which every price is 0
+pub record IsZeroTable (p : Problem) (table : Table) : Type 0 where
+  pub cost : table.ray ≡ false
+  pub fits : Fits p table
+  pub zeros : AreZeros table
 
 -- without a search the only table is the zero table
 abbrev pub HasZeroTable : Problem → Document → Type 0

@@ -1,7 +1,7 @@
 use crate::claim::Claim;
-use crate::plan::Plan;
 use crate::shape::Shape;
-use crate::table::Table;
+use vs_plan::Plan;
+use vs_prices::Table;
 
 /// A plan with what proves it.
 #[derive(Debug, Drop)]

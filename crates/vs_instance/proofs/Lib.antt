@@ -10,4 +10,7 @@ pub mod Given
 pub mod Closed
 pub mod Judged
 pub mod Known
+pub mod PieceLemmas
+pub mod BlockPieces
+pub mod PermittedSets
 pub mod Examples

@@ -1,0 +1,3 @@
+pub mod RunIn
+pub mod Sharing
+pub mod Restrictions
