@@ -30,6 +30,7 @@ pub mod OpenBlocks
 pub mod Placing
 pub mod ZeroTable
 pub mod FirstAnswer
+pub mod Sequences
 pub mod WrittenRows
 pub mod LawPlain
 pub mod LawTrips
