@@ -27,6 +27,7 @@ pub mod RunEnds
 pub mod WordLists
 pub mod ZeroTable
 pub mod FirstAnswer
+pub mod Sequences
 pub mod WrittenRows
 pub mod LawPlain
 pub mod LawTrips

@@ -1,4 +1,6 @@
 pub mod Rows
+pub mod Times
+pub mod Generator
 pub mod RowEnds
 pub mod UnfinishedRows
 pub mod Numbers

@@ -9,7 +9,11 @@ Field = List ℕ
 abbrev pub Row : Type 0
 Row = List Field
 
--- the fields with commas between them, and a line feed
+-- the fields with commas between them
+abbrev pub fields : Row → List ℕ
+fields row = join_with_byte 44 row
+
+-- the same and a line feed
 abbrev pub line : Row → List ℕ
 line row = join_with_byte 44 row ++ 10 ∷ []
 
