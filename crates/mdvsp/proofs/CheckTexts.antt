@@ -4,9 +4,9 @@ use Rattle.std.proofs.lemmas.List.{length-append, get_or_append_left}
 use Rattle.std.proofs.Math.Seq.{get_or-append_right, take-append_seam, drop-append_seam}
 use Rattle.vs_instance.specs.Problem.{Problem}
 use Rattle.vs_check.specs.declared.document.Document.{Document}
-use Rattle.mdvsp.specs.Rows.{Row, Field}
-use Rattle.mdvsp.specs.Names.{NameLists, HaveCounts}
-use Rattle.mdvsp.specs.InstanceText.{InstanceText, Declared, nothing_yet, Adds, AddAll}
+use Rattle.vs_reader.specs.Rows.{Row, Field}
+use Rattle.vs_reader.specs.Names.{NameLists, HaveCounts}
+use Rattle.vs_reader.specs.InstanceText.{InstanceText, Declared, nothing_yet, Adds, AddAll}
 use Rattle.mdvsp.specs.DocumentText.{DocumentText}
 use Rattle.mdvsp.specs.FirstForm.{IsResultRow, IsFirstResult, CheckRows, IsFirstDocument, AreInOrder}
 use Rattle.mdvsp.specs.Owed.{AreCheckRows}

@@ -13,10 +13,10 @@ use Rattle.vs_prices.specs.declared.table.Table.{Table}
 use Rattle.vs_plan.specs.Blocks.{blocks_of}
 use Rattle.vs_check.specs.HoldingDocument.{ReachesBound}
 use Rattle.mdvsp.specs.declared.status.Status.{Status}
-use Rattle.mdvsp.specs.Rows.{Field, Row, AreLines, lines}
-use Rattle.mdvsp.specs.Names.{IsName, NameLists}
-use Rattle.mdvsp.specs.NameRules.{AreNames}
-use Rattle.mdvsp.specs.InstanceText.{InstanceText, IsNew, Declared, nothing_yet, Adds, AddAll}
+use Rattle.vs_reader.specs.Rows.{Field, Row, AreLines, lines}
+use Rattle.vs_reader.specs.Names.{IsName, NameLists}
+use Rattle.vs_reader.specs.NameRules.{AreNames}
+use Rattle.vs_reader.specs.InstanceText.{InstanceText, IsNew, Declared, nothing_yet, Adds, AddAll}
 use Rattle.mdvsp.specs.DocumentText.{AreShapeRows, DocumentText, IsShapeOf, document_rows, shape_row}
 use Rattle.mdvsp.specs.FirstForm.{IsFirstDocument}
 use Rattle.mdvsp.specs.Owed.{OwesDocument, OwesYes, HasZeroTable, yes_row}

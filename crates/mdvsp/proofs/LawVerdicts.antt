@@ -7,10 +7,10 @@ use Rattle.vs_plan.specs.Blocks.{blocks_of}
 use Rattle.vs_check.specs.HoldingDocument.{HoldingDocument}
 use Rattle.mdvsp.specs.declared.status.Status.{Status}
 use Rattle.mdvsp.specs.declared.status.Status.TheVariants as status
-use Rattle.mdvsp.specs.Rows.{Row}
-use Rattle.mdvsp.specs.Names.{NameLists}
+use Rattle.vs_reader.specs.Rows.{Row}
+use Rattle.vs_reader.specs.Names.{NameLists}
 use Rattle.mdvsp.specs.Alike.{AreAlike}
-use Rattle.mdvsp.specs.InstanceText.{InstanceText}
+use Rattle.vs_reader.specs.InstanceText.{InstanceText}
 use Rattle.mdvsp.specs.DocumentText.{DocumentText}
 use Rattle.mdvsp.specs.FirstForm.{CheckRows, IsFirstDocument, IsFirstResult, IsResultRow}
 use Rattle.mdvsp.specs.Owed.{CheckOwes, IsCheckText, OwesNo, OwesRefusal, OwesYes}
@@ -18,7 +18,7 @@ use Rattle.mdvsp.proofs.CheckTexts.{document_starts, get_or-append_seam_first, n
 use Rattle.mdvsp.proofs.DocumentWhole.{alike, parts_of}
 use Rattle.mdvsp.proofs.LawAlike.{holds_alike}
 use Rattle.mdvsp.proofs.LawDocuments.{instance_names}
-use Rattle.mdvsp.proofs.ReaderDeclared.{declared_by, one_text}
+use Rattle.vs_reader.proofs.DeclaredLemmas.{declared_by, one_text}
 use Rattle.mdvsp.proofs.Reading.{AreLines-unique}
 
 -- the rows of a document are those of no other

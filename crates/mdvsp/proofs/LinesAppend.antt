@@ -4,7 +4,7 @@ use Rattle.std.specs.Prelude.{All}
 use Rattle.std.proofs.lemmas.List.{append-nil, get_or_append_left, get_or-append-add, length-append}
 use Rattle.std.proofs.lemmas.List.Concat.{flat_map-append}
 use Rattle.std.proofs.lemmas.List.Elements.{All-append}
-use Rattle.mdvsp.specs.Rows.{Row, line, lines, IsPlainRow, AreLines}
+use Rattle.vs_reader.specs.Rows.{Row, line, lines, IsPlainRow, AreLines}
 
 pub lines-append : (rows others : List Row) → lines (rows ++ others) ≡ lines rows ++ lines others
 lines-append rows others = flat_map-append line rows others

@@ -6,7 +6,7 @@ use Rattle.vs_instance.specs.Problem.{Problem}
 use Rattle.vs_check.specs.declared.claim.Claim.{Claim}
 use Rattle.vs_check.specs.declared.claim.Claim.TheVariants.{Optimal, Infeasible, StillOpen}
 use Rattle.mdvsp.specs.DocumentText.{document_rows}
-use Rattle.mdvsp.specs.InstanceText.{InstanceText}
+use Rattle.vs_reader.specs.InstanceText.{InstanceText}
 use Rattle.vs_check.specs.declared.document.Document.{Document}
 use Rattle.vs_check.specs.HoldingDocument.{HoldingDocument}
 use Rattle.mdvsp.specs.declared.answer.Answer.{Answer}
@@ -15,9 +15,9 @@ use Rattle.mdvsp.specs.declared.status.Status.TheVariants as status
 use Rattle.mdvsp.specs.declared.words.Command.TheVariants.{Check, Solve}
 use Rattle.mdvsp.specs.Answered.{IsOwedFor, IsDocumentOf}
 use Rattle.mdvsp.specs.FirstForm.{CheckText, SolveText, SplitsAtResult, AreInOrder}
-use Rattle.mdvsp.specs.Names.{NameLists}
+use Rattle.vs_reader.specs.Names.{NameLists}
 use Rattle.mdvsp.specs.Owed.{CheckOwes, SolveOwes, OwesDocument, status_of, IsCheckText, IsSolveText, refused_row, yes_row, no_row}
-use Rattle.mdvsp.specs.Rows.{Row, lines}
+use Rattle.vs_reader.specs.Rows.{Row, lines}
 
 check_owes : (bytes : List ℕ) (answer : Answer) (wanted : Status) (row : Row) → CheckOwes bytes wanted (row ∷ []) → (answer.status ≡ wanted) × (answer.text.items ≡ lines (row ∷ []))
     → IsOwedFor Check bytes answer

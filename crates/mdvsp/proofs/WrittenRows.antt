@@ -6,12 +6,8 @@ use Rattle.std.proofs.lemmas.List.{append_assoc, append-nil, take_more, take_all
 use Rattle.std.proofs.lemmas.Nat.{mul-add-lt}
 use Rattle.std.proofs.lemmas.List.Concat.{flat_map-append}
 use Rattle.std.proofs.lemmas.List.FromFn.{get_or-range_with_len, length-range_with_len}
-use Rattle.mdvsp.specs.Rows.{Field, Row, line, lines}
+use Rattle.vs_reader.specs.Rows.{Field, Row, line, lines}
 use Rattle.mdvsp.proofs.LinesAppend.{lines-append}
-
--- each with a comma before it
-abbrev pub more_fields : List Field → List ℕ
-more_fields fields = flat_map (λ field. 44 ∷ field) fields
 
 -- the fields of a row behind its first one
 pub join-cons : (field : Field) (fields : List Field) → join_with_byte 44 (field ∷ fields) ≡ field ++ more_fields fields

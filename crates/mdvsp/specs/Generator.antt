@@ -7,7 +7,7 @@ use Rattle.vs_types.specs.declared.layer_set.LayerSet.{LayerSet}
 use Rattle.vs_types.specs.LayerSet.{members}
 use Rattle.mdvsp.specs.declared.making.Draws.{Draws}
 use Rattle.mdvsp.specs.declared.making.TheConstants.{STOPS, DEPOTS}
-use Rattle.mdvsp.specs.Rows.{Field, Row}
+use Rattle.vs_reader.specs.Rows.{Field, Row}
 use Rattle.mdvsp.specs.Times.{time_field}
 
 -- Stops stand in three rows of four, numbered from 0. How far two of them are apart: the difference in x and that in y

@@ -1,6 +1,6 @@
 -- Times as they are written.
 use Rattle.std.specs.Prelude.{ℕ, ◌+◌, ◌/◌, ◌%◌, List, [], ◌∷◌, ◌++◌}
-use Rattle.mdvsp.specs.Rows.{Field}
+use Rattle.vs_reader.specs.Rows.{Field}
 
 -- a number below 100 as two digits
 abbrev pub two_digits : ℕ → List ℕ

@@ -4,7 +4,7 @@
 ghost use Rattle.std.specs.Prelude.{◌≡◌, ◌-◌, ◌%◌, ◌<◌, ◌≤◌, [], ◌∷◌, ◌++◌, codes, map, flat_map, IfOk, OnOk};
 ghost use Rattle.std.specs.List.{range_with_len};
 ghost use Rattle.mdvsp.specs.Generator.{deadhead_row, deadheads_from, depot_of, distance, draws, drawn_row, layer_name, layer_names, layer_row, name, make_rows, next_number, number_at, other_stop, stop_name, stop_row, trip_row};
-ghost use Rattle.mdvsp.specs.Rows.{fields, line, lines};
+ghost use Rattle.vs_reader.specs.Rows.{fields, line, lines};
 ghost use Rattle.mdvsp.specs.Times.{time_field};
 
 use crate::text::Text;

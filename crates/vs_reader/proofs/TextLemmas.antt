@@ -1,10 +1,14 @@
 -- A text is an instance text or is refused, and not both.
 use Rattle.std.proofs.Common.{◌≡◌, ℕ, ◌+◌, ◌<◌, ◌≤◌, inl, inr, Bool, true, false, cond, List, [], ◌∷◌, ◌++◌, length, drop, refl, sym, ap, ◌∙◌, subst, arith}
+use Rattle.std.specs.Prelude.{AllPairs}
 use Rattle.std.proofs.lemmas.List.{length-append, drop_at}
 use Rattle.csv.specs.Reading.{default_config, strip_bom, is_bom}
 use Rattle.csv.specs.declared.parser.State.TheVariants as state
 use Rattle.vs_instance.specs.Problem.{Problem}
-use Rattle.vs_instance.specs.Misfits.{deadheads_of}
+use Rattle.vs_instance.specs.Instance.{IsInstance}
+use Rattle.vs_instance.specs.Misfits.{are_twins, deadheads_of, problem_of}
+use Rattle.vs_instance.specs.declared.deadhead.Deadhead.{Deadhead}
+use Rattle.vs_instance.proofs.Judged.{refuses}
 use Rattle.vs_reader.specs.declared.draft.Draft.{Draft}
 use Rattle.vs_reader.specs.declared.refused.ReadError.{ReadError}
 use Rattle.vs_reader.specs.declared.refused.ReadError.TheVariants as error
@@ -12,7 +16,7 @@ use Rattle.vs_reader.specs.declared.refused.Refused.{Refused}
 use Rattle.vs_reader.specs.declared.refused.Why.TheVariants as why
 use Rattle.vs_reader.specs.Rows.{Row}
 use Rattle.vs_reader.specs.RowEnds.{weight_of}
-use Rattle.vs_reader.specs.Names.{NameLists}
+use Rattle.vs_reader.specs.Names.{NameLists, HaveCounts}
 use Rattle.vs_reader.specs.Kinds.{HasHeader, before_result}
 use Rattle.vs_reader.specs.InstanceText.{Declared, AddAll, Makes, InstanceText, nothing_yet, instance_records}
 use Rattle.vs_reader.specs.Refusals.{BreaksRule, HasMisfit}
@@ -21,7 +25,7 @@ use Rattle.vs_reader.specs.Drafts.{declared_of}
 use Rattle.vs_reader.specs.Texts.{HasRows, StandsFor, IsRefused}
 use Rattle.vs_reader.specs.ReadErrors.{RefusesAs, IsRefusedError}
 use Rattle.vs_reader.proofs.CsvRecords.{has_records, same_records, weight_of-records, length-records}
-use Rattle.vs_reader.proofs.DeclaredLemmas.{IsSound-nothing, one_AddAll, few_deadheads}
+use Rattle.vs_reader.proofs.DeclaredLemmas.{IsSound-nothing, IsSound-AddAll, one_AddAll}
 use Rattle.vs_reader.proofs.RefusedLemmas.{AreAllNames-nothing, breaks_refutes}
 
 -- a text has one list of rows
@@ -139,3 +143,58 @@ module _ (bytes : List ℕ) (rows : List Row) (more : List Row) (header : Row) (
             b_is,
             stands.text.rest_is ∙ (λ i. drop (b_is i) (same_rows i)) ∙ sym rest_there,
           )
+
+-- two readings of a text are one
+pub one_reading : (bytes : List ℕ) (p q : Problem) (names others : NameLists) (before b : ℕ) (rest r : List Row) → StandsFor bytes p names before rest → StandsFor bytes q others b r
+    → (q ≡ p) × (others ≡ names) × (b ≡ before) × (r ≡ rest)
+one_reading bytes p q names others before b rest r stands also =
+    let rows = one_rows bytes stands.rows also.rows stands.has_rows also.has_rows in
+    let same : also.text.declared ≡ stands.text.declared =
+    one_AddAll nothing_yet also.text.declared stands.text.declared (instance_records stands.rows) IsSound-nothing
+    (subst (λ (rs : List Row). AddAll nothing_yet (instance_records rs) also.text.declared) rows also.text.declares) stands.text.declares in
+    let b_is : b ≡ before = also.text.before_is ∙ ap (λ (rs : List Row). length (instance_records rs) + 1) rows ∙ sym stands.text.before_is in (
+      also.text.makes.problem
+      ∙ ap (λ (d : Declared). record { stops = length d.names.stops; deadheads = deadheads_of d.deadheads; layers = d.layers; trips = d.trips }) same
+      ∙ sym stands.text.makes.problem,
+      also.text.names_are ∙ ap (λ (d : Declared). d.names) same ∙ sym stands.text.names_are,
+      b_is,
+      also.text.rest_is ∙ (λ i. drop (b_is i) (rows i)) ∙ sym stands.text.rest_is,
+    )
+
+-- what is declared isn't an instance where its parts have a misfit
+misfit_refutes : (records : List Row) (refused : Refused) (misfit : HasMisfit records refused) (p : Problem) → ¬ (Makes misfit.declared p)
+misfit_refutes records refused misfit p makes =
+    let parts = misfit.parts_are in
+    let same : p ≡ problem_of misfit.parts =
+    makes.problem ∙ (λ i. record { stops = sym parts.stops i; deadheads = deadheads_of (sym parts.deadheads i); layers = sym parts.layers i; trips = sym parts.trips i }) in
+    refuses misfit.parts misfit.misfit misfit.first (record {
+      once = subst (λ (ds : List Deadhead). AllPairs (λ d e. are_twins d e ≡ false) ds) (sym parts.deadheads) makes.once;
+      instance = subst IsInstance same makes.instance;
+    })
+
+-- a text that is refused stands for nothing
+pub refused_none : (bytes : List ℕ) (refused : Refused) (p : Problem) (names : NameLists) (before : ℕ) (rest : List Row) → IsRefused bytes refused → ¬ (StandsFor bytes p names before rest)
+refused_none bytes refused p names before rest is stands =
+    let rows = one_rows bytes is.rows stands.rows is.has_rows stands.has_rows in
+    let declares = subst (λ (rs : List Row). AddAll nothing_yet (instance_records rs) stands.text.declared) rows stands.text.declares in
+    elim is.refusal [
+      | inl lacks ↦ lacks.0 (subst HasHeader rows stands.text.first)
+      | inr begins ↦ elim begins.1 [
+        | inl breaks ↦ breaks_refutes 2 nothing_yet stands.text.declared (instance_records is.rows) refused AreAllNames-nothing breaks declares
+        | inr misfit ↦
+            misfit_refutes (instance_records is.rows) refused misfit p
+            (subst (λ (d : Declared). Makes d p)
+              (one_AddAll nothing_yet stands.text.declared misfit.declared (instance_records is.rows) IsSound-nothing declares misfit.declares) stands.text.makes)
+      ]
+    ]
+
+-- a text has as many names as its instance has stops, layers and trips
+pub stands_counts : (bytes : List ℕ) (p : Problem) (names : NameLists) (before : ℕ) (rest : List Row) → StandsFor bytes p names before rest → HaveCounts p names
+stands_counts bytes p names before rest stands =
+    let t = stands.text in
+    let sound = IsSound-AddAll nothing_yet t.declared (instance_records stands.rows) IsSound-nothing t.declares in
+    record {
+      stops = ap (λ (n : NameLists). length n.stops) t.names_are ∙ sym (ap (λ (q : Problem). q.stops) t.makes.problem);
+      layers = ap (λ (n : NameLists). length n.layers) t.names_are ∙ sym sound.each_layer ∙ sym (ap (λ (q : Problem). length q.layers) t.makes.problem);
+      trips = ap (λ (n : NameLists). length n.trips) t.names_are ∙ sym sound.each_trip ∙ sym (ap (λ (q : Problem). length q.trips) t.makes.problem);
+    }

@@ -2,7 +2,7 @@ use Rattle.std.proofs.Common.{◌≡◌, List, [], ◌∷◌, ◌++◌, sym, ap,
 use Rattle.std.specs.Prelude.{codes, map, flat_map}
 use Rattle.std.specs.List.{range_with_len}
 use Rattle.std.proofs.lemmas.List.{append_assoc, append-nil}
-use Rattle.mdvsp.specs.Rows.{Row, line, lines}
+use Rattle.vs_reader.specs.Rows.{Row, line, lines}
 use Rattle.mdvsp.specs.declared.making.TheConstants.{STOPS, DEPOTS}
 use Rattle.mdvsp.specs.Generator.{deadheads_from, drawn_row, layer_row, make_rows, stop_row}
 use Rattle.mdvsp.proofs.WrittenRows.{more_rows}

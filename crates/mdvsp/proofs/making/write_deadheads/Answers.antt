@@ -1,6 +1,6 @@
 use Rattle.std.proofs.Common.{◌++◌, sym, ap, ◌∙◌}
 use Rattle.std.specs.List.{range_with_len}
-use Rattle.mdvsp.specs.Rows.{lines}
+use Rattle.vs_reader.specs.Rows.{lines}
 use Rattle.mdvsp.specs.declared.making.TheConstants.{STOPS}
 use Rattle.mdvsp.specs.Generator.{deadheads_from}
 use Rattle.mdvsp.proofs.WrittenRows.{lines-flat_map, numbered_more, numbered_all}

@@ -1,7 +1,7 @@
 use Rattle.std.proofs.Common.{◌≡◌, ◌++◌, take}
 use Rattle.std.specs.Prelude.{flat_map}
 use Rattle.std.specs.List.{range_with_len}
-use Rattle.mdvsp.specs.Rows.{lines}
+use Rattle.vs_reader.specs.Rows.{lines}
 use Rattle.mdvsp.specs.declared.making.TheConstants.{STOPS}
 use Rattle.mdvsp.specs.Generator.{deadheads_from}
 use Rattle.mdvsp.proofs.making.write_deadheads.Given as goal

@@ -3,7 +3,7 @@ use Rattle.std.specs.Prelude.{filter}
 use Rattle.std.specs.List.{range_with_len}
 use Rattle.std.proofs.lemmas.Bool.{eq-eqb, ne_eqb}
 use Rattle.std.proofs.lemmas.List.{append-nil}
-use Rattle.mdvsp.specs.Rows.{line}
+use Rattle.vs_reader.specs.Rows.{line}
 use Rattle.mdvsp.specs.declared.making.TheConstants.{STOPS}
 use Rattle.mdvsp.specs.Generator.{deadhead_row}
 use Rattle.mdvsp.proofs.WrittenRows.{lines-map, flat_map-filter, numbered_more, numbered_all}

@@ -1,6 +1,6 @@
 use Rattle.std.proofs.Common.{◌++◌, sym, ap, ◌∙◌}
 use Rattle.std.specs.List.{range_with_len}
-use Rattle.mdvsp.specs.Rows.{line}
+use Rattle.vs_reader.specs.Rows.{line}
 use Rattle.mdvsp.specs.declared.making.TheConstants.{STOPS}
 use Rattle.mdvsp.specs.Generator.{stop_row}
 use Rattle.mdvsp.proofs.WrittenRows.{lines-map, numbered_more, numbered_all}

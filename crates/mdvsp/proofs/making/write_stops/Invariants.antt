@@ -1,7 +1,7 @@
 use Rattle.std.proofs.Common.{◌≡◌, ◌++◌, take}
 use Rattle.std.specs.Prelude.{flat_map}
 use Rattle.std.specs.List.{range_with_len}
-use Rattle.mdvsp.specs.Rows.{line}
+use Rattle.vs_reader.specs.Rows.{line}
 use Rattle.mdvsp.specs.declared.making.TheConstants.{STOPS}
 use Rattle.mdvsp.specs.Generator.{stop_row}
 use Rattle.mdvsp.proofs.making.write_stops.Given as goal

@@ -2,10 +2,11 @@ use Rattle.std.proofs.Common.{◌≡◌, ℕ, ◌+◌, ◌*◌, List, [], ◌∷
 use Rattle.std.specs.Prelude.{codes, decimal}
 use Rattle.std.proofs.lemmas.List.{append_assoc}
 use Rattle.std.proofs.lemmas.Result.{IfOk-equal}
-use Rattle.mdvsp.specs.Rows.{Field}
+use Rattle.vs_reader.specs.Rows.{Field}
 use Rattle.mdvsp.specs.Times.{time_field}
 use Rattle.mdvsp.specs.Generator.{distance, end_of, layer_names, name, stop_name}
-use Rattle.mdvsp.proofs.WrittenRows.{more_fields, join-cons, one_more_field, some_more_fields, ended_row}
+use Rattle.vs_reader.specs.Rows.{more_fields}
+use Rattle.mdvsp.proofs.WrittenRows.{join-cons, one_more_field, some_more_fields, ended_row}
 use Rattle.mdvsp.proofs.making.write_trip.Goals as goal
 
 pub returns : goal.returns
