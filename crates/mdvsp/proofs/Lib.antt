@@ -8,7 +8,6 @@ pub mod DocumentLayers
 pub mod DocumentSame
 pub mod DocumentWhole
 pub mod LinesAppend
-pub mod CheckTexts
 pub mod OwedAnswers
 pub mod RunEnds
 pub mod WordLists

@@ -1,8 +1,9 @@
 -- Lines behind a text whose last record is ended.
-use Rattle.std.proofs.Common.{◌≡◌, ℕ, suc, ◌+◌, ◌<◌, ◌≤◌, ◌⊎◌, inl, inr, Bool, true, false, cond, eqb, ◌||◌, List, [], ◌∷◌, ◌++◌, length, Option, Some, None, append_assoc, append-nil, refl, sym, ap, ◌∙◌, subst, arith}
+use Rattle.std.proofs.Common.{◌≡◌, ℕ, suc, ◌+◌, ◌<◌, ◌≤◌, ◌⊎◌, inl, inr, Bool, true, false, cond, eqb, ◌||◌, List, [], ◌∷◌, ◌++◌, length, take, drop, Option, Some, None, append_assoc, append-nil, refl, sym, ap, ◌∙◌, subst, arith}
 use Rattle.std.specs.Prelude.{All}
 use Rattle.std.specs.List.{join_with_byte}
 use Rattle.std.proofs.lemmas.Bool.{ne_eqb, false≢true}
+use Rattle.std.proofs.lemmas.List.{take_at, drop_at}
 use Rattle.std.proofs.lemmas.List.Elements.{All-head, All-tail}
 use Rattle.csv.specs.Machine.{Read, next_record, step, is_end, ends_at_end, fields_after, field_after, ends_with, after_end, in_field, start_field, start_record}
 use Rattle.csv.specs.declared.parser.Action.{Action}
@@ -12,9 +13,12 @@ use Rattle.csv.specs.Reading.{AreRecords, Reached, default_config, strip_bom, is
 use Rattle.csv.specs.declared.parser.State.{State}
 use Rattle.csv.specs.declared.parser.State.TheVariants as st
 use Rattle.vs_reader.specs.Rows.{Field, Row, IsPlain, IsPlainRow, line, lines}
-use Rattle.vs_reader.specs.Kinds.{HasHeader, header}
+use Rattle.vs_instance.specs.Problem.{Problem}
+use Rattle.vs_reader.specs.Names.{NameLists}
+use Rattle.vs_reader.specs.Kinds.{HasHeader, header, is_result, before_result}
+use Rattle.vs_reader.specs.InstanceText.{AddAll, nothing_yet, instance_records}
 use Rattle.vs_reader.specs.RowEnds.{row_weight, weight_of}
-use Rattle.vs_reader.specs.Texts.{HasRows, EndsInLine, state_after, is_between}
+use Rattle.vs_reader.specs.Texts.{HasRows, StandsFor, EndsInLine, state_after, is_between}
 use Rattle.vs_reader.proofs.TextLemmas.{weight_of-rows}
 
 some_none : {X : Type 0} {x : X} → Some x ≡ None → ⊥
@@ -406,3 +410,54 @@ lines_behind bytes rows others has begins ends plain =
     subst (λ (bs : List ℕ). AreRecords default_config st.StartRecord bs (rows ++ others)) (sym (strip_bom-append bytes (lines others) long))
     (records-append st.StartRecord has.0 (strip_bom bytes) has.1 (lines others) rows others refl has.2 has.3 ends
       (lines_read (state_after st.StartRecord (strip_bom bytes)) others ends plain))
+
+-- rows are those before the first `result` row, and then the others
+result_split : (rows : List Row) → (left : List Row) × (rows ≡ before_result rows ++ left)
+result_split [] = ([], refl)
+result_split (row ∷ rows) =
+    let more = result_split rows in
+    elim (is_result row) as (λ b. (left : List Row) × (row ∷ rows ≡ cond b [] (row ∷ before_result rows) ++ left)) [
+      | true ↦ (row ∷ rows, refl)
+      | false ↦ (more.0, ap (λ (rs : List Row). row ∷ rs) more.1)
+    ]
+
+-- rows behind those before the first `result` row
+result_behind : (rows more : List Row) → before_result (before_result rows ++ more) ≡ before_result rows ++ before_result more
+result_behind [] more = refl
+result_behind (row ∷ rows) more =
+    let later = result_behind rows more in
+    elim (is_result row) as (λ b. is_result row ≡ b → before_result (cond b [] (row ∷ before_result rows) ++ more) ≡ cond b [] (row ∷ before_result rows) ++ before_result more) [
+      | true ↦ λ is. refl
+      | false ↦ λ is.
+          ap (λ (b : Bool). cond b [] (row ∷ before_result (before_result rows ++ more))) is ∙ ap (λ (rs : List Row). row ∷ rs) later
+    ] refl
+
+some_header : (rows : List Row) → HasHeader rows → rows ≡ header ∷ drop 1 rows
+some_header [] begins = absurd (omega (arith, ap (λ (r : Row). length r) begins))
+some_header (row ∷ rows) begins = ap (λ (r : Row). r ∷ rows) begins
+
+-- the records of an instance text, and behind them rows that are none of the instance's
+pub stands_behind : (bytes read : List ℕ) (p : Problem) (names : NameLists) (before : ℕ) (rest written : List Row) (stands : StandsFor bytes p names before rest)
+    → HasRows read (take before stands.rows) → EndsInLine read → All IsPlainRow written → before_result written ≡ []
+    → StandsFor (read ++ lines written) p names before written
+stands_behind bytes read p names before rest written stands has ends plain begins =
+    let records = instance_records stands.rows in
+    let split = result_split (drop 1 stands.rows) in
+    let all : stands.rows ≡ (header ∷ records) ++ split.0 = some_header stands.rows stands.text.first ∙ ap (λ (rs : List Row). header ∷ rs) split.1 in
+    let count : length (header ∷ records) ≡ before = omega (arith, stands.text.before_is) in
+    let first : take before stands.rows ≡ header ∷ records = ap (take before) all ∙ take_at (header ∷ records) split.0 before count in
+    let same : before_result (records ++ written) ≡ records =
+    result_behind (drop 1 stands.rows) written ∙ ap (λ (rs : List Row). records ++ rs) begins ∙ append-nil records in
+    record {
+      rows = (header ∷ records) ++ written;
+      has_rows = lines_behind read (header ∷ records) written (subst (HasRows read) first has) refl ends plain;
+      text = record {
+        first = refl;
+        declared = stands.text.declared;
+        declares = subst (λ (rs : List Row). AddAll nothing_yet rs stands.text.declared) (sym same) stands.text.declares;
+        makes = stands.text.makes;
+        names_are = stands.text.names_are;
+        before_is = stands.text.before_is ∙ ap (λ (rs : List Row). length rs + 1) (sym same);
+        rest_is = sym (drop_at (header ∷ records) written before count);
+      };
+    }
