@@ -34,7 +34,8 @@ below NoPlan bound cost reaches none = absurd none
 below (AtLeast n) nothing cost reaches least = absurd reaches
 below (AtLeast n) (Some bound) cost reaches least = omega (arith, ints)
 
-plan_at : (p : Problem) (blocks : List LayerBlock) (cost : Option ℤ) → MatchOption cost (blocks ≡ []) (λ c. IsPlan p blocks × (c ≡ pos (plan_cost p blocks)))
+plan_at : (p : Problem) (blocks : List LayerBlock) (cost : Option ℤ)
+    → MatchOption cost (blocks ≡ []) (λ c. IsPlan p blocks × (c ≡ pos (plan_cost p blocks)))
     → IfSome cost (λ c. IsPlan p blocks × (c ≡ pos (plan_cost p blocks)))
 plan_at p blocks nothing is = tt
 plan_at p blocks (Some c) is = is
@@ -75,12 +76,14 @@ module _ (p : Problem) (blocks : List LayerBlock) where
   optimal nothing (Some bound) plan bounds is others other = cc
   optimal nothing nothing plan bounds is others other = cc
 
-  no_plan : (cost bound : Option ℤ) → Bounds bound → claim_found cost bound ≡ Infeasible → (others : List LayerBlock) → ¬ (IsPlan p others)
+  no_plan : (cost bound : Option ℤ) → Bounds bound → claim_found cost bound ≡ Infeasible
+      → (others : List LayerBlock) → ¬ (IsPlan p others)
   no_plan cost nothing bounds is others other = bounds others other
   no_plan (Some cost) (Some bound) bounds is others other = not_infeasible (int_eq cost bound) is
   no_plan nothing (Some bound) bounds is others other = cc
 
-  bound_of : (bound : Option ℤ) → Bounds bound → IfSome bound (λ b. (others : List LayerBlock) → IsPlan p others → b ≤ℤ pos (plan_cost p others))
+  bound_of : (bound : Option ℤ) → Bounds bound
+      → IfSome bound (λ b. (others : List LayerBlock) → IsPlan p others → b ≤ℤ pos (plan_cost p others))
   bound_of nothing bounds = tt
   bound_of (Some b) bounds = bounds
 
@@ -88,21 +91,24 @@ module _ (p : Problem) (blocks : List LayerBlock) where
   none_of nothing bounds = bounds
   none_of (Some b) bounds = tt
 
-table_named : (p : Problem) (tables : List Table) (t : ℕ) (table : Table) → All (λ x. Fits p x × HoldingTable p x) tables
+table_named : (p : Problem) (tables : List Table) (t : ℕ) (table : Table)
+    → All (λ x. Fits p x × HoldingTable p x) tables
     → slice_get tables t ≡ Some table → Fits p table × HoldingTable p table
 table_named p tables t table each is =
     subst (λ (x : Table). Fits p x × HoldingTable p x) (get_or_from_slice_get tables t table table is)
     (each t table (slice_get_within tables t table is))
 
 -- the printed bound is one on every plan of the instance
-bounds_all : (p : Problem) (d : Document) → IsInstance p → HoldingDocument p d → (others : List LayerBlock) → IsPlan p others → IsBelow d.bound (plan_cost p others)
+bounds_all : (p : Problem) (d : Document) → IsInstance p → HoldingDocument p d → (others : List LayerBlock)
+    → IsPlan p others → IsBelow d.bound (plan_cost p others)
 bounds_all p d instance holds others plan =
     let leaf = holds.leaf in
     let table = leaf.1 in
     let reaches = leaf.4 in
     let fine : Fits p table × HoldingTable p table = table_named p d.tables.items leaf.0 table holds.tables leaf.3 in
     below reaches.0 d.bound (plan_cost p others) reaches.2
-    (bounds_plans p (permitted_sets p) table reaches.0 instance (permitted_sets-IsRestriction p instance) fine.0 fine.1 reaches.1
+    (bounds_plans p (permitted_sets p) table reaches.0 instance
+    (permitted_sets-IsRestriction p instance) fine.0 fine.1 reaches.1
     others plan (plans_lie_within p others plan))
 
 pub prove_their_claims : HoldingDocumentsProveTheirClaims

@@ -40,11 +40,13 @@ module _ (p : Problem) (blocks : List LayerBlock) where
   abbrev IsPlanAt : Option ℤ → Type 0
   IsPlanAt cost = MatchOption cost (blocks ≡ []) (λ c. IsPlan p blocks × (c ≡ pos (plan_cost p blocks)))
 
-  plan_from_none : CanBeJudged p blocks → (cost : Option ℤ) → IfNone cost (blocks ≡ []) → None (plan_flaws p blocks cost) → IsPlanAt cost
+  plan_from_none : CanBeJudged p blocks → (cost : Option ℤ) → IfNone cost (blocks ≡ [])
+      → None (plan_flaws p blocks cost) → IsPlanAt cost
   plan_from_none judged nothing empty none = empty
   plan_from_none judged (Some cost) empty none = by_first (first (faults_of p blocks)) refl none
     where
-      by_first : (f : Option PlanFault) → first (faults_of p blocks) ≡ f → None (cost_flaws p blocks cost f) → IsPlan p blocks × (cost ≡ pos (plan_cost p blocks))
+      by_first : (f : Option PlanFault) → first (faults_of p blocks) ≡ f → None (cost_flaws p blocks cost f)
+          → IsPlan p blocks × (cost ≡ pos (plan_cost p blocks))
       by_first nothing is none = (
         plan_from_faultless p blocks judged.of_instance (faultless p blocks is),
         (Decides-int_eq cost (pos (plan_cost p blocks))).0 (not_true _ (false_from_none _ _ none)),
@@ -63,7 +65,8 @@ module _ (p : Problem) (tables : List Table) where
   tables_hold : None (tables_flaws p tables) → All (HoldingTable p) tables
   tables_hold none t d inside =
       let here = each_none (table_flaws p) 0 tables none t t d inside (omega arith) in
-      holds_nowhere_broken p (get_or tables t d) (none_from_first (breaks_of p (get_or tables t d)) (broken_none t _ here))
+      holds_nowhere_broken p (get_or tables t d)
+      (none_from_first (breaks_of p (get_or tables t d)) (broken_none t _ here))
 
   none_from_tables : All (HoldingTable p) tables → None (tables_flaws p tables)
   none_from_tables holds =
@@ -72,7 +75,11 @@ module _ (p : Problem) (tables : List Table) where
 
 module _ (p : Problem) (bound : Option ℤ) (table : Table) where
   reaches_bound : None (named_flaws p bound (Some table)) → ReachesBound p table bound
-  reaches_bound none = (worth_of p (permitted_sets p) table, worth_of-IsWorth p (permitted_sets p) table, reaches_from_none 0 _ bound none)
+  reaches_bound none = (
+    worth_of p (permitted_sets p) table,
+    worth_of-IsWorth p (permitted_sets p) table,
+    reaches_from_none 0 _ bound none,
+  )
 
   none_from_bound : ReachesBound p table bound → None (named_flaws p bound (Some table))
   none_from_bound reaches =
@@ -93,8 +100,13 @@ module _ (p : Problem) (d : Document) where
         | inl found ↦ absurd (none-some found.0 (sym is ∙ found.2))
         | inr past ↦ absurd (omega (arith, read.leaf.2, past.0))
       ]
-      by_table (Some table) is =
-          (read.leaf.0, table, read.leaf.1, is, reaches_bound p d.bound table (sym (one_leaf read.leaf.0 table read.leaf.1 is) ∙ none))
+      by_table (Some table) is = (
+        read.leaf.0,
+        table,
+        read.leaf.1,
+        is,
+        reaches_bound p d.bound table (sym (one_leaf read.leaf.0 table read.leaf.1 is) ∙ none),
+      )
 
   none_from_leaf : HasLeaf p d → None (shape_flaws p d d.shape.items)
   none_from_leaf leaf = one_leaf leaf.0 leaf.1 leaf.2 leaf.3 ∙ none_from_bound p d.bound leaf.1 leaf.4

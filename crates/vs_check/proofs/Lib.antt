@@ -2,3 +2,5 @@ pub mod PlanFlaws
 pub mod LeafFlaws
 pub mod Flawless
 pub mod Claims
+pub mod NamedFlaws
+pub mod Examples

@@ -36,7 +36,8 @@ module _ (p : Problem) (blocks : List LayerBlock) where
   pub right_cost : (cost : ℤ) → IsPlan p blocks → cost ≡ pos (plan_cost p blocks) → plan_flaws p blocks (Some cost) ≡ []
   right_cost cost plan is =
       at_no_fault cost plan
-      ∙ ap (λ (b : Bool). when (not b) (CostDiffers cost (pos (plan_cost p blocks)))) (same_cost cost (pos (plan_cost p blocks)) is)
+      ∙ ap (λ (b : Bool). when (not b) (CostDiffers cost (pos (plan_cost p blocks))))
+      (same_cost cost (pos (plan_cost p blocks)) is)
 
   pub wrong_cost : (cost found : ℤ) → IsPlan p blocks → found ≡ pos (plan_cost p blocks) → (cost ≡ found → ⊥)
       → Some (CostDiffers cost found) ≡ first (plan_flaws p blocks (Some cost))
@@ -46,7 +47,8 @@ module _ (p : Problem) (blocks : List LayerBlock) where
       (other_cost cost (pos (plan_cost p blocks)) (λ e. apart (e ∙ sym is))))
       ∙ ap (λ (n : ℤ). Some (CostDiffers cost n)) (sym is))
 
-  pub faulty : (cost : ℤ) (fault : PlanFault) → first (faults_of p blocks) ≡ Some fault → Some (Plan fault) ≡ first (plan_flaws p blocks (Some cost))
+  pub faulty : (cost : ℤ) (fault : PlanFault) → first (faults_of p blocks) ≡ Some fault
+      → Some (Plan fault) ≡ first (plan_flaws p blocks (Some cost))
   faulty cost fault is = sym (ap (λ (f : Option PlanFault). first (cost_flaws p blocks cost f)) is)
 
 -- the test of claims

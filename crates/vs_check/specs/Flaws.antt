@@ -1,5 +1,5 @@
 -- What is wrong with a document, as one list in the order in which it is judged.
-use Rattle.std.specs.Prelude.{ℕ, Bool, true, false, not, List, [], ◌∷◌, ◌++◌, flat_map, ℤ, pos, int_lt, Option, Some, None, slice_get}
+use Rattle.std.specs.Prelude.{ℕ, ◌<◌, length, Bool, true, false, not, List, [], ◌∷◌, ◌++◌, flat_map, ℤ, pos, int_lt, Option, Some, None, slice_get}
 use Rattle.std.specs.List.{enumerate_from}
 use Rattle.std.specs.Ordering.{int_eq}
 use Rattle.vs_instance.specs.Firsts.{first, when}
@@ -9,11 +9,13 @@ use Rattle.vs_instance.specs.Restriction.{permitted_sets}
 use Rattle.vs_plan.specs.Blocks.{blocks_of}
 use Rattle.vs_plan.specs.PlanFaults.{faults_of}
 use Rattle.vs_plan.specs.declared.plan_fault.PlanFault.{PlanFault}
+use Rattle.vs_plan.specs.declared.plan_fault.PlanFault.TheVariants as fault
 use Rattle.vs_prices.specs.Breaks.{breaks_of}
 use Rattle.vs_prices.specs.Worth.{worth_of}
 use Rattle.vs_prices.specs.declared.bound.Bound.{Bound}
 use Rattle.vs_prices.specs.declared.bound.Bound.TheVariants.{AtLeast, NoPlan}
 use Rattle.vs_prices.specs.declared.broken_at.BrokenAt.{BrokenAt}
+use Rattle.vs_prices.specs.declared.broken_at.BrokenAt.TheVariants as broken
 use Rattle.vs_prices.specs.declared.table.Table.{Table}
 use Rattle.vs_check.specs.declared.claim.Claim.{Claim}
 use Rattle.vs_check.specs.declared.claim.Claim.TheVariants.{Optimal, Infeasible, StillOpen}
@@ -29,7 +31,8 @@ use Rattle.vs_check.specs.HoldingDocument.{claim_found}
 -- beside a printed cost: the first fault of the blocks, and where they have none, a cost that isn't theirs
 abbrev pub cost_flaws : Problem → List LayerBlock → ℤ → Option PlanFault → List Flaw
 cost_flaws p blocks cost (Some fault) = Plan fault ∷ []
-cost_flaws p blocks cost None = when (not (int_eq cost (pos (plan_cost p blocks)))) (CostDiffers cost (pos (plan_cost p blocks)))
+cost_flaws p blocks cost None =
+    when (not (int_eq cost (pos (plan_cost p blocks)))) (CostDiffers cost (pos (plan_cost p blocks)))
 
 abbrev pub plan_flaws : Problem → List LayerBlock → Option ℤ → List Flaw
 plan_flaws p blocks None = []
@@ -81,3 +84,25 @@ flaws_of p d =
 abbrev pub verdict_of : Option Flaw → Verdict
 verdict_of None = Yes
 verdict_of (Some flaw) = No flaw
+
+-- the layers and trips that a flaw names are of the instance
+abbrev pub IsFaultOf : Problem → PlanFault → Type 0
+IsFaultOf p (fault.Twice i) = i.0 < length p.trips
+IsFaultOf p (fault.Uncovered i) = i.0 < length p.trips
+IsFaultOf p (fault.Fleet l count) = l.0 < length p.layers
+IsFaultOf p _ = Unit {0}
+
+abbrev pub IsBreakOf : Problem → BrokenAt → Type 0
+IsBreakOf p (broken.Fleet l) = l.0 < length p.layers
+IsBreakOf p (broken.PullOut l i) = (l.0 < length p.layers) × (i.0 < length p.trips)
+IsBreakOf p (broken.Link l i j) = (l.0 < length p.layers) × (i.0 < length p.trips) × (j.0 < length p.trips)
+IsBreakOf p (broken.PullIn l i) = (l.0 < length p.layers) × (i.0 < length p.trips)
+
+abbrev pub IsFlawOf : Problem → Flaw → Type 0
+IsFlawOf p (Plan fault) = IsFaultOf p fault
+IsFlawOf p (TableBroken t at) = IsBreakOf p at
+IsFlawOf p _ = Unit {0}
+
+abbrev pub IsVerdictOf : Problem → Verdict → Type 0
+IsVerdictOf p Yes = Unit {0}
+IsVerdictOf p (No flaw) = IsFlawOf p flaw

@@ -1,4 +1,5 @@
--- What a document has that was read for an instance: each number in it is one of the instance, or a price, or within its range.
+-- What a document has that was read for an instance: each number in it is one of the instance, or a price, or within
+-- its range.
 use Rattle.std.specs.Prelude.{◌≡◌, ℕ, ◌<◌, ◌^◌, ◌∷◌, [], length, All, IfNone}
 use Rattle.vs_instance.specs.Problem.{Problem}
 use Rattle.vs_plan.specs.Blocks.{CanBeJudged, blocks_of}

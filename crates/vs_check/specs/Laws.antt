@@ -6,4 +6,5 @@ use Rattle.vs_check.specs.HoldingDocument.{HoldingDocument, ProvesItsClaim}
 
 -- a document that holds for an instance proves what it claims
 abbrev pub HoldingDocumentsProveTheirClaims : Type 0
-HoldingDocumentsProveTheirClaims = (p : Problem) (d : Document) → IsInstance p → HoldingDocument p d → ProvesItsClaim p d
+HoldingDocumentsProveTheirClaims =
+    (p : Problem) (d : Document) → IsInstance p → HoldingDocument p d → ProvesItsClaim p d

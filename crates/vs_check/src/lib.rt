@@ -14,3 +14,6 @@ pub use flaw::Flaw;
 pub use laws::holding_documents_prove_their_claims;
 pub use shape::Shape;
 pub use verdict::{Verdict, check};
+
+#[cfg(test)]
+mod tests;

@@ -1,4 +1,5 @@
 pub mod Firsts
+pub mod FirstHolds
 pub mod Pairs
 pub mod WayMap
 pub mod Gathered

@@ -1,6 +1,6 @@
 -- Where prices hold, the trips of a block pay no more together than the block costs and a vehicle pays.
-use Rattle.std.proofs.Common.{◌≡◌, ℕ, ◌+◌, ◌*◌, ◌<◌, Bool, true, false, List, [], ◌∷◌, length, map, refl, sym, ap, ◌∙◌, subst, arith, Option, Some, ℤ, pos, ◌+ℤ◌, ◌-ℤ◌, ◌≤ℤ◌}
-use Rattle.std.specs.Prelude.{IfSome, sum_by}
+use Rattle.std.proofs.Common.{◌≡◌, ℕ, ◌+◌, Bool, true, false, List, [], ◌∷◌, map, sym, ap, ◌∙◌, subst, arith, Option, Some, ℤ, pos, ◌+ℤ◌, ◌-ℤ◌, ◌≤ℤ◌}
+use Rattle.std.specs.Prelude.{IfSome}
 use Rattle.std.proofs.lemmas.Int.{ints}
 use Rattle.std.proofs.lemmas.List.Sums.{sum_by-cons}
 use Rattle.vs_types.specs.declared.numbers.LayerNo.{LayerNo}
@@ -45,11 +45,15 @@ module _ (p : Problem) (table : Table) (l : LayerNo) where
   paid_by trips = total (map (λ i. trip_price p table i.0 l.0) trips)
 
   abbrev pub HoldsHere : Type 0
-  HoldsHere = HoldsInLayer p l.0 table.ray (prices_in p l.0 table.into.items) (prices_in p l.0 table.from.items) (vehicle_price table l.0)
+  HoldsHere =
+      HoldsInLayer p l.0 table.ray (prices_in p l.0 table.into.items) (prices_in p l.0 table.from.items)
+      (vehicle_price table l.0)
 
   -- trips in order pay no more than entering the first and leaving the last is worth beside what they cost
   chain_pays : HoldsHere → (i : TripNo) (rest : List TripNo) → IsChain p l (i ∷ rest)
-      → paid_by (i ∷ rest) ≤ℤ (into i.0 +ℤ scaled table.ray (trips_cost p l (i ∷ rest) + links_cost p l (i ∷ rest)) -ℤ from (last_trip i rest).0)
+      → paid_by (i ∷ rest)
+      ≤ℤ (into i.0 +ℤ scaled table.ray (trips_cost p l (i ∷ rest) + links_cost p l (i ∷ rest))
+      -ℤ from (last_trip i rest).0)
   chain_pays holds i [] chain =
       let alone : 0 + trip_piece p l.0 i.0 + 0 ≡ trip_piece p l.0 i.0 = omega arith in
       let cost = ap (scaled table.ray) alone in
@@ -62,13 +66,17 @@ module _ (p : Problem) (table : Table) (l : LayerNo) where
       let is_cost = ap cost_of link.costs in
       let move : into j.0 ≤ℤ (from i.0 +ℤ scaled ray cost) =
       subst (λ (c : ℕ). into j.0 ≤ℤ (from i.0 +ℤ scaled ray c)) (sym is_cost)
-      (at_piece _ _ (λ (c : ℕ). into j.0 ≤ℤ (from i.0 +ℤ scaled ray c)) link.costs (holds.links i.0 j.0 chain.0 next.0 chain.1 next.1)) in
+      (at_piece _ _ (λ (c : ℕ). into j.0 ≤ℤ (from i.0 +ℤ scaled ray c)) link.costs
+      (holds.links i.0 j.0 chain.0 next.0 chain.1 next.1)) in
       let after = chain_pays holds j rest chain.3 in
       let trips = sum_by-cons (λ (k : TripNo). trip_piece p l.0 k.0) i (j ∷ rest) in
       let links = sum_by-cons cost_of (link_piece p l.0 i.0 j.0) (links_between p l (j ∷ rest)) in
       let whole : trips_cost p l (i ∷ j ∷ rest) + links_cost p l (i ∷ j ∷ rest)
-      ≡ trip_piece p l.0 i.0 + cost + (trips_cost p l (j ∷ rest) + links_cost p l (j ∷ rest)) = omega (arith, trips, links) in
-      let parts = ap (scaled ray) whole ∙ scaled-add_three ray (trip_piece p l.0 i.0) cost (trips_cost p l (j ∷ rest) + links_cost p l (j ∷ rest)) in
+      ≡ trip_piece p l.0 i.0 + cost + (trips_cost p l (j ∷ rest) + links_cost p l (j ∷ rest)) =
+      omega (arith, trips, links) in
+      let parts =
+      ap (scaled ray) whole
+      ∙ scaled-add_three ray (trip_piece p l.0 i.0) cost (trips_cost p l (j ∷ rest) + links_cost p l (j ∷ rest)) in
       omega (arith, ints, move, after, parts)
 
   -- the trips of a block pay no more than the block costs and its vehicle pays
@@ -87,14 +95,23 @@ module _ (p : Problem) (table : Table) (l : LayerNo) where
       let back_cost = cost_of (in_piece p l.0 (last_of trips)) in
       let enters : into i.0 ≤ℤ (scaled ray out_cost +ℤ vehicle_price table l.0) =
       subst (λ (c : ℕ). into i.0 ≤ℤ (scaled ray c +ℤ vehicle_price table l.0)) (sym (ap cost_of out.costs))
-      (at_piece _ _ (λ (c : ℕ). into i.0 ≤ℤ (scaled ray c +ℤ vehicle_price table l.0)) out.costs (holds.outs i.0 first.0 first.1)) in
+      (at_piece _ _ (λ (c : ℕ). into i.0 ≤ℤ (scaled ray c +ℤ vehicle_price table l.0)) out.costs
+      (holds.outs i.0 first.0 first.1)) in
       let same = sym (last_of-is i rest) in
-      let at_last = subst (λ (k : ℕ). IfSome (in_piece p l.0 k) (λ c. pos 0 ≤ℤ (from k +ℤ scaled ray c))) same (holds.ins (last_trip i rest).0 last.0 last.1) in
+      let at_last =
+      subst (λ (k : ℕ). IfSome (in_piece p l.0 k) (λ c. pos 0 ≤ℤ (from k +ℤ scaled ray c))) same
+      (holds.ins (last_trip i rest).0 last.0 last.1) in
       let leaves : pos 0 ≤ℤ (from (last_of trips) +ℤ scaled ray back_cost) =
       subst (λ (c : ℕ). pos 0 ≤ℤ (from (last_of trips) +ℤ scaled ray c)) (sym (ap cost_of back.costs))
       (at_piece _ _ (λ (c : ℕ). pos 0 ≤ℤ (from (last_of trips) +ℤ scaled ray c)) back.costs at_last) in
-      let between = subst (λ (k : ℕ). paid_by trips ≤ℤ (into i.0 +ℤ scaled ray (trips_cost p l trips + links_cost p l trips) -ℤ from k)) same (chain_pays holds i rest chain) in
+      let between =
+      subst (λ (k : ℕ). paid_by trips
+      ≤ℤ (into i.0 +ℤ scaled ray (trips_cost p l trips + links_cost p l trips) -ℤ from k)) same
+      (chain_pays holds i rest chain) in
       let pieces = blocks_cost_their_pieces p l trips instance block in
-      let whole : block_cost p l trips ≡ out_cost + (trips_cost p l trips + links_cost p l trips) + back_cost = omega (arith, pieces) in
-      let parts = ap (scaled ray) whole ∙ scaled-add_three ray out_cost (trips_cost p l trips + links_cost p l trips) back_cost in
+      let whole : block_cost p l trips ≡ out_cost + (trips_cost p l trips + links_cost p l trips) + back_cost =
+      omega (arith, pieces) in
+      let parts =
+      ap (scaled ray) whole
+      ∙ scaled-add_three ray out_cost (trips_cost p l trips + links_cost p l trips) back_cost in
       omega (arith, ints, enters, leaves, between, parts)

@@ -10,3 +10,5 @@ pub mod SetPrices
 pub mod NoBreaks
 pub mod FirstBreaks
 pub mod Worths
+pub mod RealBreaks
+pub mod Examples

@@ -1,21 +1,20 @@
 -- A table breaks nowhere exactly where it holds.
-use Rattle.std.proofs.Common.{◌≡◌, ℕ, ◌+◌, ◌<◌, ◌≤◌, ◌↔◌, ◌==◌, Bool, true, false, cond, ◌&&◌, eqb, List, [], ◌∷◌, ◌++◌, length, refl, sym, ap, ◌∙◌, subst, arith, Option, Some, None as nothing, IsNone, ℤ, pos, ◌+ℤ◌, ◌≤ℤ◌}
+use Rattle.std.proofs.Common.{◌≡◌, ℕ, ◌<◌, ◌↔◌, Bool, true, false, cond, ◌&&◌, eqb, List, [], length, refl, sym, ap, ◌∙◌, arith, Option, Some, None as nothing, IsNone, ℤ, pos, ◌+ℤ◌, ◌≤ℤ◌}
 use Rattle.std.specs.Prelude.{IfSome, int_lt, flat_map}
-use Rattle.std.specs.Int.{bit_at}
 use Rattle.std.specs.List.{range_with_len}
 use Rattle.std.proofs.lemmas.Bool.{eqb-true, eq-eqb, false_from_ne_true, false≢true}
 use Rattle.std.proofs.lemmas.Int.{ints}
 use Rattle.std.proofs.lemmas.Option.{IfSome_then, none-some}
-use Rattle.vs_instance.specs.Firsts.{first, when}
+use Rattle.vs_instance.specs.Firsts.{first}
 use Rattle.vs_instance.specs.Problem.{Problem}
-use Rattle.vs_instance.specs.Ways.{Permitted, trip_of}
+use Rattle.vs_instance.specs.Ways.{Permitted}
 use Rattle.vs_instance.specs.Pieces.{out_piece, link_piece, in_piece}
 use Rattle.vs_instance.specs.HoldingTable.{HoldsInLayer, scaled}
 use Rattle.vs_instance.proofs.Empty.{None, both_none, none-append, false_from_none, none_from_false, number_none, none_numbers}
 use Rattle.vs_instance.proofs.Firsts.{none_from_first}
 use Rattle.vs_prices.specs.declared.broken_at.BrokenAt.{BrokenAt}
 use Rattle.vs_prices.specs.declared.table.Table.{Table}
-use Rattle.vs_prices.specs.Breaks.{breaks_of, exceeds, is_link_broken, layer_breaks, link_breaks, may_run, move_breaks, trip_breaks}
+use Rattle.vs_prices.specs.Breaks.{breaks_of, exceeds, layer_breaks, link_breaks, may_run, move_breaks, trip_breaks}
 use Rattle.vs_prices.specs.Table.{HoldingTable, from_price, into_price, prices_in, vehicle_price}
 
 -- the test of a bit answers as the set does
@@ -63,19 +62,27 @@ none_if false xs none = refl
 
 module _ (p : Problem) (table : Table) (l : ℕ) where
   abbrev HoldsHere : Type 0
-  HoldsHere = HoldsInLayer p l table.ray (prices_in p l table.into.items) (prices_in p l table.from.items) (vehicle_price table l)
+  HoldsHere =
+      HoldsInLayer p l table.ray (prices_in p l table.into.items) (prices_in p l table.from.items)
+      (vehicle_price table l)
 
-  moves_none : None (layer_breaks p table l) → (i : ℕ) → i < length p.trips → Permitted p l i → None (move_breaks p table l i)
+  moves_none : None (layer_breaks p table l) → (i : ℕ) → i < length p.trips → Permitted p l i
+      → None (move_breaks p table l i)
   moves_none none i inside permitted =
-      let trips : None (flat_map (trip_breaks p table l) (range_with_len 0 (length p.trips))) = (both_none _ _ none).1 in
-      if_none (may_run p l i) (move_breaks p table l i) (number_none (trip_breaks p table l) 0 (length p.trips) trips i (omega arith) (omega arith)) (eq-eqb _ 1 permitted)
+      let trips : None (flat_map (trip_breaks p table l) (range_with_len 0 (length p.trips))) =
+      (both_none _ _ none).1 in
+      if_none (may_run p l i) (move_breaks p table l i)
+      (number_none (trip_breaks p table l) 0 (length p.trips) trips i (omega arith) (omega arith))
+      (eq-eqb _ 1 permitted)
 
   pub holds_from_none : None (layer_breaks p table l) → HoldsHere
   holds_from_none none = record {
     vehicle = not_below (vehicle_price table l) (pos 0) (false_from_none _ _ (both_none _ _ none).0);
     outs = λ i inside permitted.
         let first_two = (both_none _ _ (moves_none none i inside permitted)).0 in
-        IfSome_then (out_piece p l i) (within_cost (into_price p table l i) (vehicle_price table l) table.ray (out_piece p l i) (false_from_none _ _ (both_none _ _ first_two).0))
+        IfSome_then (out_piece p l i)
+        (within_cost (into_price p table l i) (vehicle_price table l) table.ray (out_piece p l i)
+        (false_from_none _ _ (both_none _ _ first_two).0))
         (λ c h. swapped (into_price p table l i) (vehicle_price table l) (scaled table.ray c) h);
     links = λ i j inside inside' permitted permitted'.
         let links : None (flat_map (link_breaks p table l i) (range_with_len 0 (length p.trips))) =
@@ -84,13 +91,15 @@ module _ (p : Problem) (table : Table) (l : ℕ) where
         within_cost (into_price p table l j) (from_price p table l i) table.ray (link_piece p l i j)
         (and_second (may_run p l j) _ (false_from_none _ _ link) (eq-eqb _ 1 permitted'));
     ins = λ i inside permitted.
-        within_cost (pos 0) (from_price p table l i) table.ray (in_piece p l i) (false_from_none _ _ (both_none _ _ (moves_none none i inside permitted)).1);
+        within_cost (pos 0) (from_price p table l i) table.ray (in_piece p l i)
+        (false_from_none _ _ (both_none _ _ (moves_none none i inside permitted)).1);
   }
 
   none_from_moves : HoldsHere → (i : ℕ) → i < length p.trips → Permitted p l i → None (move_breaks p table l i)
   none_from_moves holds i inside permitted =
       let out = no_excess (into_price p table l i) (vehicle_price table l) table.ray (out_piece p l i)
-      (IfSome_then (out_piece p l i) (holds.outs i inside permitted) (λ c h. swapped (into_price p table l i) (scaled table.ray c) (vehicle_price table l) h)) in
+      (IfSome_then (out_piece p l i) (holds.outs i inside permitted)
+      (λ c h. swapped (into_price p table l i) (scaled table.ray c) (vehicle_price table l) h)) in
       let back = no_excess (pos 0) (from_price p table l i) table.ray (in_piece p l i) (holds.ins i inside permitted) in
       let links = none_numbers (link_breaks p table l i) 0 (length p.trips) (λ j from within.
       let inside' : j < length p.trips = omega arith in
@@ -109,7 +118,8 @@ module _ (p : Problem) (table : Table) (l : ℕ) where
 module _ (p : Problem) (table : Table) where
   pub holds_nowhere_broken : None (breaks_of p table) → HoldingTable p table
   holds_nowhere_broken none l inside =
-      holds_from_none p table l (number_none (layer_breaks p table) 0 (length p.layers) none l (omega arith) (omega arith))
+      holds_from_none p table l
+      (number_none (layer_breaks p table) 0 (length p.layers) none l (omega arith) (omega arith))
 
   pub nowhere_broken : HoldingTable p table → None (breaks_of p table)
   nowhere_broken holds =

@@ -1,5 +1,5 @@
 -- Prices and costs as the code computes them.
-use Rattle.std.proofs.Common.{◌≡◌, ℕ, ◌≤◌, Bool, true, false, refl, sym, ap, ◌∙◌, subst, arith, w64, ℤ, pos, negsuc, neg_ℤ, ◌+ℤ◌, ◌-ℤ◌, ◌≤ℤ◌, FitsSigned, to_z, of_z}
+use Rattle.std.proofs.Common.{◌≡◌, ℕ, ◌≤◌, Bool, true, false, refl, ap, ◌∙◌, arith, w64, ℤ, pos, negsuc, neg_ℤ, ◌+ℤ◌, ◌-ℤ◌, ◌≤ℤ◌, FitsSigned, to_z, of_z}
 use Rattle.std.proofs.lemmas.Int.{ints, to_z-of_z}
 use Rattle.vs_connect.specs.Cost.{IsCost}
 use Rattle.vs_instance.specs.HoldingTable.{scaled}
@@ -33,10 +33,13 @@ small_piece cost n is e = omega (arith, ints, is.1)
 
 -- a price and a scaled piece fit together
 pub sum_fits : (x s : ℤ) → IsPrice x → IsScaled s → FitsSigned w64 (to_z w64 (of_z w64 x) +ℤ to_z w64 (of_z w64 s))
-sum_fits x s is_price is_scaled = let low = is_scaled.low in let high = is_scaled.high in omega (arith, ints, is_price.0, is_price.1)
+sum_fits x s is_price is_scaled = let low = is_scaled.low in let high =
+    is_scaled.high in omega (arith, ints, is_price.0, is_price.1)
 
-pub sum_is : (x s : ℤ) → IsPrice x → IsScaled s → to_z w64 (of_z w64 (to_z w64 (of_z w64 x) +ℤ to_z w64 (of_z w64 s))) ≡ x +ℤ s
-sum_is x s is_price is_scaled = let low = is_scaled.low in let high = is_scaled.high in omega (arith, ints, is_price.0, is_price.1)
+pub sum_is : (x s : ℤ) → IsPrice x → IsScaled s
+    → to_z w64 (of_z w64 (to_z w64 (of_z w64 x) +ℤ to_z w64 (of_z w64 s))) ≡ x +ℤ s
+sum_is x s is_price is_scaled = let low = is_scaled.low in let high =
+    is_scaled.high in omega (arith, ints, is_price.0, is_price.1)
 
 pub passed : (x : ℤ) → FitsSigned w64 x → to_z w64 (of_z w64 x) ≡ x
 passed x fits = to_z-of_z w64 x fits
@@ -46,9 +49,11 @@ price_fits x is = omega (arith, ints, is.0, is.1)
 
 -- the test of a price against another and a scaled piece
 pub exceeds_by : (price other s more : ℤ) → FitsSigned w64 price → IsPrice other → IsScaled s → s ≡ more
-    → lt_z (to_z w64 (of_z w64 (to_z w64 (of_z w64 other) +ℤ to_z w64 (of_z w64 s)))) (to_z w64 (of_z w64 price)) ≡ lt_z (other +ℤ more) price
+    → lt_z (to_z w64 (of_z w64 (to_z w64 (of_z w64 other) +ℤ to_z w64 (of_z w64 s)))) (to_z w64 (of_z w64 price))
+    ≡ lt_z (other +ℤ more) price
 exceeds_by price other s more fits is_price is_scaled is =
-    ap (λ (x : ℤ). lt_z x (to_z w64 (of_z w64 price))) (sum_is other s is_price is_scaled ∙ ap (λ (x : ℤ). other +ℤ x) is)
+    ap (λ (x : ℤ). lt_z x (to_z w64 (of_z w64 price)))
+    (sum_is other s is_price is_scaled ∙ ap (λ (x : ℤ). other +ℤ x) is)
     ∙ ap (lt_z (other +ℤ more)) (passed price fits)
 
 -- what a trip pays, put together of two prices and a scaled piece
@@ -58,7 +63,9 @@ pub record IsDifference (x s y d : ℤ) : Type 0 where
   pub high : d ≤ℤ pos 3000000000000000000
 
 pub difference : (x s y : ℤ) → IsPrice x → IsScaled s → IsPrice y
-    → IsDifference x s y (to_z w64 (of_z w64 (to_z w64 (of_z w64 (to_z w64 (of_z w64 x) +ℤ to_z w64 (of_z w64 s))) -ℤ to_z w64 (of_z w64 y))))
+    → IsDifference x s y
+    (to_z w64
+    (of_z w64 (to_z w64 (of_z w64 (to_z w64 (of_z w64 x) +ℤ to_z w64 (of_z w64 s))) -ℤ to_z w64 (of_z w64 y))))
 difference x s y is_x is_s is_y =
     let low = is_s.low in
     let high = is_s.high in

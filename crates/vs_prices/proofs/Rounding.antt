@@ -23,7 +23,8 @@ down_by_parts value q r e none above = record {
 }
 
 -- a rest above 0 takes the next whole unit
-pub IsRoundedUp-next : (value : ℤ) → pos 0 <ℤ int_rem value (pos 1000) → IsRoundedUp value (int_div value (pos 1000) +ℤ pos 1)
+pub IsRoundedUp-next : (value : ℤ) → pos 0 <ℤ int_rem value (pos 1000)
+    → IsRoundedUp value (int_div value (pos 1000) +ℤ pos 1)
 IsRoundedUp-next value some =
     up_by_parts value (int_div value (pos 1000)) (int_rem value (pos 1000)) (quot-rem value (pos 1000)) some
     (between_abs (int_rem value (pos 1000)) (rem_below value (pos 1000) (lit< tt))).1
@@ -43,7 +44,8 @@ not_above_zero r h = grind (arith, ints)
 pub rounded_up-IsRoundedUp : (value : ℤ) → IsRoundedUp value (rounded_up value)
 rounded_up-IsRoundedUp value = by_rest (int_lt (pos 0) (int_rem value (pos 1000))) refl
   where
-    by_rest : (b : Bool) → int_lt (pos 0) (int_rem value (pos 1000)) ≡ b → IsRoundedUp value (cond b (int_div value (pos 1000) +ℤ pos 1) (int_div value (pos 1000)))
+    by_rest : (b : Bool) → int_lt (pos 0) (int_rem value (pos 1000)) ≡ b
+        → IsRoundedUp value (cond b (int_div value (pos 1000) +ℤ pos 1) (int_div value (pos 1000)))
     by_rest true some = IsRoundedUp-next value (above_zero (int_rem value (pos 1000)) some)
     by_rest false none = IsRoundedUp-whole value (not_above_zero (int_rem value (pos 1000)) none)
 
@@ -70,23 +72,33 @@ quotient_is v f = quot_is w128 v (pos 1000) f scale_fits (quot_fits w128 v (pos 
 rest_is : (v : ℤ) → FitsSigned w128 v → rest v (pos 1000) ≡ int_rem v (pos 1000)
 rest_is v f = rem_is w128 v (pos 1000) f scale_fits
 
-next_at_scale : (v : ℤ) → FitsSigned w128 v → lt_z (pos 0) (rest v (pos 1000)) ≡ true → IsRoundedUp v (to_z w128 (of_z w128 (quotient v (pos 1000) +ℤ pos 1)))
+next_at_scale : (v : ℤ) → FitsSigned w128 v → lt_z (pos 0) (rest v (pos 1000)) ≡ true
+    → IsRoundedUp v (to_z w128 (of_z w128 (quotient v (pos 1000) +ℤ pos 1)))
 next_at_scale v f h =
     let g = next_fits v f in
-    let up = IsRoundedUp-next v (above_zero (int_rem v (pos 1000)) (subst (λ r. lt_z (pos 0) r ≡ true) (rest_is v f) h)) in
-    let same : to_z w128 (of_z w128 (int_div v (pos 1000) +ℤ pos 1)) ≡ int_div v (pos 1000) +ℤ pos 1 = to_z-of_z w128 (int_div v (pos 1000) +ℤ pos 1) g in
-    subst (λ q. IsRoundedUp v (to_z w128 (of_z w128 (q +ℤ pos 1)))) (sym (quotient_is v f)) (subst (IsRoundedUp v) (sym same) up)
+    let up = IsRoundedUp-next v
+    (above_zero (int_rem v (pos 1000)) (subst (λ r. lt_z (pos 0) r ≡ true) (rest_is v f) h)) in
+    let same : to_z w128 (of_z w128 (int_div v (pos 1000) +ℤ pos 1)) ≡ int_div v (pos 1000) +ℤ pos 1 =
+    to_z-of_z w128 (int_div v (pos 1000) +ℤ pos 1) g in
+    subst (λ q. IsRoundedUp v (to_z w128 (of_z w128 (q +ℤ pos 1)))) (sym (quotient_is v f))
+    (subst (IsRoundedUp v) (sym same) up)
 
-whole_at_scale : (v : ℤ) → FitsSigned w128 v → lt_z (pos 0) (rest v (pos 1000)) ≡ false → IsRoundedUp v (quotient v (pos 1000))
+whole_at_scale : (v : ℤ) → FitsSigned w128 v → lt_z (pos 0) (rest v (pos 1000)) ≡ false
+    → IsRoundedUp v (quotient v (pos 1000))
 whole_at_scale v f h =
-    let whole = IsRoundedUp-whole v (not_above_zero (int_rem v (pos 1000)) (subst (λ r. lt_z (pos 0) r ≡ false) (rest_is v f) h)) in
+    let whole =
+    IsRoundedUp-whole v
+    (not_above_zero (int_rem v (pos 1000)) (subst (λ r. lt_z (pos 0) r ≡ false) (rest_is v f) h)) in
     subst (IsRoundedUp v) (sym (quotient_is v f)) whole
 
 pub next_rounded : (v s : ℤ) → FitsSigned w128 v → s ≡ pos 1000
     → lt_z (pos 0) (to_z w128 (of_z w128 (rem_z (to_z w128 (of_z w128 v)) (to_z w128 (of_z w128 s))))) ≡ true
-    → IsRoundedUp v (to_z w128 (of_z w128 (to_z w128 (of_z w128 (quot_z (to_z w128 (of_z w128 v)) (to_z w128 (of_z w128 s)))) +ℤ pos 1)))
+    → IsRoundedUp v
+    (to_z w128
+    (of_z w128 (to_z w128 (of_z w128 (quot_z (to_z w128 (of_z w128 v)) (to_z w128 (of_z w128 s)))) +ℤ pos 1)))
 next_rounded v s f e h =
-    subst (λ s. lt_z (pos 0) (rest v s) ≡ true → IsRoundedUp v (to_z w128 (of_z w128 (quotient v s +ℤ pos 1)))) (sym e) (next_at_scale v f) h
+    subst (λ s. lt_z (pos 0) (rest v s) ≡ true → IsRoundedUp v (to_z w128 (of_z w128 (quotient v s +ℤ pos 1))))
+    (sym e) (next_at_scale v f) h
 
 pub whole_rounded : (v s : ℤ) → FitsSigned w128 v → s ≡ pos 1000
     → lt_z (pos 0) (to_z w128 (of_z w128 (rem_z (to_z w128 (of_z w128 v)) (to_z w128 (of_z w128 s))))) ≡ false

@@ -1,5 +1,5 @@
 -- Totals of prices, and the same prices put in another order.
-use Rattle.std.proofs.Common.{◌≡◌, ◌≢◌, ℕ, zero, suc, ◌+◌, ◌*◌, ◌<◌, ◌≤◌, ◌==◌, Bool, true, false, cond, eqb, List, [], ◌∷◌, ◌++◌, map, count_by, refl, sym, ap, ◌∙◌, subst, arith, inl, inr, ℤ, pos, negsuc, ◌+ℤ◌, ◌*ℤ◌, ◌≤ℤ◌}
+use Rattle.std.proofs.Common.{◌≡◌, ◌≢◌, ℕ, zero, suc, ◌+◌, ◌<◌, ◌≤◌, ◌==◌, Bool, cond, eqb, List, [], ◌∷◌, ◌++◌, map, count_by, refl, sym, ap, ◌∙◌, arith, inl, inr, ℤ, pos, negsuc, ◌+ℤ◌, ◌*ℤ◌, ◌≤ℤ◌}
 use Rattle.std.specs.List.{All, range_with_len}
 use Rattle.std.proofs.Math.Nat.{mul-add}
 use Rattle.std.proofs.lemmas.Bool.{cases_eq, eq-eqb, ne_eqb}
@@ -13,12 +13,14 @@ pub total-append : (xs ys : List ℤ) → total (xs ++ ys) ≡ total xs +ℤ tot
 total-append [] ys = omega (arith, ints)
 total-append (x ∷ xs) ys = let rest = total-append xs ys in omega (arith, ints)
 
-pub total-map_append : {A : Type 0} (f : A → ℤ) (xs ys : List A) → total (map f (xs ++ ys)) ≡ total (map f xs) +ℤ total (map f ys)
+pub total-map_append : {A : Type 0} (f : A → ℤ) (xs ys : List A)
+    → total (map f (xs ++ ys)) ≡ total (map f xs) +ℤ total (map f ys)
 total-map_append f [] ys = omega (arith, ints)
 total-map_append f (x ∷ xs) ys = let rest = total-map_append f xs ys in omega (arith, ints)
 
 -- where each is no more, the total is no more
-pub total-map_le : {A : Type 0} (f g : A → ℤ) (xs : List A) → All (λ x. f x ≤ℤ g x) xs → total (map f xs) ≤ℤ total (map g xs)
+pub total-map_le : {A : Type 0} (f g : A → ℤ) (xs : List A) → All (λ x. f x ≤ℤ g x) xs
+    → total (map f xs) ≤ℤ total (map g xs)
 total-map_le f g [] each = omega (arith, ints)
 total-map_le {A = A} f g (x ∷ xs) each =
     let here = All-head (λ (y : A). f y ≤ℤ g y) x xs each in
@@ -26,7 +28,8 @@ total-map_le {A = A} f g (x ∷ xs) each =
     omega (arith, ints)
 
 -- the same over numbers in order
-pub total-range_le : (f g : ℕ → ℤ) (a n : ℕ) → ((k : ℕ) → a ≤ k → k < a + n → f k ≤ℤ g k) → total (map f (range_with_len a n)) ≤ℤ total (map g (range_with_len a n))
+pub total-range_le : (f g : ℕ → ℤ) (a n : ℕ) → ((k : ℕ) → a ≤ k → k < a + n → f k ≤ℤ g k)
+    → total (map f (range_with_len a n)) ≤ℤ total (map g (range_with_len a n))
 total-range_le f g a zero each = omega (arith, ints)
 total-range_le f g a (suc n) each =
     let here = each a (omega arith) (omega arith) in
@@ -106,6 +109,11 @@ module _ {A : Type 0} (g : ℕ → ℤ) (key : A → ℕ) where
       let here : counted (x ∷ xs) (key x) ≡ counted xs (key x) + 1 =
       omega (arith, counted-cons x xs (key x), ap {B = ℕ} (λ (b : Bool). cond b 1 0) (eq-eqb (key x) (key x) refl)) in
       let others : (j : ℕ) → j ≢ key x → counted (x ∷ xs) j ≡ counted xs j =
-      λ j apart. omega (arith, counted-cons x xs j, ap {B = ℕ} (λ (b : Bool). cond b 1 0) (ne_eqb (key x) j (λ same. apart (sym same)))) in
+      λ j apart. omega (
+        arith,
+        counted-cons x xs j,
+        ap {B =
+            ℕ} (λ (b : Bool). cond b 1 0) (ne_eqb (key x) j (λ same. apart (sym same))),
+      ) in
       let more = one_more g (counted xs) (counted (x ∷ xs)) (key x) here others 0 n (omega arith) (omega arith) in
       omega (arith, ints, rest, more)

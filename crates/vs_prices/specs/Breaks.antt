@@ -1,5 +1,5 @@
 -- Where a table breaks, as one list in the order in which it is judged.
-use Rattle.std.specs.Prelude.{◌≡◌, ℕ, ◌+◌, ◌<◌, ◌==◌, Bool, false, ◌&&◌, if◌then◌else◌, List, [], ◌∷◌, ◌++◌, length, flat_map, Option, Some, None, IsSomeAnd, int_lt, ℤ, pos, ◌+ℤ◌, ◌<ℤ◌}
+use Rattle.std.specs.Prelude.{ℕ, ◌<◌, ◌==◌, Bool, false, ◌&&◌, if◌then◌else◌, List, [], ◌++◌, length, flat_map, Option, Some, None, IsSomeAnd, int_lt, ℤ, pos, ◌+ℤ◌, ◌<ℤ◌}
 use Rattle.std.specs.Int.{bit_at}
 use Rattle.std.specs.List.{range_with_len}
 use Rattle.vs_instance.specs.Firsts.{when}
@@ -35,7 +35,8 @@ is_link_broken p table l i j =
     may_run p l j && exceeds (into_price p table l j) (from_price p table l i) table.ray (link_piece p l i j)
 
 abbrev pub link_breaks : Problem → Table → ℕ → ℕ → ℕ → List BrokenAt
-link_breaks p table l i j = when (is_link_broken p table l i j) (Link (record { 0 = l }) (record { 0 = i }) (record { 0 = j }))
+link_breaks p table l i j =
+    when (is_link_broken p table l i j) (Link (record { 0 = l }) (record { 0 = i }) (record { 0 = j }))
 
 -- on the moves of layer l into trip i from the depot, from it to each trip, and from it to the depot
 abbrev pub move_breaks : Problem → Table → ℕ → ℕ → List BrokenAt
@@ -55,3 +56,19 @@ layer_breaks p table l =
 -- layer by layer; in each its vehicles' price, and then trip by trip
 abbrev pub breaks_of : Problem → Table → List BrokenAt
 breaks_of p table = flat_map (layer_breaks p table) (range_with_len 0 (length p.layers))
+
+-- what it means that a table breaks there: some vehicle's price is below 0, or a move that there is, in a layer that
+-- may run its trips, is worth
+-- more than it costs
+abbrev pub IsBroken : Problem → Table → BrokenAt → Type 0
+IsBroken p table (Fleet l) = (l.0 < length p.layers) × (vehicle_price table l.0 <ℤ pos 0)
+IsBroken p table (PullOut l i) = (l.0 < length p.layers) × (i.0 < length p.trips) × Permitted p l.0 i.0
+    × IsSomeAnd (out_piece p l.0 i.0)
+    (λ c. (vehicle_price table l.0 +ℤ scaled table.ray c) <ℤ into_price p table l.0 i.0)
+IsBroken p table (Link l i j) =
+    (l.0 < length p.layers) × (i.0 < length p.trips) × (j.0 < length p.trips) × Permitted p l.0 i.0
+    × Permitted p l.0 j.0
+    × IsSomeAnd (link_piece p l.0 i.0 j.0)
+    (λ c. (from_price p table l.0 i.0 +ℤ scaled table.ray c) <ℤ into_price p table l.0 j.0)
+IsBroken p table (PullIn l i) = (l.0 < length p.layers) × (i.0 < length p.trips) × Permitted p l.0 i.0
+    × IsSomeAnd (in_piece p l.0 i.0) (λ c. (from_price p table l.0 i.0 +ℤ scaled table.ray c) <ℤ pos 0)

@@ -11,5 +11,6 @@ use Rattle.vs_prices.specs.Worth.{IsWorth, BoundsPlans}
 
 -- in every instance, a table that fits and holds bounds the plans within any restriction by what it is worth there
 abbrev pub PricesBoundPlans : Type 0
-PricesBoundPlans = (p : Problem) (sets : List LayerSet) (table : Table) (bound : Bound) → IsInstance p → IsRestriction p sets
+PricesBoundPlans =
+    (p : Problem) (sets : List LayerSet) (table : Table) (bound : Bound) → IsInstance p → IsRestriction p sets
     → Fits p table → HoldingTable p table → IsWorth p sets table bound → BoundsPlans p sets bound

@@ -35,7 +35,8 @@ pub record Fits (p : Problem) (table : Table) : Type 0 where
 -- the prices hold in every layer
 abbrev pub HoldingTable : Problem → Table → Type 0
 HoldingTable p table = (l : ℕ) → l < length p.layers
-    → HoldsInLayer p l table.ray (prices_in p l table.into.items) (prices_in p l table.from.items) (vehicle_price table l)
+    → HoldsInLayer p l table.ray (prices_in p l table.into.items) (prices_in p l table.from.items)
+    (vehicle_price table l)
 
 -- every price is 0
 pub record AreZeros (table : Table) : Type 0 where

@@ -50,10 +50,12 @@ pub record IsRoundedUp (value n : ℤ) : Type 0 where
 abbrev pub rounded_up : ℤ → ℤ
 rounded_up value = if int_lt (pos 0) (int_rem value SCALE) then int_div value SCALE +ℤ pos 1 else int_div value SCALE
 
--- A cost table is worth its value in whole cost units, rounded up. A ray whose value is above 0 shows that there is no plan, and one whose value
+-- A cost table is worth its value in whole cost units, rounded up. A ray whose value is above 0 shows that there is no
+-- plan, and one whose value
 -- isn't shows nothing but that a plan costs 0 or more.
 abbrev pub IsWorth : Problem → List LayerSet → Table → Bound → Type 0
-IsWorth p sets table (AtLeast n) = MatchBool table.ray ((table_value p sets table ≤ℤ pos 0) × (n ≡ pos 0)) (IsRoundedUp (table_value p sets table) n)
+IsWorth p sets table (AtLeast n) =
+    MatchBool table.ray ((table_value p sets table ≤ℤ pos 0) × (n ≡ pos 0)) (IsRoundedUp (table_value p sets table) n)
 IsWorth p sets table NoPlan = (table.ray ≡ true) × (pos 0 <ℤ table_value p sets table)
 
 -- what a table is worth, as a function: IsWorth says what it means
@@ -75,4 +77,5 @@ IsBoundOn NoPlan cost = ⊥
 
 -- no plan within the sets costs less than the bound
 abbrev pub BoundsPlans : Problem → List LayerSet → Bound → Type 0
-BoundsPlans p sets bound = (blocks : List LayerBlock) → IsPlan p blocks → IsWithin sets blocks → IsBoundOn bound (plan_cost p blocks)
+BoundsPlans p sets bound =
+    (blocks : List LayerBlock) → IsPlan p blocks → IsWithin sets blocks → IsBoundOn bound (plan_cost p blocks)

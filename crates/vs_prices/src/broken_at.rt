@@ -2,7 +2,7 @@ ghost use Rattle.std.specs.Prelude.{◌≡◌, ℕ, ◌<◌, ◌↔◌, Option, 
 ghost use Rattle.std.specs.List.{range_with_len};
 ghost use Rattle.vs_connect.specs.Cost.{IsCost};
 ghost use Rattle.vs_instance.specs.Firsts.{first};
-ghost use Rattle.vs_prices.specs.Breaks.{breaks_of, exceeds, is_link_broken, is_pull_in_broken, is_pull_out_broken, layer_breaks, link_breaks, trip_breaks};
+ghost use Rattle.vs_prices.specs.Breaks.{IsBroken, breaks_of, exceeds, is_link_broken, is_pull_in_broken, is_pull_out_broken, layer_breaks, link_breaks, trip_breaks};
 ghost use Rattle.vs_prices.specs.Table.{Fits, HoldingTable, IsPrice};
 
 use crate::table::Table;
@@ -138,6 +138,7 @@ pub fn broken(instance: &Instance, table: &Table) -> Option<BrokenAt>
     requires { Fits instance.now table.now }
     ensures first { result ≡ first (breaks_of instance.now table.now) }
     ensures holds { IsNone result ↔ HoldingTable instance.now table.now }
+    ensures broken { IfSome result (IsBroken instance.now table.now) }
 {
     for l in 0..instance.layers() {
         if let Some(at) = broken_in_layer(instance, table, LayerNo(l)) {

@@ -21,11 +21,13 @@ weight_of-cons row rows = refl
 -- one field more
 pub row_weight-push : (row : Row) (f : Field) → row_weight (row ++ f ∷ []) ≡ row_weight row + (length f + 1)
 row_weight-push [] f = omega (arith, row_weight-cons f [])
-row_weight-push (g ∷ row) f = omega (arith, row_weight-push row f, row_weight-cons g row, row_weight-cons g (row ++ f ∷ []))
+row_weight-push (g ∷ row) f =
+    omega (arith, row_weight-push row f, row_weight-cons g row, row_weight-cons g (row ++ f ∷ []))
 
 pub weight_of-push : (rows : List Row) (row : Row) → weight_of (rows ++ row ∷ []) ≡ weight_of rows + row_weight row
 weight_of-push [] row = omega (arith, weight_of-cons row [])
-weight_of-push (r ∷ rows) row = omega (arith, weight_of-push rows row, weight_of-cons r rows, weight_of-cons r (rows ++ row ∷ []))
+weight_of-push (r ∷ rows) row =
+    omega (arith, weight_of-push rows row, weight_of-cons r rows, weight_of-cons r (rows ++ row ∷ []))
 
 -- what a byte adds that doesn't end the record
 byte_adds : (a : Action) (fields : Row) (field : Field) (c : ℕ) → is_end a ≡ false
@@ -36,17 +38,20 @@ byte_adds act.EndField fields field c goes = omega (arith, row_weight-push field
 byte_adds act.EndRecord fields field c goes = absurd (false≢true (sym goes))
 
 -- and one that does
-end_adds : (a : Action) (fields : Row) (field : Field) → is_end a ≡ true → row_weight (fields_after a fields field) ≡ row_weight fields + length field + 1
+end_adds : (a : Action) (fields : Row) (field : Field) → is_end a ≡ true
+    → row_weight (fields_after a fields field) ≡ row_weight fields + length field + 1
 end_adds act.Skip fields field ends = absurd (false≢true ends)
 end_adds act.Copy fields field ends = absurd (false≢true ends)
 end_adds act.EndField fields field ends = absurd (false≢true ends)
 end_adds act.EndRecord fields field ends = omega (arith, row_weight-push fields field)
 
--- A record that was read has some field. What it and the text after it weigh is no more than what the text weighed, or the record was the last and
+-- A record that was read has some field. What it and the text after it weigh is no more than what the text weighed, or
+-- the record was the last and
 -- was ended by the end of the text.
 pub record IsLighter (weight : ℕ) (p : Read) : Type 0 where
   pub some : 1 ≤ row_weight p.0
-  pub lighter : (row_weight p.0 + length p.2 ≤ weight) ⊎ ((p.1 ≡ st.StartRecord) × (p.2 ≡ []) × (row_weight p.0 ≤ weight + 1))
+  pub lighter : (row_weight p.0 + length p.2 ≤ weight)
+      ⊎ ((p.1 ≡ st.StartRecord) × (p.2 ≡ []) × (row_weight p.0 ≤ weight + 1))
 
 lighter_more : (w v : ℕ) (p : Read) → w ≤ v → IsLighter w p → IsLighter v p
 lighter_more w v p le is = record {
@@ -57,11 +62,13 @@ lighter_more w v p le is = record {
   ];
 }
 
-pub next_lighter : (cfg : Config) (s : State) (fields : Row) (field : Field) (xs : List ℕ) (p : Read) → next_record cfg s fields field xs ≡ Some p
+pub next_lighter : (cfg : Config) (s : State) (fields : Row) (field : Field) (xs : List ℕ) (p : Read)
+    → next_record cfg s fields field xs ≡ Some p
     → IsLighter (row_weight fields + length field + length xs) p
 unfolding next_record
 next_lighter cfg s fields field [] p is =
-    elim (ends_at_end s) as (λ b. cond b (Some (fields ++ (field ∷ []), st.StartRecord, [])) None ≡ Some p → IsLighter (row_weight fields + length field + 0) p) [
+    elim (ends_at_end s) as (λ b. cond b (Some (fields ++ (field ∷ []), st.StartRecord, [])) None ≡ Some p
+    → IsLighter (row_weight fields + length field + 0) p) [
       | true ↦ λ at.
           let same : (fields ++ (field ∷ []), st.StartRecord, []) ≡ p = cc in
           subst (IsLighter (row_weight fields + length field + 0)) same (record {
@@ -72,14 +79,19 @@ next_lighter cfg s fields field [] p is =
     ] is
 next_lighter cfg s fields field (c ∷ rest) p is =
     by (is_end (step cfg s c).1) refl is
-    (next_lighter cfg (step cfg s c).0 (fields_after (step cfg s c).1 fields field) (field_after (step cfg s c).1 c field) rest p)
+    (next_lighter cfg (step cfg s c).0 (fields_after (step cfg s c).1 fields field)
+    (field_after (step cfg s c).1 c field) rest p)
   where
     after : Option Read
-    after = next_record cfg (step cfg s c).0 (fields_after (step cfg s c).1 fields field) (field_after (step cfg s c).1 c field) rest
+    after = next_record cfg (step cfg s c).0 (fields_after (step cfg s c).1 fields field)
+        (field_after (step cfg s c).1 c field) rest
 
     by : (b : Bool) → is_end (step cfg s c).1 ≡ b
         → cond b (Some (fields_after (step cfg s c).1 fields field, (step cfg s c).0, rest)) after ≡ Some p
-        → (after ≡ Some p → IsLighter (row_weight (fields_after (step cfg s c).1 fields field) + length (field_after (step cfg s c).1 c field) + length rest) p)
+        → (after ≡ Some p
+        → IsLighter
+        (row_weight (fields_after (step cfg s c).1 fields field) + length (field_after (step cfg s c).1 c field)
+        + length rest) p)
         → IsLighter (row_weight fields + length field + suc (length rest)) p
     by true ends at more =
         let same : (fields_after (step cfg s c).1 fields field, (step cfg s c).0, rest) ≡ p = cc in
@@ -93,11 +105,13 @@ next_lighter cfg s fields field (c ∷ rest) p is =
         lighter_more _ _ p (omega arith) (more at)
 
 -- a record takes some bytes, or it was ended by the end of the text
-pub next_shorter : (cfg : Config) (s : State) (fields : Row) (field : Field) (xs : List ℕ) (p : Read) → next_record cfg s fields field xs ≡ Some p
+pub next_shorter : (cfg : Config) (s : State) (fields : Row) (field : Field) (xs : List ℕ) (p : Read)
+    → next_record cfg s fields field xs ≡ Some p
     → (length p.2 < length xs) ⊎ ((p.1 ≡ st.StartRecord) × (p.2 ≡ []))
 unfolding next_record
 next_shorter cfg s fields field [] p is =
-    elim (ends_at_end s) as (λ b. cond b (Some (fields ++ (field ∷ []), st.StartRecord, [])) None ≡ Some p → (length p.2 < 0) ⊎ ((p.1 ≡ st.StartRecord) × (p.2 ≡ []))) [
+    elim (ends_at_end s) as (λ b. cond b (Some (fields ++ (field ∷ []), st.StartRecord, [])) None ≡ Some p
+    → (length p.2 < 0) ⊎ ((p.1 ≡ st.StartRecord) × (p.2 ≡ []))) [
       | true ↦ λ at.
           let same : (fields ++ (field ∷ []), st.StartRecord, []) ≡ p = cc in
           inr (ap (λ (q : Read). q.1) (sym same), ap (λ (q : Read). q.2) (sym same))
@@ -105,10 +119,12 @@ next_shorter cfg s fields field [] p is =
     ] is
 next_shorter cfg s fields field (c ∷ rest) p is =
     by (is_end (step cfg s c).1) refl is
-    (next_shorter cfg (step cfg s c).0 (fields_after (step cfg s c).1 fields field) (field_after (step cfg s c).1 c field) rest p)
+    (next_shorter cfg (step cfg s c).0 (fields_after (step cfg s c).1 fields field)
+    (field_after (step cfg s c).1 c field) rest p)
   where
     after : Option Read
-    after = next_record cfg (step cfg s c).0 (fields_after (step cfg s c).1 fields field) (field_after (step cfg s c).1 c field) rest
+    after = next_record cfg (step cfg s c).0 (fields_after (step cfg s c).1 fields field)
+        (field_after (step cfg s c).1 c field) rest
 
     by : (b : Bool) → is_end (step cfg s c).1 ≡ b
         → cond b (Some (fields_after (step cfg s c).1 fields field, (step cfg s c).0, rest)) after ≡ Some p
@@ -125,12 +141,15 @@ next_shorter cfg s fields field (c ∷ rest) p is =
         ]
 
 -- a text has records
-all_records : (cfg : Config) (n : ℕ) (s : State) (xs : List ℕ) → length xs < n → (rows : List Row) × AreRecords cfg s xs rows
+all_records : (cfg : Config) (n : ℕ) (s : State) (xs : List ℕ) → length xs < n → (rows : List Row)
+    × AreRecords cfg s xs rows
 unfolding next_record Reached
 all_records cfg zero s xs few = absurd (omega arith)
-all_records cfg (suc n) s xs few = by (next_record cfg s [] [] xs) refl (λ p less. all_records cfg n p.1 p.2 (omega arith))
+all_records cfg (suc n) s xs few =
+    by (next_record cfg s [] [] xs) refl (λ p less. all_records cfg n p.1 p.2 (omega arith))
   where
-    by : (o : Option Read) → next_record cfg s [] [] xs ≡ o → ((p : Read) → length p.2 < length xs → (rows : List Row) × AreRecords cfg p.1 p.2 rows)
+    by : (o : Option Read) → next_record cfg s [] [] xs ≡ o
+        → ((p : Read) → length p.2 < length xs → (rows : List Row) × AreRecords cfg p.1 p.2 rows)
         → (rows : List Row) × AreRecords cfg s xs rows
     by None is later = ([], (s, xs, (refl, refl), is))
     by (Some p) is later =
@@ -145,7 +164,8 @@ pub has_records : (cfg : Config) (s : State) (xs : List ℕ) → (rows : List Ro
 has_records cfg s xs = all_records cfg (suc (length xs)) s xs (omega arith)
 
 -- and these alone
-same_reached : (cfg : Config) (s s2 s3 : State) (xs ys zs : List ℕ) (rows others : List Row) → Reached cfg s xs rows s2 ys → next_record cfg s2 [] [] ys ≡ None
+same_reached : (cfg : Config) (s s2 s3 : State) (xs ys zs : List ℕ) (rows others : List Row)
+    → Reached cfg s xs rows s2 ys → next_record cfg s2 [] [] ys ≡ None
     → Reached cfg s xs others s3 zs → next_record cfg s3 [] [] zs ≡ None → others ≡ rows
 unfolding Reached
 same_reached cfg s s2 s3 xs ys zs [] [] r end q end' = refl
@@ -159,14 +179,19 @@ same_reached cfg s s2 s3 xs ys zs (row ∷ rows) [] r end q end' =
     absurd (cc)
 same_reached cfg s s2 s3 xs ys zs (row ∷ rows) (o ∷ others) r end q end' =
     let same : q.0 ≡ r.0 = (let a = q.1 in let b = r.1 in cc) in
-    let later : Reached cfg r.0.1 r.0.2 others s3 zs = subst (λ (p : Read). Reached cfg p.1 p.2 others s3 zs) same q.3 in
-    (λ i. (q.2 ∙ ap (λ (p : Read). p.0) same ∙ sym r.2) i ∷ same_reached cfg r.0.1 s2 s3 r.0.2 ys zs rows others r.3 end later end' i)
+    let later : Reached cfg r.0.1 r.0.2 others s3 zs =
+    subst (λ (p : Read). Reached cfg p.1 p.2 others s3 zs) same q.3 in
+    (λ i. (q.2 ∙ ap (λ (p : Read). p.0) same ∙ sym r.2) i
+    ∷ same_reached cfg r.0.1 s2 s3 r.0.2 ys zs rows others r.3 end later end' i)
 
-pub same_records : (cfg : Config) (s : State) (xs : List ℕ) (rows others : List Row) → AreRecords cfg s xs rows → AreRecords cfg s xs others → others ≡ rows
-same_records cfg s xs rows others are other = same_reached cfg s are.0 other.0 xs are.1 other.1 rows others are.2 are.3 other.2 other.3
+pub same_records : (cfg : Config) (s : State) (xs : List ℕ) (rows others : List Row) → AreRecords cfg s xs rows
+    → AreRecords cfg s xs others → others ≡ rows
+same_records cfg s xs rows others are other =
+    same_reached cfg s are.0 other.0 xs are.1 other.1 rows others are.2 are.3 other.2 other.3
 
 -- records have no more fields and bytes than the text, but for the one field that its end may end
-reached_lighter : (cfg : Config) (s s2 : State) (xs ys : List ℕ) (rows : List Row) → Reached cfg s xs rows s2 ys → weight_of rows ≤ length xs + 1
+reached_lighter : (cfg : Config) (s s2 : State) (xs ys : List ℕ) (rows : List Row) → Reached cfg s xs rows s2 ys
+    → weight_of rows ≤ length xs + 1
 unfolding next_record Reached
 reached_lighter cfg s s2 xs ys [] r = omega arith
 reached_lighter cfg s s2 xs ys (row ∷ rows) (p, is, row_is, later) =
@@ -175,7 +200,10 @@ reached_lighter cfg s s2 xs ys (row ∷ rows) (p, is, row_is, later) =
     elim light.lighter [
       | inl less ↦ omega (arith, reached_lighter cfg p.1 s2 p.2 ys rows later, weight_of-cons row rows)
       | inr last ↦
-          let none = no_more rows (subst (λ (zs : List ℕ). Reached cfg st.StartRecord zs rows s2 ys) last.1 (subst (λ (q : State). Reached cfg q p.2 rows s2 ys) last.0 later)) in
+          let none =
+          no_more rows
+          (subst (λ (zs : List ℕ). Reached cfg st.StartRecord zs rows s2 ys) last.1
+          (subst (λ (q : State). Reached cfg q p.2 rows s2 ys) last.0 later)) in
           omega (arith, last.2, ap weight_of none, weight_of-cons row rows)
     ]
   where
@@ -183,16 +211,19 @@ reached_lighter cfg s s2 xs ys (row ∷ rows) (p, is, row_is, later) =
     no_more [] r = refl
     no_more (row ∷ rows) r = let some = r.1 in cc
 
-pub weight_of-records : (cfg : Config) (s : State) (xs : List ℕ) (rows : List Row) → AreRecords cfg s xs rows → weight_of rows ≤ length xs + 1
+pub weight_of-records : (cfg : Config) (s : State) (xs : List ℕ) (rows : List Row) → AreRecords cfg s xs rows
+    → weight_of rows ≤ length xs + 1
 weight_of-records cfg s xs rows are = reached_lighter cfg s are.0 xs are.1 rows are.2
 
 -- each has a field
-reached_some : (cfg : Config) (s s2 : State) (xs ys : List ℕ) (rows : List Row) → Reached cfg s xs rows s2 ys → length rows ≤ weight_of rows
+reached_some : (cfg : Config) (s s2 : State) (xs ys : List ℕ) (rows : List Row) → Reached cfg s xs rows s2 ys
+    → length rows ≤ weight_of rows
 unfolding Reached
 reached_some cfg s s2 xs ys [] r = omega arith
 reached_some cfg s s2 xs ys (row ∷ rows) (p, is, row_is, later) =
     let light = next_lighter cfg s [] [] xs p is in
     omega (arith, light.some, ap row_weight row_is, reached_some cfg p.1 s2 p.2 ys rows later, weight_of-cons row rows)
 
-pub length-records : (cfg : Config) (s : State) (xs : List ℕ) (rows : List Row) → AreRecords cfg s xs rows → length rows ≤ weight_of rows
+pub length-records : (cfg : Config) (s : State) (xs : List ℕ) (rows : List Row) → AreRecords cfg s xs rows
+    → length rows ≤ weight_of rows
 length-records cfg s xs rows are = reached_some cfg s are.0 xs are.1 rows are.2

@@ -1,5 +1,5 @@
 -- What records declare: it is sound, and there is one such thing.
-use Rattle.std.proofs.Common.{◌≡◌, ℕ, ◌+◌, ◌<◌, ◌≤◌, inl, inr, List, [], ◌∷◌, ◌++◌, length, get_or, drop, Contains, Option, Some, None, refl, sym, ap, ◌∙◌, subst, arith}
+use Rattle.std.proofs.Common.{◌≡◌, ℕ, ◌+◌, ◌<◌, ◌≤◌, inl, inr, List, [], ◌∷◌, ◌++◌, length, get_or, Contains, Option, Some, None, refl, sym, ap, ◌∙◌, subst, arith}
 use Rattle.std.proofs.lemmas.List.{length_push, get_or_default}
 use Rattle.std.proofs.lemmas.List.Elements.{All-get_or, All-nil, All-push, All-weaker, Contains-get_or}
 use Rattle.std.proofs.lemmas.List.Quantifiers.{all_pairs_push}
@@ -15,7 +15,6 @@ use Rattle.vs_reader.specs.declared.kind.Kind.TheVariants as kind
 use Rattle.vs_reader.specs.Rows.{Field, Row, field_of}
 use Rattle.vs_reader.specs.Kinds.{kind_of}
 use Rattle.vs_reader.proofs.KindLemmas.{AddsOfKind, adds_by_kind}
-use Rattle.vs_reader.specs.Names.{NameLists}
 use Rattle.vs_reader.specs.Numbers.{IsTime}
 use Rattle.vs_reader.specs.InstanceText.{Declared, nothing_yet, IsNew, AddsStop, AddsDeadhead, AddsLayer, AddsTrip, Adds, AddAll, NameLayers}
 use Rattle.vs_reader.specs.Drafts.{AreApart, IsSound}
@@ -24,7 +23,8 @@ use Rattle.vs_reader.proofs.RowsSayOne.{same_field, one_deadhead, one_layer, one
 
 AreApart-push : (names : List Field) (f : Field) → AreApart names → IsNew names f → AreApart (names ++ f ∷ [])
 AreApart-push names f apart new =
-    all_pairs_push (λ f g. ¬ (f ≡ g)) names f apart (λ k d within same. new.new (k, within, get_or_default names k f d within ∙ same))
+    all_pairs_push (λ f g. ¬ (f ≡ g)) names f apart
+    (λ k d within same. new.new (k, within, get_or_default names k f d within ∙ same))
 
 AreApart-nil : AreApart []
 AreApart-nil i j d before within = absurd (omega arith)
@@ -57,9 +57,19 @@ sound_stop old new row s a =
       few_trips = s.few_trips;
       each_layer = s.each_layer;
       each_trip = s.each_trip;
-      depots = All-weaker (λ (l : Layer). l.depot.0 < length old.names.stops) (λ (l : Layer). l.depot.0 < length (old.names.stops ++ a.name ∷ [])) (λ l h. omega (arith, more, h)) old.layers s.depots;
-      deadheads = All-weaker (λ (d : Deadhead). (d.from.0 < length old.names.stops) × (d.to.0 < length old.names.stops)) (λ (d : Deadhead). (d.from.0 < length (old.names.stops ++ a.name ∷ [])) × (d.to.0 < length (old.names.stops ++ a.name ∷ []))) (λ d h. (omega (arith, more, h.0), omega (arith, more, h.1))) old.deadheads s.deadheads;
-      trip_stops = All-weaker (λ (t : Trip). (t.from.0 < length old.names.stops) × (t.to.0 < length old.names.stops)) (λ (t : Trip). (t.from.0 < length (old.names.stops ++ a.name ∷ [])) × (t.to.0 < length (old.names.stops ++ a.name ∷ []))) (λ t h. (omega (arith, more, h.0), omega (arith, more, h.1))) old.trips s.trip_stops;
+      depots = All-weaker (λ (l : Layer). l.depot.0 < length old.names.stops)
+          (λ (l : Layer). l.depot.0 < length (old.names.stops ++ a.name ∷ []))
+          (λ l h. omega (arith, more, h)) old.layers s.depots;
+      deadheads =
+          All-weaker (λ (d : Deadhead). (d.from.0 < length old.names.stops) × (d.to.0 < length old.names.stops))
+          (λ (d : Deadhead). (d.from.0 < length (old.names.stops ++ a.name ∷ []))
+          × (d.to.0 < length (old.names.stops ++ a.name ∷ [])))
+          (λ d h. (omega (arith, more, h.0), omega (arith, more, h.1))) old.deadheads s.deadheads;
+      trip_stops =
+          All-weaker (λ (t : Trip). (t.from.0 < length old.names.stops) × (t.to.0 < length old.names.stops))
+          (λ (t : Trip). (t.from.0 < length (old.names.stops ++ a.name ∷ []))
+          × (t.to.0 < length (old.names.stops ++ a.name ∷ [])))
+          (λ t h. (omega (arith, more, h.0), omega (arith, more, h.1))) old.trips s.trip_stops;
       trip_times = s.trip_times;
       some_layer = s.some_layer;
       trip_layers = s.trip_layers;
@@ -76,8 +86,12 @@ sound_deadhead old new row s a =
       each_layer = s.each_layer;
       each_trip = s.each_trip;
       depots = s.depots;
-      deadheads = All-push (λ (d : Deadhead). (d.from.0 < length old.names.stops) × (d.to.0 < length old.names.stops)) old.deadheads a.deadhead s.deadheads
-          (slice_get_within old.names.stops a.deadhead.from.0 a.row_is.from a.row_is.from_is, slice_get_within old.names.stops a.deadhead.to.0 a.row_is.to a.row_is.to_is);
+      deadheads =
+          All-push (λ (d : Deadhead). (d.from.0 < length old.names.stops)
+          × (d.to.0 < length old.names.stops)) old.deadheads a.deadhead s.deadheads (
+            slice_get_within old.names.stops a.deadhead.from.0 a.row_is.from a.row_is.from_is,
+            slice_get_within old.names.stops a.deadhead.to.0 a.row_is.to a.row_is.to_is,
+          );
       trip_stops = s.trip_stops;
       trip_times = s.trip_times;
       some_layer = s.some_layer;
@@ -95,12 +109,16 @@ sound_layer old new row s a =
       few_trips = s.few_trips;
       each_layer = omega (arith, more, length_push old.layers a.layer, s.each_layer);
       each_trip = s.each_trip;
-      depots = All-push (λ (l : Layer). l.depot.0 < length old.names.stops) old.layers a.layer s.depots (slice_get_within old.names.stops a.layer.depot.0 a.row_is.depot a.row_is.depot_is);
+      depots = All-push (λ (l : Layer). l.depot.0 < length old.names.stops) old.layers a.layer s.depots
+          (slice_get_within old.names.stops a.layer.depot.0 a.row_is.depot a.row_is.depot_is);
       deadheads = s.deadheads;
       trip_stops = s.trip_stops;
       trip_times = s.trip_times;
       some_layer = s.some_layer;
-      trip_layers = All-weaker (λ (t : Trip). (l : ℕ) → Has t.layers l → l < length old.names.layers) (λ (t : Trip). (l : ℕ) → Has t.layers l → l < length (old.names.layers ++ a.name ∷ [])) (λ t h l has. let b = h l has in omega (arith, more, b)) old.trips s.trip_layers;
+      trip_layers =
+          All-weaker (λ (t : Trip). (l : ℕ) → Has t.layers l → l < length old.names.layers) (λ (t : Trip). (l : ℕ)
+          → Has t.layers l → l < length (old.names.layers ++ a.name ∷ [])) (λ t h l has. let b =
+          h l has in omega (arith, more, b)) old.trips s.trip_layers;
     })
 
 -- a time is one of the two days
@@ -108,7 +126,8 @@ time_below : (field : Field) (t : ℕ) → IsTime field t → t < TWO_DAYS
 time_below field t is = omega (arith, is.6, is.7, is.8)
 
 -- some field names some layer
-named_layer : (names fields : List Field) (set : LayerSet) → 1 ≤ length fields → NameLayers names fields set → (l : ℕ) × Has set l
+named_layer : (names fields : List Field) (set : LayerSet) → 1 ≤ length fields → NameLayers names fields set
+    → (l : ℕ) × Has set l
 named_layer names fields set some named =
     let f = get_or fields 0 [] in
     let at = Names-Contains names f (All-get_or (λ f. Contains names f) fields 0 [] some named.each) in
@@ -128,11 +147,20 @@ sound_trip old new row s a =
       each_trip = omega (arith, more, length_push old.trips a.trip, s.each_trip);
       depots = s.depots;
       deadheads = s.deadheads;
-      trip_stops = All-push (λ (t : Trip). (t.from.0 < length old.names.stops) × (t.to.0 < length old.names.stops)) old.trips a.trip s.trip_stops
-          (slice_get_within old.names.stops a.trip.from.0 r.from r.from_is, slice_get_within old.names.stops a.trip.to.0 r.to r.to_is);
-      trip_times = All-push (λ (t : Trip). (t.start < TWO_DAYS) × (t.end < TWO_DAYS)) old.trips a.trip s.trip_times (time_below r.start a.trip.start r.start_is, time_below r.end a.trip.end r.end_is);
-      some_layer = All-push (λ (t : Trip). (l : ℕ) × Has t.layers l) old.trips a.trip s.some_layer (named_layer old.names.layers r.layers a.trip.layers r.some_layer r.layers_are);
-      trip_layers = All-push (λ (t : Trip). (l : ℕ) → Has t.layers l → l < length old.names.layers) old.trips a.trip s.trip_layers
+      trip_stops =
+          All-push (λ (t : Trip). (t.from.0 < length old.names.stops)
+          × (t.to.0 < length old.names.stops)) old.trips a.trip s.trip_stops (
+            slice_get_within old.names.stops a.trip.from.0 r.from r.from_is,
+            slice_get_within old.names.stops a.trip.to.0 r.to r.to_is,
+          );
+      trip_times =
+          All-push (λ (t : Trip). (t.start < TWO_DAYS) × (t.end < TWO_DAYS)) old.trips a.trip s.trip_times
+          (time_below r.start a.trip.start r.start_is, time_below r.end a.trip.end r.end_is);
+      some_layer =
+          All-push (λ (t : Trip). (l : ℕ) × Has t.layers l) old.trips a.trip s.some_layer
+          (named_layer old.names.layers r.layers a.trip.layers r.some_layer r.layers_are);
+      trip_layers =
+          All-push (λ (t : Trip). (l : ℕ) → Has t.layers l → l < length old.names.layers) old.trips a.trip s.trip_layers
           (λ l has. let w = (r.layers_are.members l).0 has in slice_get_within old.names.layers l w.0 w.2);
     })
 
@@ -150,9 +178,11 @@ IsSound-AddAll old new (row ∷ rows) s all = IsSound-AddAll all.0 new rows (IsS
 one_stop : (old a b : Declared) (row : Row) → AddsStop old row a → AddsStop old row b → a ≡ b
 one_stop old a b row x y =
     let name = same_field row _ _ 1 x.row_is y.row_is in
-    x.added ∙ ap (λ (f : Field). record old { names = record old.names { stops = old.names.stops ++ f ∷ [] } }) name ∙ sym y.added
+    x.added ∙ ap (λ (f : Field). record old { names = record old.names { stops = old.names.stops ++ f ∷ [] } }) name
+    ∙ sym y.added
 
-one_more_deadhead : (old a b : Declared) (row : Row) → IsSound old → AddsDeadhead old row a → AddsDeadhead old row b → a ≡ b
+one_more_deadhead : (old a b : Declared) (row : Row) → IsSound old → AddsDeadhead old row a → AddsDeadhead old row b
+    → a ≡ b
 one_more_deadhead old a b row s x y =
     let d = one_deadhead old.names.stops row x.deadhead y.deadhead s.stops_apart x.row_is y.row_is in
     x.added ∙ ap (λ (d : Deadhead). record old { deadheads = old.deadheads ++ d ∷ [] }) d ∙ sym y.added
@@ -160,12 +190,22 @@ one_more_deadhead old a b row s x y =
 one_more_layer : (old a b : Declared) (row : Row) → IsSound old → AddsLayer old row a → AddsLayer old row b → a ≡ b
 one_more_layer old a b row s x y =
     let l = one_layer old.names.stops row x.name y.name x.layer y.layer s.stops_apart x.row_is y.row_is in
-    x.added ∙ (λ i. record old { names = record old.names { layers = old.names.layers ++ l.0 i ∷ [] }; layers = old.layers ++ l.1 i ∷ [] }) ∙ sym y.added
+    x.added ∙
+    (λ i. record old {
+      names = record old.names { layers = old.names.layers ++ l.0 i ∷ [] };
+      layers =
+          old.layers ++ l.1 i ∷ [];
+    }) ∙ sym y.added
 
 one_more_trip : (old a b : Declared) (row : Row) → IsSound old → AddsTrip old row a → AddsTrip old row b → a ≡ b
 one_more_trip old a b row s x y =
     let t = one_trip old.names row x.name y.name x.trip y.trip s.stops_apart x.row_is y.row_is in
-    x.added ∙ (λ i. record old { names = record old.names { trips = old.names.trips ++ t.0 i ∷ [] }; trips = old.trips ++ t.1 i ∷ [] }) ∙ sym y.added
+    x.added ∙
+    (λ i. record old {
+      names = record old.names { trips = old.names.trips ++ t.0 i ∷ [] };
+      trips =
+          old.trips ++ t.1 i ∷ [];
+    }) ∙ sym y.added
 
 pub one_Adds : (old a b : Declared) (row : Row) → IsSound old → Adds old row a → Adds old row b → a ≡ b
 one_Adds old a b row s x y = by (kind_of (field_of row 0)) (adds_by_kind old row a x) (adds_by_kind old row b y)
@@ -177,7 +217,8 @@ one_Adds old a b row s x y = by (kind_of (field_of row 0)) (adds_by_kind old row
     by (Some kind.Layer) x y = one_more_layer old a b row s x y
     by (Some kind.Trip) x y = one_more_trip old a b row s x y
 
-pub AddAll-push : (old mid new : Declared) (rows : List Row) (row : Row) → AddAll old rows mid → Adds mid row new → AddAll old (rows ++ row ∷ []) new
+pub AddAll-push : (old mid new : Declared) (rows : List Row) (row : Row) → AddAll old rows mid → Adds mid row new
+    → AddAll old (rows ++ row ∷ []) new
 AddAll-push old mid new [] row all adds = (new, subst (λ (m : Declared). Adds m row new) all adds, refl)
 AddAll-push old mid new (r ∷ rows) row all adds = (all.0, all.1, AddAll-push all.0 mid new rows row all.2 adds)
 
@@ -185,7 +226,8 @@ pub one_AddAll : (old a b : Declared) (rows : List Row) → IsSound old → AddA
 one_AddAll old a b [] s x y = x ∙ sym y
 one_AddAll old a b (row ∷ rows) s x y =
     let same = one_Adds old x.0 y.0 row s x.1 y.1 in
-    one_AddAll x.0 a b rows (IsSound-Adds old x.0 row s x.1) x.2 (subst (λ (m : Declared). AddAll m rows b) (sym same) y.2)
+    one_AddAll x.0 a b rows (IsSound-Adds old x.0 row s x.1) x.2
+    (subst (λ (m : Declared). AddAll m rows b) (sym same) y.2)
 
 -- records declare no more deadheads than there are records
 fewer_deadheads : (old new : Declared) (row : Row) → Adds old row new → length new.deadheads ≤ length old.deadheads + 1
@@ -194,10 +236,13 @@ fewer_deadheads old new row adds = by (kind_of (field_of row 0)) (adds_by_kind o
     by : (kind : Option Kind) → AddsOfKind kind old row new → length new.deadheads ≤ length old.deadheads + 1
     by None a = absurd a
     by (Some kind.Stop) a = omega (arith, ap (λ (d : Declared). length d.deadheads) a.added)
-    by (Some kind.Deadhead) a = omega (arith, ap (λ (d : Declared). length d.deadheads) a.added, length_push old.deadheads a.deadhead)
+    by (Some kind.Deadhead) a =
+        omega (arith, ap (λ (d : Declared). length d.deadheads) a.added, length_push old.deadheads a.deadhead)
     by (Some kind.Layer) a = omega (arith, ap (λ (d : Declared). length d.deadheads) a.added)
     by (Some kind.Trip) a = omega (arith, ap (λ (d : Declared). length d.deadheads) a.added)
 
-pub few_deadheads : (old new : Declared) (rows : List Row) → AddAll old rows new → length new.deadheads ≤ length old.deadheads + length rows
+pub few_deadheads : (old new : Declared) (rows : List Row) → AddAll old rows new
+    → length new.deadheads ≤ length old.deadheads + length rows
 few_deadheads old new [] all = omega (arith, ap (λ (d : Declared). length d.deadheads) all)
-few_deadheads old new (row ∷ rows) all = omega (arith, fewer_deadheads old all.0 row all.1, few_deadheads all.0 new rows all.2)
+few_deadheads old new (row ∷ rows) all =
+    omega (arith, fewer_deadheads old all.0 row all.1, few_deadheads all.0 new rows all.2)

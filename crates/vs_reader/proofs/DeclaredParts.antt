@@ -22,7 +22,9 @@ filter-none p (x ∷ xs) is =
 
 number_at : (l : ℕ) → l < 16 → get_or layer_numbers l 0 ≡ l
 unfolding layer_numbers
-number_at l within = eqb-true (get_or layer_numbers l 0) l (agree_below_at (λ k. eqb (get_or layer_numbers k 0) k) (λ _. true) 16 l refl within)
+number_at l within =
+    eqb-true (get_or layer_numbers l 0) l
+    (agree_below_at (λ k. eqb (get_or layer_numbers k 0) k) (λ _. true) 16 l refl within)
 
 length-layer_numbers : length layer_numbers ≡ 16
 unfolding layer_numbers
@@ -31,12 +33,22 @@ length-layer_numbers = refl
 -- a set that a layer stands in has members
 pub some_member : (set : LayerSet) (l : ℕ) → l < 16 → Has set l → members set ≢ []
 some_member set l within has none =
-    let fails = All-get_or (λ k. eqb (bit_at set.0 k) 1 ≡ false) layer_numbers l 0 (omega (arith, length-layer_numbers)) (filter-none (λ k. eqb (bit_at set.0 k) 1) layer_numbers none) in
+    let fails =
+    All-get_or (λ k. eqb (bit_at set.0 k) 1 ≡ false) layer_numbers l 0 (omega (arith, length-layer_numbers))
+    (filter-none (λ k. eqb (bit_at set.0 k) 1) layer_numbers none) in
     true≢false (sym (eq-eqb (bit_at set.0 l) 1 has) ∙ (rw (number_at l within) at fails))
 
 -- what is sound is made of parts
-pub are_parts : (parts : Parts) (names : NameLists) → parts.stops ≡ length names.stops → length parts.deadheads.items < 4294967296
-    → IsSound (record { names = names; deadheads = parts.deadheads.items; layers = parts.layers.items; trips = parts.trips.items }) → AreParts parts
+pub are_parts : (parts : Parts) (names : NameLists) → parts.stops ≡ length names.stops
+    → length parts.deadheads.items < 4294967296
+    → IsSound
+    (record {
+      names = names;
+      deadheads = parts.deadheads.items;
+      layers = parts.layers.items;
+      trips =
+          parts.trips.items;
+    }) → AreParts parts
 are_parts parts names stops few s = record {
   few_stops = omega (arith, s.few_stops, stops);
   few_layers = omega (arith, s.few_layers, s.each_layer);

@@ -9,12 +9,14 @@ use Rattle.std.proofs.lemmas.Bool.{cases_lt}
 use Rattle.vs_reader.specs.RowEnds.{parts_from, end_of}
 
 -- there are as many parts as ends
-pub length-parts_from : {X : Type 0} (xs : List X) (start : ℕ) (ends : List ℕ) → length (parts_from xs start ends) ≡ length ends
+pub length-parts_from : {X : Type 0} (xs : List X) (start : ℕ) (ends : List ℕ)
+    → length (parts_from xs start ends) ≡ length ends
 length-parts_from xs start [] = refl
 length-parts_from xs start (end ∷ ends) = ap suc (length-parts_from xs end ends)
 
 -- part k is what stands between the end before it and its own
-pub get_or-parts_from : {X : Type 0} (xs : List X) (start : ℕ) (ends : List ℕ) (k : ℕ) (d : List X) (e : ℕ) → k < length ends
+pub get_or-parts_from : {X : Type 0} (xs : List X) (start : ℕ) (ends : List ℕ) (k : ℕ) (d : List X) (e : ℕ)
+    → k < length ends
     → get_or (parts_from xs start ends) k d ≡ slice_range xs (end_of start (take k ends)) (get_or ends k e)
 get_or-parts_from xs start [] k d e within = absurd (omega arith)
 get_or-parts_from xs start (end ∷ ends) zero d e within = refl
@@ -31,7 +33,8 @@ end_of-push start [] end = refl
 end_of-push start (e ∷ ends) end = end_of-push e ends end
 
 -- where the parts before part k + 1 end
-pub end_of-take : (start : ℕ) (ends : List ℕ) (k d : ℕ) → k < length ends → end_of start (take (suc k) ends) ≡ get_or ends k d
+pub end_of-take : (start : ℕ) (ends : List ℕ) (k d : ℕ) → k < length ends
+    → end_of start (take (suc k) ends) ≡ get_or ends k d
 end_of-take start [] k d within = absurd (omega arith)
 end_of-take start (end ∷ ends) zero d within = refl
 end_of-take start (end ∷ ends) (suc k) d within = end_of-take end ends k d (omega arith)
@@ -59,22 +62,34 @@ pub range_to_end : {X : Type 0} (xs : List X) (i : ℕ) → slice_range xs i (le
 range_to_end xs i = between_to_end xs i (length xs) (omega arith)
 
 -- parts come in order
-pub starts_before : (ends : List ℕ) (k d : ℕ) → IsNonDecreasing ends → k < length ends → end_of 0 (take k ends) ≤ get_or ends k d
+pub starts_before : (ends : List ℕ) (k d : ℕ) → IsNonDecreasing ends → k < length ends
+    → end_of 0 (take k ends) ≤ get_or ends k d
 starts_before ends zero d order within = omega arith
 starts_before ends (suc k) d order within =
     omega (arith, end_of-take 0 ends k d (omega arith), order k (suc k) d (omega arith) within)
 
 -- one end more, which is none of those before
-pub in_order-push : (ends : List ℕ) (end : ℕ) → IsNonDecreasing ends → All (λ e. e ≤ end) ends → IsNonDecreasing (ends ++ end ∷ [])
+pub in_order-push : (ends : List ℕ) (end : ℕ) → IsNonDecreasing ends → All (λ e. e ≤ end) ends
+    → IsNonDecreasing (ends ++ end ∷ [])
 in_order-push ends end order each i j d le within =
     let count = length_push ends end in
     elim (cases_lt j (length ends)) [
       | inl below ↦
-          omega (arith, get_or_append_left ends (end ∷ []) d i (omega arith), get_or_append_left ends (end ∷ []) d j below, order i j d le below)
+          omega (
+            arith,
+            get_or_append_left ends (end ∷ []) d i (omega arith),
+            get_or_append_left ends (end ∷ []) d j below,
+            order i j d le below,
+          )
       | inr last ↦
           elim (cases_lt i (length ends)) [
             | inl i_below ↦
-                omega (arith, get_or_append_left ends (end ∷ []) d i i_below, get_or_push ends end d j (omega arith), each i d i_below)
+                omega (
+                  arith,
+                  get_or_append_left ends (end ∷ []) d i i_below,
+                  get_or_push ends end d j (omega arith),
+                  each i d i_below,
+                )
             | inr i_last ↦ omega (arith, get_or_push ends end d i (omega arith), get_or_push ends end d j (omega arith))
           ]
     ]

@@ -1,13 +1,13 @@
 -- Names as texts, and numbered lists of names.
-use Rattle.std.proofs.Common.{◌≡◌, ℕ, zero, suc, ◌<◌, inl, inr, Bool, true, false, not, cond, List, [], ◌∷◌, ◌++◌, length, get_or, Option, Some, Result, Ok, Err, MatchOption, MatchResult, MatchBool, Contains, refl, sym, ap, ◌∙◌, arith, map, Bor}
+use Rattle.std.proofs.Common.{◌≡◌, ℕ, zero, suc, ◌<◌, inl, inr, true, false, List, [], ◌∷◌, length, Option, Some, Result, Ok, Err, MatchOption, MatchResult, Contains, sym, ap, ◌∙◌, arith, map, Bor}
 use Rattle.std.specs.Prelude.{All, AllPairs, position}
 use Rattle.std.specs.List.{list_any}
 use Rattle.std.specs.Result.{result_ok}
 use Rattle.std.specs.Str.{IsUtf8, bytes_eq}
 use Rattle.std.proofs.lemmas.Bool.{cases_lt, cases_order, or_left, or_right, or_cases, true≢false}
-use Rattle.std.proofs.lemmas.List.{get_or_past, get_or_default, map_push, length_push}
-use Rattle.std.proofs.lemmas.List.Elements.{All-get_or, All-push, All-contains}
-use Rattle.std.proofs.lemmas.List.Quantifiers.{all_pairs_push, position-Some}
+use Rattle.std.proofs.lemmas.List.{get_or_past}
+use Rattle.std.proofs.lemmas.List.Elements.{All-get_or, All-contains}
+use Rattle.std.proofs.lemmas.List.Quantifiers.{position-Some}
 use Rattle.std.proofs.lemmas.Option.{slice_get-map, slice_get-get_or, slice_get_within, get_or_from_slice_get}
 use Rattle.std.proofs.lemmas.Slice.Eq.{bytes_eq-Decides}
 use Rattle.std.proofs.lemmas.Str.{IsUtf8-from_ascii}
@@ -26,7 +26,8 @@ IsUtf8-name field bytes = IsUtf8-from_ascii field (λ i. elim (cases_lt i (lengt
 ])
 
 -- what a name read as text is
-pub name_from_utf8 : {E : Type 0} (Q : E → Type 0) (field : Field) (r : Result (Bor (List ℕ)) E) (o : Option (Bor (List ℕ)))
+pub name_from_utf8 : {E : Type 0} (Q : E → Type 0) (field : Field) (r : Result (Bor (List ℕ)) E)
+    (o : Option (Bor (List ℕ)))
     → IsName field
     → MatchResult r (λ s. (s.now ≡ field) × IsUtf8 field) (λ e. ¬ (IsUtf8 field) × Q e)
     → o ≡ result_ok r
@@ -35,7 +36,8 @@ name_from_utf8 Q field (Ok s) o name read is = rw is (read.0, name)
 name_from_utf8 Q field (Err e) o name read is = absurd (read.0 (IsUtf8-name field name.bytes))
 
 -- one name has one number
-pub same_number : (names : List Field) (f : Field) (j k : ℕ) → AllPairs (λ f g. ¬ (f ≡ g)) names → Names names f j → Names names f k → j ≡ k
+pub same_number : (names : List Field) (f : Field) (j k : ℕ) → AllPairs (λ f g. ¬ (f ≡ g)) names → Names names f j
+    → Names names f k → j ≡ k
 same_number names f j k apart at_j at_k =
     let in_j = slice_get_within names j f at_j in
     let in_k = slice_get_within names k f at_k in
@@ -58,28 +60,33 @@ Names-Contains names f among = (among.0, slice_get-get_or names among.0 f among.
 
 module _ {K : Type 0} (text : K → Field) where
   -- the look-up by text
-  any_from_Contains : (q : Field) (ks : List K) → Contains (map text ks) q → list_any (λ k. bytes_eq q (text k)) ks ≡ true
+  any_from_Contains : (q : Field) (ks : List K) → Contains (map text ks) q
+      → list_any (λ k. bytes_eq q (text k)) ks ≡ true
   any_from_Contains q [] c = absurd (omega (arith, c.1))
   any_from_Contains q (x ∷ ks) (zero, within, is) = or_left _ _ ((bytes_eq-Decides q (text x)).1 (sym is))
   any_from_Contains q (x ∷ ks) (suc k, within, is) =
       let rest : Contains (map text ks) q = (k, omega arith, is) in
       or_right (bytes_eq q (text x)) _ (any_from_Contains q ks rest)
 
-  Contains_from_any : (q : Field) (ks : List K) → list_any (λ k. bytes_eq q (text k)) ks ≡ true → Contains (map text ks) q
+  Contains_from_any : (q : Field) (ks : List K) → list_any (λ k. bytes_eq q (text k)) ks ≡ true
+      → Contains (map text ks) q
   Contains_from_any q [] is = absurd (true≢false (sym is))
   Contains_from_any q (x ∷ ks) is = elim (or_cases _ _ is) [
     | inl here ↦ (0, omega arith, sym ((bytes_eq-Decides q (text x)).0 here))
     | inr later ↦ let rest = Contains_from_any q ks later in (suc rest.0, (let w = rest.1 in omega arith), rest.2)
   ]
 
-  pub not_found : (q : Field) (ks : List K) → list_any (λ k. bytes_eq q (text k)) ks ≡ false → ¬ (Contains (map text ks) q)
+  pub not_found : (q : Field) (ks : List K) → list_any (λ k. bytes_eq q (text k)) ks ≡ false
+      → ¬ (Contains (map text ks) q)
   not_found q ks none among = true≢false (sym (any_from_Contains q ks among) ∙ none)
 
-  pub found_at : (q : Field) (ks : List K) (i : ℕ) → position (λ k. bytes_eq q (text k)) ks ≡ Some i → Names (map text ks) q i
+  pub found_at : (q : Field) (ks : List K) (i : ℕ) → position (λ k. bytes_eq q (text k)) ks ≡ Some i
+      → Names (map text ks) q i
   found_at q [] i is = cc
   found_at q (x ∷ ks) i is =
       let at = position-Some (λ k. bytes_eq q (text k)) (x ∷ ks) i x is in
-      slice_get-map text (x ∷ ks) i ∙ rw (slice_get-get_or (x ∷ ks) i x at.0) (ap Some (sym ((bytes_eq-Decides q _).0 at.1)))
+      slice_get-map text (x ∷ ks) i
+      ∙ rw (slice_get-get_or (x ∷ ks) i x at.0) (ap Some (sym ((bytes_eq-Decides q _).0 at.1)))
 
 -- what is numbered among names is a name
 pub IsName-Names : (names : List Field) (f : Field) (k : ℕ) → AreNames names → Names names f k → IsName f

@@ -16,7 +16,8 @@ numerals = numerals_by_value (λ ds. (i : ℕ) → i < length ds → IsInRange 4
 
 -- so many digits write a number below that power of ten
 pub digits_short : (ds : List ℕ) (k : ℕ) → All IsAsciiDigit ds → length ds ≤ k → digits_value 10 ds < 10 ^ k
-digits_short ds k digits short = digits_value_short numerals ds k (λ i within. All-get_or IsAsciiDigit ds i 0 within digits) short
+digits_short ds k digits short =
+    digits_value_short numerals ds k (λ i within. All-get_or IsAsciiDigit ds i 0 within digits) short
 
 -- one more digit
 pub digits_step : (ds : List ℕ) (i : ℕ) → i < length ds → IsInRange 48 57 (get_or ds i 0)
@@ -24,5 +25,9 @@ pub digits_step : (ds : List ℕ) (i : ℕ) → i < length ds → IsInRange 48 5
 digits_step ds i within digit = omega (arith, digits_value_more 10 ds i within, digit_value_digit (get_or ds i 0) digit)
 
 -- a field round its colon
-pub split_at : (field : Field) (i : ℕ) → i < length field → get_or field i 0 ≡ 58 → field ≡ take i field ++ 58 ∷ drop (i + 1) field
-split_at field i within colon = sym (take-append-drop i field) ∙ ap (λ (rest : List ℕ). take i field ++ rest) (drop_more field i 0 within ∙ ap (λ (c : ℕ). c ∷ drop (i + 1) field) colon)
+pub split_at : (field : Field) (i : ℕ) → i < length field → get_or field i 0 ≡ 58
+    → field ≡ take i field ++ 58 ∷ drop (i + 1) field
+split_at field i within colon =
+    sym (take-append-drop i field)
+    ∙ ap (λ (rest : List ℕ). take i field ++ rest)
+    (drop_more field i 0 within ∙ ap (λ (c : ℕ). c ∷ drop (i + 1) field) colon)

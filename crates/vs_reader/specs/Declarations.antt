@@ -1,6 +1,5 @@
 -- What the records of an instance give, and what is left behind them.
-use Rattle.std.specs.Prelude.{◌≡◌, ℕ, ◌+◌, List, [], ◌∷◌, ◌++◌, length, Result, Ok, Err, MatchBool}
-use Rattle.csv.specs.Records.{fields_of}
+use Rattle.std.specs.Prelude.{◌≡◌, ◌+◌, List, ◌++◌, length, Result, Ok, Err}
 use Rattle.vs_reader.specs.declared.reading.Declarations.{Declarations}
 use Rattle.vs_reader.specs.declared.refused.ReadError.{ReadError}
 use Rattle.vs_reader.specs.declared.text_records.TextRecords.{TextRecords}

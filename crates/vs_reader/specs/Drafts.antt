@@ -9,7 +9,8 @@ use Rattle.vs_reader.specs.Refusals.{is_layer, is_deadhead, is_trip}
 use Rattle.vs_reader.specs.RecordNumbers.{with_number}
 
 abbrev pub declared_of : Draft → Declared
-declared_of d = record { names = d.names; deadheads = d.deadheads.items; layers = d.layers.items; trips = d.trips.items }
+declared_of d =
+    record { names = d.names; deadheads = d.deadheads.items; layers = d.layers.items; trips = d.trips.items }
 
 -- the record of this number adds to the draft what it declares, and its number
 pub record AddsRecord (number : ℕ) (old : Draft) (row : Row) (new : Draft) : Type 0 where
@@ -21,7 +22,8 @@ pub record AddsRecord (number : ℕ) (old : Draft) (row : Row) (new : Draft) : T
 abbrev pub AreApart : List Field → Type 0
 AreApart names = AllPairs (λ f g. ¬ (f ≡ g)) names
 
--- names within the limits, no two of a kind the same, a layer and a trip for each of theirs, and no number that nothing has
+-- names within the limits, no two of a kind the same, a layer and a trip for each of theirs, and no number that nothing
+-- has
 pub record IsSound (d : Declared) : Type 0 where
   pub stops_apart : AreApart d.names.stops
   pub layers_apart : AreApart d.names.layers

@@ -74,7 +74,11 @@ pub record AddsLayer (old : Declared) (row : Row) (new : Declared) : Type 0 wher
   pub row_is : LayerRow old.names.stops row name layer
   pub new_name : IsNew old.names.layers name
   pub room : length old.names.layers < MAX_LAYERS
-  pub added : new ≡ record old { names = record old.names { layers = old.names.layers ++ name ∷ [] }; layers = old.layers ++ layer ∷ [] }
+  pub added : new ≡ record old {
+    names = record old.names { layers = old.names.layers ++ name ∷ [] };
+    layers =
+        old.layers ++ layer ∷ [];
+  }
 
 -- the fields name the layers of the set, each once
 pub record NameLayers (names : List Field) (fields : List Field) (set : LayerSet) : Type 0 where
@@ -105,7 +109,11 @@ pub record AddsTrip (old : Declared) (row : Row) (new : Declared) : Type 0 where
   pub row_is : TripRow old.names row name trip
   pub new_name : IsNew old.names.trips name
   pub room : length old.names.trips < MAX_TRIPS
-  pub added : new ≡ record old { names = record old.names { trips = old.names.trips ++ name ∷ [] }; trips = old.trips ++ trip ∷ [] }
+  pub added : new ≡ record old {
+    names = record old.names { trips = old.names.trips ++ name ∷ [] };
+    trips =
+        old.trips ++ trip ∷ [];
+  }
 
 -- one record adds to what was declared
 abbrev pub Adds : Declared → Row → Declared → Type 0
@@ -119,16 +127,24 @@ AddAll old (row ∷ rows) new = (next : Declared) × Adds old row next × AddAll
 -- what is declared is the instance: no deadhead stands twice, and the limits and closure hold
 pub record Makes (declared : Declared) (p : Problem) : Type 0 where
   pub once : AllPairs (λ d e. are_twins d e ≡ false) declared.deadheads
-  pub problem : p ≡ record { stops = length declared.names.stops; deadheads = deadheads_of declared.deadheads; layers = declared.layers; trips = declared.trips }
+  pub problem : p ≡ record {
+    stops = length declared.names.stops;
+    deadheads =
+        deadheads_of declared.deadheads;
+    layers = declared.layers;
+    trips = declared.trips;
+  }
   pub instance : IsInstance p
 
 -- the records of the instance: those after the first, up to the first `result` record
 abbrev pub instance_records : List Row → List Row
 instance_records rows = before_result (drop 1 rows)
 
--- The rows are an instance text: the first is `instance`, `1`, and the records of the instance declare it and its names. So many rows come
+-- The rows are an instance text: the first is `instance`, `1`, and the records of the instance declare it and its
+-- names. So many rows come
 -- before the first `result` record, and these from there on.
-pub record InstanceText (rows : List Row) (p : Problem) (names : NameLists) (before : ℕ) (rest : List Row) : Type 0 where
+pub record InstanceText (rows : List Row) (p : Problem) (names : NameLists) (before : ℕ)
+    (rest : List Row) : Type 0 where
   pub first : HasHeader rows
   pub declared : Declared
   pub declares : AddAll nothing_yet (instance_records rows) declared

@@ -1,5 +1,5 @@
 -- What the first field of a record says.
-use Rattle.std.specs.Prelude.{◌≡◌, ℕ, Bool, ◌&&◌, ◌==◌, if◌then◌else◌, List, [], ◌∷◌, Option, Some, None, codes, length}
+use Rattle.std.specs.Prelude.{◌≡◌, Bool, ◌&&◌, ◌==◌, if◌then◌else◌, List, [], ◌∷◌, Option, Some, None, codes, length}
 use Rattle.std.specs.Str.{bytes_eq}
 use Rattle.vs_reader.specs.declared.kind.Kind.{Kind}
 use Rattle.vs_reader.specs.declared.kind.Kind.TheVariants.{Stop, Deadhead, Layer, Trip}
@@ -26,7 +26,8 @@ abbrev pub header : Row
 header = codes "instance" ∷ codes "1" ∷ []
 
 abbrev pub is_header : Row → Bool
-is_header row = (length row == 2) && bytes_eq (field_of row 0) (codes "instance") && bytes_eq (field_of row 1) (codes "1")
+is_header row =
+    (length row == 2) && bytes_eq (field_of row 0) (codes "instance") && bytes_eq (field_of row 1) (codes "1")
 
 -- the first of all rows is that
 abbrev pub HasHeader : List Row → Type 0

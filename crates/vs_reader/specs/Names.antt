@@ -5,7 +5,9 @@ use Rattle.vs_reader.specs.Rows.{Field}
 
 -- a letter or a digit, or one of the signs _ . : -
 abbrev pub IsNameByte : ℕ → Type 0
-IsNameByte b = ((65 ≤ b) × (b ≤ 90)) ⊎ (((97 ≤ b) × (b ≤ 122)) ⊎ (((48 ≤ b) × (b ≤ 57)) ⊎ ((b ≡ 95) ⊎ ((b ≡ 46) ⊎ ((b ≡ 58) ⊎ (b ≡ 45))))))
+IsNameByte b =
+    ((65 ≤ b) × (b ≤ 90))
+    ⊎ (((97 ≤ b) × (b ≤ 122)) ⊎ (((48 ≤ b) × (b ≤ 57)) ⊎ ((b ≡ 95) ⊎ ((b ≡ 46) ⊎ ((b ≡ 58) ⊎ (b ≡ 45))))))
 
 pub record IsName (field : Field) : Type 0 where
   pub some : 1 ≤ length field

@@ -15,7 +15,8 @@ pub record IsNumber (field : Field) (n : ℕ) : Type 0 where
   pub digits : AreDigits field 10
   pub value : n ≡ digits_value 10 field
 
--- an hour of one or two digits up to 47, a colon, and a minute of two digits up to 59, t minutes from 0:00 of the first day
+-- an hour of one or two digits up to 47, a colon, and a minute of two digits up to 59, t minutes from 0:00 of the first
+-- day
 abbrev pub IsTime : Field → ℕ → Type 0
 IsTime field t = (hours minutes : Field) × (field ≡ hours ++ 58 ∷ minutes)
     × AreDigits hours 2 × AreDigits minutes 2 × (length minutes ≡ 2)

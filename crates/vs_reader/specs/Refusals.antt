@@ -1,5 +1,5 @@
 -- Why a text is no instance text, and at which of its records.
-use Rattle.std.specs.Prelude.{◌≡◌, ℕ, ◌+◌, ◌<◌, ◌≤◌, Bool, true, false, List, [], ◌∷◌, ◌++◌, length, map, filter, Option, Some, None, slice_index_or, ◌⊎◌}
+use Rattle.std.specs.Prelude.{◌≡◌, ℕ, ◌+◌, Bool, true, false, List, [], ◌∷◌, length, map, filter, Option, Some, slice_index_or, ◌⊎◌}
 use Rattle.std.specs.List.{enumerate_from}
 use Rattle.vs_instance.specs.declared.parts.Parts.{Parts}
 use Rattle.vs_instance.specs.declared.misfit.Misfit.{Misfit}
@@ -16,7 +16,8 @@ use Rattle.vs_reader.specs.Kinds.{HasHeader, kind_of}
 use Rattle.vs_reader.specs.InstanceText.{Declared, AddAll, nothing_yet, instance_records}
 use Rattle.vs_reader.specs.Rules.{AreKept, BreaksFirst, rules, with_row}
 
--- Of these records, the first of which has number n, the first that breaks a rule is refused for the first rule that it breaks. These names are
+-- Of these records, the first of which has number n, the first that breaks a rule is refused for the first rule that it
+-- breaks. These names are
 -- declared before.
 abbrev pub BreaksRule : ℕ → NameLists → List Row → Refused → Type 0
 BreaksRule n names [] refused = ⊥
@@ -41,7 +42,8 @@ abbrev pub is_trip : Option Kind → Bool
 is_trip (Some kind.Trip) = true
 is_trip _ = false
 
--- the numbers of the records of a kind, in order; the first of all these records has number 2, since the header is record 1
+-- the numbers of the records of a kind, in order; the first of all these records has number 2, since the header is
+-- record 1
 abbrev pub numbers_of : (Option Kind → Bool) → List Row → List ℕ
 numbers_of is_of records = map (λ e. e.0) (filter (λ e. is_of (kind_of (field_of e.1 0))) (enumerate_from 2 records))
 
@@ -86,4 +88,5 @@ LacksHeader rows refused = ¬ (HasHeader rows) × (refused.row ≡ 1) × (refuse
 -- the refusal of rows that are no instance text
 abbrev pub IsRefusal : List Row → Refused → Type 0
 IsRefusal rows refused = LacksHeader rows refused
-    ⊎ (HasHeader rows × (BreaksRule 2 nothing_yet.names (instance_records rows) refused ⊎ HasMisfit (instance_records rows) refused))
+    ⊎ (HasHeader rows
+    × (BreaksRule 2 nothing_yet.names (instance_records rows) refused ⊎ HasMisfit (instance_records rows) refused))

@@ -79,19 +79,24 @@ stop_rules names row = HasFields 2 row ∷ new_name names.stops (field_of row 1)
 
 -- `deadhead`, FROM, TO, MINUTES, METRES
 abbrev pub deadhead_rules : NameLists → Row → List Rule
-deadhead_rules names row = HasFields 5 row ∷ known_name names.stops (field_of row 1) ++ known_name names.stops (field_of row 2)
+deadhead_rules names row =
+    HasFields 5 row ∷ known_name names.stops (field_of row 1) ++ known_name names.stops (field_of row 2)
     ++ WritesNumber (field_of row 3) ∷ WritesNumber (field_of row 4) ∷ []
 
 -- `layer`, NAME, DEPOT, FLEET, FIXED, PER_MINUTE, PER_METRE
 abbrev pub layer_rules : NameLists → Row → List Rule
-layer_rules names row = HasFields 7 row ∷ new_name names.layers (field_of row 1) ++ known_name names.stops (field_of row 2)
-    ++ WritesNumber (field_of row 3) ∷ WritesNumber (field_of row 4) ∷ WritesNumber (field_of row 5) ∷ WritesNumber (field_of row 6)
+layer_rules names row =
+    HasFields 7 row ∷ new_name names.layers (field_of row 1) ++ known_name names.stops (field_of row 2)
+    ++ WritesNumber (field_of row 3) ∷ WritesNumber (field_of row 4) ∷ WritesNumber (field_of row 5)
+    ∷ WritesNumber (field_of row 6)
     ∷ HasRoom MAX_LAYERS names.layers ∷ []
 
 -- `trip`, NAME, FROM, START, TO, END, METRES, and one LAYER or more
 abbrev pub trip_rules : NameLists → Row → List Rule
-trip_rules names row = HasFieldsFrom 8 row ∷ new_name names.trips (field_of row 1) ++ known_name names.stops (field_of row 2)
-    ++ WritesTime (field_of row 3) ∷ known_name names.stops (field_of row 4) ++ WritesTime (field_of row 5) ∷ WritesNumber (field_of row 6)
+trip_rules names row =
+    HasFieldsFrom 8 row ∷ new_name names.trips (field_of row 1) ++ known_name names.stops (field_of row 2)
+    ++ WritesTime (field_of row 3) ∷ known_name names.stops (field_of row 4) ++ WritesTime (field_of row 5)
+    ∷ WritesNumber (field_of row 6)
     ∷ layer_names names.layers [] (drop 7 row) ++ HasRoom MAX_TRIPS names.trips ∷ []
 
 abbrev pub rules_of_kind : Option Kind → NameLists → Row → List Rule

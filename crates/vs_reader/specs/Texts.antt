@@ -11,12 +11,14 @@ use Rattle.vs_reader.specs.Names.{NameLists}
 use Rattle.vs_reader.specs.InstanceText.{InstanceText}
 use Rattle.vs_reader.specs.Refusals.{IsRefusal}
 
--- the rows are all records of the bytes, with csv's default quote, delimiter and line ends; none of them is a header, each may have another
+-- the rows are all records of the bytes, with csv's default quote, delimiter and line ends; none of them is a header,
+-- each may have another
 -- number of fields, and no field is trimmed
 abbrev pub HasRows : List ℕ → List Row → Type 0
 HasRows bytes rows = AreRecords default_config state.StartRecord (strip_bom bytes) rows
 
--- the bytes stand for an instance with its names, and for the rows from the first `result` record on, before which there are so many
+-- the bytes stand for an instance with its names, and for the rows from the first `result` record on, before which
+-- there are so many
 pub record StandsFor (bytes : List ℕ) (p : Problem) (names : NameLists) (before : ℕ) (rest : List Row) : Type 0 where
   pub rows : List Row
   pub has_rows : HasRows bytes rows

@@ -63,7 +63,7 @@ impl Draft {
         requires { field_of (fields_of record.now) 0 ≡ codes "stop" }
         ensures { JudgedOrMemory (stop_rules self.old.names (fields_of record.now))
             (AddsStop (declared_of self.old) (fields_of record.now) (declared_of self.new)
-                × self.new.numbers ≡ self.old.numbers) result }
+            × self.new.numbers ≡ self.old.numbers) result }
     {
         let name = records::stop(&self.names, record)?;
         self.names.add_stop(name)?;
@@ -75,7 +75,7 @@ impl Draft {
         requires { field_of (fields_of record.now) 0 ≡ codes "deadhead" }
         ensures { JudgedOrMemory (deadhead_rules self.old.names (fields_of record.now))
             (AddsDeadhead (declared_of self.old) (fields_of record.now) (declared_of self.new)
-                × NumbersDeadhead number self.old.numbers self.new.numbers) result }
+            × NumbersDeadhead number self.old.numbers self.new.numbers) result }
     {
         let deadhead = records::deadhead(&self.names, record)?;
         self.deadheads.push(deadhead)?;
@@ -88,7 +88,7 @@ impl Draft {
         requires { field_of (fields_of record.now) 0 ≡ codes "layer" }
         ensures { JudgedOrMemory (layer_rules self.old.names (fields_of record.now))
             (AddsLayer (declared_of self.old) (fields_of record.now) (declared_of self.new)
-                × NumbersLayer number self.old.numbers self.new.numbers) result }
+            × NumbersLayer number self.old.numbers self.new.numbers) result }
     {
         let layer = records::layer(&self.names, record)?;
         self.names.add_layer(field(record, 1))?;
@@ -103,7 +103,7 @@ impl Draft {
         requires layers { length self.old.names.layers ≤ MAX_LAYERS }
         ensures { JudgedOrMemory (trip_rules self.old.names (fields_of record.now))
             (AddsTrip (declared_of self.old) (fields_of record.now) (declared_of self.new)
-                × NumbersTrip number self.old.numbers self.new.numbers) result }
+            × NumbersTrip number self.old.numbers self.new.numbers) result }
     {
         let trip = records::trip(&self.names, record)?;
         self.names.add_trip(field(record, 1))?;

@@ -78,10 +78,7 @@ fn read_header(records: &mut TextRecords) -> Result<bool, Memory>
 }
 
 /// Reads the records of the instance that come next, and the first `result` record behind them.
-fn read_declarations(
-    alloc: Global,
-    records: &mut TextRecords,
-) -> Result<Declarations, ReadError>
+fn read_declarations(alloc: Global, records: &mut TextRecords) -> Result<Declarations, ReadError>
     requires { IsOpen records.old }
     ensures { (rows : List Row) → AreLeft records.old rows → DeclareOrRefuse rows records.new result }
 {

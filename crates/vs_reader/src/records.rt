@@ -9,7 +9,6 @@ ghost use Rattle.vs_reader.specs.InstanceText.{DeadheadRow, LayerRow, TripRow, N
 ghost use Rattle.vs_reader.specs.Rules.{WritesName, WritesNumber, WritesTime, new_name, known_name, layer_names, stop_rules, deadhead_rules, layer_rules, trip_rules};
 ghost use Rattle.vs_reader.specs.Judged.{Judged};
 
-use vs_instance::{MAX_LAYERS, MAX_STOPS, MAX_TRIPS};
 use crate::name::name;
 use crate::names::Names;
 use crate::number::number;
@@ -17,7 +16,7 @@ use crate::record::field;
 use crate::refused::Why;
 use crate::time::time;
 use csv::ByteRecord;
-use vs_instance::{Deadhead, Layer, Trip};
+use vs_instance::{Deadhead, Layer, MAX_LAYERS, MAX_STOPS, MAX_TRIPS, Trip};
 use vs_types::{LayerNo, LayerSet, StopNo};
 
 /// The name of a stop that a record declares.

@@ -1,5 +1,5 @@
 -- The leaves of a good tree have restrictions.
-use Rattle.std.proofs.Common.{◌≡◌, ◌≢◌, ℕ, ◌<◌, List, [], length, subst, ap, ◌∙◌, inl, inr}
+use Rattle.std.proofs.Common.{arith, ◌≡◌, ◌≢◌, ℕ, ◌<◌, List, [], length, subst, ap, ◌∙◌, inl, inr}
 use Rattle.std.specs.List.{All}
 use Rattle.std.proofs.lemmas.Bool.{cases_eq}
 use Rattle.std.proofs.lemmas.List.{length-set}
@@ -8,8 +8,11 @@ use Rattle.vs_types.specs.LayerSet.{Has, members}
 use Rattle.vs_types.specs.declared.layer_set.LayerSet.{LayerSet}
 use Rattle.vs_types.specs.declared.numbers.TripNo.{TripNo}
 use Rattle.vs_instance.specs.Problem.{Problem}
+use Rattle.vs_instance.specs.Instance.{IsInstance}
+use Rattle.vs_instance.specs.Ways.{no_trip}
 use Rattle.vs_instance.specs.Restriction.{IsRestriction, set_of}
-use Rattle.vs_tree.specs.Tree.{Tree, Leaf, Split, IsGoodTree, LeafPlace, leaves, with_set}
+use Rattle.vs_tree.specs.Tree.{Tree, Leaf, Split, IsGoodTree, IsProperPart, LeafPlace, leaves, right_of, with_set}
+use Rattle.vs_tree.proofs.Rests.{rest-within}
 use Rattle.vs_tree.proofs.RunIn.{set_of-same, set_of-other}
 
 -- a restriction in which a trip has fewer layers, but some
@@ -35,17 +38,37 @@ restriction-narrower p sets trip layers inside some part restriction = record {
   ];
 }
 
+-- a layer that a restriction leaves a trip has a number below 16
+pub restriction-layers : (p : Problem) (sets : List LayerSet) → IsInstance p → IsRestriction p sets → (i l : ℕ)
+    → i < length sets → Has (set_of sets i) l → l < 16
+restriction-layers p sets instance restriction i l inside has =
+    let of_instance : i < length p.trips = omega (arith, inside, restriction.each_trip) in
+    let trip = instance.trips i no_trip of_instance in
+    let layer = trip.layers l (restriction.permitted i l of_instance has) in
+    omega (arith, layer, instance.few_layers)
+
+-- the restrictions of the two parts of a split
+pub left-restricts : (p : Problem) (sets : List LayerSet) (trip : TripNo) (left : LayerSet) → trip.0 < length sets
+    → IsProperPart left (set_of sets trip.0) → IsRestriction p sets → IsRestriction p (with_set sets trip left)
+left-restricts p sets trip left inside proper restriction =
+    restriction-narrower p sets trip left inside proper.some proper.within restriction
+
+pub right-restricts : (p : Problem) (sets : List LayerSet) (trip : TripNo) (left : LayerSet) → trip.0 < length sets
+    → IsProperPart left (set_of sets trip.0) → IsRestriction p sets
+    → IsRestriction p (with_set sets trip (right_of sets trip left))
+right-restricts p sets trip left inside proper restriction =
+    restriction-narrower p sets trip (right_of sets trip left) inside proper.others
+    (rest-within (set_of sets trip.0) left) restriction
+
 -- each leaf's sets are a restriction
 pub leaves_restrict : (p : Problem) (sets : List LayerSet) (tree : Tree) → IsRestriction p sets → IsGoodTree sets tree
     → All (λ place. IsRestriction p place.sets) (leaves sets tree)
 leaves_restrict p sets (Leaf table) restriction good =
     All-cons (λ (place : LeafPlace). IsRestriction p place.sets) _ [] restriction
     (All-nil (λ (place : LeafPlace). IsRestriction p place.sets))
-leaves_restrict p sets (Split trip first second lower upper) restriction good =
-    All-append (λ (place : LeafPlace). IsRestriction p place.sets) (leaves (with_set sets trip first) lower) _
-    (leaves_restrict p (with_set sets trip first) lower
-    (restriction-narrower p sets trip first good.0 good.1.some_first
-    (λ l has. (good.1.each l).1 (inl has)) restriction) good.2)
-    (leaves_restrict p (with_set sets trip second) upper
-    (restriction-narrower p sets trip second good.0 good.1.some_second
-    (λ l has. (good.1.each l).1 (inr has)) restriction) good.3)
+leaves_restrict p sets (Split trip left lower upper) restriction good =
+    All-append (λ (place : LeafPlace). IsRestriction p place.sets) (leaves (with_set sets trip left) lower) _
+    (leaves_restrict p (with_set sets trip left) lower
+    (left-restricts p sets trip left good.0 good.1 restriction) good.2)
+    (leaves_restrict p (with_set sets trip (right_of sets trip left)) upper
+    (right-restricts p sets trip left good.0 good.1 restriction) good.3)

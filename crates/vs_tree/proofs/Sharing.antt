@@ -1,11 +1,13 @@
 -- The leaves of a good tree share out the plans of its root.
 use Rattle.std.proofs.Common.{◌≡◌, ℕ, zero, suc, ◌+◌, List, [], ◌∷◌, ◌++◌, length, refl, sym, ap, ◌∙◌, subst, arith, inl, inr, ◌⊎◌, Option, unwrap_or}
-use Rattle.std.proofs.lemmas.List.{length-set}
 use Rattle.vs_types.specs.declared.layer_set.LayerSet.{LayerSet}
 use Rattle.vs_instance.specs.Plan.{LayerBlock, IsPlan}
 use Rattle.vs_instance.specs.Problem.{Problem}
-use Rattle.vs_instance.specs.Restriction.{IsWithin}
-use Rattle.vs_tree.specs.Tree.{Tree, Leaf, Split, IsGoodTree, LeafPlace, leaves, with_set}
+use Rattle.vs_instance.specs.Instance.{IsInstance}
+use Rattle.vs_instance.specs.Restriction.{IsRestriction, IsWithin, set_of}
+use Rattle.vs_tree.specs.Tree.{Tree, Leaf, Split, IsGoodTree, LeafPlace, leaves, right_of, with_set}
+use Rattle.vs_tree.proofs.Rests.{rest-within, shares_out}
+use Rattle.vs_tree.proofs.Restrictions.{left-restricts, restriction-layers, right-restricts}
 use Rattle.vs_tree.specs.Laws.{LiesIn, LiesInOne}
 use Rattle.vs_tree.proofs.RunIn.{run_once, narrower, runs_in, wider}
 
@@ -47,57 +49,62 @@ lies_alone place (suc k) blocks lies = absurd cc
 module _ (blocks : List LayerBlock) where
   -- what lies in a leaf lies within the root's restriction
   inside_root : (sets : List LayerSet) (tree : Tree) → IsGoodTree sets tree → (k : ℕ)
-      → LiesIn (leaves sets tree) k blocks
-      → IsWithin sets blocks
+      → LiesIn (leaves sets tree) k blocks → IsWithin sets blocks
   inside_root sets (Leaf table) good k lies = (lies_alone _ k blocks lies).1
-  inside_root sets (Split trip first second lower upper) good k lies =
-      elim (lies_either (leaves (with_set sets trip first) lower) _ k blocks lies) [
-        | inl left ↦
-            wider sets trip first good.0 blocks (λ l has. (good.1.each l).1 (inl has))
-            (inside_root (with_set sets trip first) lower good.2 k left)
-        | inr right ↦
-            wider sets trip second good.0 blocks (λ l has. (good.1.each l).1 (inr has))
-            (inside_root (with_set sets trip second) upper good.3 right.0 right.2)
+  inside_root sets (Split trip left lower upper) good k lies =
+      elim (lies_either (leaves (with_set sets trip left) lower) _ k blocks lies) [
+        | inl below ↦
+            wider sets trip left good.0 blocks good.1.within
+            (inside_root (with_set sets trip left) lower good.2 k below)
+        | inr above ↦
+            wider sets trip (right_of sets trip left) good.0 blocks (rest-within (set_of sets trip.0) left)
+            (inside_root (with_set sets trip (right_of sets trip left)) upper good.3 above.0 above.2)
       ]
 
-  module _ (p : Problem) (plan : IsPlan p blocks) where
+  module _ (p : Problem) (instance : IsInstance p) (plan : IsPlan p blocks) where
     -- a plan within the root's restriction lies in exactly one leaf
-    pub lies_in_one : (sets : List LayerSet) (tree : Tree) → length sets ≡ length p.trips → IsGoodTree sets tree
+    pub lies_in_one : (sets : List LayerSet) (tree : Tree) → IsRestriction p sets → IsGoodTree sets tree
         → IsWithin sets blocks → LiesInOne (leaves sets tree) blocks
-    lies_in_one sets (Leaf table) each_trip good within = record {
+    lies_in_one sets (Leaf table) restriction good within = record {
       leaf = 0;
       lies = record { place = record { sets = sets; table = table }; is = refl; within = within };
       only = λ k lies. (lies_alone _ k blocks lies).0;
     }
-    lies_in_one sets (Split trip first second lower upper) each_trip good within =
-        let run = run_once trip.0 blocks (plan.once trip.0 (omega (arith, each_trip, good.0))) in
-        let below = leaves (with_set sets trip first) lower in
-        let above = leaves (with_set sets trip second) upper in
-        elim ((good.1.each run.0).0 (run.1.somewhere sets within)) [
-          | inl in_first ↦
-              let one = lies_in_one (with_set sets trip first) lower (length-set sets trip.0 first ∙ each_trip) good.2
-              (narrower sets trip first good.0 blocks run.0 run.1 in_first within) in
+    lies_in_one sets (Split trip left lower upper) restriction good within =
+        let run = run_once trip.0 blocks (plan.once trip.0 (omega (arith, restriction.each_trip, good.0))) in
+        let right = right_of sets trip left in
+        let below = leaves (with_set sets trip left) lower in
+        let above = leaves (with_set sets trip right) upper in
+        let shares = shares_out (set_of sets trip.0) left
+        (λ l has. restriction-layers p sets instance restriction trip.0 l good.0 has) good.1 in
+        elim ((shares.each run.0).0 (run.1.somewhere sets within)) [
+          | inl on_left ↦
+              let one =
+              lies_in_one (with_set sets trip left) lower
+              (left-restricts p sets trip left good.0 good.1 restriction)
+              good.2 (narrower sets trip left good.0 blocks run.0 run.1 on_left within) in
               record {
                 leaf = one.leaf;
                 lies = lies_lower below above one.leaf blocks one.lies;
                 only = λ k lies. elim (lies_either below above k blocks lies) [
-                  | inl left ↦ one.only k left
-                  | inr right ↦
-                      absurd (good.1.once run.0 in_first (runs_in sets trip second good.0 blocks run.0 run.1
-                      (inside_root (with_set sets trip second) upper good.3 right.0 right.2)))
+                  | inl first ↦ one.only k first
+                  | inr second ↦
+                      absurd (shares.once run.0 on_left (runs_in sets trip right good.0 blocks run.0 run.1
+                      (inside_root (with_set sets trip right) upper good.3 second.0 second.2)))
                 ];
               }
-          | inr in_second ↦
-              let one = lies_in_one (with_set sets trip second) upper (length-set sets trip.0 second ∙ each_trip) good.3
-              (narrower sets trip second good.0 blocks run.0 run.1 in_second within) in
+          | inr on_right ↦
+              let one = lies_in_one (with_set sets trip right) upper
+              (right-restricts p sets trip left good.0 good.1 restriction) good.3
+              (narrower sets trip right good.0 blocks run.0 run.1 on_right within) in
               record {
                 leaf = length below + one.leaf;
                 lies = lies_upper below above one.leaf blocks one.lies;
                 only = λ k lies. elim (lies_either below above k blocks lies) [
-                  | inl left ↦
-                      absurd (good.1.once run.0 (runs_in sets trip first good.0 blocks run.0 run.1
-                      (inside_root (with_set sets trip first) lower good.2 k left)) in_second)
-                  | inr right ↦ right.1 ∙ ap (λ (j : ℕ). length below + j) (one.only right.0 right.2)
+                  | inl first ↦
+                      absurd (shares.once run.0 (runs_in sets trip left good.0 blocks run.0 run.1
+                      (inside_root (with_set sets trip left) lower good.2 k first)) on_right)
+                  | inr second ↦ second.1 ∙ ap (λ (j : ℕ). length below + j) (one.only second.0 second.2)
                 ];
               }
         ]

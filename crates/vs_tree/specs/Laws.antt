@@ -1,9 +1,12 @@
 -- What holds of every tree of cases.
-use Rattle.std.specs.Prelude.{◌≡◌, ℕ, List, All, slice_get, Some}
+use Rattle.std.specs.Prelude.{◌≡◌, ℕ, ◌<◌, ◌↔◌, List, All, slice_get, Some}
+use Rattle.vs_types.specs.LayerSet.{Has}
 use Rattle.vs_types.specs.declared.layer_set.LayerSet.{LayerSet}
 use Rattle.vs_instance.specs.Problem.{Problem}
+use Rattle.vs_instance.specs.Instance.{IsInstance}
 use Rattle.vs_instance.specs.Plan.{LayerBlock, IsPlan}
 use Rattle.vs_instance.specs.Restriction.{IsRestriction, IsWithin}
+use Rattle.vs_tree.specs.Rest.{rest_of}
 use Rattle.vs_tree.specs.Tree.{Tree, IsGoodTree, LeafPlace, leaves}
 
 -- the blocks lie within the restriction of leaf k
@@ -18,15 +21,18 @@ pub record LiesInOne (places : List LeafPlace) (blocks : List LayerBlock) : Type
   pub lies : LiesIn places leaf blocks
   pub only : (k : ℕ) → LiesIn places k blocks → k ≡ leaf
 
--- in every instance, each plan within a restriction lies in exactly one leaf of a good tree with this restriction at
--- its
--- root
+-- in every instance, each plan within a restriction lies in exactly one leaf of a good tree that has it at its root
 abbrev pub LeavesShareOutPlans : Type 0
-LeavesShareOutPlans =
-    (p : Problem) (sets : List LayerSet) (tree : Tree) (blocks : List LayerBlock) → IsRestriction p sets
-    → IsGoodTree sets tree → IsPlan p blocks → IsWithin sets blocks → LiesInOne (leaves sets tree) blocks
+LeavesShareOutPlans = (p : Problem) (sets : List LayerSet) (tree : Tree) (blocks : List LayerBlock) → IsInstance p
+    → IsRestriction p sets → IsGoodTree sets tree → IsPlan p blocks → IsWithin sets blocks
+    → LiesInOne (leaves sets tree) blocks
 
 -- the sets of each leaf of such a tree are a restriction
 abbrev pub LeavesAreRestrictions : Type 0
-LeavesAreRestrictions = (p : Problem) (sets : List LayerSet) (tree : Tree) → IsRestriction p sets → IsGoodTree sets tree
-    → All (λ place. IsRestriction p place.sets) (leaves sets tree)
+LeavesAreRestrictions = (p : Problem) (sets : List LayerSet) (tree : Tree) → IsInstance p → IsRestriction p sets
+    → IsGoodTree sets tree → All (λ place. IsRestriction p place.sets) (leaves sets tree)
+
+-- what a set leaves of another: its layers are those of the whole that aren't the part's
+abbrev pub RestsLeaveTheOthers : Type 0
+RestsLeaveTheOthers =
+    (whole part : LayerSet) (l : ℕ) → l < 16 → Has (rest_of whole part) l ↔ (Has whole l × ¬ (Has part l))

@@ -16,17 +16,22 @@ returns-in-Ok c =
     let p = c.args.instance.now in
     let blocks = blocks_of c.args.document.now.plan in
     let cost_fits : FitsSigned w64 c.in-Some.cost = search rules in
-    let found_fits : FitsSigned w64 c.in-Ok.found = omega (arith, ints, c.in-Ok.ensures.plan.1, c.in-Ok.ensures.limit) in
+    let found_fits : FitsSigned w64 c.in-Ok.found =
+    omega (arith, ints, c.in-Ok.ensures.plan.1, c.in-Ok.ensures.limit) in
     let same = same_bits c.in-Ok.found c.in-Some.cost found_fits cost_fits c.if-found-cost.true in
-    sym (ap first (ap (plan_flaws p blocks) c.in-Some.is ∙ right_cost p blocks c.in-Some.cost c.in-Ok.ensures.plan.0 (sym same ∙ c.in-Ok.ensures.plan.1)))
+    sym (ap first
+    (ap (plan_flaws p blocks) c.in-Some.is
+    ∙ right_cost p blocks c.in-Some.cost c.in-Ok.ensures.plan.0 (sym same ∙ c.in-Ok.ensures.plan.1)))
 
 pub returns-in-Ok-2 : goal.returns-in-Ok-2
 returns-in-Ok-2 c =
     let p = c.args.instance.now in
     let blocks = blocks_of c.args.document.now.plan in
     let cost_fits : FitsSigned w64 c.in-Some.cost = search rules in
-    let found_fits : FitsSigned w64 c.in-Ok.found = omega (arith, ints, c.in-Ok.ensures.plan.1, c.in-Ok.ensures.limit) in
+    let found_fits : FitsSigned w64 c.in-Ok.found =
+    omega (arith, ints, c.in-Ok.ensures.plan.1, c.in-Ok.ensures.limit) in
     ap (λ (x : ℤ). Some (CostDiffers x (to_z w64 (of_z w64 c.in-Ok.found)))) (to_z-of_z w64 c.in-Some.cost cost_fits)
     ∙ ap (λ (x : ℤ). Some (CostDiffers c.in-Some.cost x)) (to_z-of_z w64 c.in-Ok.found found_fits)
-    ∙ wrong_cost p blocks c.in-Some.cost c.in-Ok.found c.in-Ok.ensures.plan.0 c.in-Ok.ensures.plan.1 (λ e. c.if-found-cost.false (ap (of_z w64) (sym e)))
+    ∙ wrong_cost p blocks c.in-Some.cost c.in-Ok.found c.in-Ok.ensures.plan.0 c.in-Ok.ensures.plan.1
+    (λ e. c.if-found-cost.false (ap (of_z w64) (sym e)))
     ∙ sym (ap first (ap (plan_flaws p blocks) c.in-Some.is))

@@ -13,7 +13,8 @@ use Rattle.vs_check.specs.Flaws.{leaf_flaws}
 use Rattle.vs_check.proofs.Flawless.{one_leaf}
 use Rattle.vs_check.proofs.verdict.shape_flaw.Goals as goal
 
-leaf_of : (shape : List Shape) (t n : ℕ) (row : Shape) → shape ≡ Leaf t ∷ [] → row ≡ get_or shape 0 row → row ≡ Leaf n → t ≡ n
+leaf_of : (shape : List Shape) (t n : ℕ) (row : Shape) → shape ≡ Leaf t ∷ [] → row ≡ get_or shape 0 row
+    → row ≡ Leaf n → t ≡ n
 leaf_of shape t n row e is leaf =
     let at : row ≡ Leaf t = is ∙ ap (λ (xs : List Shape). get_or xs 0 row) e in
     cc
@@ -27,7 +28,8 @@ returns-in_ok-sets-in-Leaf c =
     let leaf = c.requires.leaf in
     let named : leaf.0 ≡ t = leaf_of d.shape.items leaf.0 t c.index.result.now leaf.1 c.index.ensures c.in-Leaf.is in
     let inside : t < length d.tables.items = omega (arith, named, leaf.2) in
-    let got : slice_get d.tables.items t ≡ Some table = slice_get_read d.tables.items (length d.tables.items) t table refl inside c.index-in-Leaf.ensures in
+    let got : slice_get d.tables.items t ≡ Some table =
+    slice_get_read d.tables.items (length d.tables.items) t table refl inside c.index-in-Leaf.ensures in
     let sets = c.deref.ensures.value ∙ c.in_ok-sets-in-Leaf.ensures.sets in
     let worth = worth_is p (permitted_sets p) table c.worth-worth.result
     (subst (λ (s : List LayerSet). IsWorth p s table c.worth-worth.result) sets c.worth-worth.ensures.worth) in

@@ -28,4 +28,6 @@ loop-t-preserved c =
     ∙ c.loop-t.invariant
 
 pub returns : goal.returns
-returns c = sym (first_from-past (table_flaws c.args.instance.now) c.args.tables.now c.loop-t.t c.loop-t-test.false) ∙ c.loop-t.invariant
+returns c =
+    sym (first_from-past (table_flaws c.args.instance.now) c.args.tables.now c.loop-t.t c.loop-t-test.false)
+    ∙ c.loop-t.invariant

@@ -6,4 +6,5 @@ use Rattle.vs_check.proofs.verdict.tables_flaw.Given as goal
 
 -- the tables from here on have the first flaw of all
 abbrev pub invariant-loop-t : goal.invariant-loop-t
-invariant-loop-t l = first_from (table_flaws l.instance) l.t (drop l.t l.tables) ≡ first (tables_flaws l.instance l.tables)
+invariant-loop-t l =
+    first_from (table_flaws l.instance) l.t (drop l.t l.tables) ≡ first (tables_flaws l.instance l.tables)

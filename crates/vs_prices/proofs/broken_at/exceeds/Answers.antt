@@ -1,10 +1,8 @@
-use Rattle.std.proofs.Common.{◌≡◌, ℕ, Bool, false, Option, Some, None, pos, ℤ, sym, ap, ◌∙◌, subst}
-use Rattle.std.specs.Prelude.{option_map}
+use Rattle.std.proofs.Common.{◌≡◌, ℕ, Some, None, pos, sym, ◌∙◌, subst}
 use Rattle.std.proofs.lemmas.Option.{none-some, same_Some}
 use Rattle.vs_instance.specs.HoldingTable.{scaled}
 use Rattle.vs_connect.specs.Cost.{IsCost}
-use Rattle.vs_prices.specs.Breaks.{exceeds}
-use Rattle.vs_prices.proofs.PriceNumbers.{IsScaled, piece_of, passed_cost, scaled-IsScaled, small_piece, sum_fits, exceeds_by}
+use Rattle.vs_prices.proofs.PriceNumbers.{IsScaled, piece_of, passed_cost, scaled-IsScaled, sum_fits, exceeds_by}
 use Rattle.vs_prices.proofs.broken_at.exceeds.Goals as goal
 
 at_cost : (c : goal.After-scaled) → IsCost c.in-Some.cost
@@ -24,5 +22,6 @@ overflow_add-result c = sum_fits c.args.other c.scaled.result c.requires.other (
 pub returns-in-Some : goal.returns-in-Some
 returns-in-Some c None is = absurd (none-some c.in-Some.cost (sym is ∙ c.in-Some.is))
 returns-in-Some c (Some n) is =
-    exceeds_by c.args.price c.args.other c.scaled.result (scaled c.args.ray n) c.ranges.price c.requires.other (within c)
+    exceeds_by c.args.price c.args.other c.scaled.result (scaled c.args.ray n) c.ranges.price c.requires.other
+    (within c)
     (scaled_is c n (same_Some c.in-Some.cost (pos n) (sym c.in-Some.is ∙ is)))

@@ -10,5 +10,6 @@ invariant-loop-count l = record {
   whole : IsWhole l.rest;
   size : size_of l.rest ≡ weight_of (built l.rest);
   count : l._count ≡ length (built l.rest);
-  rows : (rows : List Row) → GivesNext l.fn.records rows true → (left : List Row) × (rows ≡ built l.rest ++ left) × AreLeft l.records left;
+  rows : (rows : List Row) → GivesNext l.fn.records rows true → (left : List Row) × (rows ≡ built l.rest ++ left)
+      × AreLeft l.records left;
 }

@@ -5,4 +5,6 @@ use Rattle.vs_reader.proofs.RecordFields.{field_or_empty}
 use Rattle.vs_reader.proofs.record.field.Goals as goal
 
 pub returns : goal.returns
-returns c = ap (λ (b : Bor Field). b.now) c.unwrap_or.ensures ∙ field_or_empty (fields_of c.args.record.now) c.args.k c.get.result _ c.get.ensures.value refl
+returns c =
+    ap (λ (b : Bor Field). b.now) c.unwrap_or.ensures
+    ∙ field_or_empty (fields_of c.args.record.now) c.args.k c.get.result _ c.get.ensures.value refl

@@ -10,12 +10,17 @@ add_trip-requires-clause-room c = trip_room c.args.self.now.names (fields_of c.a
 pub returns : goal.returns
 returns c =
     let row = fields_of c.args.record.now in
-    let kept = c.in_ok-trip.ensures.0 in
-    (kept, (record {
-       name = field_of row 1;
-       trip = c.in_ok-trip.trip;
-       row_is = c.in_ok-trip.ensures.1;
-       new_name = record { name = kept.1.0; new = kept.1.1.0 };
-       room = trip_room c.args.self.now.names row kept;
-       added = search rules;
-     }, record { deadheads = refl; layers = refl; trips = c.in_ok-push-2.ensures.items }))
+    let kept = c.in_ok-trip.ensures.0 in (
+      kept,
+      (
+        record {
+          name = field_of row 1;
+          trip = c.in_ok-trip.trip;
+          row_is = c.in_ok-trip.ensures.1;
+          new_name = record { name = kept.1.0; new = kept.1.1.0 };
+          room = trip_room c.args.self.now.names row kept;
+          added = search rules;
+        },
+        record { deadheads = refl; layers = refl; trips = c.in_ok-push-2.ensures.items },
+      ),
+    )

@@ -14,13 +14,23 @@ invariant_of-self-2 c =
     let names : List Field = map string_bytes old in
     let items : c.push.new.self.items ≡ old ++ c.in_ok-added.added ∷ [] =
     c.in_ok-push.ensures.items ∙ ap (λ xs. xs ++ c.in_ok-added.added ∷ []) c.in_ok-reserve.ensures.items in
-    let number : c.len-number.result ≡ length names = omega (arith, c.len-number.ensures, length-map old string_bytes) in
-    let new : ¬ (Contains names c.args.name.now) = λ among. c.requires.new (subst (λ (ns : List Field). Contains ns c.args.name.now) c.self.view_is among) in
-    let room : length names + 1 < 4294967296 = subst (λ (ns : List Field). length ns + 1 < 4294967296) (sym c.self.view_is) c.requires.room in
-    let updates : UpdatesBy string_cmp (λ k. slice_cmp nat_cmp c.args.name.now (string_bytes k)) c.self.inside.numbers c.insert.new.self (Some (length names)) =
-    subst (λ (n : ℕ). UpdatesBy string_cmp (λ k. slice_cmp nat_cmp c.args.name.now (string_bytes k)) c.self.inside.numbers c.insert.new.self (Some n)) number
-    (subst (λ (bs : Field). UpdatesBy string_cmp (λ k. slice_cmp nat_cmp bs (string_bytes k)) c.self.inside.numbers c.insert.new.self (Some c.len-number.result)) c.in_ok-key.ensures
+    let number : c.len-number.result ≡ length names =
+    omega (arith, c.len-number.ensures, length-map old string_bytes) in
+    let new : ¬ (Contains names c.args.name.now) =
+    λ among. c.requires.new (subst (λ (ns : List Field). Contains ns c.args.name.now) c.self.view_is among) in
+    let room : length names + 1 < 4294967296 =
+    subst (λ (ns : List Field). length ns + 1 < 4294967296) (sym c.self.view_is) c.requires.room in
+    let updates : UpdatesBy string_cmp
+    (λ k. slice_cmp nat_cmp c.args.name.now (string_bytes k)) c.self.inside.numbers c.insert.new.self
+    (Some (length names)) =
+    subst (λ (n : ℕ). UpdatesBy string_cmp
+    (λ k. slice_cmp nat_cmp c.args.name.now (string_bytes k)) c.self.inside.numbers c.insert.new.self (Some n))
+    number
+    (subst (λ (bs : Field). UpdatesBy string_cmp
+    (λ k. slice_cmp nat_cmp bs (string_bytes k)) c.self.inside.numbers c.insert.new.self
+    (Some c.len-number.result)) c.in_ok-key.ensures
     c.in_ok-insert.ensures.updates) in
-    rw (items, map_push string_bytes old c.in_ok-added.added, c.in_ok-added.ensures)
-    (AreNames-push names c.args.name.now c.self.invariant.0 c.requires.name new room,
-     AreNumbers-push names c.args.name.now c.self.inside.numbers c.insert.new.self c.self.invariant.1 new updates)
+    rw (items, map_push string_bytes old c.in_ok-added.added, c.in_ok-added.ensures) (
+      AreNames-push names c.args.name.now c.self.invariant.0 c.requires.name new room,
+      AreNumbers-push names c.args.name.now c.self.inside.numbers c.insert.new.self c.self.invariant.1 new updates,
+    )

@@ -1,4 +1,4 @@
-use Rattle.std.proofs.Common.{arith, ◌≡◌, ℕ, ◌<◌, List, [], length, get_or, sym, ap, ◌∙◌, subst, Some}
+use Rattle.std.proofs.Common.{arith, ◌≡◌, ◌<◌, List, [], length, get_or, sym, ap, ◌∙◌, subst, Some}
 use Rattle.std.specs.Prelude.{String}
 use Rattle.std.specs.declared.alloc.Global.{Global}
 use Rattle.std.specs.String.{string_bytes}
@@ -12,9 +12,15 @@ use Rattle.vs_reader.proofs.name_list.NameList.get.Goals as goal
 pub returns-clause-name : goal.returns-clause-name
 returns-clause-name c =
     let within : c.args.number < length c.self.inside.names.items =
-    omega (arith, ap (λ (ns : List Field). length ns) c.self.view_is, length-map c.self.inside.names.items (λ (t : String Global). string_bytes t), c.requires) in
+    omega (
+      arith,
+      ap (λ (ns : List Field). length ns) c.self.view_is,
+      length-map c.self.inside.names.items (λ (t : String Global). string_bytes t),
+      c.requires,
+    ) in
     c.as_str.ensures.value ∙ ap (λ (t : String Global). string_bytes t) c.index.ensures
-    ∙ sym (get_or-map string_bytes c.self.inside.names.items c.args.number c.index.result.now [] within) ∙ ap (λ (ns : List Field). get_or ns c.args.number []) c.self.view_is
+    ∙ sym (get_or-map string_bytes c.self.inside.names.items c.args.number c.index.result.now [] within)
+    ∙ ap (λ (ns : List Field). get_or ns c.args.number []) c.self.view_is
 
 pub returns-clause-only : goal.returns-clause-only
 returns-clause-only c = λ k at.
