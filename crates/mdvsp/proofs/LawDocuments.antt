@@ -133,5 +133,6 @@ solved_holds bytes read answer rows owed has ends =
         };
       };
       holds = owed.solves.holds;
+      proves = owed.proves;
       rows_are = refl;
     })

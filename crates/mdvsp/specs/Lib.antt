@@ -1,6 +1,7 @@
 pub mod Times
 pub mod Generator
 pub mod DocumentText
+pub mod FlawRows
 pub mod DocumentParts
 pub mod Alike
 pub mod WrittenParts

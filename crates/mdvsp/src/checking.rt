@@ -28,6 +28,6 @@ pub fn answer_check(alloc: Global, bytes: &[u8]) -> Result<Answer, Memory>
     };
     match check(alloc, &input.instance, &document)? {
         Verdict::Yes => Answer::yes(alloc, &document),
-        Verdict::No(_) => Answer::no(alloc),
+        Verdict::No(flaw) => Answer::no(alloc, &input.names, flaw),
     }
 }

@@ -85,24 +85,24 @@ abbrev pub verdict_of : Option Flaw → Verdict
 verdict_of None = Yes
 verdict_of (Some flaw) = No flaw
 
--- the layers and trips that a flaw names are of the instance
-abbrev pub IsFaultOf : Problem → PlanFault → Type 0
-IsFaultOf p (fault.Twice i) = i.0 < length p.trips
-IsFaultOf p (fault.Uncovered i) = i.0 < length p.trips
-IsFaultOf p (fault.Fleet l count) = l.0 < length p.layers
-IsFaultOf p _ = Unit {0}
+-- a flaw names layers and trips of an instance with so many
+abbrev pub IsFaultWithin : ℕ → ℕ → PlanFault → Type 0
+IsFaultWithin layers trips (fault.Twice i) = i.0 < trips
+IsFaultWithin layers trips (fault.Uncovered i) = i.0 < trips
+IsFaultWithin layers trips (fault.Fleet l count) = l.0 < layers
+IsFaultWithin layers trips _ = Unit {0}
 
-abbrev pub IsBreakOf : Problem → BrokenAt → Type 0
-IsBreakOf p (broken.Fleet l) = l.0 < length p.layers
-IsBreakOf p (broken.PullOut l i) = (l.0 < length p.layers) × (i.0 < length p.trips)
-IsBreakOf p (broken.Link l i j) = (l.0 < length p.layers) × (i.0 < length p.trips) × (j.0 < length p.trips)
-IsBreakOf p (broken.PullIn l i) = (l.0 < length p.layers) × (i.0 < length p.trips)
+abbrev pub IsBreakWithin : ℕ → ℕ → BrokenAt → Type 0
+IsBreakWithin layers trips (broken.Fleet l) = l.0 < layers
+IsBreakWithin layers trips (broken.PullOut l i) = (l.0 < layers) × (i.0 < trips)
+IsBreakWithin layers trips (broken.Link l i j) = (l.0 < layers) × (i.0 < trips) × (j.0 < trips)
+IsBreakWithin layers trips (broken.PullIn l i) = (l.0 < layers) × (i.0 < trips)
 
-abbrev pub IsFlawOf : Problem → Flaw → Type 0
-IsFlawOf p (Plan fault) = IsFaultOf p fault
-IsFlawOf p (TableBroken t at) = IsBreakOf p at
-IsFlawOf p _ = Unit {0}
+abbrev pub IsFlawWithin : ℕ → ℕ → Flaw → Type 0
+IsFlawWithin layers trips (Plan fault) = IsFaultWithin layers trips fault
+IsFlawWithin layers trips (TableBroken t at) = IsBreakWithin layers trips at
+IsFlawWithin layers trips _ = Unit {0}
 
-abbrev pub IsVerdictOf : Problem → Verdict → Type 0
-IsVerdictOf p Yes = Unit {0}
-IsVerdictOf p (No flaw) = IsFlawOf p flaw
+abbrev pub IsVerdictWithin : ℕ → ℕ → Verdict → Type 0
+IsVerdictWithin layers trips Yes = Unit {0}
+IsVerdictWithin layers trips (No flaw) = IsFlawWithin layers trips flaw

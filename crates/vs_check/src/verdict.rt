@@ -1,5 +1,5 @@
 ghost use Rattle.std.specs.Prelude.{◌≡◌, ◌<◌, ◌^◌, ◌↔◌, length, All, IfOk};
-ghost use Rattle.vs_check.specs.Flaws.{IsVerdictOf, claim_flaws, flaws_of, leaf_flaws, plan_flaws, shape_flaws, tables_flaws, verdict_of};
+ghost use Rattle.vs_check.specs.Flaws.{IsVerdictWithin, claim_flaws, flaws_of, leaf_flaws, plan_flaws, shape_flaws, tables_flaws, verdict_of};
 ghost use Rattle.vs_check.specs.Form.{IsReadFor};
 ghost use Rattle.vs_check.specs.HoldingDocument.{HoldingDocument, ProvesItsClaim, claim_found};
 ghost use Rattle.vs_instance.specs.Firsts.{first};
@@ -130,7 +130,7 @@ pub fn check(alloc: Global, instance: &Instance, document: &Document) -> Result<
     requires { IsReadFor instance.now document.now }
     ensures verdict { IfOk result (λ verdict. verdict ≡ verdict_of (first (flaws_of instance.now document.now))) }
     ensures holds { IfOk result (λ verdict. (verdict ≡ Verdict.Yes) ↔ HoldingDocument instance.now document.now) }
-    ensures of_instance { IfOk result (IsVerdictOf instance.now) }
+    ensures of_instance { IfOk result (IsVerdictWithin (length instance.now.layers) (length instance.now.trips)) }
     ensures proves { IfOk result (λ verdict. verdict ≡ Verdict.Yes → ProvesItsClaim instance.now document.now) }
 {
     prove!(instance.trips() <= MAX_TRIPS);
