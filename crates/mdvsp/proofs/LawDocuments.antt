@@ -1,10 +1,11 @@
 -- A document that `solve` owes is judged `yes` behind its instance's records.
-use Rattle.std.proofs.Common.{◌≡◌, ℕ, ◌<◌, ◌≤◌, Bool, false, List, [], ◌∷◌, ◌++◌, length, map, take, slice_get, refl, sym, ap, ◌∙◌, subst, inl, inr, arith, All, Option, Some, None, IsSome, ℤ}
+use Rattle.std.proofs.Common.{◌≡◌, ℕ, ◌<◌, ◌≤◌, Bool, false, List, [], ◌∷◌, ◌++◌, length, map, take, slice_get, refl, sym, ap, ◌∙◌, subst, inl, inr, arith, All, Option, Some, None, IsSome, ℤ, pos, MatchOption}
 use Rattle.std.proofs.lemmas.Bool.{false≢true}
 use Rattle.std.proofs.lemmas.List.{get_or_default, length_push}
 use Rattle.std.proofs.lemmas.List.Elements.{All-head, All-nil, All-push}
 use Rattle.std.proofs.lemmas.List.Quantifiers.{all_pairs_push}
 use Rattle.vs_instance.specs.Problem.{Problem}
+use Rattle.vs_instance.specs.Plan.{IsPlan, LayerBlock, all_trips, plan_cost}
 use Rattle.vs_prices.specs.declared.bound.Bound.TheVariants.{AtLeast, NoPlan}
 use Rattle.vs_check.specs.declared.document.Document.{Document}
 use Rattle.vs_check.specs.declared.shape.Shape.{Shape}
@@ -24,7 +25,7 @@ use Rattle.mdvsp.specs.FirstForm.{IsFirstDocument}
 use Rattle.mdvsp.specs.Owed.{OwesDocument, OwesYes, HasZeroTable, yes_row}
 use Rattle.mdvsp.specs.SolveAnswer.{SolveAnswer}
 use Rattle.mdvsp.proofs.LawPlain.{HaveNames, plain_document}
-use Rattle.mdvsp.proofs.LawTrips.{few_in_plan}
+use Rattle.vs_plan.proofs.PlanTrips.{plan_trips}
 
 -- what records declare as names are names
 no_names : AreNames []
@@ -63,6 +64,15 @@ number_reached p table None cost (AtLeast n, is, at) = absurd at
 abbrev ray_of : Option Table → Bool
 ray_of (Some table) = table.ray
 ray_of None = false
+
+-- a plan has so few trips that 32 bits count them
+few_in_plan : (p : Problem) (cost : Option ℤ) (blocks : List LayerBlock) → length p.trips ≤ 2000
+    → MatchOption cost (blocks ≡ []) (λ n. IsPlan p blocks × (n ≡ pos (plan_cost p blocks)))
+    → length (all_trips blocks) < 4294967296
+few_in_plan p None blocks few none =
+    let no_trips : length (all_trips blocks) ≡ 0 = ap (λ (bs : List LayerBlock). length (all_trips bs)) none in
+    omega arith
+few_in_plan p (Some n) blocks few plan = let size = plan_trips p blocks plan.0 in omega arith
 
 -- a document of the zero table that answers a search
 module _ (p : Problem) (d : Document) (budget : ℕ) (solves : SolveAnswer p budget d) (zero : HasZeroTable p d) (few : length p.trips ≤ 2000) where

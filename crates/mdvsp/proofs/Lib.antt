@@ -16,7 +16,6 @@ pub mod FirstAnswer
 pub mod Sequences
 pub mod WrittenRows
 pub mod LawPlain
-pub mod LawTrips
 pub mod LawDocuments
 pub mod LawAlike
 pub mod LawVerdicts

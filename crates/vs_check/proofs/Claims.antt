@@ -1,5 +1,5 @@
 -- A document that holds proves what it claims.
-use Rattle.std.proofs.Common.{◌≡◌, ℕ, ◌≤◌, Bool, true, false, cond, List, [], refl, sym, ap, ◌∙◌, subst, arith, Option, Some, None as nothing, ℤ, pos, ◌≤ℤ◌}
+use Rattle.std.proofs.Common.{◌≡◌, ℕ, ◌≤◌, Bool, true, false, cond, List, [], refl, sym, ◌∙◌, subst, arith, Option, Some, None as nothing, ℤ, pos, ◌≤ℤ◌}
 use Rattle.std.specs.Prelude.{IfSome, IfNone, MatchOption}
 use Rattle.std.specs.List.{All, slice_get}
 use Rattle.std.specs.Ordering.{int_eq}
@@ -18,10 +18,9 @@ use Rattle.vs_prices.specs.declared.bound.Bound.{Bound}
 use Rattle.vs_prices.specs.declared.bound.Bound.TheVariants.{AtLeast, NoPlan}
 use Rattle.vs_prices.specs.declared.table.Table.{Table}
 use Rattle.vs_prices.proofs.Duality.{bounds_plans}
-use Rattle.vs_check.specs.declared.claim.Claim.{Claim}
 use Rattle.vs_check.specs.declared.claim.Claim.TheVariants.{Optimal, Infeasible, StillOpen}
 use Rattle.vs_check.specs.declared.document.Document.{Document}
-use Rattle.vs_check.specs.HoldingDocument.{HoldingDocument, ProvesItsClaim, ReachesBound, claim_found}
+use Rattle.vs_check.specs.HoldingDocument.{HoldingDocument, claim_found}
 use Rattle.vs_check.specs.Laws.{HoldingDocumentsProveTheirClaims}
 
 -- what a printed bound says of a plan's cost

@@ -1,11 +1,10 @@
 -- A document that was read has no flaw exactly where it holds.
-use Rattle.std.proofs.Common.{◌≡◌, ℕ, ◌+◌, ◌<◌, ◌↔◌, Bool, true, false, not, List, [], ◌∷◌, length, get_or, inl, inr, refl, sym, ap, ◌∙◌, subst, arith, Option, Some, None as nothing, ℤ, pos}
+use Rattle.std.proofs.Common.{◌≡◌, ℕ, Bool, true, false, not, List, [], ◌∷◌, get_or, inl, inr, refl, sym, ap, ◌∙◌, subst, arith, Option, Some, None as nothing, ℤ, pos}
 use Rattle.std.specs.Prelude.{IfNone, MatchOption}
 use Rattle.std.specs.List.{All, slice_get}
-use Rattle.std.specs.Ordering.{int_eq}
 use Rattle.std.proofs.lemmas.Bool.Decides.{Decides-int_eq}
 use Rattle.std.proofs.lemmas.Option.{none-some, slice_get_cases}
-use Rattle.vs_instance.specs.Firsts.{first, when}
+use Rattle.vs_instance.specs.Firsts.{first}
 use Rattle.vs_instance.specs.Problem.{Problem}
 use Rattle.vs_instance.specs.Plan.{IsPlan, LayerBlock, plan_cost}
 use Rattle.vs_instance.specs.Restriction.{permitted_sets}
@@ -16,19 +15,18 @@ use Rattle.vs_plan.specs.PlanFaults.{faults_of}
 use Rattle.vs_plan.specs.declared.plan_fault.PlanFault.{PlanFault}
 use Rattle.vs_plan.proofs.Faultless.{faultless, plan_from_faultless}
 use Rattle.vs_prices.specs.Breaks.{breaks_of}
-use Rattle.vs_prices.specs.Table.{Fits, HoldingTable}
-use Rattle.vs_prices.specs.Worth.{IsWorth, Reaches, worth_of}
+use Rattle.vs_prices.specs.Table.{HoldingTable}
+use Rattle.vs_prices.specs.Worth.{Reaches, worth_of}
 use Rattle.vs_prices.specs.declared.bound.Bound.{Bound}
 use Rattle.vs_prices.specs.declared.broken_at.BrokenAt.{BrokenAt}
 use Rattle.vs_prices.specs.declared.table.Table.{Table}
 use Rattle.vs_prices.proofs.NoBreaks.{holds_nowhere_broken, nowhere_broken}
 use Rattle.vs_prices.proofs.Worths.{worth_is, worth_of-IsWorth}
 use Rattle.vs_check.specs.declared.document.Document.{Document}
-use Rattle.vs_check.specs.declared.shape.Shape.{Shape}
 use Rattle.vs_check.specs.declared.shape.Shape.TheVariants.{Leaf}
-use Rattle.vs_check.specs.Flaws.{broken_flaws, claim_flaws, cost_flaws, flaws_of, named_flaws, plan_flaws, shape_flaws, table_flaws, tables_flaws}
+use Rattle.vs_check.specs.Flaws.{broken_flaws, cost_flaws, flaws_of, named_flaws, plan_flaws, shape_flaws, table_flaws, tables_flaws}
 use Rattle.vs_check.specs.Form.{IsReadFor}
-use Rattle.vs_check.specs.HoldingDocument.{HasLeaf, HasPlan, HoldingDocument, ReachesBound, claim_found}
+use Rattle.vs_check.specs.HoldingDocument.{HasLeaf, HoldingDocument, ReachesBound, claim_found}
 use Rattle.vs_check.proofs.LeafFlaws.{none_from_reaches, reaches_from_none}
 use Rattle.vs_check.proofs.PlanFlaws.{claims_same, right_cost, same_claims}
 

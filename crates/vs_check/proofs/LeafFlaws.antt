@@ -1,5 +1,5 @@
 -- The flaw of a leaf is none exactly where its table is worth at least the printed bound.
-use Rattle.std.proofs.Common.{◌≡◌, ℕ, Bool, true, false, List, [], ◌∷◌, refl, sym, ap, ◌∙◌, arith, Option, Some, None as nothing, ℤ, ◌≤ℤ◌}
+use Rattle.std.proofs.Common.{◌≡◌, ℕ, false, refl, arith, Option, Some, None as nothing, ℤ, ◌≤ℤ◌}
 use Rattle.std.specs.Prelude.{int_lt}
 use Rattle.std.proofs.lemmas.Int.{ints}
 use Rattle.vs_instance.proofs.Empty.{None, false_from_none, none_from_false}

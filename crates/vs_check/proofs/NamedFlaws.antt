@@ -1,9 +1,9 @@
 -- Every flaw names layers and trips of the instance.
-use Rattle.std.proofs.Common.{◌≡◌, ℕ, ◌+◌, ◌-◌, ◌<◌, ◌≤◌, Bool, true, false, cond, not, List, [], ◌∷◌, length, refl, sym, subst, arith, Option, Some, None, ℤ, pos}
+use Rattle.std.proofs.Common.{◌≡◌, ℕ, ◌-◌, Bool, true, false, cond, not, List, [], ◌∷◌, length, refl, sym, arith, Option, Some, None, ℤ, pos}
 use Rattle.std.specs.Prelude.{int_lt, nat_lt, ◌==◌, is_none}
 use Rattle.std.specs.List.{All, slice_get}
 use Rattle.std.specs.Ordering.{int_eq}
-use Rattle.std.proofs.lemmas.List.Elements.{All-append, All-cons, All-nil, All-weaker}
+use Rattle.std.proofs.lemmas.List.Elements.{All-append, All-cons, All-nil}
 use Rattle.std.proofs.lemmas.List.FromFn.{length-map-range_with_len}
 use Rattle.vs_types.specs.declared.numbers.LayerNo.{LayerNo}
 use Rattle.vs_types.specs.declared.numbers.TripNo.{TripNo}
@@ -25,16 +25,16 @@ use Rattle.vs_prices.specs.declared.broken_at.BrokenAt.{BrokenAt}
 use Rattle.vs_prices.specs.declared.broken_at.BrokenAt.TheVariants as broken
 use Rattle.vs_prices.specs.declared.table.Table.{Table}
 use Rattle.vs_prices.proofs.RealBreaks.{all_broken}
-use Rattle.vs_check.specs.declared.claim.Claim.{Claim}
 use Rattle.vs_check.specs.declared.document.Document.{Document}
 use Rattle.vs_check.specs.declared.flaw.Flaw.{Flaw}
 use Rattle.vs_check.specs.declared.flaw.Flaw.TheVariants.{Plan, CostDiffers, TableBroken, BadSplit, LeafTooWeak, ClaimDiffers}
 use Rattle.vs_check.specs.declared.shape.Shape.{Shape}
 use Rattle.vs_check.specs.declared.shape.Shape.TheVariants.{Leaf, Split}
 use Rattle.vs_check.specs.HoldingDocument.{claim_found}
-use Rattle.vs_check.specs.Flaws.{IsBreakWithin, IsFaultWithin, IsFlawWithin, IsVerdictWithin, broken_flaws, cost_flaws, flaws_of, leaf_flaws, named_flaws, plan_flaws, same_claim, shape_flaws, table_flaws, tables_flaws, verdict_of}
+use Rattle.vs_check.specs.Flaws.{IsBreakWithin, IsFaultWithin, IsFlawWithin, IsVerdictWithin, broken_flaws, cost_flaws, flaws_of, leaf_flaws, named_flaws, plan_flaws, same_claim, shape_flaws, table_flaws, verdict_of}
 
-break_of : (p : Problem) (table : Table) (at : BrokenAt) → IsBroken p table at → IsBreakWithin (length p.layers) (length p.trips) at
+break_of : (p : Problem) (table : Table) (at : BrokenAt) → IsBroken p table at
+    → IsBreakWithin (length p.layers) (length p.trips) at
 break_of p table (broken.Fleet l) is = is.0
 break_of p table (broken.PullOut l i) is = (is.0, is.1)
 break_of p table (broken.Link l i j) is = (is.0, is.1, is.2)
@@ -50,14 +50,18 @@ module _ (p : Problem) where
   times_size : (blocks : List LayerBlock) → length (times_of p blocks) ≡ length p.trips
   times_size blocks = length-map-range_with_len (times_run blocks) 0 (length p.trips)
 
-  arrival_named : (b : ℕ) (l : LayerNo) (trips : List TripNo) (place : ℕ) → All OfFault (arrival_faults p b l trips place)
+  arrival_named : (b : ℕ) (l : LayerNo) (trips : List TripNo) (place : ℕ)
+      → All OfFault (arrival_faults p b l trips place)
   arrival_named b l trips place = by_place (place == 0)
     where
       by_place : (first : Bool)
           → All OfFault (cond first (when (is_none (out_piece p l.0 (trip_at trips place))) (fault.NoPullOut b))
-          (when (is_none (link_piece p l.0 (trip_at trips (place - 1)) (trip_at trips place))) (fault.NoConnection b place)))
+          (when (is_none (link_piece p l.0 (trip_at trips (place - 1)) (trip_at trips place)))
+          (fault.NoConnection b place)))
       by_place true = All-when OfFault (is_none (out_piece p l.0 (trip_at trips place))) (fault.NoPullOut b) (λ _. tt)
-      by_place false = All-when OfFault (is_none (link_piece p l.0 (trip_at trips (place - 1)) (trip_at trips place))) (fault.NoConnection b place) (λ _. tt)
+      by_place false =
+          All-when OfFault (is_none (link_piece p l.0 (trip_at trips (place - 1)) (trip_at trips place)))
+          (fault.NoConnection b place) (λ _. tt)
 
   block_named : (b : ℕ) (block : LayerBlock) → All OfFault (block_faults p b block)
   block_named b block =
@@ -78,28 +82,36 @@ module _ (p : Problem) where
       (All-each OfFault uncovered 0 (times_of p blocks) (λ i times from within.
       All-when OfFault (times == 0) (fault.Uncovered (record { 0 = i })) (λ _. omega (arith, times_size blocks)))))
       (All-numbers OfFault (layer_faults p blocks) 0 (length p.layers) (λ l from within.
-      All-when OfFault (nat_lt (layer_of p l).fleet (vehicles_used blocks l)) (fault.Fleet (record { 0 = l }) (vehicles_used blocks l)) (λ _. omega arith))))
+      All-when OfFault (nat_lt (layer_of p l).fleet (vehicles_used blocks l))
+      (fault.Fleet (record { 0 = l }) (vehicles_used blocks l)) (λ _. omega arith))))
 
   one_flaw : (flaw : Flaw) → IsFlawWithin (length p.layers) (length p.trips) flaw → All OfFlaw (flaw ∷ [])
   one_flaw flaw is = All-cons OfFlaw flaw [] is (All-nil OfFlaw)
 
-  cost_named : (blocks : List LayerBlock) (cost : ℤ) (f : Option PlanFault) → first (faults_of p blocks) ≡ f → All OfFlaw (cost_flaws p blocks cost f)
-  cost_named blocks cost None is = All-when OfFlaw (not (int_eq cost (pos (plan_cost p blocks)))) (CostDiffers cost (pos (plan_cost p blocks))) (λ _. tt)
-  cost_named blocks cost (Some f) is = one_flaw (Plan f) (first_holds OfFault (faults_of p blocks) f (faults_named blocks) is)
+  cost_named : (blocks : List LayerBlock) (cost : ℤ) (f : Option PlanFault) → first (faults_of p blocks) ≡ f
+      → All OfFlaw (cost_flaws p blocks cost f)
+  cost_named blocks cost None is =
+      All-when OfFlaw (not (int_eq cost (pos (plan_cost p blocks)))) (CostDiffers cost (pos (plan_cost p blocks)))
+      (λ _. tt)
+  cost_named blocks cost (Some f) is =
+      one_flaw (Plan f) (first_holds OfFault (faults_of p blocks) f (faults_named blocks) is)
 
   plan_named : (blocks : List LayerBlock) (cost : Option ℤ) → All OfFlaw (plan_flaws p blocks cost)
   plan_named blocks None = All-nil OfFlaw
   plan_named blocks (Some cost) = cost_named blocks cost (first (faults_of p blocks)) refl
 
-  table_named : (t : ℕ) (table : Table) (at : Option BrokenAt) → first (breaks_of p table) ≡ at → All OfFlaw (broken_flaws t at)
+  table_named : (t : ℕ) (table : Table) (at : Option BrokenAt) → first (breaks_of p table) ≡ at
+      → All OfFlaw (broken_flaws t at)
   table_named t table None is = All-nil OfFlaw
   table_named t table (Some at) is =
-      one_flaw (TableBroken t at) (break_of p table at (first_holds (IsBroken p table) (breaks_of p table) at (all_broken p table) is))
+      one_flaw (TableBroken t at)
+      (break_of p table at (first_holds (IsBroken p table) (breaks_of p table) at (all_broken p table) is))
 
   leaf_named : (position : ℕ) (worth : Bound) (bound : Option ℤ) → All OfFlaw (leaf_flaws position worth bound)
   leaf_named position NoPlan bound = All-nil OfFlaw
   leaf_named position (AtLeast n) None = one_flaw (LeafTooWeak position n None) tt
-  leaf_named position (AtLeast n) (Some bound) = All-when OfFlaw (int_lt n bound) (LeafTooWeak position n (Some bound)) (λ _. tt)
+  leaf_named position (AtLeast n) (Some bound) =
+      All-when OfFlaw (int_lt n bound) (LeafTooWeak position n (Some bound)) (λ _. tt)
 
   named_named : (bound : Option ℤ) (table : Option Table) → All OfFlaw (named_flaws p bound table)
   named_named bound None = All-nil OfFlaw
@@ -114,11 +126,14 @@ module _ (p : Problem) where
   all_named : (d : Document) → All OfFlaw (flaws_of p d)
   all_named d =
       All-append OfFlaw _ _ (All-append OfFlaw _ _ (All-append OfFlaw _ _ (plan_named (blocks_of d.plan) d.cost)
-      (All-each OfFlaw (table_flaws p) 0 d.tables.items (λ t table from within. table_named t table (first (breaks_of p table)) refl)))
+      (All-each OfFlaw (table_flaws p) 0 d.tables.items
+      (λ t table from within. table_named t table (first (breaks_of p table)) refl)))
       (shape_named d d.shape.items))
-      (All-when OfFlaw (not (same_claim d.claim (claim_found d.cost d.bound))) (ClaimDiffers d.claim (claim_found d.cost d.bound)) (λ _. tt))
+      (All-when OfFlaw (not (same_claim d.claim (claim_found d.cost d.bound)))
+      (ClaimDiffers d.claim (claim_found d.cost d.bound)) (λ _. tt))
 
   -- so the verdict does
-  pub verdict_named : (d : Document) (flaw : Option Flaw) → flaw ≡ first (flaws_of p d) → IsVerdictWithin (length p.layers) (length p.trips) (verdict_of flaw)
+  pub verdict_named : (d : Document) (flaw : Option Flaw) → flaw ≡ first (flaws_of p d)
+      → IsVerdictWithin (length p.layers) (length p.trips) (verdict_of flaw)
   verdict_named d None is = tt
   verdict_named d (Some flaw) is = first_holds OfFlaw (flaws_of p d) flaw (all_named d) (sym is)

@@ -1,5 +1,5 @@
 -- The flaws of a plan beside a printed cost, and those of a claim.
-use Rattle.std.proofs.Common.{◌≡◌, ℕ, Bool, true, false, not, List, [], ◌∷◌, refl, sym, ap, ◌∙◌, subst, Option, Some, None as nothing, ℤ, pos}
+use Rattle.std.proofs.Common.{◌≡◌, Bool, true, false, not, List, [], refl, sym, ap, ◌∙◌, subst, Option, Some, None as nothing, ℤ, pos}
 use Rattle.std.specs.Ordering.{int_eq}
 use Rattle.std.proofs.lemmas.Bool.{false_from_ne_true}
 use Rattle.std.proofs.lemmas.Bool.Decides.{Decides-int_eq}
@@ -11,7 +11,6 @@ use Rattle.vs_plan.specs.declared.plan_fault.PlanFault.{PlanFault}
 use Rattle.vs_plan.proofs.Faultless.{refuses}
 use Rattle.vs_check.specs.declared.claim.Claim.{Claim}
 use Rattle.vs_check.specs.declared.claim.Claim.TheVariants.{Optimal, Infeasible, StillOpen}
-use Rattle.vs_check.specs.declared.flaw.Flaw.{Flaw}
 use Rattle.vs_check.specs.declared.flaw.Flaw.TheVariants.{Plan, CostDiffers}
 use Rattle.vs_check.specs.Flaws.{cost_flaws, plan_flaws, same_claim}
 

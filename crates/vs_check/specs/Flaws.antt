@@ -1,5 +1,5 @@
 -- What is wrong with a document, as one list in the order in which it is judged.
-use Rattle.std.specs.Prelude.{ℕ, ◌<◌, length, Bool, true, false, not, List, [], ◌∷◌, ◌++◌, flat_map, ℤ, pos, int_lt, Option, Some, None, slice_get}
+use Rattle.std.specs.Prelude.{ℕ, ◌<◌, Bool, true, false, not, List, [], ◌∷◌, ◌++◌, flat_map, ℤ, pos, int_lt, Option, Some, None, slice_get}
 use Rattle.std.specs.List.{enumerate_from}
 use Rattle.std.specs.Ordering.{int_eq}
 use Rattle.vs_instance.specs.Firsts.{first, when}

@@ -8,7 +8,8 @@ pub enum Claim {
     Optimal,
     /// There is no plan.
     Infeasible,
-    /// No plan costs less than the printed bound, and it may be that one costs less than the plan printed.
+    /// No plan costs less than the printed bound, and it may be that one costs less than the plan
+    /// printed.
     StillOpen,
 }
 

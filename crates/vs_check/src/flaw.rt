@@ -13,8 +13,8 @@ pub enum Flaw {
     TableBroken(u32, BrokenAt),
     /// The row at this position of the shape doesn't share out a trip's layers between two parts.
     BadSplit(u32),
-    /// The table of the leaf at this position is worth so many cost units, less than the printed bound. None
-    /// is the bound that says that there is no plan.
+    /// The table of the leaf at this position is worth so many cost units, less than the printed
+    /// bound. None is the bound that says that there is no plan.
     LeafTooWeak(u32, i128, Option<i128>),
     /// The claim, and the one that the cost and the bound make.
     ClaimDiffers(Claim, Claim),

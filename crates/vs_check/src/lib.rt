@@ -1,4 +1,5 @@
-//! The judge of a plan's document: it trusts nothing of the search, and goes over all pairs of trips.
+//! The judge of a plan's document: it trusts nothing of the search, and goes over all pairs of
+//! trips.
 #![tactic(auto)]
 
 mod claim;

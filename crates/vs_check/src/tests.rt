@@ -49,8 +49,9 @@ fn deadhead(from: StopNo, to: StopNo, minutes: u64) -> Deadhead
     }
 }
 
-/// Two trips of half an hour, from P at 8:00 to Q and back from there at this minute, and so many vehicles at
-/// a depot that is ten minutes from either stop. A vehicle costs 1000, and 1 for each minute.
+/// Two trips of half an hour, from P at 8:00 to Q and back from there at this minute, and so many
+/// vehicles at a depot that is ten minutes from either stop. A vehicle costs 1000, and 1 for each
+/// minute.
 fn two_trips(alloc: Global, fleet: u64, start: u32) -> Result<Instance, Fail>
     requires { start < 2000 }
     ensures { IfOk result (λ i. (length i.layers ≡ 1) × (length i.trips ≡ 2)) }
@@ -116,7 +117,8 @@ fn table(
 
 /// One block of the two trips.
 fn both(alloc: Global) -> Result<Plan, Fail>
-    ensures { IfOk result (λ plan. (p : Problem) → length p.layers ≡ 1 → length p.trips ≡ 2 → CanBeJudged p (blocks_of plan)) }
+    ensures { IfOk result (λ plan. (p : Problem) → length p.layers ≡ 1 → length p.trips ≡ 2
+        → CanBeJudged p (blocks_of plan)) }
 {
     let block = Block {
         layer: LayerNo(0),
@@ -127,8 +129,8 @@ fn both(alloc: Global) -> Result<Plan, Fail>
     })
 }
 
-/// The verdict on a document with this claim, cost and bound, in which one vehicle runs both trips, and with
-/// this one table.
+/// The verdict on a document with this claim, cost and bound, in which one vehicle runs both trips,
+/// and with this one table.
 fn judged(
     alloc: Global,
     instance: &Instance,

@@ -1,5 +1,6 @@
 ghost use Rattle.std.specs.Prelude.{◌≡◌, ◌<◌, ◌^◌, ◌↔◌, length, All, IfOk};
-ghost use Rattle.vs_check.specs.Flaws.{IsVerdictWithin, claim_flaws, flaws_of, leaf_flaws, plan_flaws, shape_flaws, tables_flaws, verdict_of};
+ghost use Rattle.vs_check.specs.Flaws.{claim_flaws, leaf_flaws, plan_flaws, shape_flaws};
+ghost use Rattle.vs_check.specs.Flaws.{IsVerdictWithin, flaws_of, tables_flaws, verdict_of};
 ghost use Rattle.vs_check.specs.Form.{IsReadFor};
 ghost use Rattle.vs_check.specs.HoldingDocument.{HoldingDocument, ProvesItsClaim, claim_found};
 ghost use Rattle.vs_instance.specs.Firsts.{first};
@@ -32,7 +33,8 @@ fn plan_flaw(
     document: &Document,
 ) -> Result<Option<Flaw>, Memory>
     requires { CanBeJudged instance.now (blocks_of document.now.plan) }
-    ensures { IfOk result (λ flaw. flaw ≡ first (plan_flaws instance.now (blocks_of document.now.plan) document.now.cost)) }
+    ensures { IfOk result (λ flaw.
+        flaw ≡ first (plan_flaws instance.now (blocks_of document.now.plan) document.now.cost)) }
 {
     let Some(cost) = document.cost else {
         return Ok(None);
@@ -59,7 +61,8 @@ fn tables_flaw(instance: &Instance, tables: &[Table]) -> Option<Flaw>
     None
 }
 
-/// The flaw of a leaf at this position, whose table is worth so much there, beside the printed bound.
+/// The flaw of a leaf at this position, whose table is worth so much there, beside the printed
+/// bound.
 fn weak_flaw(position: u32, worth: Bound, bound: Option<i128>) -> Option<Flaw>
     ensures { result ≡ first (leaf_flaws position worth bound) }
 {
@@ -77,7 +80,8 @@ fn shape_flaw(
     document: &Document,
 ) -> Result<Option<Flaw>, Memory>
     requires { IsReadFor instance.now document.now }
-    ensures { IfOk result (λ flaw. flaw ≡ first (shape_flaws instance.now document.now document.now.shape.items)) }
+    ensures { IfOk result (λ flaw.
+        flaw ≡ first (shape_flaws instance.now document.now document.now.shape.items)) }
 {
     match document.shape[0] {
         Shape::Split { .. } => Ok(Some(Flaw::BadSplit(0))),
@@ -91,7 +95,8 @@ fn shape_flaw(
 
 /// The flaw of the claim beside the printed cost and bound.
 fn claim_flaw(document: &Document) -> Option<Flaw>
-    ensures { result ≡ first (claim_flaws document.now.claim (claim_found document.now.cost document.now.bound)) }
+    ensures { let found = claim_found document.now.cost document.now.bound in
+        result ≡ first (claim_flaws document.now.claim found) }
 {
     let found = claim_found(document.cost, document.bound);
     if document.claim == found {
@@ -122,16 +127,21 @@ fn first_flaw(
     Ok(claim_flaw(document))
 }
 
-/// Judges a document of one leaf, over all pairs of trips. Yes exactly where the document holds, and else the
-/// first flaw: of the blocks and their cost, where a cost is printed; of the tables by number; of the shape;
-/// and of the claim. Yes alone, whoever wrote the document, proves that its blocks are a plan of the printed
-/// cost and that no plan of the instance costs less than the printed bound.
+/// Judges a document of one leaf, over all pairs of trips. Yes exactly where the document holds,
+/// and else the first flaw: of the blocks and their cost, where a cost is printed; of the tables by
+/// number; of the shape; and of the claim. Yes alone, whoever wrote the document, proves that its
+/// blocks are a plan of the printed cost and that no plan of the instance costs less than the
+/// printed bound.
 pub fn check(alloc: Global, instance: &Instance, document: &Document) -> Result<Verdict, Memory>
     requires { IsReadFor instance.now document.now }
-    ensures verdict { IfOk result (λ verdict. verdict ≡ verdict_of (first (flaws_of instance.now document.now))) }
-    ensures holds { IfOk result (λ verdict. (verdict ≡ Verdict.Yes) ↔ HoldingDocument instance.now document.now) }
-    ensures of_instance { IfOk result (IsVerdictWithin (length instance.now.layers) (length instance.now.trips)) }
-    ensures proves { IfOk result (λ verdict. verdict ≡ Verdict.Yes → ProvesItsClaim instance.now document.now) }
+    ensures verdict { IfOk result (λ verdict.
+        verdict ≡ verdict_of (first (flaws_of instance.now document.now))) }
+    ensures holds { IfOk result (λ verdict.
+        (verdict ≡ Verdict.Yes) ↔ HoldingDocument instance.now document.now) }
+    ensures of_instance { IfOk result
+        (IsVerdictWithin (length instance.now.layers) (length instance.now.trips)) }
+    ensures proves { IfOk result (λ verdict.
+        verdict ≡ Verdict.Yes → ProvesItsClaim instance.now document.now) }
 {
     prove!(instance.trips() <= MAX_TRIPS);
     Ok(match first_flaw(alloc, instance, document)? {

@@ -38,11 +38,15 @@ abbrev pub link_breaks : Problem → Table → ℕ → ℕ → ℕ → List Brok
 link_breaks p table l i j =
     when (is_link_broken p table l i j) (Link (record { 0 = l }) (record { 0 = i }) (record { 0 = j }))
 
+-- on the ways from trip i to each trip in order
+abbrev pub links_breaks : Problem → Table → ℕ → ℕ → List BrokenAt
+links_breaks p table l i = flat_map (link_breaks p table l i) (range_with_len 0 (length p.trips))
+
 -- on the moves of layer l into trip i from the depot, from it to each trip, and from it to the depot
 abbrev pub move_breaks : Problem → Table → ℕ → ℕ → List BrokenAt
 move_breaks p table l i =
     when (is_pull_out_broken p table l i) (PullOut (record { 0 = l }) (record { 0 = i }))
-    ++ flat_map (link_breaks p table l i) (range_with_len 0 (length p.trips))
+    ++ links_breaks p table l i
     ++ when (is_pull_in_broken p table l i) (PullIn (record { 0 = l }) (record { 0 = i }))
 
 abbrev pub trip_breaks : Problem → Table → ℕ → ℕ → List BrokenAt

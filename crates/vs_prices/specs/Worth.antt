@@ -35,11 +35,16 @@ least_price p sets table i = least (map (trip_price p table i) (members (set_of 
 abbrev pub fleet_price : Problem → Table → ℕ → ℤ
 fleet_price p table l = vehicle_price table l *ℤ pos (layer_of p l).fleet
 
--- what all trips pay in their cheapest layers, less what all vehicles pay, in 1/1000 of a cost unit
+-- what all trips pay in their cheapest layers, and what all vehicles of all layers pay
+abbrev pub trips_pay : Problem → List LayerSet → Table → ℤ
+trips_pay p sets table = total (map (least_price p sets table) (range_with_len 0 (length p.trips)))
+
+abbrev pub vehicles_pay : Problem → Table → ℤ
+vehicles_pay p table = total (map (fleet_price p table) (range_with_len 0 (length p.layers)))
+
+-- the one less the other, in 1/1000 of a cost unit
 abbrev pub table_value : Problem → List LayerSet → Table → ℤ
-table_value p sets table =
-    total (map (least_price p sets table) (range_with_len 0 (length p.trips)))
-    -ℤ total (map (fleet_price p table) (range_with_len 0 (length p.layers)))
+table_value p sets table = trips_pay p sets table -ℤ vehicles_pay p table
 
 -- n is the least whole number of cost units that is no less than the value
 pub record IsRoundedUp (value n : ℤ) : Type 0 where

@@ -11,8 +11,8 @@ pub enum Bound {
 }
 
 impl Bound {
-    /// Whether it says at least what another bound says, in cost units, where None says that there is no
-    /// plan. That is more than any number says.
+    /// Whether it says at least what another bound says, in cost units, where None says that there
+    /// is no plan. That is more than any number says.
     pub fn reaches(self, bound: Option<i128>) -> bool
         ensures { IsTrue result ↔ Reaches self bound }
     {

@@ -1,8 +1,10 @@
-ghost use Rattle.std.specs.Prelude.{◌≡◌, ℕ, ◌<◌, ◌↔◌, Option, length, flat_map, map, option_map, IsNone, IsTrue, IfSome, ℤ, pos, ◌+ℤ◌, ◌≤ℤ◌, All};
-ghost use Rattle.std.specs.List.{range_with_len};
+ghost use Rattle.std.specs.Prelude.{◌≡◌, ℕ, ◌<◌, ◌↔◌, Option, length, option_map, pos};
+ghost use Rattle.std.specs.Prelude.{IfSome, IsNone};
 ghost use Rattle.vs_connect.specs.Cost.{IsCost};
 ghost use Rattle.vs_instance.specs.Firsts.{first};
-ghost use Rattle.vs_prices.specs.Breaks.{IsBroken, breaks_of, exceeds, is_link_broken, is_pull_in_broken, is_pull_out_broken, layer_breaks, link_breaks, trip_breaks};
+ghost use Rattle.vs_prices.specs.Breaks.{IsBroken, breaks_of, layer_breaks, trip_breaks};
+ghost use Rattle.vs_prices.specs.Breaks.{exceeds, is_link_broken, links_breaks};
+ghost use Rattle.vs_prices.specs.Breaks.{is_pull_in_broken, is_pull_out_broken};
 ghost use Rattle.vs_prices.specs.Table.{Fits, HoldingTable, IsPrice};
 
 use crate::table::Table;
@@ -23,11 +25,13 @@ pub enum BrokenAt {
     PullIn(LayerNo, TripNo),
 }
 
-/// Whether a price is more than another price and a piece of cost together, where there is the piece.
+/// Whether a price is more than another price and a piece of cost together, where there is the
+/// piece.
 fn exceeds(price: i64, other: i64, cost: Option<i64>, ray: bool) -> bool
     requires other { IsPrice other }
     requires cost { IfSome cost IsCost }
-    ensures { (piece : Option ℕ) → cost ≡ option_map pos piece → result ≡ exceeds price other ray piece }
+    ensures { (piece : Option ℕ) → cost ≡ option_map pos piece
+        → result ≡ exceeds price other ray piece }
 {
     match cost {
         None => false,
@@ -58,8 +62,8 @@ fn is_pull_in_broken(instance: &Instance, table: &Table, l: LayerNo, i: TripNo) 
     exceeds(0, from, in_cost(instance, l, i), table.ray)
 }
 
-/// Whether layer l may run trip j, and entering it is worth more than leaving trip i and the way between the
-/// two cost, where there is one in time.
+/// Whether layer l may run trip j, and entering it is worth more than leaving trip i and the way
+/// between the two cost, where there is one in time.
 fn is_link_broken(instance: &Instance, table: &Table, l: LayerNo, i: TripNo, j: TripNo) -> bool
     requires fits { Fits instance.now table.now }
     requires layer { l.0 < length instance.now.layers }
@@ -81,7 +85,7 @@ fn broken_after(instance: &Instance, table: &Table, l: LayerNo, i: TripNo) -> Op
     requires fits { Fits instance.now table.now }
     requires layer { l.0 < length instance.now.layers }
     requires trip { i.0 < length instance.now.trips }
-    ensures { result ≡ first (flat_map (link_breaks instance.now table.now l.0 i.0) (range_with_len 0 (length instance.now.trips))) }
+    ensures { result ≡ first (links_breaks instance.now table.now l.0 i.0) }
 {
     for j in 0..instance.trips() {
         if is_link_broken(instance, table, l, i, TripNo(j)) {
@@ -131,9 +135,9 @@ fn broken_in_layer(instance: &Instance, table: &Table, l: LayerNo) -> Option<Bro
     None
 }
 
-/// Where a table breaks first: by layers in order; in a layer the price of its vehicles, and then by trips in
-/// order the pull-out, each trip in order to which the trip connects, and the pull-in. It goes once over all
-/// pairs of trips.
+/// Where a table breaks first: by layers in order; in a layer the price of its vehicles, and then
+/// by trips in order the pull-out, each trip in order to which the trip connects, and the pull-in.
+/// It goes once over all pairs of trips.
 pub fn broken(instance: &Instance, table: &Table) -> Option<BrokenAt>
     requires { Fits instance.now table.now }
     ensures first { result ≡ first (breaks_of instance.now table.now) }

@@ -1,5 +1,5 @@
-//! Prices for the moves of vehicles, and what they show of every plan: prices that hold bound what each
-//! plan costs, however they were found.
+//! Prices for the moves of vehicles, and what they show of every plan: prices that hold bound what
+//! each plan costs, however they were found.
 #![tactic(auto)]
 
 mod bound;

@@ -5,9 +5,9 @@ use vs_types::{LayerNo, Memory, TripNo};
 /// No price is above this or below its negative, in 1/1000 of a cost unit.
 pub const MAX_PRICE: i64 = 1_000_000_000_000_000_000;
 
-/// Prices in 1/1000 of a cost unit, each within `MAX_PRICE`. Those of trips stand layer by layer, so trip i
-/// in layer l has place `l * trips + i`. They are dual prices in the sense of linear programming: a vehicle
-/// pays to get into a trip and is paid on leaving it.
+/// Prices in 1/1000 of a cost unit, each within `MAX_PRICE`. Those of trips stand layer by layer,
+/// so trip i in layer l has place `l * trips + i`. They are dual prices in the sense of linear
+/// programming: a vehicle pays to get into a trip and is paid on leaving it.
 #[derive(Debug, Drop)]
 pub struct Table {
     /// The price for entering each trip.
@@ -16,13 +16,15 @@ pub struct Table {
     pub from: Vec<i64>,
     /// The price of a vehicle of each layer.
     pub fleet: Vec<i64>,
-    /// Whether all pieces of cost count nothing, so that the table can show only that there is no plan.
+    /// Whether all pieces of cost count nothing, so that the table can show only that there is no
+    /// plan.
     pub ray: bool,
 }
 
 impl Table {
     ghost use Rattle.std.specs.Prelude.{◌≡◌, ◌<◌, false, length, All, IfOk};
-    ghost use Rattle.vs_prices.specs.Table.{AreZeros, Fits, HoldingTable, IsPrice, from_price, into_price, vehicle_price};
+    ghost use Rattle.vs_prices.specs.Table.{AreZeros, Fits, HoldingTable, IsPrice};
+    ghost use Rattle.vs_prices.specs.Table.{from_price, into_price, vehicle_price};
 
     /// A cost table of zeros. It holds in every instance.
     pub fn zero(alloc: Global, instance: &Instance) -> Result<Table, Memory>

@@ -1,13 +1,12 @@
 ghost use Rattle.std.specs.Prelude.{◌≡◌, ℕ, ◌<◌, length, map, ℤ, pos, neg_ℤ, ◌≤ℤ◌, ◌*ℤ◌};
 ghost use Rattle.std.specs.Int.{int_min};
-ghost use Rattle.std.specs.List.{range_with_len};
 ghost use Rattle.std.specs.Option.{option_map_or};
 ghost use Rattle.vs_instance.specs.Instance.{IsInstance};
-ghost use Rattle.vs_instance.specs.Lagrangian.{total};
 ghost use Rattle.vs_instance.specs.Restriction.{IsRestriction};
 ghost use Rattle.vs_types.specs.LayerSet.{Has, members};
 ghost use Rattle.vs_prices.specs.Table.{Fits, HoldingTable};
-ghost use Rattle.vs_prices.specs.Worth.{BoundsPlans, IsRoundedUp, IsWorth, fleet_price, least, least_price, trip_price};
+ghost use Rattle.vs_prices.specs.Worth.{BoundsPlans, IsRoundedUp, IsWorth};
+ghost use Rattle.vs_prices.specs.Worth.{least, trip_price, trips_pay, vehicles_pay};
 
 use crate::bound::Bound;
 use crate::table::Table;
@@ -62,7 +61,7 @@ fn least_price(instance: &Instance, set: LayerSet, table: &Table, i: TripNo) -> 
 fn trips_pay(instance: &Instance, sets: &[LayerSet], table: &Table) -> i128
     requires fits { Fits instance.now table.now }
     requires restriction { IsRestriction instance.now sets.now }
-    ensures value { result ≡ total (map (least_price instance.now sets.now table.now) (range_with_len 0 (length instance.now.trips))) }
+    ensures value { result ≡ trips_pay instance.now sets.now table.now }
     ensures low { neg_ℤ (pos 10000000000000000000000) ≤ℤ result }
     ensures high { result ≤ℤ pos 10000000000000000000000 }
 {
@@ -76,7 +75,7 @@ fn trips_pay(instance: &Instance, sets: &[LayerSet], table: &Table) -> i128
 /// What all vehicles pay.
 fn vehicles_pay(instance: &Instance, table: &Table) -> i128
     requires { Fits instance.now table.now }
-    ensures value { result ≡ total (map (fleet_price instance.now table.now) (range_with_len 0 (length instance.now.layers))) }
+    ensures value { result ≡ vehicles_pay instance.now table.now }
     ensures low { neg_ℤ (pos 100000000000000000000000) ≤ℤ result }
     ensures high { result ≤ℤ pos 100000000000000000000000 }
     ensures instance { IsInstance instance.now }
@@ -98,15 +97,16 @@ fn rounded_up(value: i128) -> i128
     if value % scale > 0 { whole + 1 } else { whole }
 }
 
-/// What the table is worth where each trip is run in a layer of its set, one set per trip: what the trips
-/// pay in the cheapest layers of their sets, less what all vehicles pay, rounded up to whole cost units. A
-/// ray, in which costs count nothing, shows by a value above 0 that there is no such plan, and else nothing.
-/// Where the table holds, no plan within the sets costs less.
+/// What the table is worth where each trip is run in a layer of its set, one set per trip: what the
+/// trips pay in the cheapest layers of their sets, less what all vehicles pay, rounded up to whole
+/// cost units. A ray, in which costs count nothing, shows by a value above 0 that there is no such
+/// plan, and else nothing. Where the table holds, no plan within the sets costs less.
 pub fn worth(instance: &Instance, sets: &[LayerSet], table: &Table) -> Bound
     requires fits { Fits instance.now table.now }
     requires restriction { IsRestriction instance.now sets.now }
     ensures worth { IsWorth instance.now sets.now table.now result }
-    ensures bounds { HoldingTable instance.now table.now → BoundsPlans instance.now sets.now result }
+    ensures bounds { HoldingTable instance.now table.now
+        → BoundsPlans instance.now sets.now result }
 {
     let value = trips_pay(instance, sets, table) - vehicles_pay(instance, table);
     if !table.ray {

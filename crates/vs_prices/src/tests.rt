@@ -45,8 +45,8 @@ fn deadhead(from: StopNo, to: StopNo, minutes: u64) -> Deadhead
     }
 }
 
-/// Two trips, from P at 8:00 to Q and back from there at 8:30, and two vehicles at a depot that is ten
-/// minutes from either stop. A vehicle costs 1000, and 1 for each minute.
+/// Two trips, from P at 8:00 to Q and back from there at 8:30, and two vehicles at a depot that is
+/// ten minutes from either stop. A vehicle costs 1000, and 1 for each minute.
 fn two_trips(alloc: Global) -> Result<Instance, Fail>
     ensures { IfOk result (λ i. (length i.layers ≡ 1) × (length i.trips ≡ 2)) }
 {

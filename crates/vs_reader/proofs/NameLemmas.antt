@@ -1,5 +1,5 @@
 -- Names as texts, and numbered lists of names.
-use Rattle.std.proofs.Common.{◌≡◌, ℕ, zero, suc, ◌<◌, inl, inr, true, false, List, [], ◌∷◌, length, Option, Some, Result, Ok, Err, MatchOption, MatchResult, Contains, sym, ap, ◌∙◌, arith, map, Bor}
+use Rattle.std.proofs.Common.{Bool, cond, ◌++◌, refl, ◌≡◌, ℕ, zero, suc, ◌<◌, inl, inr, true, false, List, [], ◌∷◌, length, Option, Some, Result, Ok, Err, MatchOption, MatchResult, Contains, sym, ap, ◌∙◌, arith, map, Bor}
 use Rattle.std.specs.Prelude.{All, AllPairs, position}
 use Rattle.std.specs.List.{list_any}
 use Rattle.std.specs.Result.{result_ok}
@@ -11,6 +11,7 @@ use Rattle.std.proofs.lemmas.List.Quantifiers.{position-Some}
 use Rattle.std.proofs.lemmas.Option.{slice_get-map, slice_get-get_or, slice_get_within, get_or_from_slice_get}
 use Rattle.std.proofs.lemmas.Slice.Eq.{bytes_eq-Decides}
 use Rattle.std.proofs.lemmas.Str.{IsUtf8-from_ascii}
+use Rattle.indexmap.specs.IndexSet.{insert_key}
 use Rattle.vs_reader.specs.Rows.{Field}
 use Rattle.vs_reader.specs.Names.{IsName, IsNameByte, Names}
 use Rattle.vs_reader.specs.NameRules.{AreNames}
@@ -87,6 +88,19 @@ module _ {K : Type 0} (text : K → Field) where
       let at = position-Some (λ k. bytes_eq q (text k)) (x ∷ ks) i x is in
       slice_get-map text (x ∷ ks) i
       ∙ rw (slice_get-get_or (x ∷ ks) i x at.0) (ap Some (sym ((bytes_eq-Decides q _).0 at.1)))
+
+  module _ (eq : K → K → Bool) (is_eq : (k x : K) → eq k x ≡ bytes_eq (text k) (text x)) where
+    same_any : (k : K) (ks : List K) → list_any (eq k) ks ≡ list_any (λ x. bytes_eq (text k) (text x)) ks
+    same_any k [] = refl
+    same_any k (x ∷ ks) = rw (is_eq k x, same_any k ks) refl
+
+    -- a text that none of these has is inserted as the last one
+    pub insert_key-new : (ks : List K) (k : K) → ¬ (Contains (map text ks) (text k)) → insert_key eq ks k ≡ ks ++ k ∷ []
+    insert_key-new ks k new =
+        elim (list_any (eq k) ks) as (λ v. list_any (eq k) ks ≡ v → cond v ks (ks ++ k ∷ []) ≡ ks ++ k ∷ []) [
+          | true ↦ λ some. absurd (new (Contains_from_any (text k) ks (sym (same_any k ks) ∙ some)))
+          | false ↦ λ none. refl
+        ] refl
 
 -- what is numbered among names is a name
 pub IsName-Names : (names : List Field) (f : Field) (k : ℕ) → AreNames names → Names names f k → IsName f

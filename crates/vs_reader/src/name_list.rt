@@ -3,16 +3,18 @@ ghost use Rattle.std.specs.String.{string_bytes};
 ghost use Rattle.vs_reader.specs.Names.{IsName, Names as Numbered};
 ghost use Rattle.vs_reader.specs.NameRules.{AreNames};
 
+use indexmap::IndexSet;
 use std::alloc::Global;
 use std::collections::BTreeMap;
 use std::marker::Model;
 use vs_types::Memory;
 
-/// Names, no two of which are the same, numbered from 0 in the order in which they were added. The order of
-/// the names stands beside them: strangers choose the names, and can't choose any that are slow to find.
+/// Names, no two of which are the same, numbered from 0 in the order in which they were added. An ordered map
+/// from names to numbers stands beside them, by which they are found: strangers choose the names, and could
+/// choose such as a hash takes for one another, but none that are slow to find in order.
 #[derive(Drop)]
 pub struct NameList {
-    names: Vec<String>,
+    names: IndexSet<String>,
     numbers: BTreeMap<String, u32>,
 }
 
@@ -24,9 +26,9 @@ impl Model for NameList {
 
     ghost Value = { List Field };
 
-    ghost view = { λ a. map string_bytes a.names.items };
+    ghost view = { λ a. map string_bytes a.names.keys };
 
-    ghost invariant = { λ a. AreNames (map string_bytes a.names.items) × AreNumbers (map string_bytes a.names.items) a.numbers };
+    ghost invariant = { λ a. AreNames (map string_bytes a.names.keys) × AreNumbers (map string_bytes a.names.keys) a.numbers };
 }
 
 impl NameList {
@@ -35,7 +37,7 @@ impl NameList {
         ensures { result ≡ [] }
     {
         NameList {
-            names: Vec::new(alloc),
+            names: IndexSet::new(alloc),
             numbers: BTreeMap::new(alloc),
         }
     }
@@ -54,7 +56,7 @@ impl NameList {
         ensures name { result.now ≡ slice_index_or self.now number [] }
         ensures only { (k : ℕ) → Numbered self.now result.now k → k ≡ number }
     {
-        self.names[number as usize].as_str()
+        self.names.as_slice()[number as usize].as_str()
     }
 
     /// The number of a name. None where it isn't one of these.
@@ -81,7 +83,7 @@ impl NameList {
         let key = text(alloc, name)?;
         self.names.reserve(1)?;
         self.numbers.insert(key, number)?;
-        self.names.push(added)?;
+        self.names.insert_full(added)?;
         Ok(())
     }
 }

@@ -20,7 +20,8 @@ fn position_field(text: &mut Text, place: u32) -> Result<(), Memory>
 
 /// Adds a place of a block to a row, after what is wrong there.
 fn place_fields(text: &mut Text, name: &str, block: u32, place: u32) -> Result<(), Memory>
-    ensures { OnOk result (text.new ≡ text.old ++ more_fields (name.now ∷ position_field block ∷ position_field place ∷ [])) }
+    ensures { OnOk result (text.new ≡ text.old
+        ++ more_fields (name.now ∷ position_field block ∷ position_field place ∷ [])) }
 {
     text.field(name)?;
     position_field(text, block)?;
@@ -88,8 +89,8 @@ fn broken_fields(text: &mut Text, names: &Names, at: BrokenAt) -> Result<(), Mem
     }
 }
 
-/// Adds to a row why a document doesn't hold: the flaw's number and name, and then its places by the
-/// instance's names, and values.
+/// Adds to a row why a document doesn't hold: the flaw's number and name, and then its places by
+/// the instance's names, and values.
 pub fn flaw_fields(text: &mut Text, names: &Names, flaw: Flaw) -> Result<(), Memory>
     requires { IsFlawWithin (length names.now.layers) (length names.now.trips) flaw }
     ensures { OnOk result (text.new ≡ text.old ++ more_fields (flaw_fields names.now flaw)) }

@@ -1,4 +1,4 @@
-use Rattle.std.proofs.Common.{refl, rules, lit<}
+use Rattle.std.proofs.Common.{refl, lit<}
 use Rattle.vs_types.proofs.Members.{members-some}
 use Rattle.vs_check.proofs.tests.trip.Goals as goal
 

@@ -1,7 +1,6 @@
-use Rattle.std.proofs.Common.{◌≡◌, rules, arith, FitsSigned, to_z, of_z, w64, Some, ℤ, pos, ◌≤ℤ◌, sym, ap, ◌∙◌}
+use Rattle.std.proofs.Common.{◌≡◌, rules, arith, FitsSigned, to_z, of_z, w64, Some, ℤ, sym, ap, ◌∙◌}
 use Rattle.std.proofs.lemmas.Int.{ints, to_z-of_z}
 use Rattle.vs_instance.specs.Firsts.{first}
-use Rattle.vs_instance.specs.Plan.{plan_cost}
 use Rattle.vs_plan.specs.Blocks.{blocks_of}
 use Rattle.vs_check.specs.declared.flaw.Flaw.TheVariants.{CostDiffers}
 use Rattle.vs_check.specs.Flaws.{plan_flaws}

@@ -1,4 +1,4 @@
-use Rattle.std.proofs.Common.{List, length, arith, sym, ap, ◌∙◌, Option}
+use Rattle.std.proofs.Common.{sym, ap, ◌∙◌, Option}
 use Rattle.vs_instance.specs.Firsts.{first}
 use Rattle.vs_instance.proofs.Firsts.{first_from-here, first_from-more, first_from-past}
 use Rattle.vs_prices.specs.declared.broken_at.BrokenAt.{BrokenAt}
