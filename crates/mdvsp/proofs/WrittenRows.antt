@@ -10,7 +10,7 @@ use Rattle.vs_reader.specs.Rows.{Field, Row, line, lines, more_fields}
 use Rattle.mdvsp.proofs.LinesAppend.{lines-append}
 
 -- the fields of a row behind its first one
-join-cons : (field : Field) (fields : List Field) → join_with_byte 44 (field ∷ fields) ≡ field ++ more_fields fields
+pub join-cons : (field : Field) (fields : List Field) → join_with_byte 44 (field ∷ fields) ≡ field ++ more_fields fields
 join-cons field [] = sym (append-nil field)
 join-cons field (next ∷ fields) = ap (λ bytes. field ++ (44 ∷ bytes)) (join-cons next fields)
 

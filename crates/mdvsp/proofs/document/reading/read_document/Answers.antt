@@ -35,5 +35,5 @@ returns-clause-only c =
     let x = c.in_ok-parts.parts in
     IfOk-weaker c.document.result _ _
     (λ d has other text. alike c.args.instance.now c.args.names.now c.args.rows.now 0 x.head (blocks_of x.plan) x.table d other c.requires.layers c.requires.trips
-    c.in_ok-parts.ensures.layer_names c.in_ok-parts.ensures.trip_names c.in_ok-parts.ensures.found has other text.text text.first)
+    c.in_ok-parts.ensures.layer_names c.in_ok-parts.ensures.trip_names c.in_ok-parts.ensures.found has text.text text.first)
     c.document.ensures.found
