@@ -12,9 +12,10 @@ use Rattle.vs_instance.specs.Ways.{Permitted, trip_of}
 use Rattle.vs_instance.specs.HoldingTable.{price_of}
 use Rattle.vs_prices.specs.declared.table.Table.{Table}
 use Rattle.vs_prices.specs.Table.{IsPrice, Fits, prices_in}
-use Rattle.mdvsp.specs.Rows.{Row}
-use Rattle.mdvsp.specs.Names.{NameLists}
-use Rattle.mdvsp.specs.DocumentText.{name_of, layer_rows, table_rows}
+use Rattle.vs_reader.specs.Rows.{Row}
+use Rattle.vs_reader.specs.Names.{NameLists}
+use Rattle.mdvsp.specs.DocumentText.{layer_rows, table_rows}
+use Rattle.vs_reader.specs.Names.{name_of}
 use Rattle.mdvsp.specs.DocumentParts.{fleet_line, price_line, layer_lines, ArePrices, ReadsPrices, ReadsLayer, ReadsTable, IsWhole, IsEmptyTable}
 use Rattle.mdvsp.proofs.DocumentPrices.{zero_price}
 use Rattle.mdvsp.proofs.DocumentRows.{first_of_drop, rest_of_drop, drop_row}

@@ -7,10 +7,10 @@ use Rattle.std.proofs.lemmas.List.Elements.{All-push, All-nil}
 use Rattle.std.proofs.lemmas.Str.{IsUtf8-from_ascii}
 use Rattle.vs_types.specs.declared.numbers.TripNo.{TripNo}
 use Rattle.vs_instance.specs.Plan.{LayerBlock}
-use Rattle.mdvsp.specs.Rows.{Field, Row}
-use Rattle.mdvsp.specs.Names.{IsName, IsNameByte, NameLists}
-use Rattle.mdvsp.specs.NameRules.{AreNames}
-use Rattle.mdvsp.specs.DocumentText.{name_of}
+use Rattle.vs_reader.specs.Rows.{Field, Row}
+use Rattle.vs_reader.specs.Names.{IsName, IsNameByte, NameLists}
+use Rattle.vs_reader.specs.NameRules.{AreNames}
+use Rattle.vs_reader.specs.Names.{name_of}
 use Rattle.mdvsp.specs.DocumentParts.{NameTrips, IsBlockRow}
 
 name_byte_below : (b : ℕ) → IsNameByte b → b < 128

@@ -5,9 +5,9 @@ use Rattle.std.proofs.lemmas.List.{get_or_past, get_or_append_left, get_or_push,
 use Rattle.std.proofs.lemmas.List.Concat.{flat_map-append}
 use Rattle.vs_types.specs.declared.numbers.TripNo.{TripNo}
 use Rattle.vs_instance.specs.Plan.{LayerBlock, all_trips}
-use Rattle.mdvsp.specs.Rows.{Row}
-use Rattle.mdvsp.specs.Names.{NameLists}
-use Rattle.mdvsp.specs.DocumentText.{name_of}
+use Rattle.vs_reader.specs.Rows.{Row}
+use Rattle.vs_reader.specs.Names.{NameLists}
+use Rattle.vs_reader.specs.Names.{name_of}
 use Rattle.mdvsp.specs.DocumentParts.{row_at, block_at, kind_of, IsBlockKind, IsBlockRow, IsPlanAt}
 
 -- the blocks before this row, which have so many trips

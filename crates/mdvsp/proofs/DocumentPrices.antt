@@ -12,9 +12,9 @@ use Rattle.vs_instance.specs.Ways.{Permitted, trip_of}
 use Rattle.vs_instance.specs.HoldingTable.{price_of}
 use Rattle.vs_prices.specs.declared.table.Table.{Table}
 use Rattle.vs_prices.specs.Table.{IsPrice}
-use Rattle.mdvsp.specs.Rows.{Row}
-use Rattle.mdvsp.specs.Names.{NameLists}
-use Rattle.mdvsp.specs.DocumentText.{name_of}
+use Rattle.vs_reader.specs.Rows.{Row}
+use Rattle.vs_reader.specs.Names.{NameLists}
+use Rattle.vs_reader.specs.Names.{name_of}
 use Rattle.mdvsp.specs.DocumentParts.{price_line, price_lines, ArePrices, ReadsPrices}
 use Rattle.mdvsp.proofs.DocumentRows.{first_of_drop}
 

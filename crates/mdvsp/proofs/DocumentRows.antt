@@ -2,7 +2,7 @@
 use Rattle.std.proofs.Common.{◌≡◌, ℕ, ◌+◌, ◌<◌, List, [], ◌∷◌, length, get_or, drop, sym, ap, ◌∙◌, inl, inr, arith}
 use Rattle.std.proofs.lemmas.Bool.{cases_lt}
 use Rattle.std.proofs.lemmas.List.{get_or-drop, drop_more, get_or_past, drop-drop}
-use Rattle.mdvsp.specs.Rows.{Row}
+use Rattle.vs_reader.specs.Rows.{Row}
 
 pub first_of_drop : (rows : List Row) (at : ℕ) (row : Row) (rest : List Row) → drop at rows ≡ row ∷ rest → get_or rows at [] ≡ row
 first_of_drop rows at row rest e = ap (λ (n : ℕ). get_or rows n []) (omega arith) ∙ sym (get_or-drop at rows 0 []) ∙ ap (λ (rs : List Row). get_or rs 0 []) e

@@ -17,11 +17,12 @@ use Rattle.vs_check.specs.declared.claim.Claim.{Claim}
 use Rattle.vs_check.specs.declared.claim.Claim.TheVariants.{Optimal, Infeasible, StillOpen}
 use Rattle.vs_prices.specs.declared.table.Table.{Table}
 use Rattle.vs_prices.specs.Table.{IsPrice, prices_in}
-use Rattle.mdvsp.specs.Rows.{Field, Row}
-use Rattle.mdvsp.specs.Names.{NameLists}
-use Rattle.mdvsp.specs.NameRules.{AreNames}
+use Rattle.vs_reader.specs.Rows.{Field, Row}
+use Rattle.vs_reader.specs.Names.{NameLists}
+use Rattle.vs_reader.specs.NameRules.{AreNames}
 use Rattle.mdvsp.specs.declared.document.head.Head.{Head}
-use Rattle.mdvsp.specs.DocumentText.{name_of, block_row, claim_field, number_field, IsBetween}
+use Rattle.mdvsp.specs.DocumentText.{block_row, claim_field, number_field, IsBetween}
+use Rattle.vs_reader.specs.Names.{name_of}
 use Rattle.mdvsp.specs.DocumentParts.{row_at, block_at, kind_of, price_lines, layer_lines, IsBlockKind, IsBlockRow, IsPlanAt, IsHeadAt, IsCost, IsWhole, ArePrices}
 use Rattle.mdvsp.proofs.DocumentNumbers.{same_signed, same_number, digit_of, starts}
 use Rattle.mdvsp.proofs.DocumentPrices.{lines_with, lines_without}

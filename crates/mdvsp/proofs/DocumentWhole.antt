@@ -15,9 +15,9 @@ use Rattle.vs_plan.specs.Blocks.{blocks_of}
 use Rattle.vs_check.specs.Form.{IsReadFor}
 use Rattle.vs_plan.specs.Blocks.{IsOfInstance}
 use Rattle.vs_prices.specs.Table.{Fits}
-use Rattle.mdvsp.specs.Rows.{Field, Row}
-use Rattle.mdvsp.specs.Names.{NameLists}
-use Rattle.mdvsp.specs.NameRules.{AreNames}
+use Rattle.vs_reader.specs.Rows.{Field, Row}
+use Rattle.vs_reader.specs.Names.{NameLists}
+use Rattle.vs_reader.specs.NameRules.{AreNames}
 use Rattle.mdvsp.specs.declared.document.head.Head.{Head}
 use Rattle.mdvsp.specs.DocumentText.{DocumentText, HasText, IsTreeOf, IsShapeOf, IsBetween, IsBlankElsewhere, AreShapeRows, head_rows, block_row, table_rows, number_field}
 use Rattle.mdvsp.specs.DocumentParts.{block_at, kind_of, claim_row, cost_row, number_row, IsHeadAt, IsCost, IsNamedBlock, IsPlanAt, IsWhole, ReadsTable, AreParts, HasParts, leaf_line, end_line}

@@ -1,5 +1,5 @@
 -- A document that `solve` owes is judged `yes` behind its instance's records.
-use Rattle.std.proofs.Common.{◌≡◌, ℕ, ◌<◌, ◌≤◌, Bool, false, List, [], ◌∷◌, ◌++◌, length, map, slice_get, refl, sym, ap, ◌∙◌, subst, inl, inr, arith, All, Option, Some, None, IsSome, ℤ, pos, MatchOption}
+use Rattle.std.proofs.Common.{◌≡◌, ℕ, ◌<◌, ◌≤◌, Bool, false, List, [], ◌∷◌, ◌++◌, length, map, take, slice_get, refl, sym, ap, ◌∙◌, subst, inl, inr, arith, All, Option, Some, None, IsSome, ℤ, pos, MatchOption}
 use Rattle.std.proofs.lemmas.Bool.{false≢true}
 use Rattle.std.proofs.lemmas.List.{get_or_default, length_push}
 use Rattle.std.proofs.lemmas.List.Elements.{All-head, All-nil, All-push}
@@ -14,17 +14,18 @@ use Rattle.vs_prices.specs.declared.table.Table.{Table}
 use Rattle.vs_plan.specs.Blocks.{blocks_of}
 use Rattle.vs_check.specs.HoldingDocument.{ReachesBound}
 use Rattle.mdvsp.specs.declared.status.Status.{Status}
-use Rattle.mdvsp.specs.Rows.{Field, Row, AreLines, lines}
-use Rattle.mdvsp.specs.Names.{IsName, NameLists}
-use Rattle.mdvsp.specs.NameRules.{AreNames}
-use Rattle.mdvsp.specs.InstanceText.{InstanceText, IsNew, Declared, nothing_yet, Adds, AddAll}
+use Rattle.vs_reader.specs.Rows.{Field, Row, IsPlainRow, lines}
+use Rattle.vs_reader.specs.Names.{IsName, NameLists}
+use Rattle.vs_reader.specs.NameRules.{AreNames}
+use Rattle.vs_reader.specs.InstanceText.{IsNew, Declared, nothing_yet, Adds, AddAll, instance_records}
+use Rattle.vs_reader.specs.Texts.{HasRows, StandsFor, EndsInLine}
+use Rattle.vs_reader.proofs.LineLemmas.{stands_behind}
 use Rattle.mdvsp.specs.DocumentText.{AreShapeRows, DocumentText, IsShapeOf, document_rows, shape_row}
 use Rattle.mdvsp.specs.FirstForm.{IsFirstDocument}
 use Rattle.mdvsp.specs.Owed.{OwesDocument, OwesYes, HasZeroTable, yes_row}
 use Rattle.mdvsp.specs.SolveAnswer.{SolveAnswer}
 use Rattle.mdvsp.proofs.LawPlain.{HaveNames, plain_document}
 use Rattle.vs_plan.proofs.PlanTrips.{plan_trips}
-use Rattle.mdvsp.proofs.LinesAppend.{AreLines-append}
 
 -- what records declare as names are names
 no_names : AreNames []
@@ -49,9 +50,10 @@ add_all_names : (old : Declared) (rows : List Row) (new : Declared) → AddAll o
 add_all_names old [] new h have = subst (λ (d : Declared). HaveNames d.names) (sym h) have
 add_all_names old (row ∷ rows) new h have = add_all_names h.0 rows new h.2 (adds_names old row h.0 h.1 have)
 
-pub instance_names : (rows : List Row) (p : Problem) (names : NameLists) → InstanceText rows p names → HaveNames names
-instance_names rows p names t =
-    subst HaveNames (sym t.names_are) (add_all_names nothing_yet t.records t.declared t.declares (record { layers = no_names; trips = no_names }))
+pub instance_names : (bytes : List ℕ) (p : Problem) (names : NameLists) (before : ℕ) (rest : List Row) → StandsFor bytes p names before rest → HaveNames names
+instance_names bytes p names before rest stands =
+    let t = stands.text in
+    subst HaveNames (sym t.names_are) (add_all_names nothing_yet (instance_records stands.rows) t.declared t.declares (record { layers = no_names; trips = no_names }))
 
 -- a cost table is worth a number, so what it reaches is one
 number_reached : (p : Problem) (table : Table) (bound : Option ℤ) → table.ray ≡ false → ReachesBound p table bound → IsSome bound
@@ -113,37 +115,31 @@ module _ (p : Problem) (d : Document) (budget : ℕ) (solves : SolveAnswer p bud
     rows_are = refl;
   }
 
-  document_lines : (names : NameLists) → HaveNames names → AreLines (lines (document_rows p names d)) (document_rows p names d)
-  document_lines names have = record {
-    bytes_are = refl;
-    plain = plain_document p names have d zero.0 solves.has_text zero.1 one_leaf;
-  }
+  document_plain : (names : NameLists) → HaveNames names → All IsPlainRow (document_rows p names d)
+  document_plain names have = plain_document p names have d zero.0 solves.has_text zero.1 one_leaf
 
 -- behind the records they are one text
-pub solved_holds : (bytes : List ℕ) (answer : Status) (rows : List Row) (owed : OwesDocument bytes answer rows)
-    → OwesYes (owed.text.lines_are.read ++ lines rows) (yes_row owed.document ∷ [])
-solved_holds bytes answer rows owed =
+pub solved_holds : (bytes read : List ℕ) (answer : Status) (rows : List Row) (owed : OwesDocument bytes answer rows)
+    → HasRows read (take owed.text.before owed.text.instance.rows) → EndsInLine read → OwesYes (read ++ lines rows) (yes_row owed.document ∷ [])
+solved_holds bytes read answer rows owed has ends =
     let p = owed.problem in
     let names = owed.names in
     let d = owed.document in
     let written = document_rows p names d in
-    let few = owed.text.instance.makes.instance.few_trips in
-    subst (λ (others : List Row). OwesYes (owed.text.lines_are.read ++ lines others) (yes_row d ∷ [])) (sym owed.rows_are) (record {
+    let stands = owed.text.instance in
+    let few = stands.text.makes.instance.few_trips in
+    let plain = document_plain p d 0 owed.solves owed.table few names (instance_names bytes p names owed.text.before owed.text.rest stands) in
+    subst (λ (others : List Row). OwesYes (read ++ lines others) (yes_row d ∷ [])) (sym owed.rows_are) (record {
       problem = p;
       names = names;
       document = d;
       text = record {
-        rows = owed.text.records ++ written;
-        lines_are = AreLines-append owed.text.lines_are.read (lines written) owed.text.records written owed.text.lines_are.lines_are
-            (document_lines p d 0 owed.solves owed.table few names (instance_names owed.text.records p names owed.text.instance));
-        rows_are = record {
-          records = owed.text.records;
-          document_rows = written;
-          rows_are = refl;
-          instance = owed.text.instance;
-          in_order = owed.text.in_order;
-          document = document_text p d 0 owed.solves owed.table few names;
-          first_document = first_document p d 0 owed.solves owed.table few;
+        before = owed.text.before;
+        rest = written;
+        instance = stands_behind bytes read p names owed.text.before owed.text.rest written stands has ends plain refl;
+        document = record {
+          text = document_text p d 0 owed.solves owed.table few names;
+          first = first_document p d 0 owed.solves owed.table few;
         };
       };
       holds = owed.solves.holds;

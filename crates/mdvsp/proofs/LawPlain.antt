@@ -20,10 +20,11 @@ use Rattle.vs_check.specs.declared.shape.Shape.TheVariants.{Leaf}
 use Rattle.vs_prices.specs.declared.table.Table.{Table}
 use Rattle.vs_plan.specs.Blocks.{blocks_of}
 use Rattle.vs_prices.specs.Table.{Fits, IsPrice, prices_in}
-use Rattle.mdvsp.specs.Rows.{Field, Row, IsPlain, IsPlainRow}
-use Rattle.mdvsp.specs.Names.{IsName, IsNameByte, NameLists}
-use Rattle.mdvsp.specs.NameRules.{AreNames}
-use Rattle.mdvsp.specs.DocumentText.{HasText, IsBetween, block_row, claim_field, document_rows, head_rows, layer_rows, name_of, number_field, permitted_trips, price_row, shape_row, table_rows}
+use Rattle.vs_reader.specs.Rows.{Field, Row, IsPlain, IsPlainRow}
+use Rattle.vs_reader.specs.Names.{IsName, IsNameByte, NameLists}
+use Rattle.vs_reader.specs.NameRules.{AreNames}
+use Rattle.mdvsp.specs.DocumentText.{HasText, IsBetween, block_row, claim_field, document_rows, head_rows, layer_rows, number_field, permitted_trips, price_row, shape_row, table_rows}
+use Rattle.vs_reader.specs.Names.{name_of}
 
 abbrev IsPlainField : Field → Type 0
 IsPlainField field = All IsPlain field

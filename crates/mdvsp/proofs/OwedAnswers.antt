@@ -1,22 +1,25 @@
 -- Answers that are owed.
-use Rattle.std.proofs.Common.{◌≡◌, ◌∙◌, ℕ, length, take, arith, List, [], ◌∷◌, Result, Ok, Err, Option, Some, None, inl, inr, refl, sym, subst, IfOk}
-use Rattle.std.proofs.lemmas.List.{take_all}
+use Rattle.std.proofs.Common.{◌≡◌, ◌∙◌, ℕ, List, [], ◌∷◌, Result, Ok, Err, Option, Some, None, inl, inr, refl, sym, subst, IfOk}
 use Rattle.vs_types.specs.declared.memory.Memory.{Memory}
 use Rattle.vs_instance.specs.Problem.{Problem}
 use Rattle.vs_check.specs.declared.claim.Claim.{Claim}
 use Rattle.vs_check.specs.declared.claim.Claim.TheVariants.{Optimal, Infeasible, StillOpen}
-use Rattle.mdvsp.specs.DocumentText.{document_rows}
-use Rattle.mdvsp.specs.InstanceText.{InstanceText}
 use Rattle.vs_check.specs.declared.document.Document.{Document}
 use Rattle.vs_check.specs.HoldingDocument.{HoldingDocument}
+use Rattle.vs_reader.specs.declared.refused.Refused.{Refused}
+use Rattle.vs_reader.specs.Names.{NameLists}
+use Rattle.vs_reader.specs.Rows.{Row, lines}
+use Rattle.vs_reader.specs.Texts.{StandsFor, IsRefused}
 use Rattle.mdvsp.specs.declared.answer.Answer.{Answer}
 use Rattle.mdvsp.specs.declared.status.Status.{Status}
 use Rattle.mdvsp.specs.declared.status.Status.TheVariants as status
+use Rattle.mdvsp.specs.declared.words.Command.{Command}
 use Rattle.mdvsp.specs.declared.words.Command.TheVariants.{Check, Solve}
 use Rattle.mdvsp.specs.Answered.{IsOwedFor, IsDocumentOf}
-use Rattle.mdvsp.specs.FirstForm.{CheckText, SolveText, SplitsAtResult, AreInOrder}
-use Rattle.mdvsp.specs.Names.{NameLists}
-use Rattle.mdvsp.specs.Owed.{CheckOwes, SolveOwes, OwesDocument, status_of, IsCheckText, IsSolveText, refused_row, yes_row}
+use Rattle.mdvsp.specs.DocumentText.{document_rows}
+use Rattle.mdvsp.specs.FirstForm.{FirstDocumentText, CheckText, SolveText}
+use Rattle.mdvsp.specs.Owed.{CheckOwes, SolveOwes, OwesDocument, status_of, yes_row}
+use Rattle.mdvsp.specs.RefusalRows.{refusal_row, other_form_row}
 use Rattle.mdvsp.specs.FlawRows.{no_row}
 use Rattle.vs_instance.specs.Firsts.{first}
 use Rattle.vs_check.specs.Flaws.{flaws_of, verdict_of}
@@ -24,7 +27,6 @@ use Rattle.vs_check.specs.declared.flaw.Flaw.{Flaw}
 use Rattle.vs_check.specs.declared.verdict.Verdict.{Verdict}
 use Rattle.vs_check.specs.declared.verdict.Verdict.TheVariants.{No}
 use Rattle.vs_check.proofs.Claims.{prove_their_claims}
-use Rattle.mdvsp.specs.Rows.{Row, lines}
 
 check_owes : (bytes : List ℕ) (answer : Answer) (wanted : Status) (row : Row) → CheckOwes bytes wanted (row ∷ []) → (answer.status ≡ wanted) × (answer.text.items ≡ lines (row ∷ []))
     → IsOwedFor Check bytes answer
@@ -34,10 +36,25 @@ check_owes bytes answer wanted row owed says = record {
   text_is = says.1;
 }
 
-pub refusal_owed : (bytes : List ℕ) (r : Result Answer Memory) → ¬ (IsCheckText bytes)
-    → IfOk r (λ a. (a.status ≡ status.BadInput) × (a.text.items ≡ lines (refused_row ∷ []))) → IfOk r (IsOwedFor Check bytes)
-refusal_owed bytes (Ok a) none says = check_owes bytes a status.BadInput refused_row (record { no_form = none; rows_are = refl }) says
-refusal_owed bytes (Err m) none says = tt
+-- a text that is refused is owed its refusal, whatever the command
+pub refusal_owed : (command : Command) (bytes : List ℕ) (refused : Refused) (r : Result Answer Memory) → IsRefused bytes refused
+    → IfOk r (λ a. (a.status ≡ status.BadInput) × (a.text.items ≡ lines (refusal_row refused ∷ []))) → IfOk r (IsOwedFor command bytes)
+refusal_owed Check bytes refused (Ok a) is says = check_owes bytes a status.BadInput (refusal_row refused)
+    (inl (record { refused = refused; is_refused = is; rows_are = refl })) says
+refusal_owed Solve bytes refused (Ok a) is says = record {
+  rows = refusal_row refused ∷ [];
+  owed = inr (refl, subst (λ (s : Status). SolveOwes bytes s (refusal_row refused ∷ [])) (sym says.0) (record { refused = refused; is_refused = is; rows_are = refl }));
+  text_is = says.1;
+}
+refusal_owed Check bytes refused (Err m) is says = tt
+refusal_owed Solve bytes refused (Err m) is says = tt
+
+pub other_form_owed : (bytes : List ℕ) (p : Problem) (names : NameLists) (before : ℕ) (rest : List Row) (r : Result Answer Memory) → StandsFor bytes p names before rest
+    → ((d : Document) → ¬ (FirstDocumentText p names rest d))
+    → IfOk r (λ a. (a.status ≡ status.BadInput) × (a.text.items ≡ lines (other_form_row ∷ []))) → IfOk r (IsOwedFor Check bytes)
+other_form_owed bytes p names before rest (Ok a) stands none says = check_owes bytes a status.BadInput other_form_row
+    (inr (record { problem = p; names = names; before = before; rest = rest; instance = stands; no_document = none; rows_are = refl })) says
+other_form_owed bytes p names before rest (Err m) stands none says = tt
 
 pub yes_owed : (bytes : List ℕ) (p : Problem) (names : NameLists) (d : Document) (r : Result Answer Memory) → CheckText bytes p names d → HoldingDocument p d
     → IfOk r (λ a. (a.status ≡ status.Done) × (a.text.items ≡ lines (yes_row d ∷ []))) → IfOk r (IsOwedFor Check bytes)
@@ -48,7 +65,7 @@ yes_owed bytes p names d (Ok a) text holds says = check_owes bytes a status.Done
       document = d;
       text = text;
       holds = holds;
-      proves = prove_their_claims p d text.rows_are.instance.makes.instance holds;
+      proves = prove_their_claims p d text.instance.text.makes.instance holds;
       rows_are = refl;
     }) says
 yes_owed bytes p names d (Err m) text holds says = tt
@@ -64,15 +81,6 @@ no_owed bytes p names d flaw (Err m) text fails is_first says = tt
 pub first_of_verdict : (found : Option Flaw) (verdict : Verdict) (flaw : Flaw) → verdict ≡ verdict_of found → verdict ≡ No flaw → found ≡ Some flaw
 first_of_verdict None verdict flaw is refused = cc
 first_of_verdict (Some other) verdict flaw is refused = cc
-
-pub solve_refusal_owed : (bytes : List ℕ) (r : Result Answer Memory) → ¬ (IsSolveText bytes)
-    → IfOk r (λ a. (a.status ≡ status.BadInput) × (a.text.items ≡ lines (refused_row ∷ []))) → IfOk r (IsOwedFor Solve bytes)
-solve_refusal_owed bytes (Ok a) none says = record {
-  rows = refused_row ∷ [];
-  owed = inr (refl, subst (λ (s : Status). SolveOwes bytes s (refused_row ∷ [])) (sym says.0) (record { no_form = none; rows_are = refl }));
-  text_is = says.1;
-}
-solve_refusal_owed bytes (Err m) none says = tt
 
 -- a document with its claim's status is what solve owes
 solve_owes : (bytes : List ℕ) (claim : Claim) (rows : List Row) → OwesDocument bytes (status_of claim) rows → SolveOwes bytes (status_of claim) rows
@@ -93,7 +101,7 @@ document_owed bytes p names (Ok a) text d = record {
           document = d.document;
           text = text;
           solves = d.solves;
-          proves = prove_their_claims p d.document text.instance.makes.instance d.solves.holds;
+          proves = prove_their_claims p d.document text.instance.text.makes.instance d.solves.holds;
           plan = d.plan;
           table = d.table;
           status_is = refl;
@@ -103,10 +111,3 @@ document_owed bytes p names (Ok a) text d = record {
   text_is = d.text_is;
 }
 document_owed bytes p names (Err m) text d = tt
-
--- rows that are all read, and are no instance's
-pub no_solve_text : (bytes : List ℕ) (rows : List Row) (end : ℕ) → end ≡ length rows → ((others : List Row) → SplitsAtResult bytes others → others ≡ rows)
-    → ((p : Problem) (names : NameLists) → InstanceText (take end rows) p names → AreInOrder (take end rows) → ⊥) → IsSolveText bytes → ⊥
-no_solve_text bytes rows end e only none h =
-    let all : h.2.records ≡ take end rows = only h.2.records h.2.lines_are ∙ sym (take_all end rows (omega (arith, e))) in
-    none h.0 h.1 (subst (λ (x : List Row). InstanceText x h.0 h.1) all h.2.instance) (subst AreInOrder all h.2.in_order)

@@ -10,7 +10,7 @@ use Rattle.mdvsp.specs.declared.words.Command.{Command}
 use Rattle.mdvsp.specs.Answered.{IsOwedFor, IsSaid}
 use Rattle.mdvsp.specs.Outcome.{Run, Told, Ends, IsOwed, IsTold, input_limit}
 use Rattle.mdvsp.specs.Owed.{Owes}
-use Rattle.mdvsp.specs.Rows.{Row, lines}
+use Rattle.vs_reader.specs.Rows.{Row, lines}
 use Rattle.mdvsp.specs.Words.{DepartAt, command_words, words_row}
 
 -- what is owed with such an answer is nothing

@@ -11,10 +11,10 @@ use Rattle.mdvsp.specs.Outcome.{Told}
 use Rattle.vs_instance.specs.Problem.{Problem}
 use Rattle.vs_check.specs.declared.document.Document.{Document}
 use Rattle.mdvsp.specs.DocumentText.{document_rows}
-use Rattle.mdvsp.specs.Names.{NameLists}
+use Rattle.vs_reader.specs.Names.{NameLists}
 use Rattle.mdvsp.specs.SolveAnswer.{SolveAnswer}
 use Rattle.mdvsp.specs.Owed.{Owes, HasGreedyPlan, HasZeroTable, status_of}
-use Rattle.mdvsp.specs.Rows.{Row, lines}
+use Rattle.vs_reader.specs.Rows.{Row, lines}
 use Rattle.mdvsp.specs.Words.{command_words}
 
 -- the text is the lines of rows that are owed for the bytes, with this answer

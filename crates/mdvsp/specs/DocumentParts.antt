@@ -15,9 +15,10 @@ use Rattle.vs_prices.specs.declared.table.Table.{Table}
 use Rattle.vs_plan.specs.Blocks.{blocks_of}
 use Rattle.vs_prices.specs.Table.{IsPrice, Fits}
 use Rattle.mdvsp.specs.declared.document.head.Head.{Head}
-use Rattle.mdvsp.specs.Rows.{Field, Row}
-use Rattle.mdvsp.specs.Names.{NameLists}
-use Rattle.mdvsp.specs.DocumentText.{claim_field, number_field, name_of, block_row, table_rows, IsBetween, IsBlankElsewhere}
+use Rattle.vs_reader.specs.Rows.{Field, Row}
+use Rattle.vs_reader.specs.Names.{NameLists}
+use Rattle.mdvsp.specs.DocumentText.{claim_field, number_field, block_row, table_rows, IsBetween, IsBlankElsewhere}
+use Rattle.vs_reader.specs.Names.{name_of}
 
 -- row k, and the first field of a row
 abbrev pub row_at : List Row → ℕ → Row

@@ -17,8 +17,8 @@ use Rattle.vs_prices.specs.declared.table.Table.{Table}
 use Rattle.vs_plan.specs.Blocks.{blocks_of}
 use Rattle.vs_plan.specs.Blocks.{IsOfInstance}
 use Rattle.vs_prices.specs.Table.{Fits, prices_in}
-use Rattle.mdvsp.specs.Rows.{Field, Row}
-use Rattle.mdvsp.specs.Names.{NameLists}
+use Rattle.vs_reader.specs.Rows.{Field, Row}
+use Rattle.vs_reader.specs.Names.{NameLists, name_of}
 
 abbrev pub claim_field : Claim → Field
 claim_field Optimal = codes "optimal"
@@ -29,10 +29,6 @@ claim_field StillOpen = codes "open"
 abbrev pub number_field : Option ℤ → Field
 number_field (Some n) = signed_decimal n
 number_field None = codes "none"
-
--- the name of number k
-abbrev pub name_of : List Field → ℕ → Field
-name_of names k = slice_index_or names k []
 
 -- `result`, `1`, CLAIM; `cost`, N; `bound`, N; `nodes`, N
 abbrev pub head_rows : Document → List Row

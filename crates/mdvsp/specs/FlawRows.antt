@@ -9,9 +9,10 @@ use Rattle.vs_prices.specs.declared.broken_at.BrokenAt.{BrokenAt}
 use Rattle.vs_prices.specs.declared.broken_at.BrokenAt.TheVariants as broken
 use Rattle.vs_check.specs.declared.flaw.Flaw.{Flaw}
 use Rattle.vs_check.specs.declared.flaw.Flaw.TheVariants as flaw
-use Rattle.mdvsp.specs.Rows.{Field, Row}
-use Rattle.mdvsp.specs.Names.{NameLists}
-use Rattle.mdvsp.specs.DocumentText.{claim_field, name_of, number_field}
+use Rattle.vs_reader.specs.Rows.{Field, Row}
+use Rattle.vs_reader.specs.Names.{NameLists}
+use Rattle.mdvsp.specs.DocumentText.{claim_field, number_field}
+use Rattle.vs_reader.specs.Names.{name_of}
 
 abbrev pub layer_field : NameLists → LayerNo → Field
 layer_field names l = name_of names.layers l.0

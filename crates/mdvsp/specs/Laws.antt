@@ -7,7 +7,7 @@ use Rattle.vs_prices.specs.Worth.{IsWorth}
 use Rattle.mdvsp.specs.declared.status.Status.{Status}
 use Rattle.mdvsp.specs.declared.status.Status.TheVariants as status
 use Rattle.mdvsp.specs.Owed.{OwesDocument, IsZeroTable}
-use Rattle.mdvsp.specs.Rows.{Row}
+use Rattle.vs_reader.specs.Rows.{Row}
 
 -- The table of zeros is worth a number. The answer is done exactly where there is a plan that costs no more than it, and else open.
 pub record IsDoneWhereShown (bytes : List ℕ) (answer : Status) (rows : List Row) (owed : OwesDocument bytes answer rows) : Type 0 where

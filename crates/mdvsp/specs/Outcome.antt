@@ -1,16 +1,17 @@
 -- How a run may end: with what was read, and what was written.
 use Rattle.std.specs.Prelude.{◌≡◌, ℕ, ◌<◌, ◌≤◌, List, [], ◌∷◌, length, Option, ◌⊎◌}
+use Rattle.vs_reader.specs.declared.limits.TheConstants.{MAX_BYTES}
 use Rattle.vs_io.specs.Bytes.{Takes, TakesAll, Appends, AppendsPrefix}
 use Rattle.vs_io.specs.Faults.{Rose}
 use Rattle.mdvsp.specs.declared.status.Status.{Status}
 use Rattle.mdvsp.specs.declared.status.Status.TheVariants as status
-use Rattle.mdvsp.specs.Rows.{Row, lines}
+use Rattle.vs_reader.specs.Rows.{Row, lines}
 use Rattle.mdvsp.specs.Words.{DepartAt, AreAccepted, words_row}
 use Rattle.mdvsp.specs.Owed.{Owes}
 
 -- how many bytes an input may have
 abbrev pub input_limit : ℕ
-input_limit = 536870912
+input_limit = MAX_BYTES
 
 -- bytes, where they are told
 abbrev pub Told : Type 0

@@ -13,18 +13,17 @@ use Rattle.vs_check.specs.declared.flaw.Flaw.{Flaw}
 use Rattle.vs_instance.specs.Firsts.{first}
 use Rattle.mdvsp.specs.declared.status.Status.{Status}
 use Rattle.mdvsp.specs.declared.status.Status.TheVariants as status
-use Rattle.mdvsp.specs.Rows.{Row}
-use Rattle.mdvsp.specs.Names.{NameLists}
+use Rattle.vs_reader.specs.Rows.{Row}
+use Rattle.vs_reader.specs.Names.{NameLists}
 use Rattle.mdvsp.specs.DocumentText.{claim_field, number_field, document_rows}
+use Rattle.vs_reader.specs.Texts.{StandsFor, IsRefused}
+use Rattle.vs_reader.specs.declared.refused.Refused.{Refused}
+use Rattle.mdvsp.specs.FirstForm.{FirstDocumentText, CheckText, SolveText}
+use Rattle.mdvsp.specs.RefusalRows.{refusal_row, other_form_row}
 use Rattle.mdvsp.specs.FlawRows.{no_row}
-use Rattle.mdvsp.specs.FirstForm.{CheckText, CheckRows, SolveText}
 use Rattle.vs_plan.specs.Greedy.{GreedyGives, GreedyGetsStuck}
 use Rattle.mdvsp.specs.SolveAnswer.{SolveAnswer}
 use Rattle.mdvsp.specs.Words.{check_words, solve_words}
-
--- `refused`, ROW, NUMBER, NAME
-abbrev pub refused_row : Row
-refused_row = codes "refused" ∷ codes "0" ∷ codes "90" ∷ codes "NotThisForm" ∷ []
 
 -- `yes`, CLAIM, COST, BOUND
 abbrev pub yes_row : Document → Row
@@ -51,19 +50,21 @@ pub record OwesNo (bytes : List ℕ) (rows : List Row) : Type 0 where
   pub is_first : first (flaws_of problem document) ≡ Some flaw
   pub rows_are : rows ≡ no_row names flaw ∷ []
 
--- and a refusal where the bytes aren't of the first form
-pub record OwesRefusal (HasForm : Type 0) (rows : List Row) : Type 0 where
-  pub no_form : ¬ HasForm
-  pub rows_are : rows ≡ refused_row ∷ []
+-- a text that is no instance text is owed its refusal
+pub record OwesRefusal (bytes : List ℕ) (rows : List Row) : Type 0 where
+  pub refused : Refused
+  pub is_refused : IsRefused bytes refused
+  pub rows_are : rows ≡ refusal_row refused ∷ []
 
-abbrev pub AreCheckRows : List Row → Type 0
-AreCheckRows rows = (p : Problem) × (names : NameLists) × (d : Document) × CheckRows rows p names d
-
-abbrev pub IsCheckText : List ℕ → Type 0
-IsCheckText bytes = (p : Problem) × (names : NameLists) × (d : Document) × CheckText bytes p names d
-
-abbrev pub IsSolveText : List ℕ → Type 0
-IsSolveText bytes = (p : Problem) × (names : NameLists) × SolveText bytes p names
+-- and an instance text behind which no document of the first form stands, one of its own
+pub record OwesOtherForm (bytes : List ℕ) (rows : List Row) : Type 0 where
+  pub problem : Problem
+  pub names : NameLists
+  pub before : ℕ
+  pub rest : List Row
+  pub instance : StandsFor bytes problem names before rest
+  pub no_document : (d : Document) → ¬ (FirstDocumentText problem names rest d)
+  pub rows_are : rows ≡ other_form_row ∷ []
 
 -- the document's plan is the greedy rule's, and it has none where that rule gets stuck
 abbrev pub HasGreedyPlan : Problem → Document → Type 0
@@ -101,7 +102,7 @@ pub record OwesDocument (bytes : List ℕ) (answer : Status) (rows : List Row) :
 abbrev pub CheckOwes : List ℕ → Status → List Row → Type 0
 CheckOwes bytes status.Done rows = OwesYes bytes rows
 CheckOwes bytes status.SaysNo rows = OwesNo bytes rows
-CheckOwes bytes status.BadInput rows = OwesRefusal (IsCheckText bytes) rows
+CheckOwes bytes status.BadInput rows = OwesRefusal bytes rows ⊎ OwesOtherForm bytes rows
 CheckOwes bytes _ rows = ⊥
 
 -- the same of `solve`
@@ -109,7 +110,7 @@ abbrev pub SolveOwes : List ℕ → Status → List Row → Type 0
 SolveOwes bytes status.Done rows = OwesDocument bytes status.Done rows
 SolveOwes bytes status.Infeasible rows = OwesDocument bytes status.Infeasible rows
 SolveOwes bytes status.StillOpen rows = OwesDocument bytes status.StillOpen rows
-SolveOwes bytes status.BadInput rows = OwesRefusal (IsSolveText bytes) rows
+SolveOwes bytes status.BadInput rows = OwesRefusal bytes rows
 SolveOwes bytes _ rows = ⊥
 
 -- what the words ask for is owed

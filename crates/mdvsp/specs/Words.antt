@@ -4,7 +4,7 @@ use Rattle.std.specs.declared.alloc.Global.{Global}
 use Rattle.std.specs.Borrow.{Bor}
 use Rattle.mdvsp.specs.declared.words.Command.{Command}
 use Rattle.mdvsp.specs.declared.words.Command.TheVariants.{Check, Solve}
-use Rattle.mdvsp.specs.Rows.{Row}
+use Rattle.vs_reader.specs.Rows.{Row}
 
 abbrev pub check_words : List (List ℕ)
 check_words = codes "check" ∷ []

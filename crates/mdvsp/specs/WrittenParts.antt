@@ -6,9 +6,9 @@ use Rattle.vs_types.specs.declared.numbers.TripNo.{TripNo}
 use Rattle.vs_instance.specs.Plan.{LayerBlock}
 use Rattle.vs_check.specs.declared.shape.Shape.{Shape}
 use Rattle.vs_check.specs.declared.shape.Shape.TheVariants.{Split, Leaf}
-use Rattle.mdvsp.specs.Rows.{Row}
-use Rattle.mdvsp.specs.Names.{NameLists}
-use Rattle.mdvsp.specs.DocumentText.{name_of}
+use Rattle.vs_reader.specs.Rows.{Row}
+use Rattle.vs_reader.specs.Names.{NameLists}
+use Rattle.vs_reader.specs.Names.{name_of}
 
 -- a block whose layer and trips have names
 pub record IsNamedBlock (names : NameLists) (b : LayerBlock) : Type 0 where

@@ -2,11 +2,12 @@ ghost use Rattle.std.specs.Prelude.{◌≡◌, ◌≤◌, [], ◌∷◌, length,
 ghost use Rattle.vs_check.specs.Flaws.{IsFlawWithin};
 ghost use Rattle.mdvsp.specs.Answered.{IsSaid};
 ghost use Rattle.mdvsp.specs.FlawRows.{no_row};
-ghost use Rattle.mdvsp.specs.Owed.{refused_row, yes_row};
-ghost use Rattle.mdvsp.specs.Rows.{lines};
+ghost use Rattle.mdvsp.specs.Owed.{yes_row};
+ghost use Rattle.mdvsp.specs.RefusalRows.{refusal_row, other_form_row};
+ghost use Rattle.vs_reader.specs.Rows.{lines};
 ghost use Rattle.mdvsp.specs.Words.{words_row};
 
-use crate::reader::Names;
+use crate::refusal::write_why;
 use crate::status::Status;
 use crate::text::Text;
 use crate::words::BadWord;
@@ -14,6 +15,7 @@ use crate::writing::{bound_field, claim_field, cost_field, flaw_fields};
 use std::alloc::Global;
 use vs_check::{Document, Flaw};
 use vs_io::{Sink, emit};
+use vs_reader::{Names, Refused};
 use vs_types::Memory;
 
 /// What a run answers, and what it writes before it ends.
@@ -35,14 +37,26 @@ impl Answer {
         Ok(Answer::of(Status::BadWords, text))
     }
 
-    /// The input isn't of the form that is read.
-    pub fn refused(alloc: Global) -> Result<Answer, Memory>
-        ensures { IfOk result (λ a. (a.status ≡ Status.BadInput) × (a.text.items ≡ lines (refused_row ∷ []))) }
+    /// The input is no instance text.
+    pub fn refused(alloc: Global, refused: Refused) -> Result<Answer, Memory>
+        ensures { IfOk result (λ a. (a.status ≡ Status.BadInput) × (a.text.items ≡ lines (refusal_row refused ∷ []))) }
     {
         let mut text = Text::new(alloc);
         text.begin_row("refused")?;
-        text.field("0")?;
-        text.field("90")?;
+        text.number(refused.row)?;
+        write_why(&mut text, refused.why)?;
+        text.end_row()?;
+        Ok(Answer::of(Status::BadInput, text))
+    }
+
+    /// What follows the instance is no document of the form that is read.
+    pub fn other_form(alloc: Global) -> Result<Answer, Memory>
+        ensures { IfOk result (λ a. (a.status ≡ Status.BadInput) × (a.text.items ≡ lines (other_form_row ∷ []))) }
+    {
+        let mut text = Text::new(alloc);
+        text.begin_row("refused")?;
+        text.number(0u32)?;
+        text.number(90u32)?;
         text.field("NotThisForm")?;
         text.end_row()?;
         Ok(Answer::of(Status::BadInput, text))

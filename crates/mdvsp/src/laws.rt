@@ -1,17 +1,19 @@
 //! What holds of every input, whichever way it is answered.
 
-ghost use Rattle.std.specs.Prelude.{◌≡◌, ℕ, List, [], ◌∷◌, ◌++◌};
+ghost use Rattle.std.specs.Prelude.{◌≡◌, ℕ, List, [], ◌∷◌, ◌++◌, take};
+ghost use Rattle.vs_reader.specs.Texts.{HasRows, EndsInLine};
 ghost use Rattle.mdvsp.specs.declared.status.Status.{Status};
 ghost use Rattle.mdvsp.specs.declared.status.Status.TheVariants.{Done};
 ghost use Rattle.mdvsp.specs.Laws.{IsDoneWhereShown};
 ghost use Rattle.mdvsp.specs.Owed.{OwesDocument, CheckOwes, yes_row};
-ghost use Rattle.mdvsp.specs.Rows.{Row, lines};
+ghost use Rattle.vs_reader.specs.Rows.{Row, lines};
 
-/// What `solve` has to write for an instance is true: behind the records that it read, `check` has to
-/// answer `yes`.
+/// What `solve` has to write for an instance is true: behind the instance's records, the last of which is
+/// ended by a line end, `check` has to answer `yes`.
 pub fn solved_documents_hold()
-    ensures { (bytes : List ℕ) (answer : Status) (rows : List Row) (owed : OwesDocument bytes answer rows)
-        → CheckOwes (owed.text.lines_are.read ++ lines rows) Done (yes_row owed.document ∷ []) }
+    ensures { (bytes read : List ℕ) (answer : Status) (rows : List Row) (owed : OwesDocument bytes answer rows)
+        → HasRows read (take owed.text.before owed.text.instance.rows) → EndsInLine read
+        → CheckOwes (read ++ lines rows) Done (yes_row owed.document ∷ []) }
 {}
 
 /// No input has two verdicts: `check` is owed `yes`, `no` or a refusal, and only one of these.

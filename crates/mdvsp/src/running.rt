@@ -10,10 +10,8 @@ use crate::status::Status;
 use crate::words::{Command, command_of};
 use std::alloc::Global;
 use vs_io::{Sink, SlurpError, Source, slurp};
+use vs_reader::MAX_BYTES;
 use vs_types::Memory;
-
-/// How many bytes an input may have.
-const INPUT_LIMIT: u64 = 536_870_912;
 
 /// Does what the words ask for, and says how it ended. The input is read to its end, and nothing is
 /// written before the whole output stands. Where the words are wrong, nothing is read.
@@ -63,7 +61,7 @@ fn obey<I: Source, O: Sink>(
     }) result }
     ensures never_falls { (I.faults input.old ≤ I.faults input.new) × (O.faults output.old ≤ O.faults output.new) }
 {
-    match slurp(alloc, input, INPUT_LIMIT) {
+    match slurp(alloc, input, MAX_BYTES as u64) {
         Ok(bytes) => say(answer_to(alloc, command, &bytes), output),
         Err(SlurpError::ReadFault) => Status::ReadFault,
         Err(SlurpError::TooLong) => Status::TooLong,

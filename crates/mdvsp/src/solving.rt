@@ -1,33 +1,29 @@
-ghost use Rattle.std.specs.Prelude.{◌≡◌, ◌≤◌, length, IfOk, IsErrOf};
+ghost use Rattle.std.specs.Prelude.{◌≡◌, ◌≤◌, length, IfOk};
+ghost use Rattle.vs_reader.specs.Names.{HaveCounts};
 ghost use Rattle.mdvsp.specs.Answered.{IsOwedFor, IsDocumentOf};
-ghost use Rattle.mdvsp.specs.FirstForm.{SolveText};
-ghost use Rattle.mdvsp.specs.Names.{HaveCounts};
 ghost use Rattle.mdvsp.specs.Outcome.{input_limit};
-ghost use Rattle.mdvsp.specs.Owed.{IsSolveText, status_of};
+ghost use Rattle.mdvsp.specs.Owed.{status_of};
 
 use crate::answer::Answer;
-use crate::form_error::FormError;
-use crate::lines::rows_before_result;
 use crate::planning::first_answer;
-use crate::reader::{Input, read_instance};
 use crate::status::Status;
 use crate::words::Command;
 use crate::writing::write_document;
 use std::alloc::Global;
 use vs_check::Claim;
+use vs_reader::{Input, ReadError, read};
 use vs_types::Memory;
 
-/// What `solve --nodes 0` answers for the bytes of an instance.
+/// What `solve --nodes 0` answers for the bytes of an instance, whatever follows its records.
 pub fn answer_solve(alloc: Global, bytes: &[u8]) -> Result<Answer, Memory>
     requires { length bytes.now ≤ input_limit }
     ensures { IfOk result (IsOwedFor Command.Solve bytes.now) }
 {
-    let input = match read_input(alloc, bytes) {
-        Ok(input) => input,
-        Err(FormError::NotThisForm) => return Answer::refused(alloc),
-        Err(FormError::Memory) => return Err(Memory),
-    };
-    plan_of(alloc, &input)
+    match read(alloc, bytes) {
+        Ok(input) => plan_of(alloc, &input),
+        Err(ReadError::Refused(refused)) => Answer::refused(alloc, refused),
+        Err(ReadError::Memory) => Err(Memory),
+    }
 }
 
 /// The answer for an instance that was read.
@@ -41,16 +37,6 @@ fn plan_of(alloc: Global, input: &Input) -> Result<Answer, Memory>
         status: claim_status(document.claim),
         text,
     })
-}
-
-/// Reads the bytes as an instance, up to the first line whose first field is `result`.
-fn read_input(alloc: Global, bytes: &[u8]) -> Result<Input, FormError>
-    requires { length bytes.now ≤ input_limit }
-    ensures found { IfOk result (λ input. SolveText bytes.now input.instance input.names) }
-    ensures none { IsErrOf result FormError.NotThisForm → ¬ (IsSolveText bytes.now) }
-{
-    let rows = rows_before_result(alloc, bytes)?;
-    read_instance(alloc, &rows, rows.len())
 }
 
 /// The status that goes with a claim.

@@ -1,4 +1,6 @@
-ghost use Rattle.std.specs.Prelude.{◌≡◌, List, [], ◌∷◌, ◌++◌, OnOk};
+ghost use Rattle.std.specs.Prelude.{◌≡◌, ◌<◌, List, [], ◌∷◌, ◌++◌, OnOk};
+ghost use Rattle.mdvsp.specs.Generator.{name};
+ghost use Rattle.mdvsp.specs.Times.{time_field, two_digits};
 
 use itoa::{Buffer, Integer};
 use std::alloc::Global;
@@ -53,6 +55,38 @@ impl Text {
     {
         let mut buffer = Buffer::new();
         self.field(buffer.format(n))
+    }
+
+    /// Adds a name to the row: a letter and a number, counted from 1.
+    pub fn name(&mut self, letter: &str, k: u32) -> Result<(), Memory>
+        ensures { OnOk result (self.new ≡ self.old ++ 44 ∷ name letter.now k) }
+    {
+        let mut buffer = Buffer::new();
+        self.field(letter)?;
+        let number = buffer.format(u64::from(k) + 1);
+        self.bytes.extend_from_slice(number.as_bytes())?;
+        Ok(())
+    }
+
+    /// Adds a time to the row, in minutes from 0:00 of the first day: two digits, a colon, two digits.
+    pub fn time(&mut self, minute: u32) -> Result<(), Memory>
+        requires { minute < 6000 }
+        ensures { OnOk result (self.new ≡ self.old ++ 44 ∷ time_field minute) }
+    {
+        self.bytes.push(b',')?;
+        self.two_digits(minute / 60)?;
+        self.bytes.push(b':')?;
+        self.two_digits(minute % 60)
+    }
+
+    /// Adds a number to the text, as two digits.
+    fn two_digits(&mut self, n: u32) -> Result<(), Memory>
+        requires { n < 100 }
+        ensures { OnOk result (self.new ≡ self.old ++ two_digits n) }
+    {
+        self.bytes.push(b'0' + (n / 10) as u8)?;
+        self.bytes.push(b'0' + (n % 10) as u8)?;
+        Ok(())
     }
 
     /// Ends the row.

@@ -18,7 +18,7 @@ use Rattle.vs_reader.proofs.KindLemmas.{AddsOfKind, adds_by_kind}
 use Rattle.vs_reader.specs.Numbers.{IsTime}
 use Rattle.vs_reader.specs.InstanceText.{Declared, nothing_yet, IsNew, AddsStop, AddsDeadhead, AddsLayer, AddsTrip, Adds, AddAll, NameLayers}
 use Rattle.vs_reader.specs.Drafts.{AreApart, IsSound}
-use Rattle.vs_reader.proofs.ReaderNames.{Names-Contains}
+use Rattle.vs_reader.proofs.NameLemmas.{Names-Contains}
 use Rattle.vs_reader.proofs.RowsSayOne.{same_field, one_deadhead, one_layer, one_trip}
 
 AreApart-push : (names : List Field) (f : Field) → AreApart names → IsNew names f → AreApart (names ++ f ∷ [])

@@ -1,10 +1,10 @@
-pub mod ReaderNames
+pub mod NameLemmas
 pub mod NumberedNames
 pub mod RuleLemmas
 pub mod NamedLayers
 pub mod RecordFields
-pub mod ReaderNumbers
-pub mod Parts
+pub mod NumberLemmas
+pub mod ListParts
 pub mod RowPlaces
 pub mod RowBuilderLemmas
 pub mod CsvRecords
@@ -17,3 +17,4 @@ pub mod RefusedLemmas
 pub mod HeaderLemmas
 pub mod Progress
 pub mod TextLemmas
+pub mod LineLemmas

@@ -13,7 +13,7 @@ use Rattle.vs_reader.specs.InstanceText.{NameLayers}
 use Rattle.vs_reader.specs.declared.refused.Why.{Why}
 use Rattle.vs_reader.specs.Rules.{Rule, IsNoneOf, AreKept, BreaksFirst, known_name, layer_names}
 use Rattle.vs_reader.proofs.RuleLemmas.{AreKept-append, BreaksFirst-skip, BreaksFirst-stop, layer_names-append}
-use Rattle.vs_reader.proofs.ReaderNames.{Contains-Names}
+use Rattle.vs_reader.proofs.NameLemmas.{Contains-Names}
 
 -- no fields
 pub NameLayers-nil : (names : List Field) → NameLayers names [] (record { 0 = 0 })

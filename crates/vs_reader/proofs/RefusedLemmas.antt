@@ -13,7 +13,7 @@ use Rattle.vs_reader.specs.InstanceText.{Declared, AddsStop, AddsDeadhead, AddsL
 use Rattle.vs_reader.specs.Rules.{AreKept, HasRoom, rules, rules_of_kind, stop_rules, deadhead_rules, layer_rules, trip_rules, layer_names}
 use Rattle.vs_reader.specs.Refusals.{BreaksRule}
 use Rattle.vs_instance.specs.declared.limits.TheConstants.{MAX_TRIPS}
-use Rattle.vs_reader.proofs.ReaderNames.{Contains-Names}
+use Rattle.vs_reader.proofs.NameLemmas.{Contains-Names}
 use Rattle.vs_reader.proofs.RuleLemmas.{AreKept-append, broken_not_kept}
 use Rattle.vs_reader.proofs.KindLemmas.{AddsOfKind, adds_by_kind, names_after}
 

@@ -8,7 +8,7 @@ use Rattle.vs_reader.specs.declared.rows.RowBuilder.{RowBuilder}
 use Rattle.vs_reader.specs.Rows.{Field, Row, field_of}
 use Rattle.vs_reader.specs.RowEnds.{parts_from, end_of, row_weight, weight_of}
 use Rattle.vs_reader.specs.RowBuilding.{built, size_of, IsWhole}
-use Rattle.vs_reader.proofs.Parts.{parts_from-push, parts_from-append, end_of-push, in_order-push, range_to_end, length-parts_from}
+use Rattle.vs_reader.proofs.ListParts.{parts_from-push, parts_from-append, end_of-push, in_order-push, range_to_end, length-parts_from}
 use Rattle.vs_reader.proofs.CsvRecords.{row_weight-push}
 
 -- a row and more fields

@@ -17,6 +17,14 @@ field_of row k = slice_index_or row k []
 abbrev pub row_of : List Row → ℕ → Row
 row_of rows k = slice_index_or rows k []
 
+-- the fields with commas between them
+abbrev pub fields : Row → List ℕ
+fields row = join_with_byte 44 row
+
+-- the fields behind the first, each with a comma before it
+abbrev pub more_fields : List Field → List ℕ
+more_fields more = flat_map (λ field. 44 ∷ field) more
+
 -- the fields with commas between them, and a line feed
 abbrev pub line : Row → List ℕ
 line row = join_with_byte 44 row ++ 10 ∷ []

@@ -3,7 +3,7 @@ ghost use Rattle.mdvsp.specs.DocumentText.{IsBetween};
 ghost use Rattle.mdvsp.specs.DocumentParts.{row_at, IsOfKind, number_row};
 
 use super::numbers::between;
-use crate::rows::Rows;
+use vs_reader::Rows;
 
 /// Whether a field is this text.
 pub fn is_text(field: &[u8], text: &str) -> bool

@@ -2,14 +2,14 @@ ghost use Rattle.std.specs.Prelude.{◌≡◌, ℕ, ◌+◌, ◌<◌, ◌≤◌,
 ghost use Rattle.vs_types.specs.declared.numbers.TripNo.{TripNo as TripOf};
 ghost use Rattle.vs_instance.specs.Plan.{LayerBlock};
 ghost use Rattle.vs_plan.specs.Blocks.{blocks_of};
-ghost use Rattle.mdvsp.specs.NameRules.{AreNames};
-ghost use Rattle.mdvsp.specs.DocumentText.{name_of};
+ghost use Rattle.vs_reader.specs.NameRules.{AreNames};
+ghost use Rattle.vs_reader.specs.Names.{name_of};
 ghost use Rattle.mdvsp.specs.DocumentParts.{row_at, IsBlockKind, IsBlockRow, IsPlanAt, NameTrips};
 
 use super::fields::is_text;
 use crate::form_error::FormError;
-use crate::reader::Names;
-use crate::rows::Rows;
+use vs_reader::Names;
+use vs_reader::Rows;
 use std::alloc::Global;
 use vs_plan::{Block, Plan};
 use vs_types::{LayerNo, TripNo};

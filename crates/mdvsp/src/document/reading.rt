@@ -5,10 +5,9 @@ ghost use Rattle.vs_prices.specs.declared.table.Table.{Table as TableOf};
 ghost use Rattle.vs_plan.specs.Blocks.{blocks_of};
 ghost use Rattle.vs_check.specs.Form.{IsReadFor};
 ghost use Rattle.mdvsp.specs.declared.document.head.Head.{Head as HeadOf};
-ghost use Rattle.mdvsp.specs.NameRules.{AreNames};
-ghost use Rattle.mdvsp.specs.DocumentText.{DocumentText};
+ghost use Rattle.vs_reader.specs.NameRules.{AreNames};
 ghost use Rattle.mdvsp.specs.DocumentParts.{AreParts, HasParts, leaf_line, end_line, row_at};
-ghost use Rattle.mdvsp.specs.FirstForm.{IsFirstDocument};
+ghost use Rattle.mdvsp.specs.FirstForm.{FirstDocumentText};
 ghost use Rattle.mdvsp.specs.Alike.{AreAlike};
 
 use super::fields::{is_of_kind, is_text};
@@ -16,8 +15,8 @@ use super::head::{Head, read_head};
 use super::plan::read_plan;
 use super::table::{empty_table, read_table};
 use crate::form_error::FormError;
-use crate::reader::Names;
-use crate::rows::Rows;
+use vs_reader::Names;
+use vs_reader::Rows;
 use std::alloc::Global;
 use vs_check::{Document, Shape};
 use vs_instance::Instance;
@@ -32,27 +31,23 @@ struct Parts {
     table: Table,
 }
 
-/// Reads the rows from `start` on as a document of the first form: its bound is a number, it has one cost
-/// table, and its tree is one leaf.
+/// Reads the rows as a document of the first form: its bound is a number, it has one cost table, and its
+/// tree is one leaf.
 pub fn read_document(
     alloc: Global,
     rows: &Rows,
-    start: usize,
     instance: &Instance,
     names: &Names,
 ) -> Result<Document, FormError>
-    requires start { start ≤ length rows.now }
     requires layers { length names.now.layers ≡ length instance.now.layers }
     requires trips { length names.now.trips ≡ length instance.now.trips }
-    ensures found { IfOk result (DocumentText instance.now names.now (drop start rows.now)) }
-    ensures form { IfOk result IsFirstDocument }
+    ensures found { IfOk result (FirstDocumentText instance.now names.now rows.now) }
     ensures read_for { IfOk result (IsReadFor instance.now) }
-    ensures only { IfOk result (λ d. (other : DocumentOf) → DocumentText instance.now names.now (drop start rows.now) other
-        → IsFirstDocument other → AreAlike d other) }
-    ensures none { result ≡ Err FormError.NotThisForm → (d : DocumentOf) → DocumentText instance.now names.now (drop start rows.now) d
-        → ¬ (IsFirstDocument d) }
+    ensures only { IfOk result (λ d. (other : DocumentOf) → FirstDocumentText instance.now names.now rows.now other
+        → AreAlike d other) }
+    ensures none { result ≡ Err FormError.NotThisForm → (d : DocumentOf) → ¬ (FirstDocumentText instance.now names.now rows.now d) }
 {
-    let parts = read_parts(alloc, rows, start, instance, names)?;
+    let parts = read_parts(alloc, rows, 0, instance, names)?;
     document(alloc, parts)
 }
 

@@ -2,16 +2,16 @@ ghost use Rattle.std.specs.Prelude.{◌≡◌, ℕ, ◌^◌, ◌<◌, ◌≤◌,
 ghost use Rattle.vs_prices.specs.Table.{IsPrice, Fits};
 ghost use Rattle.vs_prices.specs.declared.table.Table.{Table as TableOf};
 ghost use Rattle.std.specs.Fmt.{signed_decimal};
-ghost use Rattle.mdvsp.specs.Rows.{Row};
-ghost use Rattle.mdvsp.specs.NameRules.{AreNames};
+ghost use Rattle.vs_reader.specs.Rows.{Row};
+ghost use Rattle.vs_reader.specs.NameRules.{AreNames};
 ghost use Rattle.mdvsp.specs.DocumentText.{table_rows};
 ghost use Rattle.mdvsp.specs.DocumentParts.{row_at, price_line, fleet_line, price_lines, layer_lines, ArePrices, ReadsPrices, ReadsLayer, ReadsTable, IsEmptyTable};
 
 use super::fields::{is_of_kind, is_text};
 use super::numbers::between;
 use crate::form_error::FormError;
-use crate::reader::Names;
-use crate::rows::Rows;
+use vs_reader::Names;
+use vs_reader::Rows;
 use std::alloc::Global;
 use vs_instance::Instance;
 use vs_prices::Table;

@@ -1,10 +1,10 @@
 ghost use Rattle.std.specs.Prelude.{◌≡◌, ◌<◌, ◌++◌, length, map, All, OnOk};
 ghost use Rattle.vs_plan.specs.Blocks.{blocks_of};
-ghost use Rattle.mdvsp.specs.Rows.{line, lines};
+ghost use Rattle.vs_reader.specs.Rows.{line, lines};
 ghost use Rattle.mdvsp.specs.DocumentText.{block_row};
 ghost use Rattle.mdvsp.specs.WrittenParts.{IsNamedBlock};
 
-use crate::reader::Names;
+use vs_reader::Names;
 use crate::text::Text;
 use vs_plan::{Block, Plan};
 use vs_types::Memory;

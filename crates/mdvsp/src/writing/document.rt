@@ -1,12 +1,12 @@
 ghost use Rattle.std.specs.Prelude.{◌≡◌, ◌∷◌, ◌++◌, [], length, codes, decimal, IfOk, OnOk};
-ghost use Rattle.mdvsp.specs.Rows.{line, lines};
+ghost use Rattle.vs_reader.specs.Rows.{line, lines};
 ghost use Rattle.mdvsp.specs.DocumentText.{HasText, claim_field, number_field, head_rows, document_rows};
 
 use super::amounts::{bound_field, claim_field, cost_field};
 use super::blocks::write_blocks;
 use super::shapes::write_shapes;
 use super::tables::write_tables;
-use crate::reader::Names;
+use vs_reader::Names;
 use crate::text::Text;
 use std::alloc::Global;
 use vs_check::{Claim, Document};

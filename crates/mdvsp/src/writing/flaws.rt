@@ -1,10 +1,10 @@
 ghost use Rattle.std.specs.Prelude.{◌≡◌, [], ◌∷◌, ◌++◌, length, OnOk};
 ghost use Rattle.vs_check.specs.Flaws.{IsBreakWithin, IsFaultWithin, IsFlawWithin};
 ghost use Rattle.mdvsp.specs.FlawRows.{broken_fields, fault_fields, flaw_fields, position_field};
-ghost use Rattle.mdvsp.specs.Rows.{more_fields};
+ghost use Rattle.vs_reader.specs.Rows.{more_fields};
 
 use super::amounts::{bound_field, claim_field};
-use crate::reader::Names;
+use vs_reader::Names;
 use crate::text::Text;
 use vs_check::Flaw;
 use vs_plan::PlanFault;

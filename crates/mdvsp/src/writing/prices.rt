@@ -1,10 +1,11 @@
 ghost use Rattle.std.specs.Prelude.{◌≡◌, ◌∷◌, [], ◌<◌, ◌++◌, length, codes, OnOk};
 ghost use Rattle.std.specs.Fmt.{signed_decimal};
 ghost use Rattle.vs_prices.specs.Table.{Fits};
-ghost use Rattle.mdvsp.specs.Rows.{line, lines};
-ghost use Rattle.mdvsp.specs.DocumentText.{layer_rows, name_of};
+ghost use Rattle.vs_reader.specs.Rows.{line, lines};
+ghost use Rattle.mdvsp.specs.DocumentText.{layer_rows};
+ghost use Rattle.vs_reader.specs.Names.{name_of};
 
-use crate::reader::Names;
+use vs_reader::Names;
 use crate::text::Text;
 use vs_instance::Instance;
 use vs_prices::Table;

@@ -1,9 +1,9 @@
 ghost use Rattle.std.specs.Prelude.{◌≡◌, ◌+◌, ◌<◌, ◌∷◌, [], ◌++◌, length, map, All, codes, decimal, OnOk};
-ghost use Rattle.mdvsp.specs.Rows.{line, lines};
+ghost use Rattle.vs_reader.specs.Rows.{line, lines};
 ghost use Rattle.mdvsp.specs.DocumentText.{shape_row};
 ghost use Rattle.mdvsp.specs.WrittenParts.{IsNamedShape, split_row, AreNamedLayers};
 
-use crate::reader::Names;
+use vs_reader::Names;
 use crate::text::Text;
 use vs_check::Shape;
 use vs_types::{LayerNo, LayerSet, Memory, TripNo};

@@ -1,13 +1,21 @@
-use Rattle.std.proofs.Common.{Err, ap}
-use Rattle.mdvsp.proofs.CheckTexts.{names_counts}
-use Rattle.mdvsp.proofs.OwedAnswers.{solve_refusal_owed, document_owed}
+use Rattle.std.proofs.Common.{subst}
+use Rattle.vs_reader.specs.ReadErrors.{RefusesAs}
+use Rattle.vs_reader.specs.Texts.{IsRefused}
+use Rattle.vs_reader.proofs.TextLemmas.{stands_counts}
+use Rattle.mdvsp.specs.declared.words.Command.TheVariants.{Solve}
+use Rattle.mdvsp.proofs.OwedAnswers.{refusal_owed, document_owed}
 use Rattle.mdvsp.proofs.solving.answer_solve.Goals as goal
 
-pub returns-in-Err-NotThisForm : goal.returns-in-Err-NotThisForm
-returns-in-Err-NotThisForm c = solve_refusal_owed c.args.bytes.now c.refused.result (c.in-Err-NotThisForm.ensures.none (ap Err c.in-Err-NotThisForm.field-0-is)) c.refused.ensures
-
 pub plan_of-requires : goal.plan_of-requires
-plan_of-requires c = names_counts _ _ _ c.in-Ok.ensures.found.instance
+plan_of-requires c = stands_counts c.args.bytes.now c.in-Ok.input.instance c.in-Ok.input.names c.in-Ok.input.before c.in-Ok.input.rest c.in-Ok.ensures.found
 
-pub returns : goal.returns
-returns c = document_owed c.args.bytes.now c.in-Ok.input.instance c.in-Ok.input.names c.plan_of.result c.in-Ok.ensures.found c.plan_of.ensures
+pub returns-in-Ok : goal.returns-in-Ok
+returns-in-Ok c =
+    let input = c.in-Ok.input in
+    document_owed c.args.bytes.now input.instance input.names c.plan_of.result
+    (record { before = input.before; rest = input.rest; instance = c.in-Ok.ensures.found }) c.plan_of.ensures
+
+pub returns-in-Err-Refused : goal.returns-in-Err-Refused
+returns-in-Err-Refused c =
+    refusal_owed Solve c.args.bytes.now c.in-Err-Refused.refused c.refused.result
+    (subst (RefusesAs (IsRefused c.args.bytes.now)) c.in-Err-Refused.field-0-is c.in-Err-Refused.ensures.refused) c.refused.ensures

@@ -22,7 +22,7 @@ returns-in_default-clause-none c = λ _.
     (omega (arith, c.loop-i-test.true, c.trips-i-end.ensures.count))
     (is_permitted c.args.instance.now c.args.l.0 c.loop-i.i c.trip.result.now c.has.result c.trip.ensures c.if-not-has.false c.has.ensures)
     (λ a b a_price b_price e. c.in_default.ensures.none a b a_price b_price
-    (same_line (get_or c.args.rows.now c.loop-i.next []) _ _ c.layer.result.now c.trip-in-loop-i.result.now a b (sym c.layer.ensures) (sym c.trip-in-loop-i.ensures) e))
+    (same_line (get_or c.args.rows.now c.loop-i.next []) _ _ c.layer.result.now c.trip-in-loop-i.result.now a b (sym c.layer.ensures.name) (sym c.trip-in-loop-i.ensures.name) e))
 
 pub loop-i-preserved : goal.loop-i-preserved
 loop-i-preserved c =
@@ -35,7 +35,7 @@ loop-i-preserved c =
       prices = prices_with c.args.instance.now c.args.names.now c.args.l.0 c.loop-i.i (drop c.args.at c.args.rows.now) (drop c.loop-i.next c.args.rows.now) (drop (c.loop-i.next + 1) c.args.rows.now)
           c.args.table.now c.loop-i.table _ c.in-Some.into c.in-Some.from c.loop-i.invariant.prices (omega (arith, c.loop-i-test.true, c.trips-i-end.ensures.count))
           (is_permitted c.args.instance.now c.args.l.0 c.loop-i.i c.trip.result.now c.has.result c.trip.ensures c.if-not-has.false c.has.ensures)
-          (drop_row c.args.rows.now c.loop-i.next _ (same_line (get_or c.args.rows.now c.loop-i.next []) _ _ _ _ c.in-Some.into c.in-Some.from c.layer.ensures c.trip-in-loop-i.ensures found.0) (omega arith))
+          (drop_row c.args.rows.now c.loop-i.next _ (same_line (get_or c.args.rows.now c.loop-i.next []) _ _ _ _ c.in-Some.into c.in-Some.from c.layer.ensures.name c.trip-in-loop-i.ensures.name found.0) (omega arith))
           found.1 found.2
           (record { into_is = into_pushed; from_is = from_pushed; fleet_is = refl; ray_is = refl });
       within = omega (arith, c.in-Some.ensures.within);

@@ -1,6 +1,6 @@
 use Rattle.std.proofs.Common.{◌≡◌, ◌∷◌, ◌++◌, take}
 use Rattle.std.specs.Prelude.{flat_map}
-use Rattle.mdvsp.specs.DocumentText.{name_of}
+use Rattle.vs_reader.specs.Names.{name_of}
 use Rattle.mdvsp.proofs.writing.blocks.write_block.Given as goal
 
 -- the trips so far are written

@@ -4,7 +4,7 @@ use Rattle.std.proofs.lemmas.List.{get_or-map, length-map}
 use Rattle.std.proofs.lemmas.List.Folds.{flat_map-map}
 use Rattle.vs_instance.specs.Plan.{LayerBlock}
 use Rattle.vs_plan.specs.declared.block.Block.{Block}
-use Rattle.mdvsp.specs.Rows.{line}
+use Rattle.vs_reader.specs.Rows.{line}
 use Rattle.mdvsp.specs.DocumentText.{block_row}
 use Rattle.mdvsp.specs.WrittenParts.{IsNamedBlock}
 use Rattle.mdvsp.proofs.WrittenRows.{lines-map, wrote_all}

@@ -1,6 +1,6 @@
 use Rattle.std.proofs.Common.{◌≡◌, ◌++◌, take}
 use Rattle.std.specs.Prelude.{flat_map}
-use Rattle.mdvsp.specs.Rows.{line}
+use Rattle.vs_reader.specs.Rows.{line}
 use Rattle.mdvsp.specs.DocumentText.{block_row}
 use Rattle.mdvsp.proofs.writing.blocks.write_blocks.Given as goal
 

@@ -3,7 +3,7 @@ use Rattle.std.specs.Prelude.{codes, map, flat_map}
 use Rattle.std.specs.List.{enumerate_from}
 use Rattle.std.proofs.lemmas.List.{append_assoc}
 use Rattle.vs_plan.specs.Blocks.{blocks_of}
-use Rattle.mdvsp.specs.Rows.{Row, lines}
+use Rattle.vs_reader.specs.Rows.{Row, lines}
 use Rattle.mdvsp.specs.DocumentText.{head_rows, block_row, table_rows, shape_row}
 use Rattle.mdvsp.proofs.LinesAppend.{lines-append}
 use Rattle.mdvsp.proofs.writing.document.write_document.Goals as goal

@@ -5,7 +5,7 @@ use Rattle.std.proofs.lemmas.Int.{to_z-of_z}
 use Rattle.std.proofs.lemmas.Result.{IfOk-equal}
 use Rattle.vs_check.specs.declared.flaw.Flaw.{Flaw}
 use Rattle.mdvsp.specs.FlawRows.{broken_fields, flaw_fields, position_field}
-use Rattle.mdvsp.specs.Rows.{Field, more_fields}
+use Rattle.vs_reader.specs.Rows.{Field, more_fields}
 use Rattle.mdvsp.proofs.WrittenRows.{wrote_field, wrote_last}
 use Rattle.mdvsp.proofs.writing.flaws.flaw_fields.Goals as goal
 

@@ -11,8 +11,9 @@ use mir.Syntax.{w64}
 use Rattle.vs_instance.specs.Ways.{trip_of}
 use Rattle.vs_instance.specs.HoldingTable.{price_of}
 use Rattle.vs_prices.specs.Table.{prices_in}
-use Rattle.mdvsp.specs.Rows.{Row, line}
-use Rattle.mdvsp.specs.DocumentText.{name_of, price_row}
+use Rattle.vs_reader.specs.Rows.{Row, line}
+use Rattle.mdvsp.specs.DocumentText.{price_row}
+use Rattle.vs_reader.specs.Names.{name_of}
 use Rattle.mdvsp.proofs.WrittenRows.{lines-map, flat_map-filter, numbered_more, numbered_all, price_read}
 use Rattle.mdvsp.proofs.writing.prices.write_layer.Goals as goal
 use Rattle.mdvsp.proofs.writing.prices.write_layer.Goals.{then-has+in_ok-write_price, else-has}

@@ -3,7 +3,7 @@ use Rattle.std.specs.Prelude.{flat_map}
 use Rattle.std.specs.List.{range_with_len}
 use Rattle.std.specs.Int.{bit_at}
 use Rattle.vs_instance.specs.Ways.{trip_of}
-use Rattle.mdvsp.specs.Rows.{line}
+use Rattle.vs_reader.specs.Rows.{line}
 use Rattle.mdvsp.specs.DocumentText.{price_row}
 use Rattle.mdvsp.proofs.writing.prices.write_layer.Given as goal
 

@@ -1,6 +1,6 @@
 use Rattle.std.proofs.Common.{◌++◌, sym, ap, ◌∙◌, arith}
 use Rattle.vs_check.specs.declared.shape.Shape.{Shape}
-use Rattle.mdvsp.specs.Rows.{line}
+use Rattle.vs_reader.specs.Rows.{line}
 use Rattle.mdvsp.specs.DocumentText.{shape_row}
 use Rattle.mdvsp.proofs.WrittenRows.{lines-map, wrote_all}
 use Rattle.mdvsp.proofs.writing.shapes.write_shapes.Goals as goal

@@ -6,8 +6,9 @@ use Rattle.std.proofs.lemmas.Bool.{eq-eqb, ne_eqb, false≢true}
 use Rattle.std.proofs.lemmas.List.{append_assoc, append-nil}
 use Rattle.std.proofs.lemmas.Result.{IfOk-equal}
 use Rattle.vs_types.specs.LayerSet.{members, layer_numbers}
-use Rattle.mdvsp.specs.Rows.{Field, more_fields}
-use Rattle.mdvsp.specs.DocumentText.{name_of}
+use Rattle.vs_reader.specs.Rows.{Field}
+use Rattle.vs_reader.specs.Names.{name_of}
+use Rattle.vs_reader.specs.Rows.{more_fields}
 use Rattle.mdvsp.proofs.WrittenRows.{more_fields-map, flat_map-filter, numbered_more, numbered_all, ended_row}
 use Rattle.mdvsp.proofs.writing.shapes.write_split.Goals as goal
 use Rattle.mdvsp.proofs.writing.shapes.write_split.Goals.{then-has+in_ok-field-2, else-has}
@@ -23,7 +24,7 @@ loop-l-preserved c =
     let after : c.if-has.text ≡ text ++ written k =
     elim c.if-has.branch [
       | then-has+in_ok-field-2 w ↦
-          w.text-is ∙ w.in_ok-field-2.ensures ∙ ap (λ f. text ++ (44 ∷ f)) w.layer.ensures
+          w.text-is ∙ w.in_ok-field-2.ensures ∙ ap (λ f. text ++ (44 ∷ f)) w.layer.ensures.name
           ∙ sym (ap (λ t. text ++ cond t (44 ∷ name_of names.layers k) []) (eq-eqb (bit_at bits k) 1 (c.has.ensures.0 w.if-has.true)))
       | else-has w ↦
           let other : bit_at bits k ≡ 1 → ⊥ = λ has. false≢true (sym w.if-has.false ∙ c.has.ensures.1 has) in
@@ -41,7 +42,7 @@ returns c =
     let all = numbered_all (λ l. cond (has l) (bytes l) []) c.field.new.self c.loop-l.text 16 c.loop-l.l c.loop-l-test.false c.loop-l.invariant in
     let in_set : flat_map (λ l. cond (has l) (bytes l) []) (range_with_len 0 16) ≡ flat_map bytes (members left) =
     flat_map-filter has bytes (range_with_len 0 16) ∙ ap (λ ls. flat_map bytes (filter has ls)) (sym numbers_are) in
-    let first : c.field.new.self ≡ begun ++ (44 ∷ trip) = c.in_ok-field.ensures ∙ ap (λ f. begun ++ (44 ∷ f)) c.trip.ensures in
+    let first : c.field.new.self ≡ begun ++ (44 ∷ trip) = c.in_ok-field.ensures ∙ ap (λ f. begun ++ (44 ∷ f)) c.trip.ensures.name in
     let goes : c.loop-l.text ≡ begun ++ more_fields (trip ∷ map name (members left)) =
     all ∙ ap (λ rest. c.field.new.self ++ rest) in_set ∙ ap (λ text. text ++ flat_map bytes (members left)) first
     ∙ append_assoc begun (44 ∷ trip) (flat_map bytes (members left))

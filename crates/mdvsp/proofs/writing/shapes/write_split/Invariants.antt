@@ -2,7 +2,7 @@ use Rattle.std.proofs.Common.{◌≡◌, [], ◌∷◌, ◌++◌, take, cond, eq
 use Rattle.std.specs.Prelude.{flat_map}
 use Rattle.std.specs.List.{range_with_len}
 use Rattle.std.specs.Int.{bit_at}
-use Rattle.mdvsp.specs.DocumentText.{name_of}
+use Rattle.vs_reader.specs.Names.{name_of}
 use Rattle.mdvsp.proofs.writing.shapes.write_split.Given as goal
 
 -- the layers so far are written

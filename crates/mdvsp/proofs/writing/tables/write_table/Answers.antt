@@ -2,7 +2,7 @@ use Rattle.std.proofs.Common.{ℕ, List, ◌∷◌, [], ◌++◌, length, cond, 
 use Rattle.std.specs.Prelude.{flat_map, codes, decimal}
 use Rattle.std.specs.List.{range_with_len}
 use Rattle.std.proofs.lemmas.List.{append_assoc}
-use Rattle.mdvsp.specs.Rows.{Row, line, lines}
+use Rattle.vs_reader.specs.Rows.{Row, line, lines}
 use Rattle.mdvsp.specs.DocumentText.{layer_rows}
 use Rattle.mdvsp.proofs.WrittenRows.{lines-flat_map, numbered_more, numbered_all}
 use Rattle.mdvsp.proofs.writing.tables.write_table.Goals as goal

@@ -1,7 +1,7 @@
 use Rattle.std.proofs.Common.{◌≡◌, ◌++◌, length, take}
 use Rattle.std.specs.Prelude.{flat_map}
 use Rattle.std.specs.List.{range_with_len}
-use Rattle.mdvsp.specs.Rows.{lines}
+use Rattle.vs_reader.specs.Rows.{lines}
 use Rattle.mdvsp.specs.DocumentText.{layer_rows}
 use Rattle.mdvsp.proofs.writing.tables.write_table.Given as goal
 

@@ -1,7 +1,7 @@
 use Rattle.std.proofs.Common.{◌≡◌, ◌++◌, take}
 use Rattle.std.specs.Prelude.{flat_map}
 use Rattle.std.specs.List.{enumerate_from}
-use Rattle.mdvsp.specs.Rows.{lines}
+use Rattle.vs_reader.specs.Rows.{lines}
 use Rattle.mdvsp.specs.DocumentText.{table_rows}
 use Rattle.mdvsp.proofs.writing.tables.write_tables.Given as goal
 

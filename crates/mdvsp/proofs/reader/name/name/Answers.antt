@@ -1,6 +1,0 @@
-use Rattle.std.specs.Str.{IsValidUpTo, valid_up_to}
-use Rattle.mdvsp.proofs.ReaderNames.{name_from_utf8}
-use Rattle.mdvsp.proofs.reader.name.name.Goals as goal
-
-pub returns : goal.returns
-returns c = name_from_utf8 (λ e. IsValidUpTo c.args.field.now (valid_up_to e)) c.args.field.now c.from_utf8.result c.ok.result (c.is_name.ensures.0 c.if-not-is_name.false) c.from_utf8.ensures.cases c.ok.ensures.value

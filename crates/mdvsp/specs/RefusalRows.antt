@@ -1,0 +1,77 @@
+-- The row that tells why a text is refused.
+use Rattle.std.specs.Prelude.{ℕ, ◌+◌, List, [], ◌∷◌, ◌++◌, codes, decimal}
+use Rattle.vs_instance.specs.declared.misfit.Misfit.{Misfit}
+use Rattle.vs_instance.specs.declared.misfit.Misfit.TheVariants.{Range, SelfDeadhead, DeadheadTwice, EndNotAfterStart, NotClosed, LongerMinutes, LongerMetres}
+use Rattle.vs_instance.specs.declared.misfit.Field.{Field as RangeField}
+use Rattle.vs_instance.specs.declared.misfit.Field.TheVariants.{Fleet, Fixed, PerMinute, PerMetre, Minutes, Metres}
+use Rattle.vs_reader.specs.declared.refused.Refused.{Refused}
+use Rattle.vs_reader.specs.declared.refused.Why.{Why}
+use Rattle.vs_reader.specs.declared.refused.Why.TheVariants as why
+use Rattle.vs_reader.specs.Rows.{Field, Row}
+
+abbrev pub misfit_name : Misfit → Field
+misfit_name (Range field place) = codes "Range"
+misfit_name (SelfDeadhead n) = codes "SelfDeadhead"
+misfit_name (DeadheadTwice n) = codes "DeadheadTwice"
+misfit_name (EndNotAfterStart i) = codes "EndNotAfterStart"
+misfit_name (NotClosed k s t) = codes "NotClosed"
+misfit_name (LongerMinutes k s t) = codes "LongerMinutes"
+misfit_name (LongerMetres k s t) = codes "LongerMetres"
+
+-- the number of a refusal, and its name
+abbrev pub why_number : Why → ℕ
+why_number why.NoHeader = 1
+why_number why.UnknownKind = 2
+why_number why.FieldCount = 3
+why_number why.BadName = 4
+why_number why.NameTwice = 5
+why_number why.UnknownName = 6
+why_number why.BadNumber = 7
+why_number why.BadTime = 8
+why_number why.TooMany = 9
+why_number (why.Misfit misfit) = 10
+
+abbrev pub why_name : Why → Field
+why_name why.NoHeader = codes "NoHeader"
+why_name why.UnknownKind = codes "UnknownKind"
+why_name why.FieldCount = codes "FieldCount"
+why_name why.BadName = codes "BadName"
+why_name why.NameTwice = codes "NameTwice"
+why_name why.UnknownName = codes "UnknownName"
+why_name why.BadNumber = codes "BadNumber"
+why_name why.BadTime = codes "BadTime"
+why_name why.TooMany = codes "TooMany"
+why_name (why.Misfit misfit) = misfit_name misfit
+
+abbrev pub range_name : RangeField → Field
+range_name Fleet = codes "fleet"
+range_name Fixed = codes "fixed"
+range_name PerMinute = codes "per_minute"
+range_name PerMetre = codes "per_metre"
+range_name Minutes = codes "minutes"
+range_name Metres = codes "metres"
+
+-- the numbers of three stops, counted from 1
+abbrev pub stop_fields : ℕ → ℕ → ℕ → List Field
+stop_fields k s t = decimal (k + 1) ∷ decimal (s + 1) ∷ decimal (t + 1) ∷ []
+
+abbrev pub misfit_details : Misfit → List Field
+misfit_details (Range field place) = range_name field ∷ []
+misfit_details (SelfDeadhead n) = []
+misfit_details (DeadheadTwice n) = []
+misfit_details (EndNotAfterStart i) = []
+misfit_details (NotClosed k s t) = stop_fields k.0 s.0 t.0
+misfit_details (LongerMinutes k s t) = stop_fields k.0 s.0 t.0
+misfit_details (LongerMetres k s t) = stop_fields k.0 s.0 t.0
+
+abbrev pub why_details : Why → List Field
+why_details (why.Misfit misfit) = misfit_details misfit
+why_details _ = []
+
+-- `refused`, ROW, NUMBER, NAME, and the details of a misfit
+abbrev pub refusal_row : Refused → Row
+refusal_row refused = codes "refused" ∷ decimal refused.row ∷ decimal (why_number refused.why) ∷ why_name refused.why ∷ why_details refused.why
+
+-- `refused`, 0, 90, `NotThisForm`
+abbrev pub other_form_row : Row
+other_form_row = codes "refused" ∷ decimal 0 ∷ decimal 90 ∷ codes "NotThisForm" ∷ []
