@@ -126,7 +126,8 @@ module _ (old : Declared) (row : Row) (new : Declared) (are : AreAllNames old.na
                         (a.trip.end, r.end_is),
                         (
                           (a.trip.metres, r.metres_are),
-                          AreKept-append (layer_names old.names.layers [] r.layers) (HasRoom MAX_TRIPS old.names.trips ∷ []) layers
+                          AreKept-append (layer_names old.names.layers [] r.layers)
+                              (HasRoom MAX_TRIPS old.names.trips ∷ []) layers
                               (a.room, tt),
                         ),
                       ),

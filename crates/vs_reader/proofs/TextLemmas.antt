@@ -33,84 +33,114 @@ pub has_rows : (bytes : List ℕ) → (rows : List Row) × HasRows bytes rows
 has_rows bytes = has_records default_config state.StartRecord (strip_bom bytes)
 
 pub one_rows : (bytes : List ℕ) (rows others : List Row) → HasRows bytes rows → HasRows bytes others → others ≡ rows
-one_rows bytes rows others has other = same_records default_config state.StartRecord (strip_bom bytes) rows others has other
+one_rows bytes rows others has other =
+    same_records default_config state.StartRecord (strip_bom bytes) rows others has other
 
 length-strip_bom : (bytes : List ℕ) → length (strip_bom bytes) ≤ length bytes
 unfolding strip_bom
 length-strip_bom [] = omega arith
 length-strip_bom (a ∷ []) = omega arith
 length-strip_bom (a ∷ b ∷ []) = omega arith
-length-strip_bom (a ∷ b ∷ c ∷ rest) = elim (is_bom a b c) as (λ t. length (cond t rest (a ∷ b ∷ c ∷ rest)) ≤ length (a ∷ b ∷ c ∷ rest)) [
-  | true ↦ omega arith
-  | false ↦ omega arith
-]
+length-strip_bom (a ∷ b ∷ c ∷ rest) =
+    elim (is_bom a b c) as (λ t. length (cond t rest (a ∷ b ∷ c ∷ rest)) ≤ length (a ∷ b ∷ c ∷ rest)) [
+      | true ↦ omega arith
+      | false ↦ omega arith
+    ]
 
 pub weight_of-rows : (bytes : List ℕ) (rows : List Row) → HasRows bytes rows → weight_of rows ≤ length bytes + 1
-weight_of-rows bytes rows has = omega (arith, length-strip_bom bytes, weight_of-records default_config state.StartRecord (strip_bom bytes) rows has)
+weight_of-rows bytes rows has =
+    omega (arith, length-strip_bom bytes, weight_of-records default_config state.StartRecord (strip_bom bytes) rows has)
 
 pub length-rows : (bytes : List ℕ) (rows : List Row) → HasRows bytes rows → length rows ≤ length bytes + 1
-length-rows bytes rows has = omega (arith, weight_of-rows bytes rows has, length-records default_config state.StartRecord (strip_bom bytes) rows has)
+length-rows bytes rows has =
+    omega (
+      arith,
+      weight_of-rows bytes rows has,
+      length-records default_config state.StartRecord (strip_bom bytes) rows has,
+    )
 
 -- a text without a header
 module _ (bytes : List ℕ) (rows : List Row) (has : HasRows bytes rows) (lacks : ¬ (HasHeader rows)) where
   pub header_refused : IsRefused bytes (record { row = 1; why = why.NoHeader })
   header_refused = record { rows = rows; has_rows = has; refusal = inl (lacks, refl, refl) }
 
-  pub header_none : (p : Problem) (names : NameLists) (before : ℕ) (rest : List Row) → ¬ (StandsFor bytes p names before rest)
-  header_none p names before rest stands = lacks (subst HasHeader (one_rows bytes rows stands.rows has stands.has_rows) stands.text.first)
+  pub header_none : (p : Problem) (names : NameLists) (before : ℕ) (rest : List Row)
+      → ¬ (StandsFor bytes p names before rest)
+  header_none p names before rest stands =
+      lacks (subst HasHeader (one_rows bytes rows stands.rows has stands.has_rows) stands.text.first)
 
 -- a text with a header, and the rows after it
-module _ (bytes : List ℕ) (rows : List Row) (more : List Row) (header : Row) (has : HasRows bytes rows) (begins : HasHeader rows) (rows_are : rows ≡ header ∷ more) where
+module _ (bytes : List ℕ) (rows : List Row) (more : List Row) (header : Row) (has : HasRows bytes rows)
+    (begins : HasHeader rows) (rows_are : rows ≡ header ∷ more) where
   records_are : instance_records rows ≡ before_result more
   records_are = ap instance_records rows_are
 
   -- what another reading of the text declares
-  declares_too : (p : Problem) (names : NameLists) (before : ℕ) (rest : List Row) (stands : StandsFor bytes p names before rest)
+  declares_too : (p : Problem) (names : NameLists) (before : ℕ) (rest : List Row)
+      (stands : StandsFor bytes p names before rest)
       → AddAll nothing_yet (before_result more) stands.text.declared
   declares_too p names before rest stands =
-      subst (λ (rs : List Row). AddAll nothing_yet rs stands.text.declared) (ap instance_records (one_rows bytes rows stands.rows has stands.has_rows) ∙ records_are) stands.text.declares
+      subst (λ (rs : List Row). AddAll nothing_yet rs stands.text.declared)
+      (ap instance_records (one_rows bytes rows stands.rows has stands.has_rows) ∙ records_are) stands.text.declares
 
   -- a record breaks a rule
-  pub rule_refused : (e : ReadError) → RefusesAs (BreaksRule 2 nothing_yet.names (before_result more)) e → RefusesAs (IsRefused bytes) e
+  pub rule_refused : (e : ReadError) → RefusesAs (BreaksRule 2 nothing_yet.names (before_result more)) e
+      → RefusesAs (IsRefused bytes) e
   rule_refused (error.Refused refused) breaks = record {
     rows = rows;
     has_rows = has;
-    refusal = inr (begins, inl (subst (λ (rs : List Row). BreaksRule 2 nothing_yet.names rs refused) (sym records_are) breaks));
+    refusal =
+        inr (
+          begins,
+          inl (subst (λ (rs : List Row). BreaksRule 2 nothing_yet.names rs refused) (sym records_are) breaks),
+        );
   }
   rule_refused error.Memory breaks = tt
 
   pub rule_none : (e : ReadError) → RefusesAs (BreaksRule 2 nothing_yet.names (before_result more)) e → IsRefusedError e
       → (p : Problem) (names : NameLists) (before : ℕ) (rest : List Row) → ¬ (StandsFor bytes p names before rest)
   rule_none (error.Refused refused) breaks is p names before rest stands =
-      breaks_refutes 2 nothing_yet stands.text.declared (before_result more) refused AreAllNames-nothing breaks (declares_too p names before rest stands)
+      breaks_refutes 2 nothing_yet stands.text.declared (before_result more) refused AreAllNames-nothing breaks
+      (declares_too p names before rest stands)
   rule_none error.Memory breaks is p names before rest stands = is
 
   -- the records declare this
-  module _ (draft : Draft) (all : AddAll nothing_yet (before_result more) (declared_of draft)) (numbers : HasNumbers draft.numbers (before_result more)) where
-    same_declared : (p : Problem) (names : NameLists) (before : ℕ) (rest : List Row) (stands : StandsFor bytes p names before rest) → stands.text.declared ≡ declared_of draft
+  module _ (draft : Draft) (all : AddAll nothing_yet (before_result more) (declared_of draft))
+      (numbers : HasNumbers draft.numbers (before_result more)) where
+    same_declared : (p : Problem) (names : NameLists) (before : ℕ) (rest : List Row)
+        (stands : StandsFor bytes p names before rest) → stands.text.declared ≡ declared_of draft
     same_declared p names before rest stands =
-        one_AddAll nothing_yet stands.text.declared (declared_of draft) (before_result more) IsSound-nothing (declares_too p names before rest stands) all
+        one_AddAll nothing_yet stands.text.declared (declared_of draft) (before_result more) IsSound-nothing
+        (declares_too p names before rest stands) all
 
     -- which is no instance
     pub misfit_refused : (e : ReadError)
-        → RefusesAs (λ refused. (records : List Row) → AddAll nothing_yet records (declared_of draft) → HasNumbers draft.numbers records → HasMisfit records refused) e
+        → RefusesAs (λ refused. (records : List Row) → AddAll nothing_yet records (declared_of draft)
+        → HasNumbers draft.numbers records → HasMisfit records refused) e
         → RefusesAs (IsRefused bytes) e
     misfit_refused (error.Refused refused) misfit = record {
       rows = rows;
       has_rows = has;
-      refusal = inr (begins, inr (subst (λ (rs : List Row). HasMisfit rs refused) (sym records_are) (misfit (before_result more) all numbers)));
+      refusal =
+          inr (
+            begins,
+            inr (subst (λ (rs : List Row). HasMisfit rs refused) (sym records_are)
+                (misfit (before_result more) all numbers)),
+          );
     }
     misfit_refused error.Memory misfit = tt
 
-    pub misfit_none : (e : ReadError) → (IsRefusedError e → (p : Problem) → ¬ (Makes (declared_of draft) p)) → IsRefusedError e
+    pub misfit_none : (e : ReadError) → (IsRefusedError e → (p : Problem) → ¬ (Makes (declared_of draft) p))
+        → IsRefusedError e
         → (p : Problem) (names : NameLists) (before : ℕ) (rest : List Row) → ¬ (StandsFor bytes p names before rest)
     misfit_none e none is p names before rest stands =
         none is p (subst (λ (d : Declared). Makes d p) (same_declared p names before rest stands) stands.text.makes)
 
     -- which is an instance
-    module _ (left : List Row) (split : more ≡ before_result more ++ left) (p : Problem) (names : NameLists) (before : ℕ) (rest : List Row)
-        (makes : Makes (declared_of draft) p) (names_are : names ≡ draft.names) (before_is : before ≡ length (before_result more) + 1) (rest_is : rest ≡ left) where
-
+    module _ (left : List Row) (split : more ≡ before_result more ++ left) (p : Problem) (names : NameLists)
+        (before : ℕ) (rest : List Row)
+        (makes : Makes (declared_of draft) p) (names_are : names ≡ draft.names)
+        (before_is : before ≡ length (before_result more) + 1) (rest_is : rest ≡ left) where
       rest_there : rest ≡ drop before rows
       rest_there =
           let count : length (header ∷ before_result more) ≡ before = omega (arith, before_is) in
@@ -132,69 +162,106 @@ module _ (bytes : List ℕ) (rows : List Row) (more : List Row) (header : Row) (
         };
       }
 
-      pub stands_only : (q : Problem) (others : NameLists) (b : ℕ) (r : List Row) → StandsFor bytes q others b r → (q ≡ p) × (others ≡ names) × (b ≡ before) × (r ≡ rest)
+      pub stands_only : (q : Problem) (others : NameLists) (b : ℕ) (r : List Row) → StandsFor bytes q others b r
+          → (q ≡ p) × (others ≡ names) × (b ≡ before) × (r ≡ rest)
       stands_only q others b r stands =
           let same = same_declared q others b r stands in
           let same_rows = one_rows bytes rows stands.rows has stands.has_rows in
-          let b_is : b ≡ before = stands.text.before_is ∙ ap (λ (rs : List Row). length (instance_records rs) + 1) same_rows ∙ ap (λ (rs : List Row). length rs + 1) records_are ∙ sym before_is in (
+          let b_is : b ≡ before =
+          stands.text.before_is ∙ ap (λ (rs : List Row). length (instance_records rs) + 1) same_rows
+          ∙ ap (λ (rs : List Row). length rs + 1) records_are ∙ sym before_is in (
             stands.text.makes.problem
-            ∙ ap (λ (d : Declared). record { stops = length d.names.stops; deadheads = deadheads_of d.deadheads; layers = d.layers; trips = d.trips }) same ∙ sym makes.problem,
+                ∙ ap (λ (d : Declared). record {
+                  stops = length d.names.stops;
+                  deadheads =
+                      deadheads_of d.deadheads;
+                  layers = d.layers;
+                  trips = d.trips;
+                }) same ∙ sym makes.problem,
             stands.text.names_are ∙ ap (λ (d : Declared). d.names) same ∙ sym names_are,
             b_is,
             stands.text.rest_is ∙ (λ i. drop (b_is i) (same_rows i)) ∙ sym rest_there,
           )
 
 -- two readings of a text are one
-pub one_reading : (bytes : List ℕ) (p q : Problem) (names others : NameLists) (before b : ℕ) (rest r : List Row) → StandsFor bytes p names before rest → StandsFor bytes q others b r
+pub one_reading : (bytes : List ℕ) (p q : Problem) (names others : NameLists) (before b : ℕ) (rest r : List Row)
+    → StandsFor bytes p names before rest → StandsFor bytes q others b r
     → (q ≡ p) × (others ≡ names) × (b ≡ before) × (r ≡ rest)
 one_reading bytes p q names others before b rest r stands also =
     let rows = one_rows bytes stands.rows also.rows stands.has_rows also.has_rows in
     let same : also.text.declared ≡ stands.text.declared =
     one_AddAll nothing_yet also.text.declared stands.text.declared (instance_records stands.rows) IsSound-nothing
-    (subst (λ (rs : List Row). AddAll nothing_yet (instance_records rs) also.text.declared) rows also.text.declares) stands.text.declares in
-    let b_is : b ≡ before = also.text.before_is ∙ ap (λ (rs : List Row). length (instance_records rs) + 1) rows ∙ sym stands.text.before_is in (
+    (subst (λ (rs : List Row). AddAll nothing_yet (instance_records rs) also.text.declared) rows also.text.declares)
+    stands.text.declares in
+    let b_is : b ≡ before =
+    also.text.before_is ∙ ap (λ (rs : List Row). length (instance_records rs) + 1) rows
+    ∙ sym stands.text.before_is in (
       also.text.makes.problem
-      ∙ ap (λ (d : Declared). record { stops = length d.names.stops; deadheads = deadheads_of d.deadheads; layers = d.layers; trips = d.trips }) same
-      ∙ sym stands.text.makes.problem,
+          ∙ ap (λ (d : Declared). record {
+            stops = length d.names.stops;
+            deadheads =
+                deadheads_of d.deadheads;
+            layers = d.layers;
+            trips = d.trips;
+          }) same
+          ∙ sym stands.text.makes.problem,
       also.text.names_are ∙ ap (λ (d : Declared). d.names) same ∙ sym stands.text.names_are,
       b_is,
       also.text.rest_is ∙ (λ i. drop (b_is i) (rows i)) ∙ sym stands.text.rest_is,
     )
 
 -- what is declared isn't an instance where its parts have a misfit
-misfit_refutes : (records : List Row) (refused : Refused) (misfit : HasMisfit records refused) (p : Problem) → ¬ (Makes misfit.declared p)
+misfit_refutes : (records : List Row) (refused : Refused) (misfit : HasMisfit records refused) (p : Problem)
+    → ¬ (Makes misfit.declared p)
 misfit_refutes records refused misfit p makes =
     let parts = misfit.parts_are in
     let same : p ≡ problem_of misfit.parts =
-    makes.problem ∙ (λ i. record { stops = sym parts.stops i; deadheads = deadheads_of (sym parts.deadheads i); layers = sym parts.layers i; trips = sym parts.trips i }) in
+    makes.problem
+    ∙ (λ i. record {
+      stops = sym parts.stops i;
+      deadheads = deadheads_of (sym parts.deadheads i);
+      layers =
+          sym parts.layers i;
+      trips = sym parts.trips i;
+    }) in
     refuses misfit.parts misfit.misfit misfit.first (record {
-      once = subst (λ (ds : List Deadhead). AllPairs (λ d e. are_twins d e ≡ false) ds) (sym parts.deadheads) makes.once;
+      once = subst (λ (ds : List Deadhead). AllPairs (λ d e. are_twins d e ≡ false) ds)
+          (sym parts.deadheads) makes.once;
       instance = subst IsInstance same makes.instance;
     })
 
 -- a text that is refused stands for nothing
-pub refused_none : (bytes : List ℕ) (refused : Refused) (p : Problem) (names : NameLists) (before : ℕ) (rest : List Row) → IsRefused bytes refused → ¬ (StandsFor bytes p names before rest)
+pub refused_none : (bytes : List ℕ) (refused : Refused) (p : Problem) (names : NameLists) (before : ℕ)
+    (rest : List Row) → IsRefused bytes refused → ¬ (StandsFor bytes p names before rest)
 refused_none bytes refused p names before rest is stands =
     let rows = one_rows bytes is.rows stands.rows is.has_rows stands.has_rows in
-    let declares = subst (λ (rs : List Row). AddAll nothing_yet (instance_records rs) stands.text.declared) rows stands.text.declares in
+    let declares =
+    subst (λ (rs : List Row). AddAll nothing_yet (instance_records rs) stands.text.declared) rows
+    stands.text.declares in
     elim is.refusal [
       | inl lacks ↦ lacks.0 (subst HasHeader rows stands.text.first)
       | inr begins ↦ elim begins.1 [
-        | inl breaks ↦ breaks_refutes 2 nothing_yet stands.text.declared (instance_records is.rows) refused AreAllNames-nothing breaks declares
+        | inl breaks ↦
+            breaks_refutes 2 nothing_yet stands.text.declared
+            (instance_records is.rows) refused AreAllNames-nothing breaks declares
         | inr misfit ↦
             misfit_refutes (instance_records is.rows) refused misfit p
             (subst (λ (d : Declared). Makes d p)
-              (one_AddAll nothing_yet stands.text.declared misfit.declared (instance_records is.rows) IsSound-nothing declares misfit.declares) stands.text.makes)
+            (one_AddAll nothing_yet stands.text.declared misfit.declared
+            (instance_records is.rows) IsSound-nothing declares misfit.declares) stands.text.makes)
       ]
     ]
 
 -- a text has as many names as its instance has stops, layers and trips
-pub stands_counts : (bytes : List ℕ) (p : Problem) (names : NameLists) (before : ℕ) (rest : List Row) → StandsFor bytes p names before rest → HaveCounts p names
+pub stands_counts : (bytes : List ℕ) (p : Problem) (names : NameLists) (before : ℕ) (rest : List Row)
+    → StandsFor bytes p names before rest → HaveCounts p names
 stands_counts bytes p names before rest stands =
     let t = stands.text in
     let sound = IsSound-AddAll nothing_yet t.declared (instance_records stands.rows) IsSound-nothing t.declares in
     record {
       stops = ap (λ (n : NameLists). length n.stops) t.names_are ∙ sym (ap (λ (q : Problem). q.stops) t.makes.problem);
-      layers = ap (λ (n : NameLists). length n.layers) t.names_are ∙ sym sound.each_layer ∙ sym (ap (λ (q : Problem). length q.layers) t.makes.problem);
-      trips = ap (λ (n : NameLists). length n.trips) t.names_are ∙ sym sound.each_trip ∙ sym (ap (λ (q : Problem). length q.trips) t.makes.problem);
+      layers = ap (λ (n : NameLists). length n.layers) t.names_are ∙ sym sound.each_layer
+          ∙ sym (ap (λ (q : Problem). length q.layers) t.makes.problem);
+      trips = ap (λ (n : NameLists). length n.trips) t.names_are ∙ sym sound.each_trip
+          ∙ sym (ap (λ (q : Problem). length q.trips) t.makes.problem);
     }

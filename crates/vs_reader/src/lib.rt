@@ -16,6 +16,8 @@ mod record_numbers;
 mod records;
 mod refused;
 mod rows;
+#[cfg(test)]
+mod tests;
 mod text_records;
 mod time;
 

@@ -96,7 +96,8 @@ returns-in_err-end c =
                   to.0.0,
                   inr (
                     to.0.1.0,
-                    BreaksFirst-stop (WritesTime (field_of row 5) ∷ []) (after_end c.args.names.now row) c.in_err-end.field-0.0
+                    BreaksFirst-stop (WritesTime (field_of row 5) ∷ [])
+                        (after_end c.args.names.now row) c.in_err-end.field-0.0
                         (rw c.field-5.ensures at c.in_err-end.ensures),
                   ),
                 ),
@@ -230,7 +231,8 @@ returns-then-trips c =
                       inr (
                         metres.0.0,
                         BreaksFirst-skip (layer_names c.args.names.now.layers [] (drop 7 row))
-                            (HasRoom MAX_TRIPS c.args.names.now.trips ∷ []) TooMany c.in_ok-layers.ensures.0 (inl (full, refl)),
+                            (HasRoom MAX_TRIPS c.args.names.now.trips ∷ []) TooMany c.in_ok-layers.ensures.0
+                            (inl (full, refl)),
                       ),
                     ),
                   ),
