@@ -161,3 +161,13 @@ returns-clause-only c =
     d.left d.rows_are c.in_ok-instance.instance c.in_ok-instance.names c.from-before.result c.in_ok-rest.rest
     c.in_ok-instance.ensures.found.0 c.in_ok-instance.ensures.found.1
     (c.from-before.ensures ∙ d.before) (c.in_ok-rest.ensures d.left d.left_are)
+
+pub returns-in_err-rest-clause-refused : goal.returns-in_err-rest-clause-refused
+returns-in_err-rest-clause-refused c =
+    let p = err_from_is_err_and c.from_residual-in_err-rest.result c.from_residual-in_err-rest.ensures.1 in
+    rw (p.1, p.2) tt
+
+pub returns-in_err-rest-clause-none : goal.returns-in_err-rest-clause-none
+returns-in_err-rest-clause-none c =
+    let p = err_from_is_err_and c.from_residual-in_err-rest.result c.from_residual-in_err-rest.ensures.1 in
+    rw (p.1, p.2) (λ is. absurd is)
