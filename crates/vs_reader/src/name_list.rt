@@ -28,7 +28,8 @@ impl Model for NameList {
 
     ghost view = { λ a. map string_bytes a.names.keys };
 
-    ghost invariant = { λ a. AreNames (map string_bytes a.names.keys) × AreNumbers (map string_bytes a.names.keys) a.numbers };
+    ghost invariant = { λ a. AreNames (map string_bytes a.names.keys)
+        × AreNumbers (map string_bytes a.names.keys) a.numbers };
 }
 
 impl NameList {

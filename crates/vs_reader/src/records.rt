@@ -22,7 +22,8 @@ use vs_types::{LayerNo, LayerSet, StopNo};
 /// The name of a stop that a record declares.
 pub fn stop<'r>(names: &Names, record: &'r ByteRecord) -> Result<&'r [u8], Why>
     requires { field_of (fields_of record.now) 0 ≡ codes "stop" }
-    ensures { Judged (stop_rules names.now (fields_of record.now)) (λ name. name.now ≡ field_of (fields_of record.now) 1) result }
+    ensures { Judged (stop_rules names.now (fields_of record.now))
+        (λ name. name.now ≡ field_of (fields_of record.now) 1) result }
 {
     if record.len() != 2 {
         return Err(Why::FieldCount);
