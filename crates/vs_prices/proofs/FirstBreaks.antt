@@ -1,8 +1,9 @@
 -- The first break on the moves of a trip that the layer may run.
-use Rattle.std.proofs.Common.{◌≡◌, ℕ, Bool, true, false, cond, eqb, List, [], ◌++◌, length, sym, ap, ◌∙◌, Option, Some, None, ℤ, ◌↔◌}
+use Rattle.std.proofs.Common.{◌≡◌, ℕ, Bool, true, false, cond, eqb, List, [], ◌++◌, length, sym, ap, ◌∙◌, Option, Some, None, refl, arith, ℤ, ◌≤ℤ◌, ◌↔◌}
 use Rattle.std.specs.Prelude.{flat_map}
 use Rattle.std.specs.Int.{bit_at}
 use Rattle.std.specs.List.{range_with_len}
+use Rattle.std.proofs.lemmas.Int.{ints}
 use Rattle.vs_instance.specs.declared.trip.Trip.{Trip}
 use Rattle.vs_instance.specs.Firsts.{first, when}
 use Rattle.vs_instance.specs.Problem.{Problem}
@@ -19,6 +20,13 @@ pub may_run-is : (p : Problem) (l i : ℕ) (has : Bool) (trip : Trip) → trip �
     → ((has ≡ true) ↔ (bit_at trip.layers.0 l ≡ 1)) → has ≡ may_run p l i
 may_run-is p l i has trip is test =
     same_test has (bit_at trip.layers.0 l) test ∙ ap (λ (t : Trip). eqb (bit_at t.layers.0 l) 1) is
+
+-- where a price is no more than the other one, no piece of cost is too little
+pub exceeds-within : (price other : ℤ) (ray : Bool) (piece : Option ℕ) → price ≤ℤ other
+    → exceeds price other ray piece ≡ false
+exceeds-within price other ray None within = refl
+exceeds-within price other true (Some c) within = grind (arith, ints)
+exceeds-within price other false (Some c) within = grind (arith, ints)
 
 -- the test of prices that stand for others
 pub exceeds-same : (price price' other other' : ℤ) (ray : Bool) (piece : Option ℕ) → price ≡ price' → other ≡ other'

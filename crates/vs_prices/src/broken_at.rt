@@ -72,11 +72,15 @@ fn is_link_broken(instance: &Instance, table: &Table, l: LayerNo, i: TripNo, j: 
     ensures { result ≡ is_link_broken instance.now table.now l.0 i.0 j.0 }
 {
     prove!(l.0 < instance.layers());
+    let into = table.into_price(instance, l, j);
+    let from = table.from_price(instance, l, i);
+    // No way costs less than nothing, so it is looked up only where entering is worth more than leaving.
+    if into <= from {
+        return false;
+    }
     if !instance.trip(j).layers.has(l) {
         return false;
     }
-    let into = table.into_price(instance, l, j);
-    let from = table.from_price(instance, l, i);
     exceeds(into, from, link_cost(instance, l, i, j), table.ray)
 }
 

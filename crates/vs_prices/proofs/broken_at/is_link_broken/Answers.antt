@@ -1,10 +1,31 @@
-use Rattle.std.proofs.Common.{Bool, ◌&&◌, sym, ap, ◌∙◌}
+use Rattle.std.proofs.Common.{◌≡◌, Bool, true, false, ◌&&◌, refl, sym, ap, ◌∙◌}
+use Rattle.std.specs.Int.Signed.{le_z_yes}
+use Rattle.std.proofs.lemmas.Float.{T_from_true}
 use Rattle.vs_instance.specs.Pieces.{link_piece}
 use Rattle.vs_prices.specs.Breaks.{exceeds}
 use Rattle.vs_prices.specs.Table.{from_price, into_price}
-use Rattle.vs_prices.proofs.FirstBreaks.{exceeds-same, may_run-is}
+use Rattle.vs_prices.proofs.FirstBreaks.{exceeds-same, exceeds-within, may_run-is}
 use Rattle.vs_prices.proofs.PriceNumbers.{passed, price_fits}
 use Rattle.vs_prices.proofs.broken_at.is_link_broken.Goals as goal
+
+-- a test that fails, whatever the other one says
+both_fail : (b t : Bool) → t ≡ false → false ≡ (b && t)
+both_fail true t fails = sym fails
+both_fail false t fails = refl
+
+pub returns-then-into-from : goal.returns-then-into-from
+returns-then-into-from c =
+    let p = c.args.instance.now in
+    let table = c.args.table.now in
+    let piece = link_piece p c.args.l.0 c.args.i.0 c.args.j.0 in
+    let into =
+    passed c.into_price-into.result (price_fits c.into_price-into.result c.into_price-into.ensures.price)
+    ∙ c.into_price-into.ensures.value in
+    let from =
+    passed c.from_price-from.result (price_fits c.from_price-from.result c.from_price-from.ensures.price)
+    ∙ c.from_price-from.ensures.value in
+    both_fail _ _
+    (exceeds-within _ _ table.ray piece (rw (sym into, sym from) (le_z_yes (T_from_true _ c.if-into-from.true))))
 
 pub returns-then-not-has : goal.returns-then-not-has
 returns-then-not-has c =
