@@ -37,7 +37,8 @@ abbrev WorthFits : Bound → Type 0
 WorthFits (AtLeast n) = IsBetween (pos 0) (pos 40000000000000) n
 WorthFits NoPlan = Unit {0}
 
-bound_fits : (cost : Option ℤ) (worth : Bound) (bound : Option ℤ) → CostFits cost → WorthFits worth → IsBoundOf cost (worth ∷ []) bound → IfSome bound Printed
+bound_fits : (cost : Option ℤ) (worth : Bound) (bound : Option ℤ) → CostFits cost → WorthFits worth
+    → IsBoundOf cost (worth ∷ []) bound → IfSome bound Printed
 bound_fits cost worth None c w is = search
 bound_fits None (AtLeast w) (Some n) c fits ((inl same), least) = let e : n ≡ w = same in omega (arith, ints)
 bound_fits None (AtLeast w) (Some n) c fits ((inr none), least) = absurd none
@@ -52,12 +53,14 @@ none_without_bound None worth is = refl
 none_without_bound (Some k) (AtLeast w) is = absurd (is k (inr refl))
 none_without_bound (Some k) NoPlan is = absurd (is k refl)
 
-bound_with_cost : (cost : Option ℤ) (worth : Bound) (bound : Option ℤ) → IsBoundOf cost (worth ∷ []) bound → bound ≡ None → cost ≡ None
+bound_with_cost : (cost : Option ℤ) (worth : Bound) (bound : Option ℤ) → IsBoundOf cost (worth ∷ []) bound
+    → bound ≡ None → cost ≡ None
 bound_with_cost cost worth None is none = none_without_bound cost worth is
 bound_with_cost cost worth (Some n) is none = cc
 
 -- the worth reaches the bound
-worth_reaches : (cost : Option ℤ) (worth : Bound) (bound : Option ℤ) → IsBoundOf cost (worth ∷ []) bound → Reaches worth bound
+worth_reaches : (cost : Option ℤ) (worth : Bound) (bound : Option ℤ) → IsBoundOf cost (worth ∷ []) bound
+    → Reaches worth bound
 worth_reaches cost NoPlan bound is = tt
 worth_reaches None (AtLeast w) (Some n) is = is.1 w (inl refl)
 worth_reaches (Some k) (AtLeast w) (Some n) is = is.1 w (inl refl)
@@ -73,25 +76,34 @@ module _ (p : Problem) (blocks : List LayerBlock) where
   priced_blocks None is = subst (All (IsOfInstance p)) (sym is.1) (All-nil (IsOfInstance p))
   priced_blocks (Some k) is =
       All-weaker (λ (b : LayerBlock). IsBlock p b.0 b.1) (IsOfInstance p)
-      (λ b is_block. record { layer = is_block.layer; some_trip = is_block.some_trip; trips = is_block.of_instance }) blocks is.plan.each_block
+      (λ b is_block. record {
+        layer = is_block.layer;
+        some_trip = is_block.some_trip;
+        trips =
+            is_block.of_instance;
+      }) blocks is.plan.each_block
 
   priced_none : (cost : Option ℤ) → IsPricedPlan p blocks cost → cost ≡ None → blocks ≡ []
   priced_none None is none = is.1
   priced_none (Some k) is none = cc
 
-  priced_plan : (cost : Option ℤ) → IsPricedPlan p blocks cost → MatchOption cost (blocks ≡ []) (λ cost. IsPlan p blocks × (cost ≡ pos (plan_cost p blocks)))
+  priced_plan : (cost : Option ℤ) → IsPricedPlan p blocks cost
+      → MatchOption cost (blocks ≡ []) (λ cost. IsPlan p blocks × (cost ≡ pos (plan_cost p blocks)))
   priced_plan None is = is.1
   priced_plan (Some k) is = (is.plan, is.value)
 
-worth_fits : (p : Problem) (table : Table) → IsInstance p → IsZeroTable p table → (worth : Bound) → IsWorth p (permitted_sets p) table worth → WorthFits worth
+worth_fits : (p : Problem) (table : Table) → IsInstance p → IsZeroTable p table → (worth : Bound)
+    → IsWorth p (permitted_sets p) table worth → WorthFits worth
 worth_fits p table instance is_zero (AtLeast n) is = zero-worth p table is_zero instance (permitted_sets p) n is
 worth_fits p table instance is_zero NoPlan is = tt
 
 -- what the parts of the document are
 module _ (p : Problem) (instance : IsInstance p) (d : Document) (table : Table) (worth : Bound)
     (tables_are : d.tables.items ≡ table ∷ []) (shape_is : d.shape.items ≡ Leaf 0 ∷ []) (nodes_are : d.nodes ≡ 0)
-    (is_zero : IsZeroTable p table) (is_holding : HoldingTable p table) (is_worth : IsWorth p (permitted_sets p) table worth)
-    (priced : IsPricedPlan p (blocks_of d.plan) d.cost) (bound_is : IsBoundOf d.cost (worth ∷ []) d.bound) (claim_is : d.claim ≡ claim_found d.cost d.bound) where
+    (is_zero : IsZeroTable p table) (is_holding : HoldingTable p table)
+    (is_worth : IsWorth p (permitted_sets p) table worth)
+    (priced : IsPricedPlan p (blocks_of d.plan) d.cost) (bound_is : IsBoundOf d.cost (worth ∷ []) d.bound)
+    (claim_is : d.claim ≡ claim_found d.cost d.bound) where
   all_tables : (P : Table → Type 0) → P table → All P d.tables.items
   all_tables P here = subst (All P) (sym tables_are) (All-cons P table [] here (All-nil P))
 
@@ -104,7 +116,8 @@ module _ (p : Problem) (instance : IsInstance p) (d : Document) (table : Table) 
   has_text : HasText p d
   has_text = record {
     cost = priced_fits p (blocks_of d.plan) d.cost priced;
-    bound = bound_fits d.cost worth d.bound (priced_fits p (blocks_of d.plan) d.cost priced) (worth_fits p table instance is_zero worth is_worth) bound_is;
+    bound = bound_fits d.cost worth d.bound (priced_fits p (blocks_of d.plan) d.cost priced)
+        (worth_fits p table instance is_zero worth is_worth) bound_is;
     bound_with_cost = bound_with_cost d.cost worth d.bound bound_is;
     nodes = omega arith;
     blocks = priced_blocks p (blocks_of d.plan) d.cost priced;
@@ -114,7 +127,8 @@ module _ (p : Problem) (instance : IsInstance p) (d : Document) (table : Table) 
     blank = all_tables (IsBlankElsewhere p) (zero-IsBlankElsewhere p table is_zero);
     tree = subst (IsTreeOf 1) (sym shape_is) tt;
     shape = subst (All (IsShapeOf p (length d.tables.items))) (sym shape_is)
-        (All-cons (IsShapeOf p (length d.tables.items)) (Leaf 0) [] (omega (arith, one_table)) (All-nil (IsShapeOf p (length d.tables.items))));
+        (All-cons (IsShapeOf p (length d.tables.items)) (Leaf 0) [] (omega (arith, one_table))
+        (All-nil (IsShapeOf p (length d.tables.items))));
   }
 
   has_leaf : HasLeaf p d
@@ -140,10 +154,14 @@ module _ (p : Problem) (instance : IsInstance p) (d : Document) (table : Table) 
   pub first_answer_solves : SolveAnswer p 0 d
   first_answer_solves = record {
     has_text = has_text;
-    written = subst (λ (places : List LeafPlace). AreNamedInOrder 0 places (length d.tables.items)) (sym one_leaf) (inr (refl, one_table));
+    written =
+        subst (λ (places : List LeafPlace). AreNamedInOrder 0 places (length d.tables.items)) (sym one_leaf)
+        (inr (refl, one_table));
     holds = holds;
     worths = worth ∷ [];
-    are_worths = subst (λ (places : List LeafPlace). AreWorths p d places (worth ∷ [])) (sym one_leaf) (table, first_table, is_worth, tt);
+    are_worths =
+        subst (λ (places : List LeafPlace). AreWorths p d places (worth ∷ [])) (sym one_leaf)
+        (table, first_table, is_worth, tt);
     bound = bound_is;
     within_budget = omega arith;
     each_split = omega (arith, no_splits);

@@ -37,29 +37,37 @@ same_fits p t u e fits =
     }
 
 abbrev TextHolds : Problem → TableText → Type 0
-TextHolds p x = (l : ℕ) → l < length p.layers → HoldsInLayer p l x.ray (prices_in p l x.into) (prices_in p l x.from) (price_of x.fleet l)
+TextHolds p x =
+    (l : ℕ) → l < length p.layers
+    → HoldsInLayer p l x.ray (prices_in p l x.into) (prices_in p l x.from) (price_of x.fleet l)
 
 same_holding : (p : Problem) (t u : Table) → text_of_table t ≡ text_of_table u → HoldingTable p t → HoldingTable p u
 same_holding p t u e holds = subst (TextHolds p) e holds
 
 abbrev text_value : Problem → List LayerSet → TableText → ℤ
 text_value p sets x =
-    total (map (λ i. least (map (λ l. price_of (prices_in p l x.into) i +ℤ scaled x.ray (trip_piece p l i) -ℤ price_of (prices_in p l x.from) i) (members (set_of sets i))))
+    total (map
+    (λ i. least
+    (map (λ l. price_of (prices_in p l x.into) i +ℤ scaled x.ray (trip_piece p l i)
+    -ℤ price_of (prices_in p l x.from) i) (members (set_of sets i))))
     (range_with_len 0 (length p.trips)))
     -ℤ total (map (λ l. price_of x.fleet l *ℤ pos (layer_of p l).fleet) (range_with_len 0 (length p.layers)))
 
 abbrev IsTextWorth : Problem → List LayerSet → Bound → TableText → Type 0
-IsTextWorth p sets (AtLeast n) x = MatchBool x.ray ((text_value p sets x ≤ℤ pos 0) × (n ≡ pos 0)) (IsRoundedUp (text_value p sets x) n)
+IsTextWorth p sets (AtLeast n) x =
+    MatchBool x.ray ((text_value p sets x ≤ℤ pos 0) × (n ≡ pos 0)) (IsRoundedUp (text_value p sets x) n)
 IsTextWorth p sets NoPlan x = (x.ray ≡ true) × (pos 0 <ℤ text_value p sets x)
 
-same_worth : (p : Problem) (sets : List LayerSet) (t u : Table) (worth : Bound) → text_of_table t ≡ text_of_table u → IsWorth p sets t worth → IsWorth p sets u worth
+same_worth : (p : Problem) (sets : List LayerSet) (t u : Table) (worth : Bound) → text_of_table t ≡ text_of_table u
+    → IsWorth p sets t worth → IsWorth p sets u worth
 same_worth p sets t u (AtLeast n) e is = subst (IsTextWorth p sets (AtLeast n)) e is
 same_worth p sets t u NoPlan e is = subst (IsTextWorth p sets NoPlan) e is
 
 abbrev IsGood : Problem → Table → Type 0
 IsGood p t = Fits p t × HoldingTable p t
 
-same_tables : (p : Problem) (ts us : List Table) → map text_of_table ts ≡ map text_of_table us → All (IsGood p) ts → All (IsGood p) us
+same_tables : (p : Problem) (ts us : List Table) → map text_of_table ts ≡ map text_of_table us → All (IsGood p) ts
+    → All (IsGood p) us
 same_tables p [] [] e all = All-nil (IsGood p)
 same_tables p [] (u ∷ us) e all = absurd (omega (arith, ap length e))
 same_tables p (t ∷ ts) [] e all = All-nil (IsGood p)
@@ -73,7 +81,8 @@ none_is_no_table : (t : Table) → None ≡ Some t → ⊥
 none_is_no_table t e = cc
 
 -- a table's place has a table of the same text
-same_place : (ts us : List Table) (k : ℕ) (t : Table) → map text_of_table ts ≡ map text_of_table us → slice_get ts k ≡ Some t
+same_place : (ts us : List Table) (k : ℕ) (t : Table) → map text_of_table ts ≡ map text_of_table us
+    → slice_get ts k ≡ Some t
     → (u : Table) × (slice_get us k ≡ Some u) × (text_of_table t ≡ text_of_table u)
 same_place [] us k t e at = absurd (none_is_no_table t at)
 same_place (x ∷ ts) [] k t e at = absurd (omega (arith, ap length e))
@@ -88,7 +97,8 @@ module _ (p : Problem) (d e : Document) (alike : AreAlike d e) where
   PlanOf cost blocks = MatchOption cost (blocks ≡ []) (λ n. IsPlan p blocks × (n ≡ pos (plan_cost p blocks)))
 
   same_plan : HasPlan p d → HasPlan p e
-  same_plan plan = subst (PlanOf e.cost) alike.blocks (subst (λ (cost : Option ℤ). PlanOf cost (blocks_of d.plan)) alike.cost plan)
+  same_plan plan =
+      subst (PlanOf e.cost) alike.blocks (subst (λ (cost : Option ℤ). PlanOf cost (blocks_of d.plan)) alike.cost plan)
 
   same_leaf : HasLeaf p d → HasLeaf p e
   same_leaf leaf =
@@ -98,7 +108,11 @@ module _ (p : Problem) (d e : Document) (alike : AreAlike d e) where
         at.0,
         sym alike.shape ∙ leaf.2,
         at.1,
-        (reached.0, same_worth p (permitted_sets p) leaf.1 at.0 reached.0 at.2 reached.1, subst (Reaches reached.0) alike.bound reached.2),
+        (
+          reached.0,
+          same_worth p (permitted_sets p) leaf.1 at.0 reached.0 at.2 reached.1,
+          subst (Reaches reached.0) alike.bound reached.2,
+        ),
       )
 
   pub holds_alike : HoldingDocument p d → HoldingDocument p e
@@ -106,5 +120,6 @@ module _ (p : Problem) (d e : Document) (alike : AreAlike d e) where
     plan = same_plan holds.plan;
     tables = same_tables p d.tables.items e.tables.items alike.tables holds.tables;
     leaf = same_leaf holds.leaf;
-    claim = sym alike.claim ∙ holds.claim ∙ ap (λ (cost : Option ℤ). claim_found cost d.bound) alike.cost ∙ ap (claim_found e.cost) alike.bound;
+    claim = sym alike.claim ∙ holds.claim ∙ ap (λ (cost : Option ℤ). claim_found cost d.bound) alike.cost
+        ∙ ap (claim_found e.cost) alike.bound;
   }

@@ -21,7 +21,8 @@ use Rattle.mdvsp.specs.SolveAnswer.{SolveAnswer, LeafPlace, AreWorths, leaves_fr
 
 -- the worth of one leaf
 one_worth : (p : Problem) (d : Document) (place : LeafPlace) (worths : List Bound) → AreWorths p d (place ∷ []) worths
-    → (w : Bound) × (table : Table) × (worths ≡ w ∷ []) × (slice_get d.tables.items place.table ≡ Some table) × IsWorth p place.sets table w
+    → (w : Bound) × (table : Table) × (worths ≡ w ∷ []) × (slice_get d.tables.items place.table ≡ Some table)
+    × IsWorth p place.sets table w
 one_worth p d place [] h = absurd h
 one_worth p d place (w ∷ []) h = (w, h.0, refl, h.1, h.2)
 one_worth p d place (w ∷ v ∷ worths) h = absurd h.3
@@ -31,19 +32,24 @@ only_table table found zero e = cc
 only_table table found (suc t) e = cc
 
 -- a table that isn't a ray is worth a number
-a_number : (p : Problem) (table : Table) (w : Bound) → table.ray ≡ false → IsWorth p (permitted_sets p) table w → (n : ℤ) × (w ≡ AtLeast n)
+a_number : (p : Problem) (table : Table) (w : Bound) → table.ray ≡ false → IsWorth p (permitted_sets p) table w
+    → (n : ℤ) × (w ≡ AtLeast n)
 a_number p table (AtLeast n) cost h = (n, refl)
 a_number p table NoPlan cost h = absurd (false≢true (sym cost ∙ h.0))
 
 -- the one worth is that of the one table
-pub worth_is : (p : Problem) (d : Document) (table : Table) (s : SolveAnswer p 0 d) → d.tables.items ≡ table ∷ [] → table.ray ≡ false
+pub worth_is : (p : Problem) (d : Document) (table : Table) (s : SolveAnswer p 0 d) → d.tables.items ≡ table ∷ []
+    → table.ray ≡ false
     → (n : ℤ) × IsWorth p (permitted_sets p) table (AtLeast n) × (s.worths ≡ AtLeast n ∷ [])
 worth_is p d table s one cost =
     let leaf = s.holds.leaf in
     let places = ap (leaves_from (permitted_sets p ∷ [])) leaf.2 in
-    let o = one_worth p d (record { sets = permitted_sets p; table = leaf.0 }) s.worths (subst (λ (ps : List LeafPlace). AreWorths p d ps s.worths) places s.are_worths) in
-    let same : o.1 ≡ table = only_table table o.1 leaf.0 (sym (ap (λ (ts : List Table). slice_get ts leaf.0) one) ∙ o.3) in
-    let is : IsWorth p (permitted_sets p) table o.0 = subst (λ (t : Table). IsWorth p (permitted_sets p) t o.0) same o.4 in
+    let o = one_worth p d (record { sets = permitted_sets p; table = leaf.0 }) s.worths
+    (subst (λ (ps : List LeafPlace). AreWorths p d ps s.worths) places s.are_worths) in
+    let same : o.1 ≡ table =
+    only_table table o.1 leaf.0 (sym (ap (λ (ts : List Table). slice_get ts leaf.0) one) ∙ o.3) in
+    let is : IsWorth p (permitted_sets p) table o.0 =
+    subst (λ (t : Table). IsWorth p (permitted_sets p) t o.0) same o.4 in
     let n = a_number p table o.0 cost is in
     (n.0, subst (IsWorth p (permitted_sets p) table) n.1 is, o.2 ∙ ap (λ (w : Bound). w ∷ []) n.1)
 
@@ -53,7 +59,8 @@ pub record Tells (cost : Option ℤ) (n : ℤ) (claim : Claim) : Type 0 where
   pub optimal_there : IsSomeAnd cost (λ c. c ≤ℤ n) → claim ≡ Optimal
   pub or_open : (claim ≡ Optimal) ⊎ (claim ≡ StillOpen)
 
-tested : (c b n : ℤ) (equal : Bool) → int_eq c b ≡ equal → (b ≡ n) ⊎ (b ≡ c) → b ≤ℤ n → b ≤ℤ c → Tells (Some c) n (if equal then Optimal else StillOpen)
+tested : (c b n : ℤ) (equal : Bool) → int_eq c b ≡ equal → (b ≡ n) ⊎ (b ≡ c) → b ≤ℤ n → b ≤ℤ c
+    → Tells (Some c) n (if equal then Optimal else StillOpen)
 tested c b n true e among low high = record {
   optimal_only = λ _. let same : c ≡ b = (Decides-int_eq c b).0 e in omega (arith, ints);
   optimal_there = λ _. refl;
@@ -67,7 +74,8 @@ tested c b n false e among low high = record {
   or_open = inr refl;
 }
 
-pub bound_tells : (cost bound : Option ℤ) (n : ℤ) → IsBoundOf cost (AtLeast n ∷ []) bound → Tells cost n (claim_found cost bound)
+pub bound_tells : (cost bound : Option ℤ) (n : ℤ) → IsBoundOf cost (AtLeast n ∷ []) bound
+    → Tells cost n (claim_found cost bound)
 bound_tells None None n h = absurd (h n (inl refl))
 bound_tells None (Some b) n h = record { optimal_only = λ o. cc; optimal_there = λ o. absurd o; or_open = inr refl }
 bound_tells (Some c) None n h = absurd (h c (inr refl))
@@ -84,7 +92,8 @@ optimal_from Optimal e = refl
 optimal_from Infeasible e = cc
 optimal_from StillOpen e = cc
 
-pub status_tells : (cost : Option ℤ) (n : ℤ) (claim : Claim) (answer : Status) → answer ≡ status_of claim → Tells cost n claim → TellsBy cost n answer
+pub status_tells : (cost : Option ℤ) (n : ℤ) (claim : Claim) (answer : Status) → answer ≡ status_of claim
+    → Tells cost n claim → TellsBy cost n answer
 status_tells cost n claim answer e t = record {
   done_only = λ d. t.optimal_only (optimal_from claim (sym e ∙ d));
   done_there = λ le. e ∙ ap status_of (t.optimal_there le);

@@ -31,32 +31,46 @@ use Rattle.vs_plan.proofs.PlanTrips.{plan_trips}
 no_names : AreNames []
 no_names = record { each = All-nil IsName; apart = λ i j d before within. absurd (omega arith); few = omega arith }
 
-one_more_name : (names : List Field) (name : Field) → AreNames names → IsNew names name → length names < 2000 → AreNames (names ++ name ∷ [])
+one_more_name : (names : List Field) (name : Field) → AreNames names → IsNew names name → length names < 2000
+    → AreNames (names ++ name ∷ [])
 one_more_name names name are new room = record {
   each = All-push IsName names name are.each new.name;
-  apart = all_pairs_push (λ f g. ¬ (f ≡ g)) names name are.apart (λ k d within same. new.new (k, within, get_or_default names k name d within ∙ same));
+  apart = all_pairs_push (λ f g. ¬ (f ≡ g)) names name are.apart
+      (λ k d within same. new.new (k, within, get_or_default names k name d within ∙ same));
   few = let more = length_push names name in omega (arith, more, room);
 }
 
-adds_names : (old : Declared) (row : Row) (new : Declared) → Adds old row new → HaveNames old.names → HaveNames new.names
-adds_names old row new (inl a) h = subst (λ (d : Declared). HaveNames d.names) (sym a.added) (record { layers = h.layers; trips = h.trips })
-adds_names old row new (inr (inl a)) h = subst (λ (d : Declared). HaveNames d.names) (sym a.added) (record { layers = h.layers; trips = h.trips })
+adds_names : (old : Declared) (row : Row) (new : Declared) → Adds old row new → HaveNames old.names
+    → HaveNames new.names
+adds_names old row new (inl a) h =
+    subst (λ (d : Declared). HaveNames d.names) (sym a.added) (record { layers = h.layers; trips = h.trips })
+adds_names old row new (inr (inl a)) h =
+    subst (λ (d : Declared). HaveNames d.names) (sym a.added) (record { layers = h.layers; trips = h.trips })
 adds_names old row new (inr (inr (inl a))) h = subst (λ (d : Declared). HaveNames d.names) (sym a.added)
-    (record { layers = one_more_name old.names.layers a.name h.layers a.new_name (let room = a.room in omega arith); trips = h.trips })
+    (record {
+      layers =
+          one_more_name old.names.layers a.name h.layers a.new_name (let room = a.room in omega arith);
+      trips = h.trips;
+    })
 adds_names old row new (inr (inr (inr a))) h = subst (λ (d : Declared). HaveNames d.names) (sym a.added)
     (record { layers = h.layers; trips = one_more_name old.names.trips a.name h.trips a.new_name a.room })
 
-add_all_names : (old : Declared) (rows : List Row) (new : Declared) → AddAll old rows new → HaveNames old.names → HaveNames new.names
+add_all_names : (old : Declared) (rows : List Row) (new : Declared) → AddAll old rows new → HaveNames old.names
+    → HaveNames new.names
 add_all_names old [] new h have = subst (λ (d : Declared). HaveNames d.names) (sym h) have
 add_all_names old (row ∷ rows) new h have = add_all_names h.0 rows new h.2 (adds_names old row h.0 h.1 have)
 
-pub instance_names : (bytes : List ℕ) (p : Problem) (names : NameLists) (before : ℕ) (rest : List Row) → StandsFor bytes p names before rest → HaveNames names
+pub instance_names : (bytes : List ℕ) (p : Problem) (names : NameLists) (before : ℕ) (rest : List Row)
+    → StandsFor bytes p names before rest → HaveNames names
 instance_names bytes p names before rest stands =
     let t = stands.text in
-    subst HaveNames (sym t.names_are) (add_all_names nothing_yet (instance_records stands.rows) t.declared t.declares (record { layers = no_names; trips = no_names }))
+    subst HaveNames (sym t.names_are)
+    (add_all_names nothing_yet (instance_records stands.rows) t.declared t.declares
+    (record { layers = no_names; trips = no_names }))
 
 -- a cost table is worth a number, so what it reaches is one
-number_reached : (p : Problem) (table : Table) (bound : Option ℤ) → table.ray ≡ false → ReachesBound p table bound → IsSome bound
+number_reached : (p : Problem) (table : Table) (bound : Option ℤ) → table.ray ≡ false → ReachesBound p table bound
+    → IsSome bound
 number_reached p table (Some n) cost reaches = refl
 number_reached p table None cost (NoPlan, is, at) = absurd (false≢true (sym cost ∙ is.0))
 number_reached p table None cost (AtLeast n, is, at) = absurd at
@@ -75,7 +89,8 @@ few_in_plan p None blocks few none =
 few_in_plan p (Some n) blocks few plan = let size = plan_trips p blocks plan.0 in omega arith
 
 -- a document of the zero table that answers a search
-module _ (p : Problem) (d : Document) (budget : ℕ) (solves : SolveAnswer p budget d) (zero : HasZeroTable p d) (few : length p.trips ≤ 2000) where
+module _ (p : Problem) (d : Document) (budget : ℕ) (solves : SolveAnswer p budget d) (zero : HasZeroTable p d)
+    (few : length p.trips ≤ 2000) where
   leaf_is : solves.holds.leaf.0 ≡ 0
   leaf_is =
       let tables : length d.tables.items ≡ 1 = ap length zero.1 in
@@ -104,7 +119,9 @@ module _ (p : Problem) (d : Document) (budget : ℕ) (solves : SolveAnswer p bud
   }
 
   shape_rows : (names : NameLists) → AreShapeRows names (map (shape_row names) d.shape.items) d.shape.items
-  shape_rows names = subst (λ (shapes : List Shape). AreShapeRows names (map (shape_row names) shapes) shapes) (sym one_leaf) (refl, tt)
+  shape_rows names =
+      subst (λ (shapes : List Shape). AreShapeRows names (map (shape_row names) shapes) shapes) (sym one_leaf)
+      (refl, tt)
 
   document_text : (names : NameLists) → DocumentText p names (document_rows p names d) d
   document_text names = record {
@@ -120,7 +137,8 @@ module _ (p : Problem) (d : Document) (budget : ℕ) (solves : SolveAnswer p bud
 
 -- behind the records they are one text
 pub solved_holds : (bytes read : List ℕ) (answer : Status) (rows : List Row) (owed : OwesDocument bytes answer rows)
-    → HasRows read (take owed.text.before owed.text.instance.rows) → EndsInLine read → OwesYes (read ++ lines rows) (yes_row owed.document ∷ [])
+    → HasRows read (take owed.text.before owed.text.instance.rows) → EndsInLine read
+    → OwesYes (read ++ lines rows) (yes_row owed.document ∷ [])
 solved_holds bytes read answer rows owed has ends =
     let p = owed.problem in
     let names = owed.names in
@@ -128,7 +146,9 @@ solved_holds bytes read answer rows owed has ends =
     let written = document_rows p names d in
     let stands = owed.text.instance in
     let few = stands.text.makes.instance.few_trips in
-    let plain = document_plain p d 0 owed.solves owed.table few names (instance_names bytes p names owed.text.before owed.text.rest stands) in
+    let plain =
+    document_plain p d 0 owed.solves owed.table few names
+    (instance_names bytes p names owed.text.before owed.text.rest stands) in
     subst (λ (others : List Row). OwesYes (read ++ lines others) (yes_row d ∷ [])) (sym owed.rows_are) (record {
       problem = p;
       names = names;

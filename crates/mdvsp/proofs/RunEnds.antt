@@ -18,7 +18,8 @@ none_owed : {A B : Type 0} → (A × ⊥) ⊎ (B × ⊥) → ⊥
 none_owed h = ⊎_elim (λ a. a.1) (λ b. b.1) h
 
 -- what was owed was written
-ends_answered : (run : Run) (answer : Status) (rows : List Row) → IsOwed run answer rows → Appends run.taken run.taken_after (lines rows) → Ends run answer
+ends_answered : (run : Run) (answer : Status) (rows : List Row) → IsOwed run answer rows
+    → Appends run.taken run.taken_after (lines rows) → Ends run answer
 ends_answered run Done rows o w = (rows, o, w)
 ends_answered run SaysNo rows o w = (rows, o, w)
 ends_answered run BadWords rows o w = absurd (none_owed o.owed)
@@ -41,7 +42,8 @@ takes_none None = refl
 takes_none (Some left) = refl
 
 -- a command's answer was said
-pub command_ends : (run : Run) (command : Command) (bytes : List ℕ) (answer : Result Answer Memory) (said : Status) → run.words ≡ command_words command
+pub command_ends : (run : Run) (command : Command) (bytes : List ℕ) (answer : Result Answer Memory) (said : Status)
+    → run.words ≡ command_words command
     → TakesAll run.left run.left_after bytes → length bytes ≤ input_limit → IfOk answer (IsOwedFor command bytes)
     → IsSaid answer said run.taken run.taken_after run.sink_faults run.sink_faults_after → Ends run said
 command_ends run command bytes (Err m) said w read few owed says =
@@ -54,19 +56,25 @@ command_ends run command bytes (Ok a) said w read few owed says =
       owed = subst (λ (words : List (List ℕ)). Owes words bytes a.status owed.rows) (sym w) owed.owed;
     } in
     ⊎_elim
-    (λ s. subst (Ends run) (sym s.0) (ends_answered run a.status owed.rows o (subst (Appends run.taken run.taken_after) owed.text_is s.1)))
-    (λ s. subst (Ends run) (sym s.0) (s.2, inl (a.status, owed.rows, o, subst (AppendsPrefix run.taken run.taken_after) owed.text_is s.1)))
+    (λ s. subst (Ends run) (sym s.0)
+    (ends_answered run a.status owed.rows o (subst (Appends run.taken run.taken_after) owed.text_is s.1)))
+    (λ s. subst (Ends run) (sym s.0)
+    (s.2, inl (a.status, owed.rows, o, subst (AppendsPrefix run.taken run.taken_after) owed.text_is s.1)))
     says
 
 -- wrong words were told
-pub wrong_words_end : (run : Run) (place : ℕ) (answer : Result Answer Memory) (said : Status) → run.left_after ≡ run.left → DepartAt run.words place
+pub wrong_words_end : (run : Run) (place : ℕ) (answer : Result Answer Memory) (said : Status)
+    → run.left_after ≡ run.left → DepartAt run.words place
     → IfOk answer (λ a. (a.status ≡ BadWords) × (a.text.items ≡ lines (words_row place ∷ [])))
     → IsSaid answer said run.taken run.taken_after run.sink_faults run.sink_faults_after → Ends run said
 wrong_words_end run place (Err m) said same departs says said_so =
-    subst (Ends run) (sym said_so.0) (said_so.1, ([], subst (λ (left : Told). Takes run.left left []) (sym same) (takes_none run.left), omega arith))
+    subst (Ends run) (sym said_so.0)
+    (said_so.1, ([], subst (λ (left : Told). Takes run.left left []) (sym same) (takes_none run.left), omega arith))
 wrong_words_end run place (Ok a) said same departs says said_so =
     let told : IsTold run (words_row place) = record { place = place; departs = departs; row_is = refl } in
     ⊎_elim
-    (λ s. subst (Ends run) (sym (s.0 ∙ says.0)) (words_row place, told, subst (Appends run.taken run.taken_after) says.1 s.1, same))
-    (λ s. subst (Ends run) (sym s.0) (s.2, inr (words_row place, told, subst (AppendsPrefix run.taken run.taken_after) says.1 s.1, same)))
+    (λ s. subst (Ends run) (sym (s.0 ∙ says.0))
+    (words_row place, told, subst (Appends run.taken run.taken_after) says.1 s.1, same))
+    (λ s. subst (Ends run) (sym s.0)
+    (s.2, inr (words_row place, told, subst (AppendsPrefix run.taken run.taken_after) says.1 s.1, same)))
     said_so

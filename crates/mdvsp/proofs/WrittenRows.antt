@@ -131,7 +131,8 @@ price_read xs l rows n i z d size row within is =
 -- one field is written, and then others
 pub wrote_field : (old new : List ℕ) (field : Field) (rest : List Field) → new ≡ old ++ 44 ∷ field
     → new ++ more_fields rest ≡ old ++ more_fields (field ∷ rest)
-wrote_field old new field rest is = ap (λ bytes. bytes ++ more_fields rest) is ∙ append_assoc old (44 ∷ field) (more_fields rest)
+wrote_field old new field rest is =
+    ap (λ bytes. bytes ++ more_fields rest) is ∙ append_assoc old (44 ∷ field) (more_fields rest)
 
 -- a last field is written
 pub wrote_last : (old : List ℕ) (field : Field) → old ++ 44 ∷ field ≡ old ++ more_fields (field ∷ [])

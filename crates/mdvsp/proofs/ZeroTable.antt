@@ -39,14 +39,17 @@ module _ (p : Problem) (instance : IsInstance p) where
   rate_small : (l : ℕ) → ((layer_of p l).per_minute ≤ 1000000) × ((layer_of p l).per_metre ≤ 10000)
   rate_small l = by_place (cases_lt l (length p.layers))
     where
-      by_place : (l < length p.layers) ⊎ (length p.layers ≤ l) → ((layer_of p l).per_minute ≤ 1000000) × ((layer_of p l).per_metre ≤ 10000)
-      by_place (inl within) = let is = All-get_or (IsLayer p) p.layers l no_layer within instance.layers in (is.per_minute, is.per_metre)
+      by_place : (l < length p.layers) ⊎ (length p.layers ≤ l) → ((layer_of p l).per_minute ≤ 1000000)
+          × ((layer_of p l).per_metre ≤ 10000)
+      by_place (inl within) = let is =
+          All-get_or (IsLayer p) p.layers l no_layer within instance.layers in (is.per_minute, is.per_metre)
       by_place (inr past) = let e = get_or_past p.layers l no_layer past in rw e (omega arith, omega arith)
 
   trip_small : (i : ℕ) → ((trip_of p i).end ≤ 2880) × ((trip_of p i).metres ≤ 1000000)
   trip_small i = by_place (cases_lt i (length p.trips))
     where
-      by_place : (i < length p.trips) ⊎ (length p.trips ≤ i) → ((trip_of p i).end ≤ 2880) × ((trip_of p i).metres ≤ 1000000)
+      by_place : (i < length p.trips) ⊎ (length p.trips ≤ i) → ((trip_of p i).end ≤ 2880)
+          × ((trip_of p i).metres ≤ 1000000)
       by_place (inl within) =
           let is = All-get_or (IsTrip p) p.trips i no_trip within instance.trips in
           let before = is.end in
@@ -57,7 +60,9 @@ module _ (p : Problem) (instance : IsInstance p) where
   piece_small l i =
       let rates = rate_small l in
       let trip = trip_small i in
-      let driven = mul-le (layer_of p l).per_minute ((trip_of p i).end - (trip_of p i).start) 1000000 2880 rates.0 (omega arith) in
+      let driven =
+      mul-le (layer_of p l).per_minute ((trip_of p i).end - (trip_of p i).start) 1000000 2880 rates.0
+      (omega arith) in
       let run = mul-le (layer_of p l).per_metre (trip_of p i).metres 10000 1000000 rates.1 trip.1 in
       omega arith
 
@@ -65,7 +70,8 @@ module _ (p : Problem) (instance : IsInstance p) where
 abbrev Within : ℕ → ℤ → Type 0
 Within limit x = (pos 0 ≤ℤ x) × (x ≤ℤ pos limit)
 
-least_within : (limit : ℕ) (f : ℕ → ℤ) → ((k : ℕ) → Within limit (f k)) → (ks : List ℕ) → Within limit (least (map f ks))
+least_within : (limit : ℕ) (f : ℕ → ℤ) → ((k : ℕ) → Within limit (f k)) → (ks : List ℕ)
+    → Within limit (least (map f ks))
 least_within limit f each [] = (omega (arith, ints), omega (arith, ints))
 least_within limit f each (k ∷ []) = each k
 least_within limit f each (k ∷ j ∷ ks) =
@@ -73,7 +79,8 @@ least_within limit f each (k ∷ j ∷ ks) =
     let rest = least_within limit f each (j ∷ ks) in
     (omega (arith, ints, clamps), omega (arith, ints, clamps))
 
-total_within : (limit : ℕ) (f : ℕ → ℤ) → ((k : ℕ) → Within limit (f k)) → (ks : List ℕ) → Within (length ks * limit) (total (map f ks))
+total_within : (limit : ℕ) (f : ℕ → ℤ) → ((k : ℕ) → Within limit (f k)) → (ks : List ℕ)
+    → Within (length ks * limit) (total (map f ks))
 total_within limit f each [] = (omega (arith, ints), omega (arith, ints))
 total_within limit f each (k ∷ ks) =
     let here = each k in
@@ -126,15 +133,19 @@ module _ (p : Problem) (table : Table) (is : IsZeroTable p table) where
     value_within : (sets : List LayerSet) → Within 40000000000000000 (table_value p sets table)
     value_within sets =
         let trips = total_within 20000000000000 (least_price p sets table)
-        (λ i. least_within 20000000000000 (trip_price p table i) (trip_price-within i) (members (set_of sets i))) (range_with_len 0 (length p.trips)) in
+        (λ i. least_within 20000000000000 (trip_price p table i) (trip_price-within i) (members (set_of sets i)))
+        (range_with_len 0 (length p.trips)) in
         let fleets = total_zero (fleet_price p table) fleet_price-zero (range_with_len 0 (length p.layers)) in
         let few = instance.few_trips in
         let count = length-range 0 (length p.trips) in
-        let most = mul-le (length (range_with_len 0 (length p.trips))) 20000000000000 2000 20000000000000 (omega arith) (omega arith) in
+        let most =
+        mul-le (length (range_with_len 0 (length p.trips))) 20000000000000 2000 20000000000000 (omega arith)
+        (omega arith) in
         (omega (arith, ints), omega (arith, ints))
 
     -- what the zero table is worth
     pub zero-worth : (sets : List LayerSet) (n : ℤ) → IsWorth p sets table (AtLeast n) → Within 40000000000000 n
     zero-worth sets n worth =
         rounded_within (table_value p sets table) n (value_within sets)
-        (subst (λ (ray : Bool). MatchBool ray ((table_value p sets table ≤ℤ pos 0) × (n ≡ pos 0)) (IsRoundedUp (table_value p sets table) n)) is.cost worth)
+        (subst (λ (ray : Bool). MatchBool ray ((table_value p sets table ≤ℤ pos 0) × (n ≡ pos 0))
+        (IsRoundedUp (table_value p sets table) n)) is.cost worth)

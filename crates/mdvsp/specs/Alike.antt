@@ -12,7 +12,8 @@ pub record TableText : Type 0 where
   pub fleet : List ℤ
 
 abbrev pub text_of_table : Table → TableText
-text_of_table table = record { ray = table.ray; into = table.into.items; from = table.from.items; fleet = table.fleet.items }
+text_of_table table =
+    record { ray = table.ray; into = table.into.items; from = table.from.items; fleet = table.fleet.items }
 
 -- they have the same claim, numbers, blocks, tables and tree
 pub record AreAlike (d e : Document) : Type 0 where

@@ -23,7 +23,8 @@ pub record IsOwedFor (command : Command) (bytes : List ℕ) (answer : Answer) : 
   pub owed : Owes (command_words command) bytes answer.status rows
   pub text_is : answer.text.items ≡ lines rows
 
--- The text was written, or a first part of it and the sink's faults rose; where there was no memory for an answer, nothing was.
+-- The text was written, or a first part of it and the sink's faults rose; where there was no memory for an answer,
+-- nothing was.
 abbrev pub IsSaid : Result Answer Memory → Status → Told → Told → ℕ → ℕ → Type 0
 IsSaid (Ok answer) said taken taken_after faults faults_after =
     ((said ≡ answer.status) × Appends taken taken_after answer.text.items)

@@ -93,7 +93,8 @@ fleet_line layer price = codes "fleet" ∷ layer ∷ signed_decimal price ∷ []
 
 -- the rows for the trips from i on that layer l may run, where these are the prices of each trip
 abbrev pub price_lines : Problem → NameLists → ℕ → ℕ → (ℕ → ℤ) → (ℕ → ℤ) → List Row
-price_lines p names l i into from = map (λ k. price_line (name_of names.layers l) (name_of names.trips k) (into k) (from k))
+price_lines p names l i into from =
+    map (λ k. price_line (name_of names.layers l) (name_of names.trips k) (into k) (from k))
     (filter (λ k. bit_at (trip_of p k).layers.0 l == 1) (range_with_len i (length p.trips - i)))
 
 -- the rows of layer l
@@ -103,7 +104,8 @@ layer_lines p names l fleet into from = fleet_line (name_of names.layers l) flee
 abbrev pub ArePrices : (ℕ → ℤ) → Type 0
 ArePrices f = (k : ℕ) → IsPrice (f k)
 
--- what a layer adds to the prices of a table: one for entering and one for leaving each trip, 0 where it may not run the trip
+-- what a layer adds to the prices of a table: one for entering and one for leaving each trip, 0 where it may not run
+-- the trip
 pub record AddsPrices (p : Problem) (l : ℕ) (old new : Table) (into from : List ℤ) : Type 0 where
   pub into_is : new.into.items ≡ old.into.items ++ into
   pub from_is : new.from.items ≡ old.from.items ++ from
@@ -115,7 +117,8 @@ pub record AddsPrices (p : Problem) (l : ℕ) (old new : Table) (into from : Lis
   pub ray_is : new.ray ≡ old.ray
 
 -- the rows before begin with those of a layer's prices, which the new table has, and the rows after follow
-pub record ReadsPrices (p : Problem) (names : NameLists) (l : ℕ) (before after : List Row) (old new : Table) : Type 0 where
+pub record ReadsPrices (p : Problem) (names : NameLists) (l : ℕ) (before after : List Row)
+    (old new : Table) : Type 0 where
   pub into : List ℤ
   pub from : List ℤ
   pub adds : AddsPrices p l old new into from
@@ -123,7 +126,8 @@ pub record ReadsPrices (p : Problem) (names : NameLists) (l : ℕ) (before after
   pub rows_are : before ≡ price_lines p names l 0 (price_of into) (price_of from) ++ after
 
 -- the same of all rows of a layer
-pub record ReadsLayer (p : Problem) (names : NameLists) (l : ℕ) (before after : List Row) (old new : Table) : Type 0 where
+pub record ReadsLayer (p : Problem) (names : NameLists) (l : ℕ) (before after : List Row)
+    (old new : Table) : Type 0 where
   pub into : List ℤ
   pub from : List ℤ
   pub fleet : ℤ
@@ -157,7 +161,8 @@ abbrev pub end_line : Row
 end_line = codes "end" ∷ []
 
 -- the rows from a place on are those of a document of the first form with this head, these blocks and this table
-pub record AreParts (p : Problem) (names : NameLists) (rows : List Row) (start : ℕ) (head : Head) (blocks : List LayerBlock) (table : Table) : Type 0 where
+pub record AreParts (p : Problem) (names : NameLists) (rows : List Row) (start : ℕ) (head : Head)
+    (blocks : List LayerBlock) (table : Table) : Type 0 where
   pub next : ℕ
   pub end : ℕ
   pub is_head : IsHeadAt rows start head

@@ -49,11 +49,13 @@ permitted_trips p l = filter (λ i. bit_at (trip_of p i).layers.0 l == 1) (range
 -- `price`, LAYER, TRIP, INTO, FROM
 abbrev pub price_row : Problem → NameLists → Table → ℕ → ℕ → Row
 price_row p names table l i = codes "price" ∷ name_of names.layers l ∷ name_of names.trips i
-    ∷ signed_decimal (price_of (prices_in p l table.into.items) i) ∷ signed_decimal (price_of (prices_in p l table.from.items) i) ∷ []
+    ∷ signed_decimal (price_of (prices_in p l table.into.items) i)
+    ∷ signed_decimal (price_of (prices_in p l table.from.items) i) ∷ []
 
 -- `fleet`, LAYER, N, and a price for each trip that the layer may run
 abbrev pub layer_rows : Problem → NameLists → Table → ℕ → List Row
-layer_rows p names table l = (codes "fleet" ∷ name_of names.layers l ∷ signed_decimal (price_of table.fleet.items l) ∷ [])
+layer_rows p names table l =
+    (codes "fleet" ∷ name_of names.layers l ∷ signed_decimal (price_of table.fleet.items l) ∷ [])
     ∷ map (price_row p names table l) (permitted_trips p l)
 
 -- `table`, NO, its kind, and the rows of each layer
@@ -108,7 +110,8 @@ pub record HasText (p : Problem) (d : Document) : Type 0 where
   pub tree : IsTreeOf 1 d.shape.items
   pub shape : All (IsShapeOf p (length d.tables.items)) d.shape.items
 
--- The rows are the document's: its head, its blocks, its tables numbered from 1, its tree, and `end`. All blocks together have so few trips
+-- The rows are the document's: its head, its blocks, its tables numbered from 1, its tree, and `end`. All blocks
+-- together have so few trips
 -- since an input has at most 536870912 bytes.
 pub record DocumentText (p : Problem) (names : NameLists) (rows : List Row) (d : Document) : Type 0 where
   pub has_text : HasText p d
@@ -121,9 +124,11 @@ pub record DocumentText (p : Problem) (names : NameLists) (rows : List Row) (d :
 -- a row of the tree as it is written: the layers of a split in number order
 abbrev pub shape_row : NameLists → Shape → Row
 shape_row names (Leaf table) = codes "leaf" ∷ decimal (table + 1) ∷ []
-shape_row names (Split trip left) = codes "split" ∷ name_of names.trips trip.0 ∷ map (name_of names.layers) (members left)
+shape_row names (Split trip left) =
+    codes "split" ∷ name_of names.trips trip.0 ∷ map (name_of names.layers) (members left)
 
 -- the rows of a document as they are written
 abbrev pub document_rows : Problem → NameLists → Document → List Row
 document_rows p names d = head_rows d ++ map (block_row names) (blocks_of d.plan)
-    ++ flat_map (table_rows p names) (enumerate_from 1 d.tables.items) ++ map (shape_row names) d.shape.items ++ (codes "end" ∷ []) ∷ []
+    ++ flat_map (table_rows p names) (enumerate_from 1 d.tables.items) ++ map (shape_row names) d.shape.items
+    ++ (codes "end" ∷ []) ∷ []

@@ -35,7 +35,8 @@ fault_fields names (fault.Fleet l count) = codes "Fleet" ∷ layer_field names l
 abbrev pub broken_fields : NameLists → BrokenAt → List Field
 broken_fields names (broken.Fleet l) = codes "fleet" ∷ layer_field names l ∷ []
 broken_fields names (broken.PullOut l i) = codes "out" ∷ layer_field names l ∷ trip_field names i ∷ []
-broken_fields names (broken.Link l i j) = codes "link" ∷ layer_field names l ∷ trip_field names i ∷ trip_field names j ∷ []
+broken_fields names (broken.Link l i j) =
+    codes "link" ∷ layer_field names l ∷ trip_field names i ∷ trip_field names j ∷ []
 broken_fields names (broken.PullIn l i) = codes "in" ∷ layer_field names l ∷ trip_field names i ∷ []
 
 -- the flaw's number, its name, and what it names

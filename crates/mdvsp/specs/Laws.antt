@@ -9,8 +9,10 @@ use Rattle.mdvsp.specs.declared.status.Status.TheVariants as status
 use Rattle.mdvsp.specs.Owed.{OwesDocument, IsZeroTable}
 use Rattle.vs_reader.specs.Rows.{Row}
 
--- The table of zeros is worth a number. The answer is done exactly where there is a plan that costs no more than it, and else open.
-pub record IsDoneWhereShown (bytes : List ℕ) (answer : Status) (rows : List Row) (owed : OwesDocument bytes answer rows) : Type 0 where
+-- The table of zeros is worth a number. The answer is done exactly where there is a plan that costs no more than it,
+-- and else open.
+pub record IsDoneWhereShown (bytes : List ℕ) (answer : Status) (rows : List Row)
+    (owed : OwesDocument bytes answer rows) : Type 0 where
   pub table : Table
   pub zero : IsZeroTable owed.problem table
   pub n : ℤ

@@ -17,7 +17,8 @@ input_limit = MAX_BYTES
 abbrev pub Told : Type 0
 Told = Option (List ℕ)
 
--- a run: its words, the bytes that the source has left before and after it, those that the sink has taken before and after it, and both counts of
+-- a run: its words, the bytes that the source has left before and after it, those that the sink has taken before and
+-- after it, and both counts of
 -- faults before and after it
 pub record Run : Type 0 where
   pub words : List (List ℕ)
@@ -61,12 +62,16 @@ Answered run answer = (rows : List Row) × IsOwed run answer rows × Appends run
 
 -- the words are wrong: where they are was written, and nothing read
 abbrev pub Refused : Run → Type 0
-Refused run = (row : Row) × IsTold run row × Appends run.taken run.taken_after (lines (row ∷ [])) × (run.left_after ≡ run.left)
+Refused run =
+    (row : Row) × IsTold run row × Appends run.taken run.taken_after (lines (row ∷ [])) × (run.left_after ≡ run.left)
 
 -- writing failed, after a first part of the rows that are owed
 abbrev pub BrokenOff : Run → Type 0
-BrokenOff run = ((answer : Status) × (rows : List Row) × IsOwed run answer rows × AppendsPrefix run.taken run.taken_after (lines rows))
-    ⊎ ((row : Row) × IsTold run row × AppendsPrefix run.taken run.taken_after (lines (row ∷ [])) × (run.left_after ≡ run.left))
+BrokenOff run =
+    ((answer : Status) × (rows : List Row) × IsOwed run answer rows
+    × AppendsPrefix run.taken run.taken_after (lines rows))
+    ⊎ ((row : Row) × IsTold run row × AppendsPrefix run.taken run.taken_after (lines (row ∷ []))
+    × (run.left_after ≡ run.left))
 
 -- what is true of a run that ends with this status
 abbrev pub Ends : Run → Status → Type 0
@@ -74,7 +79,8 @@ Ends run status.Done = Answered run status.Done
 Ends run status.SaysNo = Answered run status.SaysNo
 Ends run status.BadWords = Refused run
 Ends run status.BadInput = Answered run status.BadInput
-Ends run status.ReadFault = Rose run.source_faults run.source_faults_after × Unwritten run × TookFew run × AreAccepted run.words
+Ends run status.ReadFault =
+    Rose run.source_faults run.source_faults_after × Unwritten run × TookFew run × AreAccepted run.words
 Ends run status.WriteFault = Rose run.sink_faults run.sink_faults_after × BrokenOff run
 Ends run status.NoMemory = Unwritten run × TookFew run
 Ends run status.TooLong = TookTooMany run × Unwritten run × AreAccepted run.words

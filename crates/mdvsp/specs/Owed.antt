@@ -115,4 +115,5 @@ SolveOwes bytes _ rows = ⊥
 
 -- what the words ask for is owed
 abbrev pub Owes : List (List ℕ) → List ℕ → Status → List Row → Type 0
-Owes words bytes answer rows = ((words ≡ check_words) × CheckOwes bytes answer rows) ⊎ ((words ≡ solve_words) × SolveOwes bytes answer rows)
+Owes words bytes answer rows =
+    ((words ≡ check_words) × CheckOwes bytes answer rows) ⊎ ((words ≡ solve_words) × SolveOwes bytes answer rows)

@@ -70,7 +70,9 @@ why_details _ = []
 
 -- `refused`, ROW, NUMBER, NAME, and the details of a misfit
 abbrev pub refusal_row : Refused → Row
-refusal_row refused = codes "refused" ∷ decimal refused.row ∷ decimal (why_number refused.why) ∷ why_name refused.why ∷ why_details refused.why
+refusal_row refused =
+    codes "refused" ∷ decimal refused.row ∷ decimal (why_number refused.why) ∷ why_name refused.why
+    ∷ why_details refused.why
 
 -- `refused`, 0, 90, `NotThisForm`
 abbrev pub other_form_row : Row

@@ -44,7 +44,8 @@ splits (Split trip left ∷ shapes) = splits shapes + 1
 abbrev pub AreWorths : Problem → Document → List LeafPlace → List Bound → Type 0
 AreWorths p d [] [] = Unit {0}
 AreWorths p d (leaf ∷ places) (worth ∷ worths) =
-    (table : Table) × (slice_get d.tables.items leaf.table ≡ Some table) × IsWorth p leaf.sets table worth × AreWorths p d places worths
+    (table : Table) × (slice_get d.tables.items leaf.table ≡ Some table) × IsWorth p leaf.sets table worth
+    × AreWorths p d places worths
 AreWorths p d _ _ = ⊥
 
 -- whether a worth is below a cost, where no cost is above every number
@@ -72,11 +73,13 @@ abbrev pub IsBoundOf : Option ℤ → List Bound → Option ℤ → Type 0
 IsBoundOf cost worths (Some bound) = IsLeast cost worths bound
 IsBoundOf cost worths None = (n : ℤ) → ¬ (IsAmong cost worths n)
 
--- the tables are those that leaves name, in the order in which the leaves first name them, of which so many are named already
+-- the tables are those that leaves name, in the order in which the leaves first name them, of which so many are named
+-- already
 abbrev pub AreNamedInOrder : ℕ → List LeafPlace → ℕ → Type 0
 AreNamedInOrder named [] tables = tables ≡ named
 AreNamedInOrder named (leaf ∷ places) tables =
-    ((leaf.table < named) × AreNamedInOrder named places tables) ⊎ ((leaf.table ≡ named) × AreNamedInOrder (named + 1) places tables)
+    ((leaf.table < named) × AreNamedInOrder named places tables)
+    ⊎ ((leaf.table ≡ named) × AreNamedInOrder (named + 1) places tables)
 
 -- where a node was finished, the bound is no less than what the starting multipliers show, or than the cost
 abbrev pub ReachesStart : Problem → Document → ℤ → Type 0

@@ -24,7 +24,8 @@ AreAccepted words = (words ≡ check_words) ⊎ (words ≡ solve_words)
 abbrev pub Begin : List (List ℕ) → Type 0
 Begin words = (words ≡ take (length words) check_words) ⊎ (words ≡ take (length words) solve_words)
 
--- The words depart from those of every command at word n, counted from 1: those before it begin one's, and those up to it begin none's, or it is
+-- The words depart from those of every command at word n, counted from 1: those before it begin one's, and those up to
+-- it begin none's, or it is
 -- missing, and the words are no command's.
 pub record DepartAt (words : List (List ℕ)) (n : ℕ) : Type 0 where
   pub some : 1 ≤ n
@@ -33,7 +34,8 @@ pub record DepartAt (words : List (List ℕ)) (n : ℕ) : Type 0 where
   pub wrong : n ≤ length words → ¬ (Begin (take n words))
   pub missing : n ≡ length words + 1 → ¬ (AreAccepted words)
 
--- The words depart from this list at word n: they are alike before it, and at it they differ, or one of them has no such word.
+-- The words depart from this list at word n: they are alike before it, and at it they differ, or one of them has no
+-- such word.
 pub record DepartsFrom (words accepted : List (List ℕ)) (n : ℕ) : Type 0 where
   pub some : 1 ≤ n
   pub within : n ≤ length words + 1

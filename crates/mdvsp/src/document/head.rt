@@ -5,8 +5,8 @@ ghost use Rattle.mdvsp.specs.DocumentText.{claim_field};
 ghost use Rattle.mdvsp.specs.DocumentParts.{row_at, claim_row, cost_row, number_row, IsCost, IsHeadAt};
 
 use super::fields::{is_of_kind, is_text, number};
-use vs_reader::Rows;
 use vs_check::Claim;
+use vs_reader::Rows;
 
 /// The most that a cost may be, a bound in either direction, and a count of nodes.
 const MOST_COST: i128 = 100_000_000_000_000_000;

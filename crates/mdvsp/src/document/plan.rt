@@ -8,10 +8,9 @@ ghost use Rattle.mdvsp.specs.DocumentParts.{row_at, IsBlockKind, IsBlockRow, IsP
 
 use super::fields::is_text;
 use crate::form_error::FormError;
-use vs_reader::Names;
-use vs_reader::Rows;
 use std::alloc::Global;
 use vs_plan::{Block, Plan};
+use vs_reader::{Names, Rows};
 use vs_types::{LayerNo, TripNo};
 
 /// The blocks that stand from a row on, and the first row after them.

@@ -15,13 +15,12 @@ use super::head::{Head, read_head};
 use super::plan::read_plan;
 use super::table::{empty_table, read_table};
 use crate::form_error::FormError;
-use vs_reader::Names;
-use vs_reader::Rows;
 use std::alloc::Global;
 use vs_check::{Document, Shape};
 use vs_instance::Instance;
 use vs_plan::Plan;
 use vs_prices::Table;
+use vs_reader::{Names, Rows};
 
 /// What the rows of a document of the first form give.
 #[derive(Drop)]

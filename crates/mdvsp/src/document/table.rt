@@ -10,11 +10,10 @@ ghost use Rattle.mdvsp.specs.DocumentParts.{row_at, price_line, fleet_line, pric
 use super::fields::{is_of_kind, is_text};
 use super::numbers::between;
 use crate::form_error::FormError;
-use vs_reader::Names;
-use vs_reader::Rows;
 use std::alloc::Global;
 use vs_instance::Instance;
 use vs_prices::Table;
+use vs_reader::{Names, Rows};
 use vs_types::{LayerNo, TripNo};
 
 /// The most that a price may be in either direction, in 1/1000 of a cost unit.

@@ -4,9 +4,9 @@ ghost use Rattle.vs_reader.specs.Rows.{line, lines};
 ghost use Rattle.mdvsp.specs.DocumentText.{block_row};
 ghost use Rattle.mdvsp.specs.WrittenParts.{IsNamedBlock};
 
-use vs_reader::Names;
 use crate::text::Text;
 use vs_plan::{Block, Plan};
+use vs_reader::Names;
 use vs_types::Memory;
 
 /// Writes a row for each block.

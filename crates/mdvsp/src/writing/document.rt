@@ -6,11 +6,11 @@ use super::amounts::{bound_field, claim_field, cost_field};
 use super::blocks::write_blocks;
 use super::shapes::write_shapes;
 use super::tables::write_tables;
-use vs_reader::Names;
 use crate::text::Text;
 use std::alloc::Global;
 use vs_check::{Claim, Document};
 use vs_instance::Instance;
+use vs_reader::Names;
 use vs_types::Memory;
 
 /// The bytes of a document's text, with the names of the instance that it is of.

@@ -4,11 +4,11 @@ ghost use Rattle.mdvsp.specs.FlawRows.{broken_fields, fault_fields, flaw_fields,
 ghost use Rattle.vs_reader.specs.Rows.{more_fields};
 
 use super::amounts::{bound_field, claim_field};
-use vs_reader::Names;
 use crate::text::Text;
 use vs_check::Flaw;
 use vs_plan::PlanFault;
 use vs_prices::BrokenAt;
+use vs_reader::Names;
 use vs_types::Memory;
 
 /// Adds a place to a row, which counts from 0 and is written from 1 on.

@@ -5,10 +5,10 @@ ghost use Rattle.vs_reader.specs.Rows.{line, lines};
 ghost use Rattle.mdvsp.specs.DocumentText.{layer_rows};
 ghost use Rattle.vs_reader.specs.Names.{name_of};
 
-use vs_reader::Names;
 use crate::text::Text;
 use vs_instance::Instance;
 use vs_prices::Table;
+use vs_reader::Names;
 use vs_types::{LayerNo, Memory, TripNo};
 
 /// Writes a layer of a table: the price of a vehicle, and the prices of each trip that the layer may run.

@@ -3,9 +3,9 @@ ghost use Rattle.vs_reader.specs.Rows.{line, lines};
 ghost use Rattle.mdvsp.specs.DocumentText.{shape_row};
 ghost use Rattle.mdvsp.specs.WrittenParts.{IsNamedShape, split_row, AreNamedLayers};
 
-use vs_reader::Names;
 use crate::text::Text;
 use vs_check::Shape;
+use vs_reader::Names;
 use vs_types::{LayerNo, LayerSet, Memory, TripNo};
 
 /// How many layers there may be.

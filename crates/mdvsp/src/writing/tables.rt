@@ -5,10 +5,10 @@ ghost use Rattle.vs_reader.specs.Rows.{line, lines};
 ghost use Rattle.mdvsp.specs.DocumentText.{table_rows};
 
 use super::prices::write_layer;
-use vs_reader::Names;
 use crate::text::Text;
 use vs_instance::Instance;
 use vs_prices::Table;
+use vs_reader::Names;
 use vs_types::{LayerNo, Memory};
 
 /// Writes the tables, numbered from 1 on.

@@ -7,5 +7,6 @@ pub returns-in-Ok-clause-ends : goal.returns-in-Ok-clause-ends
 returns-in-Ok-clause-ends g c =
     let few : length c.in-Ok.bytes.items ≤ 536870912 = search (rules, c.in-Ok.ensures.within) in
     command_ends _ c.args.command c.in-Ok.bytes.items c.answer_to.result c.say.result refl c.in-Ok.ensures.all few
-    (subst (λ (bytes : List ℕ). IfOk c.answer_to.result (IsOwedFor c.args.command bytes)) c.deref.ensures.value c.answer_to.ensures)
+    (subst (λ (bytes : List ℕ). IfOk c.answer_to.result (IsOwedFor c.args.command bytes)) c.deref.ensures.value
+    c.answer_to.ensures)
     c.say.ensures.said

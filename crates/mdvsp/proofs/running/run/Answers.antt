@@ -3,4 +3,6 @@ use Rattle.mdvsp.proofs.RunEnds.{wrong_words_end}
 use Rattle.mdvsp.proofs.running.run.Goals as goal
 
 pub returns-in-Err-clause-ends : goal.returns-in-Err-clause-ends
-returns-in-Err-clause-ends g c = wrong_words_end _ c.in-Err.bad.0 c.bad_word.result c.say.result refl c.in-Err.ensures c.bad_word.ensures c.say.ensures.said
+returns-in-Err-clause-ends g c =
+    wrong_words_end _ c.in-Err.bad.0 c.bad_word.result c.say.result refl c.in-Err.ensures c.bad_word.ensures
+    c.say.ensures.said

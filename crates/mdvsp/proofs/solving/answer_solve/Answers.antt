@@ -7,7 +7,9 @@ use Rattle.mdvsp.proofs.OwedAnswers.{refusal_owed, document_owed}
 use Rattle.mdvsp.proofs.solving.answer_solve.Goals as goal
 
 pub plan_of-requires : goal.plan_of-requires
-plan_of-requires c = stands_counts c.args.bytes.now c.in-Ok.input.instance c.in-Ok.input.names c.in-Ok.input.before c.in-Ok.input.rest c.in-Ok.ensures.found
+plan_of-requires c =
+    stands_counts c.args.bytes.now c.in-Ok.input.instance c.in-Ok.input.names c.in-Ok.input.before
+    c.in-Ok.input.rest c.in-Ok.ensures.found
 
 pub returns-in-Ok : goal.returns-in-Ok
 returns-in-Ok c =
@@ -18,4 +20,5 @@ returns-in-Ok c =
 pub returns-in-Err-Refused : goal.returns-in-Err-Refused
 returns-in-Err-Refused c =
     refusal_owed Solve c.args.bytes.now c.in-Err-Refused.refused c.refused.result
-    (subst (RefusesAs (IsRefused c.args.bytes.now)) c.in-Err-Refused.field-0-is c.in-Err-Refused.ensures.refused) c.refused.ensures
+    (subst (RefusesAs (IsRefused c.args.bytes.now)) c.in-Err-Refused.field-0-is c.in-Err-Refused.ensures.refused)
+    c.refused.ensures

@@ -4,4 +4,5 @@ use Rattle.mdvsp.proofs.document.head.nodes.Goals as goal
 
 pub returns-in_err-nodes-clause-none : goal.returns-in_err-nodes-clause-none
 returns-in_err-nodes-clause-none c =
-    rw c.from_residual.ensures (λ n few e. c.in_err-nodes.ensures.none (pos n) (omega (arith, ints), omega (arith, ints)) e)
+    rw c.from_residual.ensures
+    (λ n few e. c.in_err-nodes.ensures.none (pos n) (omega (arith, ints), omega (arith, ints)) e)

@@ -4,4 +4,5 @@ use Rattle.mdvsp.proofs.DocumentPlan.{PlanSoFar}
 use Rattle.mdvsp.proofs.document.plan.read_plan.Given as goal
 
 abbrev pub invariant-loop-row : goal.invariant-loop-row
-invariant-loop-row l = PlanSoFar l.names l.rows l.at l.row l.trips (map (λ (b : Block). (b.layer, b.trips.items)) l.blocks.items)
+invariant-loop-row l =
+    PlanSoFar l.names l.rows l.at l.row l.trips (map (λ (b : Block). (b.layer, b.trips.items)) l.blocks.items)

@@ -5,5 +5,9 @@ use Rattle.mdvsp.proofs.DocumentWhole.{two_left}
 use Rattle.mdvsp.proofs.document.reading.is_end.Goals as goal
 
 pub returns-then-len-at-ne2 : goal.returns-then-len-at-ne2
-returns-then-len-at-ne2 c =
-    (λ h. absurd (false≢true h), λ e. absurd (c.if-len-at-ne2.true (omega (arith, c.len.ensures, two_left c.args.rows.now c.args.at leaf_line end_line c.requires e))))
+returns-then-len-at-ne2 c = (
+  λ h. absurd (false≢true h),
+  λ e. absurd
+      (c.if-len-at-ne2.true
+      (omega (arith, c.len.ensures, two_left c.args.rows.now c.args.at leaf_line end_line c.requires e))),
+)

@@ -9,16 +9,20 @@ returns-in_default-clause-none c = λ _ head blocks table parts. c.in_default.en
 
 pub returns-in_err-empty-clause-none : goal.returns-in_err-empty-clause-none
 returns-in_err-empty-clause-none c = λ e.
-    absurd (memory_not_form (sym c.in_err-empty.ensures.memory ∙ same_error c.from_residual.result c.in_err-empty.field-0.0 _ c.from_residual.ensures.1 e))
+    absurd (memory_not_form
+    (sym c.in_err-empty.ensures.memory
+    ∙ same_error c.from_residual.result c.in_err-empty.field-0.0 _ c.from_residual.ensures.1 e))
 
 pub returns-then-not-is_plan_of-clause-none : goal.returns-then-not-is_plan_of-clause-none
 returns-then-not-is_plan_of-clause-none c = λ _.
-    no_plan_beside c.args.instance.now c.args.names.now c.args.rows.now c.args.start c.in_ok-plan.next c.in-Some.head _ c.in_ok-empty.ensures.layers c.in_ok-empty.ensures.trips
+    no_plan_beside c.args.instance.now c.args.names.now c.args.rows.now c.args.start c.in_ok-plan.next
+    c.in-Some.head _ c.in_ok-empty.ensures.layers c.in_ok-empty.ensures.trips
     c.in-Some.ensures.found c.in_ok-plan.ensures.found (λ h. false≢true (c.if-not-is_plan_of.ensures.1 h))
 
 pub returns-then-not-is_end-clause-none : goal.returns-then-not-is_end-clause-none
 returns-then-not-is_end-clause-none c = λ _.
-    no_end_there c.args.instance.now c.args.names.now c.args.rows.now c.args.start c.in_ok-plan.next c.in_ok-table.end _ c.in_ok-table.table c.in_ok-empty.ensures.layers c.in_ok-empty.ensures.trips
+    no_end_there c.args.instance.now c.args.names.now c.args.rows.now c.args.start c.in_ok-plan.next
+    c.in_ok-table.end _ c.in_ok-table.table c.in_ok-empty.ensures.layers c.in_ok-empty.ensures.trips
     c.in_ok-plan.ensures.found c.in_ok-table.ensures.found (λ h. false≢true (c.if-not-is_end.ensures.1 h))
 
 pub returns-clause-found : goal.returns-clause-found

@@ -8,4 +8,6 @@ pub record Loop (P Q : Type 0) : Type 0 where
   pub within : Q
 
 abbrev pub invariant-loop-l : goal.invariant-loop-l
-invariant-loop-l l = Loop (LayersSoFar l.instance l.names l.l (drop (l.at + 1) l.rows) (drop l.next l.rows) l.table) (l.next ≤ length l.rows)
+invariant-loop-l l =
+    Loop (LayersSoFar l.instance l.names l.l (drop (l.at + 1) l.rows) (drop l.next l.rows) l.table)
+    (l.next ≤ length l.rows)

@@ -16,10 +16,13 @@ returns c =
     let name : TripNo → Field = λ t. name_of names.trips t.0 in
     let bytes : TripNo → List ℕ = λ t. 44 ∷ name t in
     let past : length trips ≤ c.loop-trip.trip-index = omega (arith, block.trips.ok.0) in
-    let all = wrote_all bytes c.field.new.self c.loop-trip.text trips c.loop-trip.trip-index past c.loop-trip.invariant in
-    let first : c.field.new.self ≡ begun ++ (44 ∷ layer) = c.in_ok-field.ensures ∙ ap (λ f. begun ++ (44 ∷ f)) c.layer.ensures.name in
+    let all =
+    wrote_all bytes c.field.new.self c.loop-trip.text trips c.loop-trip.trip-index past c.loop-trip.invariant in
+    let first : c.field.new.self ≡ begun ++ (44 ∷ layer) =
+    c.in_ok-field.ensures ∙ ap (λ f. begun ++ (44 ∷ f)) c.layer.ensures.name in
     let goes : c.loop-trip.text ≡ begun ++ more_fields (layer ∷ map name trips) =
     all ∙ ap (λ text. text ++ flat_map bytes trips) first ∙ append_assoc begun (44 ∷ layer) (flat_map bytes trips)
     ∙ ap (λ rest. begun ++ ((44 ∷ layer) ++ rest)) (sym (more_fields-map name trips)) in
     IfOk-equal c.end_row.result _ _ _ c.end_row.ensures
-    (ended_row c.args.text.now begun c.loop-trip.text (codes "block") (layer ∷ map name trips) c.in_ok-begin_row.ensures goes)
+    (ended_row c.args.text.now begun c.loop-trip.text (codes "block")
+    (layer ∷ map name trips) c.in_ok-begin_row.ensures goes)

@@ -18,7 +18,8 @@ pub write_block-requires : goal.write_block-requires
 write_block-requires c =
     let blocks = c.args.plan.now.blocks in let k = c.loop-block.block-index in let b = c.block-item.result in
     let within : k < length blocks.items = omega (arith, blocks.ok.0) in
-    let same : get_or blocks.items k b ≡ b = sym (c.block-item.is ∙ ap (λ items. get_or items k b) c.deref-block-items.ensures.value) in
+    let same : get_or blocks.items k b ≡ b =
+    sym (c.block-item.is ∙ ap (λ items. get_or items k b) c.deref-block-items.ensures.value) in
     subst (IsNamedBlock c.args.names.now) (get_or-map view blocks.items k b (view b) within ∙ ap view same)
     (c.requires k (view b) (omega (arith, within, length-map blocks.items view)))
 
@@ -28,4 +29,5 @@ returns c =
     let row : LayerBlock → List ℕ = λ b. line (block_row names b) in
     wrote_all (λ (b : Block). row (view b)) c.args.text.now c.loop-block.text blocks.items c.loop-block.block-index
     (omega (arith, blocks.ok.0)) c.loop-block.invariant
-    ∙ ap (λ rest. c.args.text.now ++ rest) (sym (lines-map (block_row names) (map view blocks.items) ∙ flat_map-map row view blocks.items))
+    ∙ ap (λ rest. c.args.text.now ++ rest)
+    (sym (lines-map (block_row names) (map view blocks.items) ∙ flat_map-map row view blocks.items))

@@ -6,4 +6,6 @@ use Rattle.mdvsp.proofs.writing.blocks.write_blocks.Given as goal
 
 -- the blocks so far are written
 abbrev pub invariant-loop-block : goal.invariant-loop-block
-invariant-loop-block l = l.text ≡ l.initial.text ++ flat_map (λ b. line (block_row l.names (b.layer, b.trips.items))) (take l.block-index l.plan.blocks.items)
+invariant-loop-block l =
+    l.text ≡ l.initial.text
+    ++ flat_map (λ b. line (block_row l.names (b.layer, b.trips.items))) (take l.block-index l.plan.blocks.items)

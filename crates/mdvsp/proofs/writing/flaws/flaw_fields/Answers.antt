@@ -17,13 +17,16 @@ returns-in_ok-number-in-CostDiffers c =
     let printed_fits : FitsSigned w64 c.in-CostDiffers.printed = search rules in
     let found_fits : FitsSigned w64 c.in-CostDiffers.found = search rules in
     let first = c.in_ok-number-in-CostDiffers.ensures
-    ∙ ap (λ (n : ℤ). c.field-in-CostDiffers-2.new.self ++ 44 ∷ signed_decimal n) (to_z-of_z w64 c.in-CostDiffers.printed printed_fits) in
+    ∙ ap (λ (n : ℤ). c.field-in-CostDiffers-2.new.self ++ 44 ∷ signed_decimal n)
+    (to_z-of_z w64 c.in-CostDiffers.printed printed_fits) in
     IfOk-equal c.number-in-CostDiffers.result _ _ _ c.number-in-CostDiffers.ensures
     (ap (λ (n : ℤ). c.number.new.self ++ 44 ∷ signed_decimal n) (to_z-of_z w64 c.in-CostDiffers.found found_fits)
     ∙ wrote_last c.number.new.self found
     ∙ wrote_field c.field-in-CostDiffers-2.new.self c.number.new.self printed (found ∷ []) first
-    ∙ wrote_field c.field-in-CostDiffers.new.self c.field-in-CostDiffers-2.new.self (codes "CostDiffers") (printed ∷ found ∷ []) c.in_ok-field-in-CostDiffers-2.ensures
-    ∙ wrote_field old c.field-in-CostDiffers.new.self (codes "2") (codes "CostDiffers" ∷ printed ∷ found ∷ []) c.in_ok-field-in-CostDiffers.ensures
+    ∙ wrote_field c.field-in-CostDiffers.new.self c.field-in-CostDiffers-2.new.self (codes "CostDiffers")
+    (printed ∷ found ∷ []) c.in_ok-field-in-CostDiffers-2.ensures
+    ∙ wrote_field old c.field-in-CostDiffers.new.self (codes "2")
+    (codes "CostDiffers" ∷ printed ∷ found ∷ []) c.in_ok-field-in-CostDiffers.ensures
     ∙ sym (ap (λ (f : Flaw). old ++ more_fields (flaw_fields c.args.names.now f)) c.in-CostDiffers.is))
 
 pub returns-in_ok-position_field-in-TableBroken : goal.returns-in_ok-position_field-in-TableBroken
@@ -32,7 +35,10 @@ returns-in_ok-position_field-in-TableBroken c =
     let broken : List Field = broken_fields c.args.names.now c.in-TableBroken.at in
     let table : Field = position_field c.in-TableBroken.t in
     IfOk-equal c.broken_fields.result _ _ _ c.broken_fields.ensures
-    (wrote_field c.field-in-TableBroken-2.new.self c.position_field.new.text table broken c.in_ok-position_field-in-TableBroken.ensures
-    ∙ wrote_field c.field-in-TableBroken.new.self c.field-in-TableBroken-2.new.self (codes "TableBroken") (table ∷ broken) c.in_ok-field-in-TableBroken-2.ensures
-    ∙ wrote_field old c.field-in-TableBroken.new.self (codes "3") (codes "TableBroken" ∷ table ∷ broken) c.in_ok-field-in-TableBroken.ensures
+    (wrote_field c.field-in-TableBroken-2.new.self c.position_field.new.text table broken
+    c.in_ok-position_field-in-TableBroken.ensures
+    ∙ wrote_field c.field-in-TableBroken.new.self c.field-in-TableBroken-2.new.self (codes "TableBroken")
+    (table ∷ broken) c.in_ok-field-in-TableBroken-2.ensures
+    ∙ wrote_field old c.field-in-TableBroken.new.self (codes "3")
+    (codes "TableBroken" ∷ table ∷ broken) c.in_ok-field-in-TableBroken.ensures
     ∙ sym (ap (λ (f : Flaw). old ++ more_fields (flaw_fields c.args.names.now f)) c.in-TableBroken.is))

@@ -25,7 +25,8 @@ loop-i-preserved c =
     let n = length p.trips in
     let bytes : ℕ → List ℕ = λ k. line (price_row p names table l k) in
     let written : ℕ → List ℕ = λ k. cond (eqb (bit_at (trip_of p k).layers.0 l) 1) (bytes k) [] in
-    let bit : bit_at c.trip.result.now.layers.0 l ≡ bit_at (trip_of p i).layers.0 l = ap (λ t. bit_at t.layers.0 l) c.trip.ensures in
+    let bit : bit_at c.trip.result.now.layers.0 l ≡ bit_at (trip_of p i).layers.0 l =
+    ap (λ t. bit_at t.layers.0 l) c.trip.ensures in
     let within : i < n = omega (arith, c.trips-trips.ensures.count) in
     let after : c.if-has.text ≡ text ++ written i =
     elim c.if-has.branch [
@@ -36,18 +37,29 @@ loop-i-preserved c =
           let b_fits : SFits w64 b = search rules in
           let place : l * c.trips-trips.result + i ≡ l * n + i = ap (λ m. l * m + i) c.trips-trips.ensures.count in
           let into : to_z w64 (of_z w64 a) ≡ price_of (prices_in p l table.into.items) i =
-          to_z-of_z w64 a a_fits ∙ price_read table.into.items l (length p.layers) n i a (pos 0) c.requires.fits.into_size c.requires.layer within
+          to_z-of_z w64 a a_fits
+          ∙ price_read table.into.items l (length p.layers) n i a
+          (pos 0) c.requires.fits.into_size c.requires.layer within
           (w.index-then-has.ensures ∙ ap (λ k. get_or table.into.items k a) place) in
           let from : to_z w64 (of_z w64 b) ≡ price_of (prices_in p l table.from.items) i =
-          to_z-of_z w64 b b_fits ∙ price_read table.from.items l (length p.layers) n i b (pos 0) c.requires.fits.from_size c.requires.layer within
+          to_z-of_z w64 b b_fits
+          ∙ price_read table.from.items l (length p.layers) n i b
+          (pos 0) c.requires.fits.from_size c.requires.layer within
           (w.index-then-has-2.ensures ∙ ap (λ k. get_or table.from.items k b) place) in
           w.text-is ∙ w.in_ok-write_price.ensures
-          ∙ ap (λ (z : ℤ). text ++ line (codes "price" ∷ name_of names.layers l ∷ name_of names.trips i ∷ signed_decimal z ∷ signed_decimal (to_z w64 (of_z w64 b)) ∷ [])) into
-          ∙ ap (λ (z : ℤ). text ++ line (codes "price" ∷ name_of names.layers l ∷ name_of names.trips i ∷ signed_decimal (price_of (prices_in p l table.into.items) i) ∷ signed_decimal z ∷ [])) from
+          ∙ ap (λ (z : ℤ). text
+          ++ line (codes "price" ∷ name_of names.layers l ∷ name_of names.trips i ∷ signed_decimal z
+          ∷ signed_decimal (to_z w64 (of_z w64 b)) ∷ [])) into
+          ∙ ap (λ (z : ℤ). text
+          ++ line (codes "price" ∷ name_of names.layers l ∷ name_of names.trips i
+          ∷ signed_decimal (price_of (prices_in p l table.into.items) i) ∷ signed_decimal z ∷ [])) from
           ∙ sym (ap (λ t. text ++ cond t (bytes i) []) (eq-eqb (bit_at (trip_of p i).layers.0 l) 1 has))
       | else-has w ↦
-          let other : bit_at (trip_of p i).layers.0 l ≡ 1 → ⊥ = λ has. false≢true (sym w.if-has.false ∙ c.has.ensures.1 (bit ∙ has)) in
-          w.text-is ∙ sym (ap (λ t. text ++ cond t (bytes i) []) (ne_eqb (bit_at (trip_of p i).layers.0 l) 1 other) ∙ append-nil text)
+          let other : bit_at (trip_of p i).layers.0 l ≡ 1 → ⊥ =
+          λ has. false≢true (sym w.if-has.false ∙ c.has.ensures.1 (bit ∙ has)) in
+          w.text-is
+          ∙ sym (ap (λ t. text ++ cond t (bytes i) []) (ne_eqb (bit_at (trip_of p i).layers.0 l) 1 other)
+          ∙ append-nil text)
     ] in
     numbered_more written c.write_fleet.new.text text c.if-has.text n i within c.loop-i.invariant after
 
@@ -62,10 +74,14 @@ returns c =
     let fits : SFits w64 c.index.result.now = search rules in
     let within : l < length table.fleet.items = omega (arith, c.requires.fits.fleet_size, c.requires.layer) in
     let price : to_z w64 (of_z w64 c.index.result.now) ≡ price_of table.fleet.items l =
-    to_z-of_z w64 c.index.result.now fits ∙ c.index.ensures ∙ get_or_default table.fleet.items l c.index.result.now (pos 0) within in
+    to_z-of_z w64 c.index.result.now fits ∙ c.index.ensures
+    ∙ get_or_default table.fleet.items l c.index.result.now (pos 0) within in
     let first : c.write_fleet.new.text ≡ c.args.text.now ++ line fleet =
-    c.in_ok-write_fleet.ensures ∙ ap (λ (z : ℤ). c.args.text.now ++ line (codes "fleet" ∷ name_of names.layers l ∷ signed_decimal z ∷ [])) price in
-    numbered_all (λ k. cond (has k) (bytes k) []) c.write_fleet.new.text c.loop-i.text n c.loop-i.i (omega (arith, c.trips-trips.ensures.count)) c.loop-i.invariant
+    c.in_ok-write_fleet.ensures
+    ∙ ap (λ (z : ℤ). c.args.text.now ++ line (codes "fleet" ∷ name_of names.layers l ∷ signed_decimal z ∷ []))
+    price in
+    numbered_all (λ k. cond (has k) (bytes k) []) c.write_fleet.new.text c.loop-i.text n c.loop-i.i
+    (omega (arith, c.trips-trips.ensures.count)) c.loop-i.invariant
     ∙ ap (λ rest. c.write_fleet.new.text ++ rest) (flat_map-filter has bytes (range_with_len 0 n))
     ∙ ap (λ text. text ++ flat_map bytes trips) first
     ∙ append_assoc c.args.text.now (line fleet) (flat_map bytes trips)

@@ -10,5 +10,7 @@ use Rattle.mdvsp.proofs.writing.prices.write_layer.Given as goal
 -- the prices so far are written
 abbrev pub invariant-loop-i : goal.invariant-loop-i
 invariant-loop-i l = l.text ≡ l.initial.text
-    ++ flat_map (λ k. cond (eqb (bit_at (trip_of l.instance k).layers.0 l.l.0) 1) (line (price_row l.instance l.names l.table l.l.0 k)) [])
+    ++ flat_map
+    (λ k. cond (eqb (bit_at (trip_of l.instance k).layers.0 l.l.0) 1)
+    (line (price_row l.instance l.names l.table l.l.0 k)) [])
     (take l.i (range_with_len 0 (length l.instance.trips)))

@@ -8,6 +8,8 @@ use Rattle.mdvsp.proofs.writing.shapes.write_shapes.Goals as goal
 pub returns : goal.returns
 returns c =
     let shapes = c.args.shapes.now in let names = c.args.names.now in
-    wrote_all (λ (s : Shape). line (shape_row names s)) c.args.text.now c.loop-shape.text shapes.items c.loop-shape.shape-index
+    wrote_all
+    (λ (s : Shape). line (shape_row names s)) c.args.text.now c.loop-shape.text shapes.items
+    c.loop-shape.shape-index
     (omega (arith, shapes.ok.0)) c.loop-shape.invariant
     ∙ ap (λ rest. c.args.text.now ++ rest) (sym (lines-map (shape_row names) shapes.items))

@@ -6,4 +6,5 @@ use Rattle.mdvsp.proofs.writing.shapes.write_shapes.Given as goal
 
 -- the rows so far are written
 abbrev pub invariant-loop-shape : goal.invariant-loop-shape
-invariant-loop-shape l = l.text ≡ l.initial.text ++ flat_map (λ s. line (shape_row l.names s)) (take l.shape-index l.shapes.items)
+invariant-loop-shape l =
+    l.text ≡ l.initial.text ++ flat_map (λ s. line (shape_row l.names s)) (take l.shape-index l.shapes.items)

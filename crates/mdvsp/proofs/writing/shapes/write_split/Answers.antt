@@ -25,10 +25,13 @@ loop-l-preserved c =
     elim c.if-has.branch [
       | then-has+in_ok-field-2 w ↦
           w.text-is ∙ w.in_ok-field-2.ensures ∙ ap (λ f. text ++ (44 ∷ f)) w.layer.ensures.name
-          ∙ sym (ap (λ t. text ++ cond t (44 ∷ name_of names.layers k) []) (eq-eqb (bit_at bits k) 1 (c.has.ensures.0 w.if-has.true)))
+          ∙ sym (ap (λ t. text ++ cond t (44 ∷ name_of names.layers k) [])
+          (eq-eqb (bit_at bits k) 1 (c.has.ensures.0 w.if-has.true)))
       | else-has w ↦
           let other : bit_at bits k ≡ 1 → ⊥ = λ has. false≢true (sym w.if-has.false ∙ c.has.ensures.1 has) in
-          w.text-is ∙ sym (ap (λ t. text ++ cond t (44 ∷ name_of names.layers k) []) (ne_eqb (bit_at bits k) 1 other) ∙ append-nil text)
+          w.text-is
+          ∙ sym (ap (λ t. text ++ cond t (44 ∷ name_of names.layers k) []) (ne_eqb (bit_at bits k) 1 other)
+          ∙ append-nil text)
     ] in
     numbered_more written c.field.new.self text c.if-has.text 16 k c.loop-l-test.true c.loop-l.invariant after
 
@@ -39,13 +42,18 @@ returns c =
     let name : ℕ → Field = name_of names.layers in
     let bytes : ℕ → List ℕ = λ l. 44 ∷ name l in
     let has : ℕ → Bool = λ l. eqb (bit_at left.0 l) 1 in
-    let all = numbered_all (λ l. cond (has l) (bytes l) []) c.field.new.self c.loop-l.text 16 c.loop-l.l c.loop-l-test.false c.loop-l.invariant in
+    let all =
+    numbered_all
+    (λ l. cond (has l) (bytes l) []) c.field.new.self c.loop-l.text 16 c.loop-l.l c.loop-l-test.false
+    c.loop-l.invariant in
     let in_set : flat_map (λ l. cond (has l) (bytes l) []) (range_with_len 0 16) ≡ flat_map bytes (members left) =
     flat_map-filter has bytes (range_with_len 0 16) ∙ ap (λ ls. flat_map bytes (filter has ls)) (sym numbers_are) in
-    let first : c.field.new.self ≡ begun ++ (44 ∷ trip) = c.in_ok-field.ensures ∙ ap (λ f. begun ++ (44 ∷ f)) c.trip.ensures.name in
+    let first : c.field.new.self ≡ begun ++ (44 ∷ trip) =
+    c.in_ok-field.ensures ∙ ap (λ f. begun ++ (44 ∷ f)) c.trip.ensures.name in
     let goes : c.loop-l.text ≡ begun ++ more_fields (trip ∷ map name (members left)) =
     all ∙ ap (λ rest. c.field.new.self ++ rest) in_set ∙ ap (λ text. text ++ flat_map bytes (members left)) first
     ∙ append_assoc begun (44 ∷ trip) (flat_map bytes (members left))
     ∙ ap (λ rest. begun ++ ((44 ∷ trip) ++ rest)) (sym (more_fields-map name (members left))) in
     IfOk-equal c.end_row.result _ _ _ c.end_row.ensures
-    (ended_row c.args.text.now begun c.loop-l.text (codes "split") (trip ∷ map name (members left)) c.in_ok-begin_row.ensures goes)
+    (ended_row c.args.text.now begun c.loop-l.text (codes "split")
+    (trip ∷ map name (members left)) c.in_ok-begin_row.ensures goes)

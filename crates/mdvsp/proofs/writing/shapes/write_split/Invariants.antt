@@ -8,4 +8,5 @@ use Rattle.mdvsp.proofs.writing.shapes.write_split.Given as goal
 -- the layers so far are written
 abbrev pub invariant-loop-l : goal.invariant-loop-l
 invariant-loop-l l = l.text ≡ l.initial.text
-    ++ flat_map (λ k. cond (eqb (bit_at l.left.0 k) 1) (44 ∷ name_of l.names.layers k) []) (take l.l (range_with_len 0 16))
+    ++ flat_map (λ k. cond (eqb (bit_at l.left.0 k) 1) (44 ∷ name_of l.names.layers k) [])
+    (take l.l (range_with_len 0 16))

@@ -8,4 +8,5 @@ use Rattle.mdvsp.proofs.writing.tables.write_table.Given as goal
 -- the layers so far are written
 abbrev pub invariant-loop-l : goal.invariant-loop-l
 invariant-loop-l l = l.text ≡ l.initial.text
-    ++ flat_map (λ k. lines (layer_rows l.instance l.names l.table k)) (take l.l (range_with_len 0 (length l.instance.layers)))
+    ++ flat_map (λ k. lines (layer_rows l.instance l.names l.table k))
+    (take l.l (range_with_len 0 (length l.instance.layers)))

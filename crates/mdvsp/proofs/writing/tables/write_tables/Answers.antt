@@ -15,10 +15,13 @@ loop-k-preserved c =
     let bytes : ℕ × Table → List ℕ = λ e. lines (table_rows p names e) in
     let within : k < length tables.items = omega (arith, tables.ok.0) in
     let table = c.table-item.result in
-    let same : get_or tables.items k table ≡ table = sym (c.table-item.is ∙ ap (λ items. get_or items k table) c.deref-table-items.ensures.value) in
+    let same : get_or tables.items k table ≡ table =
+    sym (c.table-item.is ∙ ap (λ items. get_or items k table) c.deref-table-items.ensures.value) in
     let place : get_or (enumerate_from 1 tables.items) k (k + 1, table) ≡ (k + 1, table) =
-    get_or-enumerate_from 1 tables.items k (k + 1, table) within ∙ ap (λ n. (n, get_or tables.items k table)) (add_comm 1 k) ∙ ap (λ t. (k + 1, t)) same in
-    wrote_more bytes c.args.text.now c.loop-k.text c.write_table.new.text (enumerate_from 1 tables.items) k (k + 1, table)
+    get_or-enumerate_from 1 tables.items k (k + 1, table) within
+    ∙ ap (λ n. (n, get_or tables.items k table)) (add_comm 1 k) ∙ ap (λ t. (k + 1, t)) same in
+    wrote_more bytes c.args.text.now c.loop-k.text c.write_table.new.text (enumerate_from 1 tables.items) k
+    (k + 1, table)
     (omega (arith, within, length-enumerate_from 1 tables.items)) c.loop-k.invariant
     (c.in_ok-write_table.ensures ∙ ap (λ e. c.loop-k.text ++ bytes e) (sym place))
 
