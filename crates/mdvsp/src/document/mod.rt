@@ -13,11 +13,10 @@ mod tests {
     use super::numbers::signed;
     use super::read_document;
     use crate::form_error::FormError;
-    use crate::lines::rows_of_lines;
-    use crate::reader::read_instance;
     use std::alloc::Global;
     use std::test::Fail;
     use vs_check::{Claim, Document, Shape};
+    use vs_reader::ReadError;
 
     const INSTANCE: &str = "instance,1\nstop,D\nstop,P\nstop,Q\n\
         deadhead,D,P,10,0\ndeadhead,P,D,10,0\ndeadhead,D,Q,10,0\n\
@@ -30,12 +29,12 @@ mod tests {
         if text.len() > 1000 {
             return Err(FormError::NotThisForm);
         }
-        let rows = rows_of_lines(alloc, text.as_bytes())?;
-        if rows.len() < 13 {
-            return Err(FormError::NotThisForm);
-        }
-        let input = read_instance(alloc, &rows, 13)?;
-        read_document(alloc, &rows, 13, &input.instance, &input.names)
+        let input = match vs_reader::read(alloc, text.as_bytes()) {
+            Ok(input) => input,
+            Err(ReadError::Refused(_)) => return Err(FormError::NotThisForm),
+            Err(ReadError::Memory) => return Err(FormError::Memory),
+        };
+        read_document(alloc, &input.rest, &input.instance, &input.names)
     }
 
     #[test]
