@@ -10,6 +10,7 @@ use Rattle.std.proofs.lemmas.List.{length-take, get_or-take, get_or_default}
 use Rattle.std.proofs.lemmas.List.Folds.{list_any_none, list_any_at}
 use Rattle.vs_instance.specs.declared.deadhead.Deadhead.{Deadhead}
 use Rattle.vs_instance.specs.declared.way.Way.{Way}
+use Rattle.vs_instance.specs.declared.limits.TheConstants.{MAX_MINUTES, MAX_METRES}
 use Rattle.vs_instance.specs.Problem.{pair_cmp}
 use Rattle.vs_instance.specs.Misfits.{are_twins, has_twin_before, deadhead_misfits}
 use Rattle.vs_instance.proofs.Empty.{None, both_none, none-append, false_from_none, none_from_false}
@@ -20,8 +21,8 @@ use Rattle.vs_instance.proofs.Gathered.{Map, with_deadhead, tied_twins, way_give
 pub record IsFit (twice : Bool) (d : Deadhead) : Type 0 where
   pub apart : d.from.0 ≢ d.to.0
   pub some_minutes : 1 ≤ d.minutes
-  pub minutes : d.minutes ≤ 1440
-  pub metres : d.metres ≤ 1000000
+  pub minutes : d.minutes ≤ MAX_MINUTES
+  pub metres : d.metres ≤ MAX_METRES
   pub once : twice ≡ false
 
 pub deadhead_fits : (twice : Bool) (n : ℕ) (d : Deadhead) → None (deadhead_misfits twice n d) → IsFit twice d
@@ -29,13 +30,13 @@ deadhead_fits twice n d none =
     let last = both_none _ _ none in
     let third = both_none _ _ last.0 in
     let second = both_none _ _ third.0 in
-    let minutes = or_parts (eqb d.minutes 0) (ltb 1440 d.minutes) (false_from_none _ _ second.1) in
+    let minutes = or_parts (eqb d.minutes 0) (ltb MAX_MINUTES d.minutes) (false_from_none _ _ second.1) in
     let some : d.minutes ≡ 0 → ⊥ = eqb-false d.minutes 0 minutes.0 in
     record {
       apart = eqb-false d.from.0 d.to.0 (false_from_none _ _ second.0);
       some_minutes = omega arith;
-      minutes = ltb-false 1440 d.minutes minutes.1;
-      metres = ltb-false 1000000 d.metres (false_from_none _ _ third.1);
+      minutes = ltb-false MAX_MINUTES d.minutes minutes.1;
+      metres = ltb-false MAX_METRES d.metres (false_from_none _ _ third.1);
       once = false_from_none _ _ last.1;
     }
 
@@ -43,8 +44,8 @@ pub none_of_deadhead : (twice : Bool) (n : ℕ) (d : Deadhead) → IsFit twice d
 none_of_deadhead twice n d is =
     let some : d.minutes ≡ 0 → ⊥ = λ none. omega (arith, is.some_minutes, none) in
     none-append _ _ (none-append _ _ (none-append _ _ (none_from_false _ _ (ne_eqb d.from.0 d.to.0 is.apart))
-    (none_from_false _ _ (or_from _ _ (ne_eqb d.minutes 0 some) (le-ltb 1440 d.minutes is.minutes))))
-    (none_from_false _ _ (le-ltb 1000000 d.metres is.metres))) (none_from_false _ _ is.once)
+    (none_from_false _ _ (or_from _ _ (ne_eqb d.minutes 0 some) (le-ltb MAX_MINUTES d.minutes is.minutes))))
+    (none_from_false _ _ (le-ltb MAX_METRES d.metres is.metres))) (none_from_false _ _ is.once)
 
 -- what holds of the pair and the way of each deadhead holds of all that the map has
 pub given_all : (P : ℕ × ℕ → Way → Type 0) (m : Map) (ds : List Deadhead) → ((q : ℕ × ℕ) (w : Way) → map.get m q ≡ option.Some w → P q w)

@@ -16,7 +16,7 @@ use Rattle.vs_instance.specs.Instance.{IsDeadhead}
 use Rattle.vs_instance.specs.Misfits.{AreParts, MakeInstance, problem_of, deadheads_of, has_twin_before, misfits_of, IsFirstOf, IsFirstMisfit, IsMisfit, first_misfit, layer_misfits, trip_misfits, layers_misfits, deadheads_misfits, trips_misfits, closure_misfits}
 use Rattle.vs_instance.proofs.Firsts.{first-skip, first-stop, none_from_first}
 use Rattle.vs_instance.proofs.Empty.{None, none-append, each_none, none_each}
-use Rattle.vs_instance.proofs.Limits.{layer_fits, none_of_layer, trip_fits, none_of_trip}
+use Rattle.vs_instance.proofs.WithinLimits.{layer_fits, none_of_layer, trip_fits, none_of_trip}
 use Rattle.vs_instance.proofs.Given.{IsFit, deadhead_fits, none_of_deadhead, given_all, own_way, once_from, none_before}
 use Rattle.vs_instance.proofs.Closed.{closed_from_none, none_of_closed}
 use Rattle.vs_instance.proofs.Gathered.{nth_misfits}

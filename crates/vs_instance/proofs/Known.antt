@@ -8,6 +8,7 @@ use Rattle.std.proofs.lemmas.Bool.{cases_eq, eq-eqb, ne_eqb}
 use Rattle.std.proofs.lemmas.Nat.{mul-le}
 use Rattle.std.proofs.lemmas.Option.{same_Some, MatchOption-at_some}
 use Rattle.vs_instance.specs.declared.way.Way.{Way}
+use Rattle.vs_instance.specs.declared.limits.TheConstants.{MAX_MINUTES, MAX_METRES, MAX_PER_MINUTE, MAX_PER_METRE, TWO_DAYS}
 use Rattle.vs_instance.specs.Problem.{Problem}
 use Rattle.vs_instance.specs.Instance.{IsInstance, IsLayer, IsTrip, IsDeadhead, IsNoLonger}
 use Rattle.vs_instance.specs.Ways.{way, no_way, trip_of, layer_of, no_trip, no_layer}
@@ -30,8 +31,8 @@ way-other p k s apart = ap (λ (b : Bool). cond b (Some no_way) (map.get p.deadh
 
 -- how long a way can be
 pub record IsWithinLimits (w : Way) : Type 0 where
-  pub minutes : w.minutes ≤ 1440
-  pub metres : w.metres ≤ 1000000
+  pub minutes : w.minutes ≤ MAX_MINUTES
+  pub metres : w.metres ≤ MAX_METRES
 
 module _ (p : Problem) (is : IsInstance p) where
   -- a deadhead that is given
@@ -50,10 +51,10 @@ module _ (p : Problem) (is : IsInstance p) where
             record { minutes = d.minutes; metres = d.metres }
       ]
 
-  pub way-IfSome : (k s : ℕ) → IfSome (way p k s) (λ w. (w.minutes ≤ 1440) × (w.metres ≤ 1000000))
+  pub way-IfSome : (k s : ℕ) → IfSome (way p k s) (λ w. (w.minutes ≤ MAX_MINUTES) × (w.metres ≤ MAX_METRES))
   way-IfSome k s = by_way (way p k s) refl
     where
-      by_way : (o : Option Way) → way p k s ≡ o → IfSome o (λ w. (w.minutes ≤ 1440) × (w.metres ≤ 1000000))
+      by_way : (o : Option Way) → way p k s ≡ o → IfSome o (λ w. (w.minutes ≤ MAX_MINUTES) × (w.metres ≤ MAX_METRES))
       by_way None e = tt
       by_way (Some w) e = let limits = way-within k s w e in (limits.minutes, limits.metres)
 
@@ -78,9 +79,9 @@ module _ (p : Problem) (is : IsInstance p) where
       ]
 
   -- what minutes and metres cost at most: each fits 34 bits
-  pub rated-below : (l minutes metres : ℕ) → l < length p.layers → minutes ≤ 2880 → metres ≤ 1000000 → rated p l minutes metres ≤ 12880000000
+  pub rated-below : (l minutes metres : ℕ) → l < length p.layers → minutes ≤ TWO_DAYS → metres ≤ MAX_METRES → rated p l minutes metres ≤ 12880000000
   rated-below l minutes metres within few short =
       let layer = layer_of-IsLayer p is l within in
-      let time : (layer_of p l).per_minute * minutes ≤ 1000000 * 2880 = mul-le _ _ _ _ layer.per_minute few in
-      let length' : (layer_of p l).per_metre * metres ≤ 10000 * 1000000 = mul-le _ _ _ _ layer.per_metre short in
+      let time : (layer_of p l).per_minute * minutes ≤ MAX_PER_MINUTE * TWO_DAYS = mul-le _ _ _ _ layer.per_minute few in
+      let length' : (layer_of p l).per_metre * metres ≤ MAX_PER_METRE * MAX_METRES = mul-le _ _ _ _ layer.per_metre short in
       omega arith

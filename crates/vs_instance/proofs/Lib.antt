@@ -5,7 +5,7 @@ pub mod Gathered
 pub mod Detours
 pub mod Elements
 pub mod Empty
-pub mod Limits
+pub mod WithinLimits
 pub mod Given
 pub mod Closed
 pub mod Judged

@@ -5,23 +5,24 @@ use Rattle.vs_types.specs.LayerSet.{Has, members}
 use Rattle.vs_instance.specs.declared.layer.Layer.{Layer}
 use Rattle.vs_instance.specs.declared.trip.Trip.{Trip}
 use Rattle.vs_instance.specs.declared.way.Way.{Way}
+use Rattle.vs_instance.specs.declared.limits.TheConstants.{MAX_STOPS, MAX_LAYERS, MAX_TRIPS, MAX_FLEET, MAX_FIXED, MAX_PER_MINUTE, MAX_PER_METRE, MAX_MINUTES, MAX_METRES, TWO_DAYS}
 use Rattle.vs_instance.specs.Problem.{Problem}
 
 -- a layer within the limits
 pub record IsLayer (p : Problem) (layer : Layer) : Type 0 where
   pub depot : layer.depot.0 < p.stops
-  pub fleet : layer.fleet ≤ 2000
-  pub fixed : layer.fixed ≤ 1000000000
-  pub per_minute : layer.per_minute ≤ 1000000
-  pub per_metre : layer.per_metre ≤ 10000
+  pub fleet : layer.fleet ≤ MAX_FLEET
+  pub fixed : layer.fixed ≤ MAX_FIXED
+  pub per_minute : layer.per_minute ≤ MAX_PER_MINUTE
+  pub per_metre : layer.per_metre ≤ MAX_PER_METRE
 
 -- a trip within the limits, which ends later than it starts and is permitted in some layer
 pub record IsTrip (p : Problem) (trip : Trip) : Type 0 where
   pub from : trip.from.0 < p.stops
   pub to : trip.to.0 < p.stops
-  pub end : trip.end < 2880
+  pub end : trip.end < TWO_DAYS
   pub lasts : trip.start < trip.end
-  pub metres : trip.metres ≤ 1000000
+  pub metres : trip.metres ≤ MAX_METRES
   pub some_layer : members trip.layers ≢ []
   pub layers : (l : ℕ) → Has trip.layers l → l < length p.layers
 
@@ -31,8 +32,8 @@ pub record IsDeadhead (p : Problem) (k s : ℕ) (w : Way) : Type 0 where
   pub to : s < p.stops
   pub apart : k ≢ s
   pub some_minutes : 1 ≤ w.minutes
-  pub minutes : w.minutes ≤ 1440
-  pub metres : w.metres ≤ 1000000
+  pub minutes : w.minutes ≤ MAX_MINUTES
+  pub metres : w.metres ≤ MAX_METRES
 
 -- the way w is no longer than a and b together, in minutes and in metres
 pub record IsNoLonger (a b w : Way) : Type 0 where
@@ -45,9 +46,9 @@ IsClosed p = (k s t : ℕ) (a b : Way) → k ≢ t → map.get p.deadheads (k, s
     → IsSomeAnd (map.get p.deadheads (k, t)) (IsNoLonger a b)
 
 pub record IsInstance (p : Problem) : Type 0 where
-  pub few_stops : p.stops ≤ 500
-  pub few_layers : length p.layers ≤ 16
-  pub few_trips : length p.trips ≤ 2000
+  pub few_stops : p.stops ≤ MAX_STOPS
+  pub few_layers : length p.layers ≤ MAX_LAYERS
+  pub few_trips : length p.trips ≤ MAX_TRIPS
   pub layers : All (IsLayer p) p.layers
   pub deadheads : (k s : ℕ) → IfSome (map.get p.deadheads (k, s)) (IsDeadhead p k s)
   pub trips : All (IsTrip p) p.trips

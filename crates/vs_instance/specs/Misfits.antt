@@ -1,5 +1,5 @@
 -- What is wrong with the parts of an instance, in the order in which it is answered.
-use Rattle.std.specs.Prelude.{◌≡◌, ◌≢◌, ℕ, ◌+◌, ◌<◌, ◌≤◌, Bool, not, nat_lt, ◌==◌, ◌&&◌, ◌||◌, if◌then◌else◌, List, [], ◌∷◌, ◌++◌, length, take, flat_map, fold, All, AllPairs, Option, Some, None, slice_get}
+use Rattle.std.specs.Prelude.{◌≡◌, ◌≢◌, ℕ, ◌+◌, ◌^◌, ◌<◌, ◌≤◌, Bool, not, nat_lt, ◌==◌, ◌&&◌, ◌||◌, if◌then◌else◌, List, [], ◌∷◌, ◌++◌, length, take, flat_map, fold, All, AllPairs, Option, Some, None, slice_get}
 use Rattle.std.specs.List.{list_any, enumerate_from, range_with_len}
 use Rattle.std.specs.FinMap as map
 use Rattle.vs_types.specs.LayerSet.{Has, members}
@@ -14,6 +14,7 @@ use Rattle.vs_instance.specs.declared.misfit.NewError.{NewError}
 use Rattle.vs_instance.specs.declared.misfit.NewError.TheVariants as error
 use Rattle.vs_instance.specs.declared.misfit.Field.TheVariants as field
 use Rattle.vs_instance.specs.declared.misfit.Place.TheVariants as place
+use Rattle.vs_instance.specs.declared.limits.TheConstants.{MAX_STOPS, MAX_LAYERS, MAX_TRIPS, MAX_FLEET, MAX_FIXED, MAX_PER_MINUTE, MAX_PER_METRE, MAX_MINUTES, MAX_METRES, TWO_DAYS}
 use Rattle.vs_instance.specs.Problem.{Problem, pair_cmp}
 use Rattle.vs_instance.specs.Instance.{IsInstance}
 
@@ -45,22 +46,22 @@ when wrong misfit = if wrong then misfit ∷ [] else []
 
 abbrev pub layer_misfits : ℕ → Layer → List Misfit
 layer_misfits l layer = let at = place.Layer (record { 0 = l }) in
-    when (nat_lt 2000 layer.fleet) (Range field.Fleet at)
-    ++ when (nat_lt 1000000000 layer.fixed) (Range field.Fixed at)
-    ++ when (nat_lt 1000000 layer.per_minute) (Range field.PerMinute at)
-    ++ when (nat_lt 10000 layer.per_metre) (Range field.PerMetre at)
+    when (nat_lt MAX_FLEET layer.fleet) (Range field.Fleet at)
+    ++ when (nat_lt MAX_FIXED layer.fixed) (Range field.Fixed at)
+    ++ when (nat_lt MAX_PER_MINUTE layer.per_minute) (Range field.PerMinute at)
+    ++ when (nat_lt MAX_PER_METRE layer.per_metre) (Range field.PerMetre at)
 
 -- of the deadhead n, which may have a twin before it
 abbrev pub deadhead_misfits : Bool → ℕ → Deadhead → List Misfit
 deadhead_misfits twice n d =
     when (d.from.0 == d.to.0) (SelfDeadhead n)
-    ++ when ((d.minutes == 0) || nat_lt 1440 d.minutes) (Range field.Minutes (place.Deadhead n))
-    ++ when (nat_lt 1000000 d.metres) (Range field.Metres (place.Deadhead n))
+    ++ when ((d.minutes == 0) || nat_lt MAX_MINUTES d.minutes) (Range field.Minutes (place.Deadhead n))
+    ++ when (nat_lt MAX_METRES d.metres) (Range field.Metres (place.Deadhead n))
     ++ when twice (DeadheadTwice n)
 
 abbrev pub trip_misfits : ℕ → Trip → List Misfit
 trip_misfits i trip =
-    when (nat_lt 1000000 trip.metres) (Range field.Metres (place.Trip (record { 0 = i })))
+    when (nat_lt MAX_METRES trip.metres) (Range field.Metres (place.Trip (record { 0 = i })))
     ++ when (not (nat_lt trip.start trip.end)) (EndNotAfterStart (record { 0 = i }))
 
 -- what is wrong with the way w from k to t, beside the two ways by s
@@ -140,12 +141,12 @@ IsFirstMisfit parts e = IsFirstOf (misfits_of parts) e
 
 -- what a maker of parts has seen to: counts within the limits, each number one of the parts, and times of the two days
 pub record AreParts (parts : Parts) : Type 0 where
-  pub few_stops : parts.stops ≤ 500
-  pub few_layers : length parts.layers.items ≤ 16
-  pub few_trips : length parts.trips.items ≤ 2000
-  pub few_deadheads : length parts.deadheads.items < 4294967296
+  pub few_stops : parts.stops ≤ MAX_STOPS
+  pub few_layers : length parts.layers.items ≤ MAX_LAYERS
+  pub few_trips : length parts.trips.items ≤ MAX_TRIPS
+  pub few_deadheads : length parts.deadheads.items < 2 ^ 32
   pub layers : All (λ layer. layer.depot.0 < parts.stops) parts.layers.items
   pub deadheads : All (λ d. (d.from.0 < parts.stops) × (d.to.0 < parts.stops)) parts.deadheads.items
   pub trip_stops : All (λ t. (t.from.0 < parts.stops) × (t.to.0 < parts.stops)) parts.trips.items
-  pub trip_times : All (λ t. (t.start < 2880) × (t.end < 2880)) parts.trips.items
+  pub trip_times : All (λ t. (t.start < TWO_DAYS) × (t.end < TWO_DAYS)) parts.trips.items
   pub trip_layers : All (λ t. (members t.layers ≢ []) × ((l : ℕ) → Has t.layers l → l < length parts.layers.items)) parts.trips.items

@@ -1,9 +1,9 @@
-ghost use Rattle.std.specs.Prelude.{◌≡◌, ◌<◌, ◌≤◌, [], length, All, IfOk, IfErr, OnOk};
+ghost use Rattle.std.specs.Prelude.{◌≡◌, ◌^◌, ◌<◌, ◌≤◌, [], length, All, IfOk, IfErr, OnOk};
 ghost use Rattle.vs_instance.specs.Misfits.{first_misfit, deadhead_misfits, deadheads_misfits, deadheads_of, IsFirstOf};
 
 use crate::deadhead::Deadhead;
+use crate::limits::{MAX_METRES, MAX_MINUTES, MAX_STOPS};
 use crate::misfit::{Field, Misfit, NewError, Place};
-use crate::ranges::{MAX_METRES, MAX_MINUTES};
 use crate::way::Way;
 use crate::ways::Ways;
 use std::alloc::Global;
@@ -25,8 +25,8 @@ fn deadhead_misfit(n: u32, deadhead: &Deadhead, twice: bool) -> Option<Misfit>
 }
 
 fn way_of(deadhead: &Deadhead) -> Way
-    requires minutes { deadhead.now.minutes ≤ 1440 }
-    requires metres { deadhead.now.metres ≤ 1000000 }
+    requires minutes { deadhead.now.minutes ≤ MAX_MINUTES }
+    requires metres { deadhead.now.metres ≤ MAX_METRES }
     ensures minutes { result.minutes ≡ deadhead.now.minutes }
     ensures metres { result.metres ≡ deadhead.now.metres }
 {
@@ -38,8 +38,8 @@ fn way_of(deadhead: &Deadhead) -> Way
 
 /// The deadheads between so many stops, or their first misfit.
 pub fn ways_of(alloc: Global, stops: u32, deadheads: &[Deadhead]) -> Result<Ways, NewError>
-    requires stops { stops ≤ 500 }
-    requires count { length deadheads.now < 4294967296 }
+    requires stops { stops ≤ MAX_STOPS }
+    requires count { length deadheads.now < 2 ^ 32 }
     requires of_stops { All (λ d. (d.from.0 < stops) × (d.to.0 < stops)) deadheads.now }
     ensures given { IfOk result (λ ways. (ways.stops ≡ stops) × (ways.given ≡ deadheads_of deadheads.now)) }
     ensures fit { OnOk result (deadheads_misfits deadheads.now ≡ []) }

@@ -7,6 +7,7 @@ mod deadhead;
 mod gather;
 mod instance;
 mod layer;
+mod limits;
 mod misfit;
 mod parts;
 mod ranges;
@@ -17,6 +18,10 @@ mod ways;
 pub use deadhead::Deadhead;
 pub use instance::Instance;
 pub use layer::Layer;
+pub use limits::{
+    MAX_FIXED, MAX_FLEET, MAX_LAYERS, MAX_METRES, MAX_MINUTES, MAX_PER_METRE, MAX_PER_MINUTE,
+    MAX_STOPS, MAX_TRIPS, TWO_DAYS,
+};
 pub use misfit::{Field, Misfit, NewError, Place};
 pub use parts::Parts;
 pub use trip::Trip;

@@ -2,21 +2,12 @@ ghost use Rattle.std.specs.Prelude.{◌≡◌, ◌≤◌, length};
 ghost use Rattle.vs_instance.specs.Misfits.{first_misfit, layer_misfits, layers_misfits, trip_misfits, trips_misfits};
 
 use crate::layer::Layer;
+use crate::limits::{
+    MAX_FIXED, MAX_FLEET, MAX_LAYERS, MAX_METRES, MAX_PER_METRE, MAX_PER_MINUTE, MAX_TRIPS,
+};
 use crate::misfit::{Field, Misfit, Place};
 use crate::trip::Trip;
 use vs_types::{LayerNo, TripNo};
-
-pub const MAX_FLEET: u64 = 2_000;
-
-pub const MAX_FIXED: u64 = 1_000_000_000;
-
-pub const MAX_PER_MINUTE: u64 = 1_000_000;
-
-pub const MAX_PER_METRE: u64 = 10_000;
-
-pub const MAX_MINUTES: u64 = 1_440;
-
-pub const MAX_METRES: u64 = 1_000_000;
 
 fn layer_misfit(l: LayerNo, layer: &Layer) -> Option<Misfit>
     ensures { result ≡ first_misfit (layer_misfits l.0 layer.now) }
@@ -37,7 +28,7 @@ fn layer_misfit(l: LayerNo, layer: &Layer) -> Option<Misfit>
 
 /// The first misfit of the layers, in number order.
 pub fn layers_misfit(layers: &[Layer]) -> Option<Misfit>
-    requires { length layers.now ≤ 16 }
+    requires { length layers.now ≤ MAX_LAYERS }
     ensures { result ≡ first_misfit (layers_misfits layers.now) }
 {
     for (l, layer) in layers.iter().enumerate() {
@@ -62,7 +53,7 @@ fn trip_misfit(i: TripNo, trip: &Trip) -> Option<Misfit>
 
 /// The first misfit of the trips, in number order.
 pub fn trips_misfit(trips: &[Trip]) -> Option<Misfit>
-    requires { length trips.now ≤ 2000 }
+    requires { length trips.now ≤ MAX_TRIPS }
     ensures { result ≡ first_misfit (trips_misfits trips.now) }
 {
     for (i, trip) in trips.iter().enumerate() {

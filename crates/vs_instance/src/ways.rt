@@ -2,6 +2,7 @@ ghost use Rattle.std.specs.Prelude.{◌≡◌, ℕ, ◌<◌, ◌≤◌, Some, If
 ghost use Rattle.std.specs.FinMap as map;
 ghost use Rattle.vs_instance.specs.WayMap.{row_of};
 
+use crate::limits::MAX_STOPS;
 use crate::way::Way;
 use std::alloc::Global;
 use std::marker::Model;
@@ -19,6 +20,7 @@ impl Model for Ways {
     ghost use Rattle.std.specs.Prelude.{ℕ, ◌≡◌, ◌*◌, ◌≤◌, length};
     ghost use Rattle.vs_instance.specs.WayMap.{WayMap, way_map};
     ghost use Rattle.vs_instance.specs.Codes.{coded_way_map};
+    ghost use Rattle.vs_instance.specs.declared.limits.TheConstants.{MAX_STOPS};
 
     ghost Value = { WayMap };
 
@@ -26,13 +28,13 @@ impl Model for Ways {
 
     ghost view = { λ w. record { stops = w.stops; given = way_map w.stops w.places.items } };
 
-    ghost invariant = { λ w. (w.stops ≤ 500) × (length w.places.items ≡ w.stops * w.stops) };
+    ghost invariant = { λ w. (w.stops ≤ MAX_STOPS) × (length w.places.items ≡ w.stops * w.stops) };
 }
 
 impl Ways {
     /// No deadheads, between so many stops.
     pub fn new(alloc: Global, stops: u32) -> Result<Ways, Memory>
-        requires { stops ≤ 500 }
+        requires { stops ≤ MAX_STOPS }
         ensures { IfOk result (λ w. (w.stops ≡ stops) × (w.given ≡ map.empty)) }
     {
         let stops = stops as usize;
@@ -53,7 +55,7 @@ impl Ways {
     /// How many stops there are.
     pub fn stops(&self) -> u32
         ensures count { result ≡ self.now.stops }
-        ensures few { result ≤ 500 }
+        ensures few { result ≤ MAX_STOPS }
     {
         self.stops as u32
     }

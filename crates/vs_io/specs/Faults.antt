@@ -1,4 +1,4 @@
--- Counts of faults, which stay at the greatest u64 once they are there.
+-- Counts of calls and of faults, which stay at the greatest u64 once they are there.
 use Rattle.std.specs.Prelude.{ℕ, ◌+◌, ◌-◌, ◌^◌, ◌<◌, ◌≤◌, ◌⊎◌, min}
 
 -- the count rose, where one that stands at the greatest u64 counts as risen

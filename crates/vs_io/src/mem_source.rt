@@ -59,6 +59,8 @@ impl MemSource {
 impl Source for MemSource {
     ghost left = { λ s. Some s.left };
 
+    ghost calls = { λ s. s.calls };
+
     ghost faults = { λ s. s.faults };
 
     fn take(&mut self, buf: &mut [u8]) -> Result<usize, Failed>
@@ -69,9 +71,9 @@ impl Source for MemSource {
         ensures unmoved { OnErr result (Some self.new.left ≡ Some self.old.left) }
         ensures fault { OnErr result (Rose self.old.faults self.new.faults) }
         ensures never_falls { self.old.faults ≤ self.new.faults }
+        ensures counted { self.new.calls ≡ one_more self.old.calls }
 
         // Exactly which calls fail, and how many bytes the others give.
-        ensures counted { self.new.calls ≡ one_more self.old.calls }
         ensures failing { IsErr result ↔ Contains self.old.failing self.new.calls }
         ensures risen { OnErr result (self.new.faults ≡ one_more self.old.faults) }
         ensures not_risen { OnOk result (self.new.faults ≡ self.old.faults) }

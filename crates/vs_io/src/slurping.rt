@@ -1,4 +1,4 @@
-ghost use Rattle.std.specs.Prelude.{◌≡◌, ℕ, ◌<◌, ◌≤◌, ◌↔◌, List, length, vec_len, IfOk, IfErr, IsErrOf, IfSome};
+ghost use Rattle.std.specs.Prelude.{◌≡◌, ℕ, ◌+◌, ◌<◌, ◌≤◌, ◌↔◌, List, length, vec_len, IfOk, IfErr, IsErrOf, IfSome};
 ghost use Rattle.vs_io.specs.Bytes.{Takes, TakesAll};
 ghost use Rattle.vs_io.specs.Faults.{Rose};
 ghost use Rattle.vs_io.specs.declared.slurping.SlurpError.TheVariants.{ReadFault as Fault, Memory as NoMemory};
@@ -50,6 +50,10 @@ pub fn slurp<S: Source>(alloc: Global, src: &mut S, limit: u64) -> Result<Vec<u8
 
     ensures fault { IsErrOf result SlurpError.ReadFault → Rose (S.faults src.old) (S.faults src.new) }
     ensures never_falls { S.faults src.old ≤ S.faults src.new }
+
+    // It takes at least once, and no more often than the limit has bytes and once more.
+    ensures takes { Rose (S.calls src.old) (S.calls src.new) }
+    ensures few_takes { S.calls src.new ≤ S.calls src.old + (limit + 1) }
 {
     let mut bytes = Vec::new(alloc);
     let mut piece = [0; PIECE];

@@ -1,7 +1,7 @@
 ghost use Rattle.std.specs.Prelude.{◌≡◌, ℕ, ◌<◌, ◌≤◌, Option, List, length, take, IfOk, OnErr};
 ghost use Rattle.std.specs.Io.KnownBytes.{IsAtEnd};
 ghost use Rattle.vs_io.specs.Bytes.{Takes};
-ghost use Rattle.vs_io.specs.Faults.{Rose};
+ghost use Rattle.vs_io.specs.Faults.{Rose, one_more};
 
 /// One call of a source or a sink failed.
 #[derive(Clone, Copy, Debug, PartialEq, Eq)]
@@ -9,10 +9,13 @@ pub struct Failed;
 
 /// Where bytes are read from.
 ///
-/// `left` is the bytes that are left, where the source tells them. `faults` is a count of failed
-/// calls, a u64 that never falls and stays at its greatest value once it is there.
+/// `left` is the bytes that are left, where the source tells them. `calls` is a count of all calls
+/// and `faults` one of those that failed, each a u64 that never falls and stays at its greatest
+/// value once it is there.
 pub trait Source {
     ghost left: { Self → Option (List ℕ) };
+
+    ghost calls: { Self → ℕ };
 
     ghost faults: { Self → ℕ };
 
@@ -25,5 +28,6 @@ pub trait Source {
         ensures end { IfOk result (λ n. n ≡ 0 → IsAtEnd (left self.old)) }
         ensures unmoved { OnErr result (left self.new ≡ left self.old) }
         ensures fault { OnErr result (Rose (faults self.old) (faults self.new)) }
-        ensures never_falls { faults self.old ≤ faults self.new };
+        ensures never_falls { faults self.old ≤ faults self.new }
+        ensures counted { calls self.new ≡ one_more (calls self.old) };
 }

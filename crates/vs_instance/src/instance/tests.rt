@@ -5,6 +5,7 @@ ghost use Rattle.vs_instance.specs.Misfits.{AreParts};
 use super::Instance;
 use crate::deadhead::Deadhead;
 use crate::layer::Layer;
+use crate::limits::TWO_DAYS;
 use crate::misfit::{Field, Misfit, NewError, Place};
 use crate::parts::Parts;
 use crate::trip::Trip;
@@ -40,10 +41,10 @@ fn layer(fleet: u64) -> Layer
 }
 
 fn trip(start: u32, end: u32) -> Trip
-    requires start { start < 2880 }
-    requires end { end < 2880 }
+    requires start { start < TWO_DAYS }
+    requires end { end < TWO_DAYS }
     ensures stops { (result.from.0 < 3) × (result.to.0 < 3) }
-    ensures times { (result.start < 2880) × (result.end < 2880) }
+    ensures times { (result.start < TWO_DAYS) × (result.end < TWO_DAYS) }
     ensures layers { (l : ℕ) → Has result.layers l ↔ (l ≡ 0) }
     ensures fits { result.layers.0 < 65536 }
 {
@@ -61,7 +62,7 @@ fn trip(start: u32, end: u32) -> Trip
 fn parts(alloc: Global, deadheads: &[Deadhead], fleet: u64, end: u32) -> Result<Parts, AllocError>
     requires stops { All (λ d. (d.from.0 < 3) × (d.to.0 < 3)) deadheads.now }
     requires few { length deadheads.now < 10 }
-    requires end { end < 2880 }
+    requires end { end < TWO_DAYS }
     ensures { IfOk result AreParts }
 {
     Ok(Parts {

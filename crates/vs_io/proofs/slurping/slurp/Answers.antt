@@ -1,7 +1,8 @@
-use Rattle.std.proofs.Common.{arith, ◌≡◌, ◌<◌, ◌≤◌, ◌++◌, length, take, refl, length-append}
+use Rattle.std.proofs.Common.{rules, arith, inr, ◌≡◌, ◌<◌, ◌≤◌, ◌++◌, length, take, refl, length-append}
 use Rattle.std.proofs.lemmas.List.{length-take-le}
 use Rattle.std.proofs.lemmas.Result.{err_from_is_err_and}
 use Rattle.vs_io.proofs.Bytes.{Takes-append}
+use Rattle.vs_io.proofs.Faults.{Rose-counted, one_more-within}
 use Rattle.vs_io.proofs.slurping.slurp.Goals as goal
 
 pub returns-then-n-limit-clause-gone : goal.returns-then-n-limit-clause-gone
@@ -28,3 +29,15 @@ returns-in_err-extend_from_slice-clause-gone g c =
       Takes-append _ _ _ _ _ c.pieces.invariant.taken c.in_ok-n.ensures.moved,
       ((λ is. cc), (λ more. absurd (omega arith))),
     )
+
+pub pieces-preserved : goal.pieces-preserved
+pieces-preserved g c =
+    let piece : length (take c.in_ok-n.n c.take.new.buf) ≡ c.in_ok-n.n =
+    length-take-le c.in_ok-n.n c.take.new.buf c.in_ok-n.ensures.within in
+    record {
+      within = search rules;
+      taken = rw c.in_ok-extend_from_slice.ensures.items (Takes-append _ _ _ _ _ c.pieces.invariant.taken c.in_ok-n.ensures.moved);
+      kept = search rules;
+      counted = inr (Rose-counted _ _ _ c.pieces.invariant.counted c.take.ensures.counted);
+      few_takes = search (rules, one_more-within);
+    }

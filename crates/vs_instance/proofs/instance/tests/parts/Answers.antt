@@ -3,6 +3,7 @@ use Rattle.std.specs.Prelude.{Contains}
 use Rattle.std.specs.List.{All}
 use Rattle.vs_types.specs.LayerSet.{Has, members}
 use Rattle.vs_types.proofs.Members.{Contains-members}
+use Rattle.vs_instance.specs.declared.limits.TheConstants.{TWO_DAYS}
 use Rattle.vs_instance.specs.declared.layer.Layer.{Layer}
 use Rattle.vs_instance.specs.declared.trip.Trip.{Trip}
 use Rattle.vs_instance.specs.declared.deadhead.Deadhead.{Deadhead}
@@ -31,8 +32,8 @@ returns c =
       deadheads = subst (All (λ (d : Deadhead). (d.from.0 < 3) × (d.to.0 < 3))) (sym ds) c.requires.stops;
       trip_stops = subst (All (λ (t : Trip). (t.from.0 < 3) × (t.to.0 < 3))) (sym ts)
           (All-cons (λ (t : Trip). (t.from.0 < 3) × (t.to.0 < 3)) c.trip.result [] c.trip.ensures.stops (All-none _));
-      trip_times = subst (All (λ (t : Trip). (t.start < 2880) × (t.end < 2880))) (sym ts)
-          (All-cons (λ (t : Trip). (t.start < 2880) × (t.end < 2880)) c.trip.result [] c.trip.ensures.times (All-none _));
+      trip_times = subst (All (λ (t : Trip). (t.start < TWO_DAYS) × (t.end < TWO_DAYS))) (sym ts)
+          (All-cons (λ (t : Trip). (t.start < TWO_DAYS) × (t.end < TWO_DAYS)) c.trip.result [] c.trip.ensures.times (All-none _));
       trip_layers = subst (All (λ (t : Trip). (members t.layers ≢ []) × ((l : ℕ) → Has t.layers l → l < length c.in_ok-vec.field-0.items))) (sym ts)
           (All-cons (λ (t : Trip). (members t.layers ≢ []) × ((l : ℕ) → Has t.layers l → l < length c.in_ok-vec.field-0.items)) c.trip.result []
           (some, first) (All-none _));

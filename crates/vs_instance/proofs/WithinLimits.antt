@@ -5,6 +5,7 @@ use Rattle.vs_types.specs.LayerSet.{Has, members}
 use Rattle.vs_instance.specs.declared.layer.Layer.{Layer}
 use Rattle.vs_instance.specs.declared.trip.Trip.{Trip}
 use Rattle.vs_instance.specs.declared.misfit.Misfit.{Misfit}
+use Rattle.vs_instance.specs.declared.limits.TheConstants.{MAX_FLEET, MAX_FIXED, MAX_PER_MINUTE, MAX_PER_METRE, MAX_METRES, TWO_DAYS}
 use Rattle.vs_instance.specs.Problem.{Problem}
 use Rattle.vs_instance.specs.Instance.{IsLayer, IsTrip}
 use Rattle.vs_instance.specs.Misfits.{layer_misfits, trip_misfits, when}
@@ -24,18 +25,18 @@ layer_fits p l layer depot none =
     let second = both_none _ _ third.0 in
     record {
       depot = depot;
-      fleet = within 2000 layer.fleet _ second.0;
-      fixed = within 1000000000 layer.fixed _ second.1;
-      per_minute = within 1000000 layer.per_minute _ third.1;
-      per_metre = within 10000 layer.per_metre _ last.1;
+      fleet = within MAX_FLEET layer.fleet _ second.0;
+      fixed = within MAX_FIXED layer.fixed _ second.1;
+      per_minute = within MAX_PER_MINUTE layer.per_minute _ third.1;
+      per_metre = within MAX_PER_METRE layer.per_metre _ last.1;
     }
 
 pub none_of_layer : (p : Problem) (l : ℕ) (layer : Layer) → IsLayer p layer → None (layer_misfits l layer)
 none_of_layer p l layer is =
-    none-append _ _ (none-append _ _ (none-append _ _ (fits 2000 layer.fleet _ is.fleet) (fits 1000000000 layer.fixed _ is.fixed))
-    (fits 1000000 layer.per_minute _ is.per_minute)) (fits 10000 layer.per_metre _ is.per_metre)
+    none-append _ _ (none-append _ _ (none-append _ _ (fits MAX_FLEET layer.fleet _ is.fleet) (fits MAX_FIXED layer.fixed _ is.fixed))
+    (fits MAX_PER_MINUTE layer.per_minute _ is.per_minute)) (fits MAX_PER_METRE layer.per_metre _ is.per_metre)
 
-pub trip_fits : (p : Problem) (i : ℕ) (trip : Trip) → trip.from.0 < p.stops → trip.to.0 < p.stops → trip.end < 2880
+pub trip_fits : (p : Problem) (i : ℕ) (trip : Trip) → trip.from.0 < p.stops → trip.to.0 < p.stops → trip.end < TWO_DAYS
     → members trip.layers ≢ [] → ((l : ℕ) → Has trip.layers l → l < length p.layers) → None (trip_misfits i trip) → IsTrip p trip
 trip_fits p i trip from to end some_layer layers none =
     let parts = both_none _ _ none in
@@ -44,11 +45,11 @@ trip_fits p i trip from to end some_layer layers none =
       to = to;
       end = end;
       lasts = ltb-true trip.start trip.end (not-false (ltb trip.start trip.end) (false_from_none _ _ parts.1));
-      metres = within 1000000 trip.metres _ parts.0;
+      metres = within MAX_METRES trip.metres _ parts.0;
       some_layer = some_layer;
       layers = layers;
     }
 
 pub none_of_trip : (p : Problem) (i : ℕ) (trip : Trip) → IsTrip p trip → None (trip_misfits i trip)
 none_of_trip p i trip is =
-    none-append _ _ (fits 1000000 trip.metres _ is.metres) (none_from_false _ _ (ap not (lt-ltb trip.start trip.end is.lasts)))
+    none-append _ _ (fits MAX_METRES trip.metres _ is.metres) (none_from_false _ _ (ap not (lt-ltb trip.start trip.end is.lasts)))

@@ -1,0 +1,27 @@
+#!/usr/bin/env bash
+# Plans examples/morning_peak.csv and has the plan audited. Where bin/mdvsp is built, that program runs. Else the
+# sources are compiled without any proof, which takes half a minute a run.
+set -u
+cd "$(dirname "$0")/.." || exit 1
+timetable=examples/morning_peak.csv
+work=$(mktemp -d)
+trap 'rm -rf "$work"' EXIT
+
+if [ -x bin/mdvsp ]; then
+  run() { bin/mdvsp "$@"; }
+else
+  echo "This runs the sources as they are, unproved; \`make\` proves the program and builds bin/mdvsp."
+  run() { (cd crates/mdvsp && rt try -- "$@" 2> "$work/log"); }
+fi
+
+run solve --nodes 0 < "$timetable" > "$work/plan.csv"
+status=$?
+if [ "$status" -ne 0 ] && [ "$status" -ne 11 ]; then
+  cat "$work/log" 2> /dev/null
+  exit "$status"
+fi
+echo "The plan of $timetable, from a depot, trip by trip and back in each block:"
+grep -E '^(result|cost|bound|block),' "$work/plan.csv"
+echo "The audit says:"
+cat "$timetable" "$work/plan.csv" > "$work/both.csv"
+run check < "$work/both.csv"
