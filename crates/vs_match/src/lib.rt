@@ -9,6 +9,7 @@ mod event;
 mod in_order;
 mod layer_arc;
 mod layer_net;
+mod laws;
 mod matching;
 mod nodes;
 mod pulls;
