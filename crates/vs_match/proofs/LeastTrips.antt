@@ -29,7 +29,7 @@ module _ (Such : ℕ → Type 0) (decide : (i : ℕ) → Such i ⊎ (¬ (Such i)
   })
   one_more n (inl old) (inl has) =
       elim (cases_lt (measure n) (measure old.i)) [
-        inl new ↦ inl (record {
+        | inl new ↦ inl (record {
           i = n;
           within = omega arith;
           passes = has;
@@ -37,11 +37,11 @@ module _ (Such : ℕ → Type 0) (decide : (i : ℕ) → Such i ⊎ (¬ (Such i)
               (λ _. omega arith) within passes;
         })
         | inr same ↦ inl (record {
-            i = old.i;
-            within = omega (arith, old.within);
-            passes = old.passes;
-            least = λ j within passes. below_or_last n j (λ k. Such k → measure old.i ≤ measure k) (λ k less. old.least k less) (λ _. same) within passes;
-          })
+          i = old.i;
+          within = omega (arith, old.within);
+          passes = old.passes;
+          least = λ j within passes. below_or_last n j (λ k. Such k → measure old.i ≤ measure k) (λ k less. old.least k less) (λ _. same) within passes;
+        })
       ]
   one_more n (inr none) (inl has) = inl (record {
     i = n;

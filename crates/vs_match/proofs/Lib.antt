@@ -5,3 +5,4 @@ pub mod WaitingChains
 pub mod LeastTrips
 pub mod Matched
 pub mod WalkLaws
+pub mod StrictOrders

@@ -54,19 +54,23 @@ module _ (p : Problem) (is : IsInstance p) (l : ℕ) where
       let stop = (departure p j).stop.0 in
       let minute = (arrival p i).minute + w.minutes in
       let least = least_of (LeavesFrom p l stop minute) (decide_leaves p l stop minute) (λ k. (departure p k).minute) (length p.trips) j may'.0
-          (may', (refl, in_time)) in
-      let here = least.passes.1.0 in
-      (least.i, record {
-        arrives = (i, may, refl);
-        departs = (least.i, least.passes.0, refl);
-        apart = λ same. apart (same ∙ here);
-        way_is = ap (λ (s : ℕ). way p (arrival p i).stop.0 s) here ∙ way_is;
-        in_time = least.passes.1.1;
-        first = λ c departs same late.
-            let there : (departure p departs.0).stop.0 ≡ stop = ap (λ (e : Event). e.stop.0) departs.2 ∙ ap (λ (s : StopNo). s.0) same ∙ here in
-            let minutes = ap (λ (e : Event). e.minute) departs.2 in
-            omega (arith, minutes, least.least departs.0 departs.1.0 (departs.1, (there, omega (arith, minutes, late))));
-      }, here, least.least j may'.0 (may', (refl, in_time)))
+      (may', (refl, in_time)) in
+      let here = least.passes.1.0 in (
+        least.i,
+        record {
+          arrives = (i, may, refl);
+          departs = (least.i, least.passes.0, refl);
+          apart = λ same. apart (same ∙ here);
+          way_is = ap (λ (s : ℕ). way p (arrival p i).stop.0 s) here ∙ way_is;
+          in_time = least.passes.1.1;
+          first = λ c departs same late.
+              let there : (departure p departs.0).stop.0 ≡ stop = ap (λ (e : Event). e.stop.0) departs.2 ∙ ap (λ (s : StopNo). s.0) same ∙ here in
+              let minutes = ap (λ (e : Event). e.minute) departs.2 in
+              omega (arith, minutes, least.least departs.0 departs.1.0 (departs.1, (there, omega (arith, minutes, late))));
+        },
+        here,
+        least.least j may'.0 (may', (refl, in_time)),
+      )
 
   -- the latest arrival at a's stop with this first match
   latest_match_of : (w : Way) (i m : ℕ) → MayRun p l i → IsFirstMatch p l w (arrival p i) (departure p m)
@@ -75,26 +79,35 @@ module _ (p : Problem) (is : IsInstance p) (l : ℕ) where
       let stop = (arrival p i).stop.0 in
       let minute = (departure p m).minute in
       let least = least_of (ComesBy p l stop w.minutes minute) (decide_comes p l stop w.minutes minute) (λ k. 2880 - (arrival p k).minute) (length p.trips) i may.0
-          (may, (refl, match.in_time)) in
+      (may, (refl, match.in_time)) in
       let k = least.i in
       let here = least.passes.1.0 in
       let later : (arrival p i).minute ≤ (arrival p k).minute =
-          omega (arith, least.least i may.0 (may, (refl, match.in_time)), ends_within i may, ends_within k least.passes.0) in
-      (k, record {
-        is_match = record {
-          arrives = (k, least.passes.0, refl);
-          departs = match.departs;
-          apart = λ same. match.apart (sym here ∙ same);
-          way_is = ap (λ (s : ℕ). way p s (departure p m).stop.0) here ∙ match.way_is;
-          in_time = least.passes.1.1;
-          first = λ c departs same late. match.first c departs same (omega (arith, late, later));
-        };
-        latest = λ c same other.
-            let there : (arrival p other.arrives.0).stop.0 ≡ stop = ap (λ (e : Event). e.stop.0) other.arrives.2 ∙ ap (λ (s : StopNo). s.0) same ∙ here in
-            let minutes = ap (λ (e : Event). e.minute) other.arrives.2 in
-            omega (arith, minutes, ends_within other.arrives.0 other.arrives.1, ends_within k least.passes.0,
-            least.least other.arrives.0 other.arrives.1.0 (other.arrives.1, (there, omega (arith, minutes, other.in_time))));
-      }, here, later)
+      omega (arith, least.least i may.0 (may, (refl, match.in_time)), ends_within i may, ends_within k least.passes.0) in (
+        k,
+        record {
+          is_match = record {
+            arrives = (k, least.passes.0, refl);
+            departs = match.departs;
+            apart = λ same. match.apart (sym here ∙ same);
+            way_is = ap (λ (s : ℕ). way p s (departure p m).stop.0) here ∙ match.way_is;
+            in_time = least.passes.1.1;
+            first = λ c departs same late. match.first c departs same (omega (arith, late, later));
+          };
+          latest = λ c same other.
+              let there : (arrival p other.arrives.0).stop.0 ≡ stop = ap (λ (e : Event). e.stop.0) other.arrives.2 ∙ ap (λ (s : StopNo). s.0) same ∙ here in
+              let minutes = ap (λ (e : Event). e.minute) other.arrives.2 in
+              omega (
+                arith,
+                minutes,
+                ends_within other.arrives.0 other.arrives.1,
+                ends_within k least.passes.0,
+                least.least other.arrives.0 other.arrives.1.0 (other.arrives.1, (there, omega (arith, minutes, other.in_time))),
+              );
+        },
+        here,
+        later,
+      )
 
   -- an arrival reaches a departure by a match, maybe that of a later arrival, and then waits
   pub match_between : (matching : Matching) (w : Way) (i j : ℕ) → MayRun p l i → MayRun p l j → (arrival p i).stop.0 ≢ (departure p j).stop.0

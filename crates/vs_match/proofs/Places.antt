@@ -56,11 +56,11 @@ module _ (events : List Event) (ordered : AllPairs IsBefore events) where
       let x = placed events u a at in
       let y = placed events v b at' in
       elim (cases_order x.k y.k) [
-        inl same ↦ absurd (not_before_itself a b (sym (x.event a) ∙ ap (λ (k : ℕ). get_or events k a) same ∙ y.event a) less)
+        | inl same ↦ absurd (not_before_itself a b (sym (x.event a) ∙ ap (λ (k : ℕ). get_or events k a) same ∙ y.event a) less)
         | inr more ↦ elim more [
-            inl up ↦ omega (arith, x.node, y.node, up)
-            | inr down ↦ absurd (not_both a b less (before_of y.k x.k b a down x.within y.event x.event))
-          ]
+          | inl up ↦ omega (arith, x.node, y.node, up)
+          | inr down ↦ absurd (not_both a b less (before_of y.k x.k b a down x.within y.event x.event))
+        ]
       ]
 
   -- nodes that come in order are events that do
@@ -74,9 +74,9 @@ module _ (events : List Event) (ordered : AllPairs IsBefore events) where
   pub same_node : (u v : ℕ) (e : Event) → HasPlace events u e → HasPlace events v e → u ≡ v
   same_node u v e at at' =
       elim (cases_order u v) [
-        inl same ↦ same
+        | inl same ↦ same
         | inr more ↦ elim more [
-            inl up ↦ absurd (not_before_itself e e refl (events_in_order u v e e at at' up))
-            | inr down ↦ absurd (not_before_itself e e refl (events_in_order v u e e at' at down))
-          ]
+          | inl up ↦ absurd (not_before_itself e e refl (events_in_order u v e e at at' up))
+          | inr down ↦ absurd (not_before_itself e e refl (events_in_order v u e e at' at down))
+        ]
       ]

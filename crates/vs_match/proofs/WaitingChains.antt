@@ -69,18 +69,20 @@ find_next : (events : List Event) (d : Event) (stop : StopNo) (gap i j : ℕ) �
 find_next events d stop zero i j at here = (record { k = j; after = omega arith; here = here; none_between = λ m up down. absurd (omega arith) }, omega arith)
 find_next events d stop (suc gap) i j at here =
     elim (cases_eq (get_or events (i + 1) d).stop.0 stop.0) [
-      inl same ↦ (record { k = i + 1; after = omega arith; here = same_stop _ _ same; none_between = λ m up down. absurd (omega arith) }, omega arith)
+      | inl same ↦ (record { k = i + 1; after = omega arith; here = same_stop _ _ same; none_between = λ m up down. absurd (omega arith) }, omega arith)
       | inr other ↦
-          let rest = find_next events d stop gap (i + 1) j (omega arith) here in
-          (record {
-            k = rest.0.k;
-            after = omega (arith, rest.0.after);
-            here = rest.0.here;
-            none_between = λ m up down same. elim (cases_eq m (i + 1)) [
-                inl first ↦ other (ap (λ (x : ℕ). (get_or events x d).stop.0) (sym first) ∙ ap (λ (s : StopNo). s.0) same)
+          let rest = find_next events d stop gap (i + 1) j (omega arith) here in (
+            record {
+              k = rest.0.k;
+              after = omega (arith, rest.0.after);
+              here = rest.0.here;
+              none_between = λ m up down same. elim (cases_eq m (i + 1)) [
+                | inl first ↦ other (ap (λ (x : ℕ). (get_or events x d).stop.0) (sym first) ∙ ap (λ (s : StopNo). s.0) same)
                 | inr later ↦ rest.0.none_between m (omega (arith, later)) down same
               ];
-          }, rest.1)
+            },
+            rest.1,
+          )
     ]
 
 minutes_of_both : (rate a b c : ℕ) → a ≤ b → b ≤ c → 1000 * (rate * (b - a)) + 1000 * (rate * (c - b)) ≡ 1000 * (rate * (c - a))
@@ -107,14 +109,14 @@ module _ (p : Problem) (l : ℕ) (matching : Matching) (n : LayerGraph) (net : I
   not_later : (k i : ℕ) (e : Event) → k ≤ i → i < length n.events → get_or n.events k e ≡ e → k < length n.events → (at i).minute < e.minute → ⊥
   not_later k i e le inside is within later =
       elim (cases_eq k i) [
-        inl same ↦ omega (arith, later, ap (λ (x : Event). x.minute) (get-is k e within is), ap (λ (x : ℕ). (at x).minute) same)
+        | inl same ↦ omega (arith, later, ap (λ (x : Event). x.minute) (get-is k e within is), ap (λ (x : ℕ). (at x).minute) same)
         | inr other ↦ omega (arith, later, ap (λ (x : Event). x.minute) (get-is k e within is), minutes_up k i (omega (arith, le, other)) inside)
       ]
 
   no_earlier : (k j : ℕ) (e : Event) → k ≤ j → j < length n.events → get_or n.events j e ≡ e → (at k).minute ≤ e.minute
   no_earlier k j e le within is =
       elim (cases_eq k j) [
-        inl same ↦ omega (arith, ap (λ (x : Event). x.minute) (get-is j e within is), ap (λ (x : ℕ). (at x).minute) same)
+        | inl same ↦ omega (arith, ap (λ (x : Event). x.minute) (get-is j e within is), ap (λ (x : ℕ). (at x).minute) same)
         | inr other ↦ omega (arith, ap (λ (x : Event). x.minute) (get-is j e within is), minutes_up k j (omega (arith, le, other)) within)
       ]
 
@@ -135,10 +137,10 @@ module _ (p : Problem) (l : ℕ) (matching : Matching) (n : LayerGraph) (net : I
         next = λ e is same later.
             let has = net.events.every e is in
             elim (cases_lt has.0 next.k) [
-              inl before ↦ elim (cases_lt i has.0) [
-                  inl after ↦ absurd (next.none_between has.0 after before (ap (λ (x : Event). x.stop) (get-is has.0 e has.1 has.2) ∙ same))
-                  | inr not ↦ absurd (not_later has.0 i e not inside has.2 has.1 later)
-                ]
+              | inl before ↦ elim (cases_lt i has.0) [
+                | inl after ↦ absurd (next.none_between has.0 after before (ap (λ (x : Event). x.stop) (get-is has.0 e has.1 has.2) ∙ same))
+                | inr not ↦ absurd (not_later has.0 i e not inside has.2 has.1 later)
+              ]
               | inr from ↦ no_earlier next.k has.0 e from has.1 has.2
             ];
         cost = refl;
@@ -157,15 +159,15 @@ module _ (p : Problem) (l : ℕ) (matching : Matching) (n : LayerGraph) (net : I
   wait_places zero i j near le within same = wait_none i j (omega arith)
   wait_places (suc fuel) i j near le within same =
       elim (cases_lt i j) [
-        inr not ↦ wait_none i j (omega arith)
+        | inr not ↦ wait_none i j (omega arith)
         | inl less ↦
             let found = find_next n.events d (at i).stop (j - i - 1) i j (omega arith) (sym same) in
             let next = found.0 in
             let inside : next.k < length n.events = omega (arith, found.1) in
             let up : (at next.k).minute ≤ (at j).minute = elim (cases_eq next.k j) [
-                inl last ↦ omega (arith, ap (λ (x : ℕ). (at x).minute) last)
-                | inr other ↦ minutes_up next.k j (omega (arith, found.1, other)) within
-              ] in
+              | inl last ↦ omega (arith, ap (λ (x : ℕ). (at x).minute) last)
+              | inr other ↦ minutes_up next.k j (omega (arith, found.1, other)) within
+            ] in
             let from = later_at_stop i next.k next.after inside (sym next.here) in
             walk_then n (i + 1) (next.k + 1) (j + 1) _ _ _ (wait_once i next inside)
             (wait_places fuel next.k j (omega (arith, next.after)) found.1 within (next.here ∙ same))
@@ -182,9 +184,9 @@ module _ (p : Problem) (l : ℕ) (matching : Matching) (n : LayerGraph) (net : I
       let minute-b = ap (λ (e : Event). e.minute) (y.event d) in
       let here = ap (λ (e : Event). e.stop) (x.event d) ∙ same ∙ sym (ap (λ (e : Event). e.stop) (y.event d)) in
       let up : x.k ≤ y.k = elim (cases_lt y.k x.k) [
-          inl down ↦ absurd (omega (arith, minute-a, minute-b, le, later_at_stop y.k x.k down x.within (sym here)))
-          | inr up ↦ up
-        ] in
+        | inl down ↦ absurd (omega (arith, minute-a, minute-b, le, later_at_stop y.k x.k down x.within (sym here)))
+        | inr up ↦ up
+      ] in
       let P : ℕ → Type 0 = λ c. IsWalkOf n u v (1000 * ((layer_of p l).per_minute * c)) in
       let Q : ℕ → Type 0 = λ w. IsWalkOf n w v (1000 * ((layer_of p l).per_minute * ((at y.k).minute - (at x.k).minute))) in
       let R : ℕ → Type 0 = λ w. IsWalkOf n (x.k + 1) w (1000 * ((layer_of p l).per_minute * ((at y.k).minute - (at x.k).minute))) in

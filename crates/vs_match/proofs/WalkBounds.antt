@@ -101,7 +101,7 @@ module _ (p : Problem) (is : IsInstance p) (l : ℕ) (matching : Matching) (n : 
   step_bound k ks a c b by way_is in_time cost rest =
       let through = way-through p is a.stop.0 c.stop.0 b.stop.0 by rest.by way_is rest.way_is in
       let rates = rated-≤ p l (b.minute - a.minute) (c.minute - a.minute) (b.minute - c.minute) through.by.metres by.metres rest.by.metres
-          (omega (arith, rest.in_time)) through.metres in
+      (omega (arith, rest.in_time)) through.metres in
       record {
         by = through.by;
         way_is = through.way_is;

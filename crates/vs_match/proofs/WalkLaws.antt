@@ -89,7 +89,7 @@ module _ (p : Problem) (is : IsInstance p) (l : ℕ) (matching : Matching) (n : 
         → IsWalkOf n u v (1000 * rated p l (b.minute - a.minute) w.metres)
     attained w way_is in_time =
         elim (cases_eq a.stop.0 b.stop.0) [
-          inl same ↦ wait_only w same way_is in_time
+          | inl same ↦ wait_only w same way_is in_time
           | inr apart ↦ by_match w (match_between p is l matching w i j may may' apart way_is in_time)
         ]
 
@@ -141,7 +141,7 @@ module _ (p : Problem) (is : IsInstance p) (l : ℕ) (matching : Matching) (n : 
         let rest = walk_bound p is l matching n net walk (arc_of n.graph k).to v pull.until goal out.2 pull.to to in
         let through = way-through p is depot pull.until.stop.0 goal.stop.0 pull.by rest.by pull.way_is rest.way_is in
         let rates = rated-≤ p l through.by.minutes pull.by.minutes (goal.minute - pull.until.minute) through.by.metres pull.by.metres rest.by.metres
-            (omega (arith, through.minutes, rest.in_time)) through.metres in
+        (omega (arith, through.minutes, rest.in_time)) through.metres in
         record {
           by = through.by;
           way_is = through.way_is;
@@ -209,7 +209,7 @@ module _ (p : Problem) (is : IsInstance p) (l : ℕ) (matching : Matching) (n : 
         let first = walk_bound p is l matching n net way_in'.walk u (arc_of n.graph last).from start pull.since way_in'.is_walk from pull.from in
         let through = way-through p is start.stop.0 pull.since.stop.0 home first.by pull.by first.way_is pull.way_is in
         let rates = rated-≤ p l through.by.minutes (pull.since.minute - start.minute) pull.by.minutes through.by.metres first.by.metres pull.by.metres
-            (omega (arith, through.minutes, first.in_time)) through.metres in
+        (omega (arith, through.minutes, first.in_time)) through.metres in
         record {
           by = through.by;
           way_is = through.way_is;

@@ -9,5 +9,4 @@ ghost use Rattle.vs_match.specs.WalkLaw.{HasWalkLaw};
 pub fn nets_have_the_walk_law()
     ensures { (p : Problem) (l : ℕ) (matching : Matching) (n : LayerGraph)
         → IsInstance p → IsNetOf p l matching n → HasWalkLaw p l n }
-{
-}
+{}

@@ -7,9 +7,9 @@ mod building;
 mod deadheads;
 mod event;
 mod in_order;
+mod laws;
 mod layer_arc;
 mod layer_net;
-mod laws;
 mod matching;
 mod nodes;
 mod pulls;
@@ -24,3 +24,6 @@ pub use arc_kind::ArcKind;
 pub use layer_net::LayerNet;
 pub use matching::{first_match, latest_first_match};
 pub use sizes::{NetCounts, counts, full_count};
+
+#[cfg(test)]
+mod tests;
