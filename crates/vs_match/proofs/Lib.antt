@@ -6,3 +6,7 @@ pub mod LeastTrips
 pub mod Matched
 pub mod WalkLaws
 pub mod StrictOrders
+pub mod Orders
+pub mod Adding
+pub mod EventLists
+pub mod StayLists

@@ -12,9 +12,9 @@ use Rattle.vs_match.specs.NetArcs.{IsArcOf, IsArcBefore}
 abbrev pub arc_in : LayerArc → Arc
 arc_in x = record { from = x.from; to = x.to; cost = x.cost; room = x.room }
 
--- the new arcs are the old ones, and all such ones
-abbrev pub Adds : (LayerArc → Type 0) → List LayerArc → List LayerArc → Type 0
-Adds Such old new = (x : LayerArc) → Contains new x ↔ (Contains old x ⊎ Such x)
+-- the new items are the old ones, and all such ones
+abbrev pub Adds : {X : Type 0} → (X → Type 0) → List X → List X → Type 0
+Adds {X} Such old new = (x : X) → Contains new x ↔ (Contains old x ⊎ Such x)
 
 -- the arcs of layer l's net by this matching, in order
 pub record AreArcs (p : Problem) (l : ℕ) (matching : Matching) (events : List Event) (arcs : List LayerArc) : Type 0 where

@@ -66,7 +66,7 @@ pub fn node_of(events: &[Event], event: &Event) -> u32
 {
     match events.binary_search(event) {
         Ok(k) => k as u32 + 1,
-        Err(_) => unreachable!(),
+        Err(_place) => unreachable!(),
     }
 }
 
