@@ -10,3 +10,5 @@ pub mod Orders
 pub mod Adding
 pub mod EventLists
 pub mod StayLists
+pub mod AtStop
+pub mod Sweeping
