@@ -90,8 +90,11 @@ fn push_matches(
     let mut first = 0;
     for (k, arrival) in arrivals.iter().enumerate() {
         first = first_from(departures, first, arrival.minute + way.minutes);
-        if first < departures.len() && is_kept(matching, way, arrivals, k, &departures[first]) {
-            arcs.push(deadhead_arc(instance, l, way, arrival, &departures[first]))?;
+        if first < departures.len() {
+            let departure = departures[first];
+            if is_kept(matching, way, arrivals, k, &departure) {
+                arcs.push(deadhead_arc(instance, l, way, arrival, &departure))?;
+            }
         }
     }
     Ok(())
