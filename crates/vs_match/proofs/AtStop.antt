@@ -36,6 +36,9 @@ module _ (stays : List Stay) (ordered : AllPairs IsStayBefore stays) where
     length-here : length here ≡ finish - start
     length-here = omega (arith, length-take (finish - start) (drop start stays), length-drop start stays)
 
+    pub few : length here ≤ length stays
+    few = omega (arith, length-here)
+
     get_or-here : (k : ℕ) (e : Stay) → k < length here → get_or here k e ≡ get_or stays (start + k) e
     get_or-here k e inside =
         get_or-take (finish - start) (drop start stays) k e (omega (arith, inside, length-here)) ∙ get_or-drop start stays k e

@@ -12,3 +12,4 @@ pub mod EventLists
 pub mod StayLists
 pub mod AtStop
 pub mod Sweeping
+pub mod Deadheading

@@ -1,4 +1,4 @@
-ghost use Rattle.std.specs.Prelude.{◌≡◌, ◌<◌, ◌↔◌, AllPairs, Contains};
+ghost use Rattle.std.specs.Prelude.{◌≡◌, ◌<◌, ◌≤◌, ◌↔◌, AllPairs, Contains, length};
 ghost use Rattle.vs_match.specs.declared.stay.Stay.{Stay};
 ghost use Rattle.vs_match.specs.Stays.{IsStayBefore, IsRising};
 
@@ -17,6 +17,7 @@ pub fn at_stop(stays: &[Stay], stop: StopNo) -> &[Stay]
     requires { AllPairs IsStayBefore stays.now }
     ensures same { (s : Stay) → Contains result.now s ↔ (Contains stays.now s × (s.stop ≡ stop)) }
     ensures rising { IsRising result.now }
+    ensures few { length result.now ≤ length stays.now }
 {
     let start = stays.partition_point(|stay| stay.stop.0 < stop.0);
     let end = stays.partition_point(|stay| stay.stop.0 <= stop.0);
