@@ -13,3 +13,6 @@ pub mod StayLists
 pub mod AtStop
 pub mod Sweeping
 pub mod Deadheading
+pub mod PulledOut
+pub mod WaitedAt
+pub mod TripsRun

@@ -42,6 +42,7 @@ fn trip_arc(instance: &Instance, l: LayerNo, nodes: &Nodes, i: TripNo) -> LayerA
     ensures kind { result.kind ≡ Trip i }
     ensures arc { IsTripArc instance.now l.0 nodes.now.events.items i.0 (arc_in result) }
 {
+    prove!(i.0 < instance.trips());
     let trip = instance.trip(i);
     LayerArc {
         from: node_of(&nodes.events, &TripEnd::Departure.event(instance, i)),

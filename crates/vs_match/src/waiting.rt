@@ -22,6 +22,7 @@ pub fn push_waiting(
     ensures adds { OnOk result (Adds (IsWaiting instance.now l.0 nodes.now.events.items) arcs.old.items arcs.new.items) }
     ensures few { OnOk result (length arcs.new.items ≤ length arcs.old.items + 2 * MAX_TRIPS) }
 {
+    prove!(l.0 < instance.layers());
     for k in 1..nodes.all.len() {
         let since = nodes.all[k - 1];
         let until = nodes.all[k];
