@@ -18,14 +18,15 @@ use Rattle.vs_match.specs.declared.stay.Stay.{Stay}
 use Rattle.vs_match.specs.declared.layer_arc.LayerArc.{LayerArc}
 use Rattle.vs_match.specs.declared.matching.Matching.{Matching}
 use Rattle.vs_match.specs.declared.matching.Matching.TheVariants.{First, Latest}
-use Rattle.vs_match.specs.Events.{departure, arrival, MayRun, DepartsAt, ArrivesAt, HasPlace}
+use Rattle.vs_match.specs.Events.{departure, arrival, MayRun, DepartsAt, ArrivesAt, IsEvent, HasPlace}
 use Rattle.vs_match.specs.Matches.{IsMatch, IsFirstMatch, IsLatestFirstMatch}
 use Rattle.vs_match.specs.NetArcs.{IsDeadheadArc}
 use Rattle.vs_match.specs.Stays.{event_of}
 use Rattle.vs_match.specs.Nodes.{AreNodes}
 use Rattle.vs_match.specs.Adds.{Adds, arc_in}
 use Rattle.vs_match.specs.Parts.{IsDeadhead, IsDeadheadFrom, IsDeadheadTo}
-use Rattle.vs_match.specs.Sweep.{IsFirstFrom, IsKept, IsMatched, deadhead_of}
+use Rattle.vs_match.specs.Sweep.{IsFirstFrom, IsKept, IsMatched}
+use Rattle.vs_match.specs.ArcsOf.{deadhead_of}
 use Rattle.vs_match.proofs.Adding.{Upto, adds-as}
 use Rattle.vs_match.proofs.ClosedWays.{some-same, way-own, way-apart}
 use Rattle.vs_match.proofs.Places.{has_node}
@@ -241,3 +242,8 @@ module _ (p : Problem) (l : ℕ) (nodes : Nodes) (are : AreNodes p l nodes) wher
       let s = get_or departures j d in
       let has = ((to s).0 (j, within, get_or_default departures j s d within)).0 in
       (departs_within p is l (event_of s) (are.departures.only s has).1).0
+
+-- an event's minute is of the two days
+pub event_within : (p : Problem) → IsInstance p → (l : ℕ) (e : Event) → IsEvent p l e → e.minute < 2880
+event_within p is l e (inl departs) = (departs_within p is l e departs).0
+event_within p is l e (inr arrives) = (arrives_within p is l e arrives).0

@@ -1,17 +1,15 @@
 -- Pull-outs by the nodes of departures, and pull-ins by those of arrivals.
-use Rattle.std.proofs.Common.{◌≡◌, ℕ, ◌+◌, ◌<◌, ◌≤◌, List, length, get_or, Some, inl, inr, arith, sym, ap, ◌∙◌, refl, subst, pos}
+use Rattle.std.proofs.Common.{◌≡◌, ℕ, ◌+◌, ◌<◌, ◌≤◌, List, length, get_or, Some, inl, inr, arith, sym, ap, ◌∙◌, subst}
 use Rattle.std.specs.Prelude.{Contains}
 use Rattle.std.proofs.lemmas.List.{get_or_default}
 use Rattle.vs_instance.specs.declared.way.Way.{Way}
 use Rattle.vs_instance.specs.Problem.{Problem}
 use Rattle.vs_instance.specs.Ways.{way, layer_of}
-use Rattle.vs_instance.specs.Pieces.{rated}
 use Rattle.vs_match.specs.declared.event.Event.{Event}
 use Rattle.vs_match.specs.declared.stay.Stay.{Stay}
-use Rattle.vs_match.specs.declared.arc_kind.ArcKind.TheVariants.{PullOut, PullIn}
 use Rattle.vs_match.specs.declared.layer_arc.LayerArc.{LayerArc}
 use Rattle.vs_match.specs.Events.{DepartsAt, ArrivesAt, HasPlace, last_node}
-use Rattle.vs_match.specs.NetArcs.{at_scale}
+use Rattle.vs_match.specs.ArcsOf.{pull_out_of, pull_in_of}
 use Rattle.vs_match.specs.Stays.{event_of, AreStays}
 use Rattle.vs_match.specs.Adds.{Adds}
 use Rattle.vs_match.specs.Parts.{IsPullOut, IsPullIn}
@@ -28,24 +26,6 @@ same_at stays k a b at at' = sym at.1 ∙ get_or_default stays k a b at.0 ∙ at
 pub at_place : (stays : List Stay) (k : ℕ) (d : Stay) → k < length stays → AtPlace stays k (get_or stays k d)
 at_place stays k d within = (within, get_or_default stays k _ d within)
 
-abbrev pub pull_out_of : Problem → ℕ → Way → Stay → LayerArc
-pull_out_of p l w s = record {
-  from = 0;
-  to = s.node;
-  kind = PullOut;
-  cost = at_scale ((layer_of p l).fixed + rated p l w.minutes w.metres);
-  room = (layer_of p l).fleet;
-}
-
-abbrev pub pull_in_of : Problem → ℕ → List Event → Way → Stay → LayerArc
-pull_in_of p l events w s = record {
-  from = s.node;
-  to = last_node events;
-  kind = PullIn;
-  cost = at_scale (rated p l w.minutes w.metres);
-  room = (layer_of p l).fleet;
-}
-
 -- the pull-out to departure k
 pub record OfDeparture (p : Problem) (l : ℕ) (stays : List Stay) (k : ℕ) (x : LayerArc) : Type 0 where
   pub stay : Stay
@@ -61,7 +41,7 @@ pub record OfArrived (p : Problem) (l : ℕ) (events : List Event) (stays : List
   pub by : Way
   pub at : AtPlace stays k stay
   pub way_is : way p stay.stop.0 (layer_of p l).depot.0 ≡ Some by
-  pub is : x ≡ pull_in_of p l events by stay
+  pub is : x ≡ pull_in_of p l (last_node events) by stay
 
 pub only_out : (p : Problem) (l : ℕ) (stays : List Stay) (k : ℕ) (x y : LayerArc) → OfDeparture p l stays k x → OfDeparture p l stays k y → x ≡ y
 only_out p l stays k x y of of' =
@@ -74,7 +54,7 @@ pub only_in : (p : Problem) (l : ℕ) (events : List Event) (stays : List Stay) 
 only_in p l events stays k x y of of' =
     let stay = same_at stays k of.stay of'.stay of.at of'.at in
     let by = some-same of.by of'.by (sym of.way_is ∙ ap (λ (s : Stay). way p s.stop.0 (layer_of p l).depot.0) stay ∙ of'.way_is) in
-    of.is ∙ ap (λ (w : Way). pull_in_of p l events w of.stay) by ∙ ap (λ (s : Stay). pull_in_of p l events of'.by s) stay ∙ sym of'.is
+    of.is ∙ ap (λ (w : Way). pull_in_of p l (last_node events) w of.stay) by ∙ ap (λ (s : Stay). pull_in_of p l (last_node events) of'.by s) stay ∙ sym of'.is
 
 pub pull_outs_are : (p : Problem) (l : ℕ) (events : List Event) (stays : List Stay) → AreStays events (DepartsAt p l) stays → (old new : List LayerArc)
     → Adds (Upto (OfDeparture p l stays) (length stays)) old new → Adds (IsPullOut p l events) old new

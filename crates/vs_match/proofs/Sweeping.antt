@@ -10,7 +10,8 @@ use Rattle.vs_match.specs.declared.matching.Matching.{Matching}
 use Rattle.vs_match.specs.declared.matching.Matching.TheVariants.{First, Latest}
 use Rattle.vs_match.specs.declared.stay.Stay.{Stay}
 use Rattle.vs_match.specs.Stays.{IsRising}
-use Rattle.vs_match.specs.Sweep.{IsKept, IsFirstFrom, IsMatched, deadhead_of}
+use Rattle.vs_match.specs.Sweep.{IsKept, IsFirstFrom, IsMatched}
+use Rattle.vs_match.specs.ArcsOf.{deadhead_of}
 use Rattle.vs_match.specs.declared.layer_arc.LayerArc.{LayerArc}
 use Rattle.vs_match.specs.Adds.{Adds}
 use Rattle.vs_match.proofs.Adding.{Upto, adds-as}

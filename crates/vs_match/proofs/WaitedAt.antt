@@ -4,13 +4,11 @@ use Rattle.std.specs.Prelude.{Contains, AllPairs}
 use Rattle.std.proofs.lemmas.Bool.{cases_lt, cases_eq, cases_order}
 use Rattle.vs_types.specs.declared.numbers.StopNo.{StopNo}
 use Rattle.vs_instance.specs.Problem.{Problem}
-use Rattle.vs_instance.specs.Ways.{layer_of}
 use Rattle.vs_match.specs.declared.event.Event.{Event}
 use Rattle.vs_match.specs.declared.stay.Stay.{Stay}
-use Rattle.vs_match.specs.declared.arc_kind.ArcKind.TheVariants.{Waiting}
 use Rattle.vs_match.specs.declared.layer_arc.LayerArc.{LayerArc}
 use Rattle.vs_match.specs.Events.{IsEvent, HasPlace}
-use Rattle.vs_match.specs.NetArcs.{at_scale}
+use Rattle.vs_match.specs.ArcsOf.{waiting_of}
 use Rattle.vs_match.specs.Stays.{event_of, IsStayBefore, AreStays}
 use Rattle.vs_match.specs.Adds.{Adds}
 use Rattle.vs_match.specs.Parts.{IsWaiting}
@@ -19,15 +17,6 @@ use Rattle.vs_match.proofs.Places.{has_node, placed}
 use Rattle.vs_match.proofs.PulledOut.{AtPlace, same_at, at_place}
 use Rattle.vs_match.proofs.WaitingChains.{same_stop}
 use Rattle.vs_match.specs.Events.{AreEvents}
-
-abbrev pub waiting_of : Problem → ℕ → Stay → Stay → LayerArc
-waiting_of p l a b = record {
-  from = a.node;
-  to = b.node;
-  kind = Waiting;
-  cost = at_scale ((layer_of p l).per_minute * (b.minute - a.minute));
-  room = (layer_of p l).fleet;
-}
 
 -- the waiting up to node k, where the node before it is at its stop
 pub record OfNeighbours (p : Problem) (l : ℕ) (stays : List Stay) (k : ℕ) (x : LayerArc) : Type 0 where
@@ -72,7 +61,7 @@ module _ (p : Problem) (l : ℕ) (events : List Event) (are_events : AreEvents p
           ]
       ]
 
-  at_stop_later : (j k : ℕ) (a b : Stay) → AtPlace stays j a → AtPlace stays k b → a.stop ≡ b.stop → j < k → a.minute < b.minute
+  pub at_stop_later : (j k : ℕ) (a b : Stay) → AtPlace stays j a → AtPlace stays k b → a.stop ≡ b.stop → j < k → a.minute < b.minute
   at_stop_later j k a b at at' same less =
       elim (before j k a b at at' less) [ inl stop ↦ absurd (omega (arith, stop, ap (λ (s : StopNo). s.0) same)) | inr both ↦ both.1 ]
 
@@ -154,3 +143,14 @@ module _ (p : Problem) (l : ℕ) (events : List Event) (are_events : AreEvents p
   pub waiting_is : (old new : List LayerArc) → Adds (Upto (OfNeighbours p l stays) (length stays)) old new → Adds (IsWaiting p l events) old new
   waiting_is old new adds =
       adds-as (Upto (OfNeighbours p l stays) (length stays)) (IsWaiting p l events) old new adds (λ x (k, within, of). to_waiting k x of) from_waiting
+
+-- nothing comes of places past the end
+pub waiting_past : (p : Problem) (l : ℕ) (stays : List Stay) (n : ℕ) (old new : List LayerArc) → length stays ≤ n
+    → Adds (Upto (OfNeighbours p l stays) n) old new → Adds (Upto (OfNeighbours p l stays) (length stays)) old new
+waiting_past p l stays n old new past adds =
+    adds-as (Upto (OfNeighbours p l stays) n) (Upto (OfNeighbours p l stays) (length stays)) old new adds
+    (λ x (k, within, of). (k, of.at_next.0, of)) (λ x (k, within, of). (k, omega (arith, within, past), of))
+
+-- the first node has none before it
+pub none_before_first : (p : Problem) (l : ℕ) (stays : List Stay) (x : LayerArc) → ¬ (OfNeighbours p l stays 0 x)
+none_before_first p l stays x of = omega (arith, of.follows)

@@ -9,5 +9,6 @@ pub mod Stays
 pub mod Nodes
 pub mod Adds
 pub mod Parts
+pub mod ArcsOf
 pub mod Sweep
 pub mod TripIndex

@@ -1,15 +1,12 @@
 -- The matches between two stops.
-use Rattle.std.specs.Prelude.{◌≡◌, ℕ, ◌+◌, ◌-◌, ◌<◌, ◌≤◌, List, Contains}
+use Rattle.std.specs.Prelude.{◌≡◌, ℕ, ◌+◌, ◌≤◌, List, Contains}
 use Rattle.vs_instance.specs.declared.way.Way.{Way}
 use Rattle.vs_instance.specs.Problem.{Problem}
-use Rattle.vs_instance.specs.Ways.{layer_of}
-use Rattle.vs_instance.specs.Pieces.{rated}
-use Rattle.vs_match.specs.declared.arc_kind.ArcKind.TheVariants.{Deadhead}
 use Rattle.vs_match.specs.declared.layer_arc.LayerArc.{LayerArc}
 use Rattle.vs_match.specs.declared.matching.Matching.{Matching}
 use Rattle.vs_match.specs.declared.matching.Matching.TheVariants.{First, Latest}
 use Rattle.vs_match.specs.declared.stay.Stay.{Stay}
-use Rattle.vs_match.specs.NetArcs.{at_scale}
+use Rattle.vs_match.specs.ArcsOf.{deadhead_of}
 
 -- b is the first of the departures from this minute on
 pub record IsFirstFrom (departures : List Stay) (minute : ℕ) (b : Stay) : Type 0 where
@@ -21,16 +18,6 @@ pub record IsFirstFrom (departures : List Stay) (minute : ℕ) (b : Stay) : Type
 abbrev pub IsKept : Matching → List Stay → Way → Stay → Stay → Type 0
 IsKept First arrivals w a b = Unit {0}
 IsKept Latest arrivals w a b = (c : Stay) → Contains arrivals c → c.minute + w.minutes ≤ b.minute → c.minute ≤ a.minute
-
--- the deadhead from one node to another by the way w
-abbrev pub deadhead_of : Problem → ℕ → Way → Stay → Stay → LayerArc
-deadhead_of p l w since until = record {
-  from = since.node;
-  to = until.node;
-  kind = Deadhead;
-  cost = at_scale (rated p l (until.minute - since.minute) w.metres);
-  room = (layer_of p l).fleet;
-}
 
 -- the deadhead from an arrival to its match
 pub record IsMatched (p : Problem) (l : ℕ) (matching : Matching) (w : Way) (arrivals departures : List Stay) (x : LayerArc) : Type 0 where

@@ -4,7 +4,8 @@ ghost use Rattle.vs_match.specs.Stays.{IsRising};
 ghost use Rattle.vs_match.specs.Nodes.{AreNodes};
 ghost use Rattle.vs_match.specs.Adds.{Adds};
 ghost use Rattle.vs_match.specs.Parts.{IsDeadhead, IsDeadheadFrom};
-ghost use Rattle.vs_match.specs.Sweep.{IsKept, IsMatched, deadhead_of};
+ghost use Rattle.vs_match.specs.Sweep.{IsKept, IsMatched};
+ghost use Rattle.vs_match.specs.ArcsOf.{deadhead_of};
 
 use crate::arc_kind::ArcKind;
 use crate::layer_arc::LayerArc;

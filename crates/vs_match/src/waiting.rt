@@ -1,13 +1,15 @@
-ghost use Rattle.std.specs.Prelude.{◌+◌, ◌*◌, ◌<◌, ◌≤◌, length, OnOk};
+ghost use Rattle.std.specs.Prelude.{◌≡◌, ◌+◌, ◌*◌, ◌<◌, ◌≤◌, length, OnOk};
 ghost use Rattle.vs_match.specs.Nodes.{AreNodes};
 ghost use Rattle.vs_match.specs.Adds.{Adds};
 ghost use Rattle.vs_match.specs.Parts.{IsWaiting};
+ghost use Rattle.vs_match.specs.ArcsOf.{waiting_of};
 
 use crate::arc_kind::ArcKind;
 use crate::layer_arc::LayerArc;
 use crate::nodes::Nodes;
 use crate::rates::{fleet, rate};
-use vs_instance::{Instance, MAX_TRIPS};
+use crate::stay::Stay;
+use vs_instance::{Instance, MAX_TRIPS, TWO_DAYS};
 use vs_types::{LayerNo, Memory};
 
 /// Puts the waiting between events at a stop that follow each other to a layer's arcs.
@@ -27,14 +29,22 @@ pub fn push_waiting(
         let since = nodes.all[k - 1];
         let until = nodes.all[k];
         if since.stop == until.stop {
-            arcs.push(LayerArc {
-                from: since.node,
-                to: until.node,
-                kind: ArcKind::Waiting,
-                cost: rate(instance, l, until.minute - since.minute, 0),
-                room: fleet(instance, l),
-            })?;
+            arcs.push(waiting_arc(instance, l, &since, &until))?;
         }
     }
     Ok(())
+}
+
+fn waiting_arc(instance: &Instance, l: LayerNo, since: &Stay, until: &Stay) -> LayerArc
+    requires layer { l.0 < length instance.now.layers }
+    requires in_time { since.now.minute ≤ until.now.minute × until.now.minute < TWO_DAYS }
+    ensures { result ≡ waiting_of instance.now l.0 since.now until.now }
+{
+    LayerArc {
+        from: since.node,
+        to: until.node,
+        kind: ArcKind::Waiting,
+        cost: rate(instance, l, until.minute - since.minute, 0),
+        room: fleet(instance, l),
+    }
 }

@@ -2,7 +2,7 @@ use Rattle.std.proofs.Common.{◌≡◌, ℕ, ◌+◌, ◌<◌, ◌≤◌, List,
 use Rattle.std.proofs.lemmas.Bool.{false≢true}
 use Rattle.vs_match.specs.declared.stay.Stay.{Stay}
 use Rattle.vs_match.specs.declared.layer_arc.LayerArc.{LayerArc}
-use Rattle.vs_match.specs.Sweep.{deadhead_of}
+use Rattle.vs_match.specs.ArcsOf.{deadhead_of}
 use Rattle.vs_match.specs.Adds.{Adds}
 use Rattle.vs_match.proofs.Adding.{Upto, upto-none, upto-one, upto-skip}
 use Rattle.vs_match.proofs.Sweeping.{OfArrival, are_matches, first_departure, early_take, early_more, of_arrival, only_arrival, kept_of, none_of_arrival}
