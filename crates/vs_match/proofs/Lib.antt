@@ -16,3 +16,4 @@ pub mod Deadheading
 pub mod PulledOut
 pub mod WaitedAt
 pub mod TripsRun
+pub mod TripIndexes
