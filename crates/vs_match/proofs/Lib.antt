@@ -17,3 +17,5 @@ pub mod PulledOut
 pub mod WaitedAt
 pub mod TripsRun
 pub mod TripIndexes
+pub mod RightArcs
+pub mod KindOrder

@@ -2,7 +2,7 @@
 use Rattle.std.proofs.Common.{◌≡◌, ℕ, ◌+◌, ◌<◌, ◌≤◌, List, length, get_or, set, Option, Some, None, inl, inr, arith, sym, ap, ◌∙◌, refl, subst, replicate}
 use Rattle.std.specs.Prelude.{MatchOption}
 use Rattle.std.proofs.lemmas.Bool.{cases_eq, cases_lt}
-use Rattle.std.proofs.lemmas.List.{get_or_default, get_or-set_same, get_or-set_other}
+use Rattle.std.proofs.lemmas.List.{get_or-set_same, get_or-set_other, get_or-replicate, get_or_past, length-replicate}
 use Rattle.std.proofs.lemmas.Option.{none-some}
 use Rattle.vs_types.specs.declared.numbers.TripNo.{TripNo}
 use Rattle.vs_match.specs.declared.arc_kind.ArcKind.{ArcKind}
@@ -16,8 +16,12 @@ pub record IsIndexUpto (kinds : List ArcKind) (n : ℕ) (index : List (Option �
   pub found : (i k : ℕ) → get_or index i None ≡ Some k → (k < n) × IsArcOfTrip kinds i k
   pub missing : (i k : ℕ) → get_or index i None ≡ None → k < n → ¬ (IsArcOfTrip kinds i k)
 
-none_of_copies : (n i : ℕ) → get_or (replicate n (None {A = ℕ})) i None ≡ None
-none_of_copies n i = get_or_replicate n i None
+-- copies of a value, and the value past their end
+pub get_or-copies : {A : Type 0} (a : A) (n i : ℕ) → get_or (replicate n a) i a ≡ a
+get_or-copies a n i = elim (cases_lt i n) [
+    inl within ↦ get_or-replicate n i a a within
+    | inr past ↦ get_or_past (replicate n a) i a (omega (arith, length-replicate n a, past))
+  ]
 
 -- nothing yet
 pub index_none : (kinds : List ArcKind) (index : List (Option ℕ)) → ((i : ℕ) → get_or index i None ≡ None) → IsIndexUpto kinds 0 index

@@ -7,10 +7,10 @@ ghost use Rattle.vs_match.specs.TripIndex.{IsBelow, IsTripAt, IsTripIndex};
 use crate::arc_kind::ArcKind;
 use crate::event::Event;
 use crate::layer_arc::LayerArc;
-use std::alloc::Global;
+use std::alloc::{AllocError, Global};
 use std::marker::Model;
 use vs_instance::MAX_TRIPS;
-use vs_layer::{MAX_ARCS, Net, NetError};
+use vs_layer::{Arc, MAX_ARCS, Net, NetError};
 use vs_types::{Memory, StopNo, TripNo};
 
 /// A layer's net with what its nodes and arcs stand for.
@@ -54,7 +54,7 @@ impl LayerNet {
         ensures events { IfOk result (λ net. net.events ≡ events.items) }
     {
         let net = net_of(alloc, events.len() as u32 + 2, arcs)?;
-        let kinds: Vec<ArcKind> = arcs.iter().map(|arc| arc.kind).collect(alloc)?;
+        let kinds = kinds_of(alloc, arcs)?;
         let trip_arcs = trip_index(alloc, trips, &kinds)?;
         Ok(LayerNet {
             net,
@@ -83,7 +83,10 @@ impl LayerNet {
     pub fn trip_arc(&self, i: TripNo) -> Option<u32>
         ensures { IsTripAt self.now.kinds i.0 result }
     {
-        self.trip_arcs.get(i.0 as usize).copied().flatten()
+        match self.trip_arcs.get(i.0 as usize) {
+            Some(arc) => *arc,
+            None => None,
+        }
     }
 
     /// The stop and the minute of a node. None exactly for the first and the last node.
@@ -105,12 +108,25 @@ fn net_of(alloc: Global, nodes: u32, arcs: &[LayerArc]) -> Result<Net, Memory>
     requires right { AllRight nodes (map arc_in arcs.now) }
     ensures { IfOk result (λ net. net ≡ record { nodes = nodes; arcs = map arc_in arcs.now }) }
 {
-    let arcs = arcs.iter().map(|arc| arc.arc()).collect(alloc)?;
-    match Net::new(alloc, nodes, arcs) {
+    match Net::new(alloc, nodes, plain_arcs(alloc, arcs)?) {
         Ok(net) => Ok(net),
         Err(NetError::Memory) => Err(Memory),
-        Err(NetError::Fault(_)) => unreachable!(),
+        Err(NetError::Fault(_fault)) => unreachable!(),
     }
+}
+
+/// The arcs, without what they stand for.
+fn plain_arcs(alloc: Global, arcs: &[LayerArc]) -> Result<Vec<Arc>, AllocError>
+    ensures { IfOk result (λ plain. plain.items ≡ map arc_in arcs.now) }
+{
+    arcs.iter().map(|arc| arc.arc()).collect(alloc)
+}
+
+/// What the arcs stand for.
+fn kinds_of(alloc: Global, arcs: &[LayerArc]) -> Result<Vec<ArcKind>, AllocError>
+    ensures { IfOk result (λ kinds. kinds.items ≡ map (λ arc. arc.kind) arcs.now) }
+{
+    arcs.iter().map(|arc| arc.kind).collect(alloc)
 }
 
 /// The arcs of so many trips, by their numbers.
