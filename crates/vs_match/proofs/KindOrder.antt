@@ -12,13 +12,21 @@ use Rattle.vs_match.specs.contracts.arc_kind.ArcKindOrd.TheImpl as order
 use Rattle.vs_match.specs.NetArcs.{rank, trip_number}
 
 pub kind_eq-is : (a b : ArcKind) → equality.ghosts.eq a b ≡ (eqb (rank a) (rank b) && eqb (trip_number a) (trip_number b))
-kind_eq-is (Trip i) (Trip j) = refl
 kind_eq-is (Trip i) Waiting = refl
+kind_eq-is Waiting Waiting = refl
+kind_eq-is Deadhead Waiting = refl
+kind_eq-is PullOut Waiting = refl
+kind_eq-is PullIn Waiting = refl
+kind_eq-is Return Waiting = refl
 kind_eq-is _ _ = refl
 
 pub kind_cmp-is : (a b : ArcKind) → order.ghosts.cmp a b ≡ ordering_then (nat_cmp (rank a) (rank b)) (nat_cmp (trip_number a) (trip_number b))
-kind_cmp-is (Trip i) (Trip j) = refl
 kind_cmp-is (Trip i) Waiting = refl
+kind_cmp-is Waiting Waiting = refl
+kind_cmp-is Deadhead Waiting = refl
+kind_cmp-is PullOut Waiting = refl
+kind_cmp-is PullIn Waiting = refl
+kind_cmp-is Return Waiting = refl
 kind_cmp-is _ _ = refl
 
 -- a kind is known by its rank and its trip

@@ -19,3 +19,5 @@ pub mod TripsRun
 pub mod TripIndexes
 pub mod RightArcs
 pub mod KindOrder
+pub mod ArcOrder
+pub mod WholeNet

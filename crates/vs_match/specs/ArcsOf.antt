@@ -1,10 +1,10 @@
 -- The arcs between given nodes.
-use Rattle.std.specs.Prelude.{ℕ, ◌+◌, ◌-◌, ◌*◌, List}
+use Rattle.std.specs.Prelude.{ℕ, ◌+◌, ◌-◌, ◌*◌, pos}
 use Rattle.vs_instance.specs.declared.way.Way.{Way}
 use Rattle.vs_instance.specs.Problem.{Problem}
 use Rattle.vs_instance.specs.Ways.{layer_of}
 use Rattle.vs_instance.specs.Pieces.{rated}
-use Rattle.vs_match.specs.declared.arc_kind.ArcKind.TheVariants.{Waiting, Deadhead, PullOut, PullIn}
+use Rattle.vs_match.specs.declared.arc_kind.ArcKind.TheVariants.{Waiting, Deadhead, PullOut, PullIn, Return}
 use Rattle.vs_match.specs.declared.layer_arc.LayerArc.{LayerArc}
 use Rattle.vs_match.specs.declared.stay.Stay.{Stay}
 use Rattle.vs_match.specs.NetArcs.{at_scale}
@@ -45,3 +45,6 @@ pull_in_of p l last w since = record {
   cost = at_scale (rated p l w.minutes w.metres);
   room = (layer_of p l).fleet;
 }
+
+abbrev pub return_of : Problem → ℕ → ℕ → LayerArc
+return_of p l last = record { from = last; to = 0; kind = Return; cost = pos 0; room = (layer_of p l).fleet }

@@ -1,14 +1,12 @@
 -- The arcs of each kind, as they are put together.
-use Rattle.std.specs.Prelude.{◌≡◌, ℕ}
+use Rattle.std.specs.Prelude.{◌≡◌, ℕ, List}
 use Rattle.vs_instance.specs.Problem.{Problem}
 use Rattle.vs_types.specs.declared.numbers.TripNo.{TripNo}
 use Rattle.vs_match.specs.declared.event.Event.{Event}
-use Rattle.std.specs.Prelude.{List}
-use Rattle.vs_match.specs.declared.arc_kind.ArcKind.{ArcKind}
 use Rattle.vs_match.specs.declared.arc_kind.ArcKind.TheVariants.{Trip, Waiting, Deadhead, PullOut, PullIn, Return}
 use Rattle.vs_match.specs.declared.layer_arc.LayerArc.{LayerArc}
 use Rattle.vs_match.specs.declared.matching.Matching.{Matching}
-use Rattle.vs_match.specs.NetArcs.{IsTripArc, IsWaitingArc, IsDeadheadArc, IsPullOutArc, IsPullInArc}
+use Rattle.vs_match.specs.NetArcs.{IsTripArc, IsWaitingArc, IsDeadheadArc, IsPullOutArc, IsPullInArc, IsReturnArc}
 use Rattle.vs_match.specs.Adds.{arc_in}
 
 abbrev pub IsTrip : Problem → ℕ → List Event → LayerArc → Type 0
@@ -37,3 +35,6 @@ IsPullOut p l events x = (x.kind ≡ PullOut) × IsPullOutArc p l events (arc_in
 
 abbrev pub IsPullIn : Problem → ℕ → List Event → LayerArc → Type 0
 IsPullIn p l events x = (x.kind ≡ PullIn) × IsPullInArc p l events (arc_in x)
+
+abbrev pub IsReturn : Problem → ℕ → List Event → LayerArc → Type 0
+IsReturn p l events x = (x.kind ≡ Return) × IsReturnArc p l events (arc_in x)

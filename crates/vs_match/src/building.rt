@@ -1,5 +1,6 @@
-ghost use Rattle.std.specs.Prelude.{◌<◌, ◌≤◌, IfOk, length};
+ghost use Rattle.std.specs.Prelude.{◌≡◌, ◌<◌, ◌≤◌, IfOk, length};
 ghost use Rattle.vs_match.specs.Adds.{AreArcs};
+ghost use Rattle.vs_match.specs.ArcsOf.{return_of};
 ghost use Rattle.vs_match.specs.LayerGraph.{IsNetOf};
 ghost use Rattle.vs_match.specs.Nodes.{AreNodes};
 ghost use Rattle.vs_match.specs.WalkLaw.{HasWalkLaw};
@@ -55,13 +56,20 @@ fn arcs_of(
     push_deadheads(instance, l, matching, nodes, &mut arcs)?;
     push_pull_outs(instance, l, nodes, &mut arcs)?;
     push_pull_ins(instance, l, nodes, &mut arcs)?;
-    arcs.push(LayerArc {
-        from: nodes.events.len() as u32 + 1,
+    arcs.push(return_arc(instance, l, nodes.events.len() as u32 + 1))?;
+    put_in_order(&mut arcs);
+    Ok(arcs)
+}
+
+fn return_arc(instance: &Instance, l: LayerNo, last: u32) -> LayerArc
+    requires { l.0 < length instance.now.layers }
+    ensures { result ≡ return_of instance.now l.0 last }
+{
+    LayerArc {
+        from: last,
         to: 0,
         kind: ArcKind::Return,
         cost: 0,
         room: fleet(instance, l),
-    })?;
-    put_in_order(&mut arcs);
-    Ok(arcs)
+    }
 }
