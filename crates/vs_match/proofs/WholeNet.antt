@@ -1,10 +1,11 @@
 -- The arcs of all kinds together, in order, are a layer's net.
-use Rattle.std.proofs.Common.{◌≡◌, ℕ, zero, suc, ◌+◌, ◌<◌, ◌≤◌, List, [], ◌∷◌, ◌++◌, map, length, get_or, refl, sym, ap, ◌∙◌, subst, inl, inr, arith, pos}
-use Rattle.std.specs.Prelude.{◌⊎◌, ◌↔◌, AllPairs, Contains, ℤ}
+use Rattle.std.proofs.Common.{◌≡◌, ℕ, zero, suc, ◌+◌, ◌<◌, ◌≤◌, List, [], ◌∷◌, ◌++◌, map, length, get_or, Option, Some, Result, Ok, Err, refl, sym, ap, ◌∙◌, subst, inl, inr, arith, pos}
+use Rattle.std.specs.Prelude.{◌⊎◌, ◌↔◌, AllPairs, Contains, IfOk}
 use Rattle.std.specs.List.{All}
 use Rattle.std.specs.declared.cmp.Ordering.TheVariants.{Less}
 use Rattle.std.proofs.lemmas.Bool.{cases_lt, cases_eq, cases_order}
-use Rattle.std.proofs.lemmas.List.{get_or_default, get_or-map, length-map}
+use Rattle.std.proofs.lemmas.List.{get_or_default, length-map}
+use Rattle.std.proofs.Math.ListN.{get_or-map}
 use Rattle.std.proofs.lemmas.Option.{MatchOption-at_some}
 use Rattle.vs_types.specs.declared.numbers.TripNo.{TripNo}
 use Rattle.vs_layer.specs.declared.arc.Arc.{Arc}
@@ -249,3 +250,12 @@ module _ (p : Problem) (is : IsInstance p) (l : ℕ) (matching : Matching) (even
         let S : ArcKind → Type 0 = λ t. IsArcBefore (arc_in (item j)) (item j).kind (arc_in (item k)) t in
         subst P (sym (arc-at j inside')) (subst Q (sym (kind-at j inside')) (subst R (sym (arc-at k inside)) (subst S (sym (kind-at k inside)) ordered)));
   }
+
+-- a net of these parts, where there is one
+pub net_of_parts : {E : Type 0} (P : LayerGraph → Type 0) (graph : Graph) (kinds : List ArcKind) (events : List Event) (r : Result LayerGraph E)
+    → IfOk r (λ n. n.graph ≡ graph) → IfOk r (λ n. n.kinds ≡ kinds) → IfOk r (λ n. n.events ≡ events)
+    → P (record { graph = graph; kinds = kinds; events = events }) → IfOk r P
+net_of_parts P graph kinds events (Ok n) a b c holds =
+    let is : record { graph = graph; kinds = kinds; events = events } ≡ n = λ i. record { graph = sym a i; kinds = sym b i; events = sym c i } in
+    subst P is holds
+net_of_parts P graph kinds events (Err e) a b c holds = tt
