@@ -35,21 +35,23 @@ pub same_cost : (p : Problem) (l : ℕ) (matching : Matching) (events : List Eve
 same_cost p l matching events (Trip i) a b x y from to = (x.cost ∙ sym y.cost, x.room ∙ sym y.room)
 same_cost p l matching events Waiting a b x y from to =
     let since = same_event events b.from x.since y.since (subst (λ (v : ℕ). HasPlace events v x.since) from x.from) y.from in
-    let until = same_event events b.to x.until y.until (subst (λ (v : ℕ). HasPlace events v x.until) to x.to) y.to in
-    (x.cost ∙ ap (λ (e : Event). at_scale ((layer_of p l).per_minute * (x.until.minute - e.minute))) since
-     ∙ ap (λ (e : Event). at_scale ((layer_of p l).per_minute * (e.minute - y.since.minute))) until ∙ sym y.cost,
-     x.room ∙ sym y.room)
+    let until = same_event events b.to x.until y.until (subst (λ (v : ℕ). HasPlace events v x.until) to x.to) y.to in (
+      x.cost ∙ ap (λ (e : Event). at_scale ((layer_of p l).per_minute * (x.until.minute - e.minute))) since
+          ∙ ap (λ (e : Event). at_scale ((layer_of p l).per_minute * (e.minute - y.since.minute))) until ∙ sym y.cost,
+      x.room ∙ sym y.room,
+    )
 same_cost p l matching events Deadhead a b x y from to =
     let since = same_event events b.from x.since y.since (subst (λ (v : ℕ). HasPlace events v x.since) from x.from) y.from in
     let until = same_event events b.to x.until y.until (subst (λ (v : ℕ). HasPlace events v x.until) to x.to) y.to in
     let first = first_of_match p l matching x.by x.since x.until x.matched in
     let second = first_of_match p l matching y.by y.since y.until y.matched in
     let by = some-same x.by y.by (sym first.way_is ∙ ap (λ (e : Event). way p e.stop.0 x.until.stop.0) since
-            ∙ ap (λ (e : Event). way p y.since.stop.0 e.stop.0) until ∙ second.way_is) in
-    (x.cost ∙ ap (λ (e : Event). at_scale (rated p l (x.until.minute - e.minute) x.by.metres)) since
-     ∙ ap (λ (e : Event). at_scale (rated p l (e.minute - y.since.minute) x.by.metres)) until
-     ∙ ap (λ (w : Way). at_scale (rated p l (y.until.minute - y.since.minute) w.metres)) by ∙ sym y.cost,
-     x.room ∙ sym y.room)
+    ∙ ap (λ (e : Event). way p y.since.stop.0 e.stop.0) until ∙ second.way_is) in (
+      x.cost ∙ ap (λ (e : Event). at_scale (rated p l (x.until.minute - e.minute) x.by.metres)) since
+          ∙ ap (λ (e : Event). at_scale (rated p l (e.minute - y.since.minute) x.by.metres)) until
+          ∙ ap (λ (w : Way). at_scale (rated p l (y.until.minute - y.since.minute) w.metres)) by ∙ sym y.cost,
+      x.room ∙ sym y.room,
+    )
 same_cost p l matching events PullOut a b x y from to =
     let until = same_event events b.to x.until y.until (subst (λ (v : ℕ). HasPlace events v x.until) to x.to) y.to in
     let by = some-same x.by y.by (sym x.way_is ∙ ap (λ (e : Event). way p (layer_of p l).depot.0 e.stop.0) until ∙ y.way_is) in
@@ -100,31 +102,31 @@ module _ (p : Problem) (l : ℕ) (matching : Matching) (events : List Event) whe
       → ordering_then (ordering_then (nat_cmp (rank a.kind) (rank b.kind)) (nat_cmp (trip_number a.kind) (trip_number b.kind))) (rest_cmp a b) ≡ Less
       → IsKindBefore a.kind b.kind
   kinds_differ a b one one' from to is = elim (compared (rank a.kind) (rank b.kind)) [
-      inl up ↦ inl up.1
-      | inr more ↦ elim more [
-          inl same ↦
-              let numbers = sym (ap (λ (o : Ordering). ordering_then (ordering_then o (nat_cmp (trip_number a.kind) (trip_number b.kind))) (rest_cmp a b)) same.0) ∙ is in
-              elim (less-then (trip_number a.kind) (trip_number b.kind) (rest_cmp a b) numbers) [
-                inl number ↦ inr (same.1, number)
-                | inr tied ↦
-                    let kind = kind_of_rank a.kind b.kind same.1 tied.0 in
-                    let as_b : IsArcOf p l matching events b.kind (arc_in a) = subst (λ (t : ArcKind). IsArcOf p l matching events t (arc_in a)) kind one in
-                    let rest = same_cost p l matching events b.kind (arc_in a) (arc_in b) as_b one' from to in
-                    let no : Equal ≡ Less = sym (same_rest a b rest.0 rest.1) ∙ tied.1 in cc
-              ]
-          | inr down ↦
-              let no : Greater ≡ Less =
-                  sym (ap (λ (o : Ordering). ordering_then (ordering_then o (nat_cmp (trip_number a.kind) (trip_number b.kind))) (rest_cmp a b)) down.0) ∙ is in cc
-        ]
+    | inl up ↦ inl up.1
+    | inr more ↦ elim more [
+      | inl same ↦
+          let numbers = sym (ap (λ (o : Ordering). ordering_then (ordering_then o (nat_cmp (trip_number a.kind) (trip_number b.kind))) (rest_cmp a b)) same.0) ∙ is in
+          elim (less-then (trip_number a.kind) (trip_number b.kind) (rest_cmp a b) numbers) [
+            | inl number ↦ inr (same.1, number)
+            | inr tied ↦
+                let kind = kind_of_rank a.kind b.kind same.1 tied.0 in
+                let as_b : IsArcOf p l matching events b.kind (arc_in a) = subst (λ (t : ArcKind). IsArcOf p l matching events t (arc_in a)) kind one in
+                let rest = same_cost p l matching events b.kind (arc_in a) (arc_in b) as_b one' from to in
+                let no : Equal ≡ Less = sym (same_rest a b rest.0 rest.1) ∙ tied.1 in cc
+          ]
+      | inr down ↦
+          let no : Greater ≡ Less =
+          sym (ap (λ (o : Ordering). ordering_then (ordering_then o (nat_cmp (trip_number a.kind) (trip_number b.kind))) (rest_cmp a b)) down.0) ∙ is in cc
     ]
+  ]
 
   pub arc_before : (a b : LayerArc) → IsOne a → IsOne b → arc_cmp a b ≡ Less → IsArcBefore (arc_in a) a.kind (arc_in b) b.kind
   arc_before a b one one' is = elim (less-then a.from b.from _ is) [
-      inl from ↦ inl from
-      | inr same ↦ elim (less-then a.to b.to _ same.1) [
-          inl to ↦ inr (same.0, inl to)
-          | inr both ↦
-              let kinds = ap (λ (o : Ordering). ordering_then o (rest_cmp a b)) (sym (kind_cmp-is a.kind b.kind)) ∙ both.1 in
-              inr (same.0, inr (both.0, kinds_differ a b one one' same.0 both.0 kinds))
-        ]
+    | inl from ↦ inl from
+    | inr same ↦ elim (less-then a.to b.to _ same.1) [
+      | inl to ↦ inr (same.0, inl to)
+      | inr both ↦
+          let kinds = ap (λ (o : Ordering). ordering_then o (rest_cmp a b)) (sym (kind_cmp-is a.kind b.kind)) ∙ both.1 in
+          inr (same.0, inr (both.0, kinds_differ a b one one' same.0 both.0 kinds))
     ]
+  ]

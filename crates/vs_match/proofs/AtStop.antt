@@ -13,7 +13,7 @@ module _ (stays : List Stay) (ordered : AllPairs IsStayBefore stays) where
   pub stops_rise : IsNonDecreasingBy (λ (s : Stay). s.stop.0) stays
   stops_rise i j d le within =
       elim (cases_eq i j) [
-        inl same ↦ omega (arith, ap (λ (k : ℕ). (get_or stays k d).stop.0) same)
+        | inl same ↦ omega (arith, ap (λ (k : ℕ). (get_or stays k d).stop.0) same)
         | inr other ↦ elim (ordered i j d (omega (arith, le, other)) within) [ inl up ↦ omega (arith, up) | inr both ↦ omega (arith, both.0) ]
       ]
 
@@ -23,12 +23,12 @@ module _ (stays : List Stay) (ordered : AllPairs IsStayBefore stays) where
       (within : start ≤ length stays) (within' : finish ≤ length stays) (d : Stay) where
     pub start-≤ : start ≤ finish
     start-≤ = elim (cases_lt finish start) [
-        inl down ↦
-            let below = ltb-true _ _ (from.0 finish d (omega arith) down) in
-            let above = leb-false _ _ (to.1 finish d (omega arith) (omega arith)) in
-            absurd (omega (arith, below, above))
-        | inr up ↦ up
-      ]
+      | inl down ↦
+          let below = ltb-true _ _ (from.0 finish d (omega arith) down) in
+          let above = leb-false _ _ (to.1 finish d (omega arith) (omega arith)) in
+          absurd (omega (arith, below, above))
+      | inr up ↦ up
+    ]
 
     abbrev here : List Stay
     here = take (finish - start) (drop start stays)
@@ -51,23 +51,24 @@ module _ (stays : List Stay) (ordered : AllPairs IsStayBefore stays) where
         same_stop _ _ (omega (arith, above, below))
 
     pub same_stays : (s : Stay) → Contains here s ↔ (Contains stays s × (s.stop ≡ stop))
-    same_stays s =
-        (λ (k, inside, is).
-         let there = sym (get_or-here k s inside) ∙ is in
-         ((start + k, omega (arith, inside, length-here), there), ap (λ (x : Stay). x.stop) (sym there) ∙ at_stop-is k s inside),
-         λ ((k, inside, is), at).
-         let number = ap (λ (x : Stay). x.stop.0) is ∙ ap (λ (x : StopNo). x.0) at in
-         let up : start ≤ k = elim (cases_lt k start) [
-             inl before ↦ absurd (omega (arith, number, ltb-true _ _ (from.0 k s (omega arith) before)))
-             | inr after ↦ after
-           ] in
-         let down : k < finish = elim (cases_lt k finish) [
-             inl before ↦ before
-             | inr after ↦ absurd (omega (arith, number, leb-false _ _ (to.1 k s after inside)))
-           ] in
-         let inside' : k - start < length here = omega (arith, length-here, up, down) in
-         let place : start + (k - start) ≡ k = omega (arith, up) in
-         (k - start, inside', get_or-here (k - start) s inside' ∙ ap (λ (n : ℕ). get_or stays n s) place ∙ is))
+    same_stays s = (
+      λ (k, inside, is).
+          let there = sym (get_or-here k s inside) ∙ is in
+          ((start + k, omega (arith, inside, length-here), there), ap (λ (x : Stay). x.stop) (sym there) ∙ at_stop-is k s inside),
+      λ ((k, inside, is), at).
+          let number = ap (λ (x : Stay). x.stop.0) is ∙ ap (λ (x : StopNo). x.0) at in
+          let up : start ≤ k = elim (cases_lt k start) [
+            | inl before ↦ absurd (omega (arith, number, ltb-true _ _ (from.0 k s (omega arith) before)))
+            | inr after ↦ after
+          ] in
+          let down : k < finish = elim (cases_lt k finish) [
+            | inl before ↦ before
+            | inr after ↦ absurd (omega (arith, number, leb-false _ _ (to.1 k s after inside)))
+          ] in
+          let inside' : k - start < length here = omega (arith, length-here, up, down) in
+          let place : start + (k - start) ≡ k = omega (arith, up) in
+          (k - start, inside', get_or-here (k - start) s inside' ∙ ap (λ (n : ℕ). get_or stays n s) place ∙ is),
+    )
 
     pub rising : IsRising here
     rising i j e less inside =
@@ -78,6 +79,6 @@ module _ (stays : List Stay) (ordered : AllPairs IsStayBefore stays) where
         let stop-is = at_stop-is i e (omega (arith, less, inside)) in
         let stop-is' = at_stop-is j e inside in
         elim (ordered (start + i) (start + j) e (omega (arith, less)) (omega (arith, inside, length-here))) [
-          inl apart ↦ absurd (omega (arith, apart, ap (λ (x : StopNo). x.0) stop-is, ap (λ (x : StopNo). x.0) stop-is'))
+          | inl apart ↦ absurd (omega (arith, apart, ap (λ (x : StopNo). x.0) stop-is, ap (λ (x : StopNo). x.0) stop-is'))
           | inr both ↦ omega (arith, both.1, minute, minute')
         ]

@@ -40,7 +40,7 @@ AreAt stop stays here = (s : Stay) → Contains here s ↔ (Contains stays s × 
 pub way_within : (p : Problem) → IsInstance p → (k s : ℕ) (w : Way) → way p k s ≡ Some w → (w.minutes ≤ 1440) × (w.metres ≤ 1000000)
 way_within p is k s w way_is =
     elim (cases_eq k s) [
-      inl same ↦
+      | inl same ↦
           let own = some-same no_way w (sym (way-own p k) ∙ ap (λ (n : ℕ). way p k n) same ∙ way_is) in
           (omega (arith, ap (λ (x : Way). x.minutes) own), omega (arith, ap (λ (x : Way). x.metres) own))
       | inr apart ↦
@@ -151,7 +151,7 @@ module _ (p : Problem) (l : ℕ) (nodes : Nodes) (are : AreNodes p l nodes) wher
     kept_from First a b u v at at' match = tt
     kept_from Latest a b u v at at' match = λ c has early.
         elim (cases_lt a.minute c.minute) [
-          inr no_later ↦ no_later
+          | inr no_later ↦ no_later
           | inl later ↦
               let y = arrives_at c has in
               let first = match.is_match in

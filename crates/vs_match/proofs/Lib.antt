@@ -21,3 +21,4 @@ pub mod RightArcs
 pub mod KindOrder
 pub mod ArcOrder
 pub mod WholeNet
+pub mod Counting

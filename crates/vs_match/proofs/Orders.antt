@@ -17,46 +17,46 @@ use Rattle.vs_match.specs.Stays.{IsStayBefore}
 -- what a number compares as
 pub compared : (a b : ℕ) → ((nat_cmp a b ≡ Less) × (a < b)) ⊎ (((nat_cmp a b ≡ Equal) × (a ≡ b)) ⊎ ((nat_cmp a b ≡ Greater) × (b < a)))
 compared a b = elim (cases_order a b) [
-    inl same ↦ inr (inl (sym (nat_cmp_is a b Equal same), same))
-    | inr more ↦ elim more [ inl up ↦ inl (sym (nat_cmp_is a b Less up), up) | inr down ↦ inr (inr (sym (nat_cmp_is a b Greater down), down)) ]
-  ]
+  | inl same ↦ inr (inl (sym (nat_cmp_is a b Equal same), same))
+  | inr more ↦ elim more [ inl up ↦ inl (sym (nat_cmp_is a b Less up), up) | inr down ↦ inr (inr (sym (nat_cmp_is a b Greater down), down)) ]
+]
 
 -- a comparison by a number and then by another test
 pub less-then : (a b : ℕ) (o : Ordering) → ordering_then (nat_cmp a b) o ≡ Less → (a < b) ⊎ ((a ≡ b) × (o ≡ Less))
 less-then a b o is = elim (compared a b) [
-    inl up ↦ inl up.1
-    | inr more ↦ elim more [
-        inl same ↦ inr (same.1, sym (ap (λ (c : Ordering). ordering_then c o) same.0) ∙ is)
-        | inr down ↦ let no : Greater ≡ Less = sym (ap (λ (c : Ordering). ordering_then c o) down.0) ∙ is in cc
-      ]
+  | inl up ↦ inl up.1
+  | inr more ↦ elim more [
+    | inl same ↦ inr (same.1, sym (ap (λ (c : Ordering). ordering_then c o) same.0) ∙ is)
+    | inr down ↦ let no : Greater ≡ Less = sym (ap (λ (c : Ordering). ordering_then c o) down.0) ∙ is in cc
   ]
+]
 
 pub equal-then : (a b : ℕ) (o : Ordering) → ordering_then (nat_cmp a b) o ≡ Equal → (a ≡ b) × (o ≡ Equal)
 equal-then a b o is = elim (compared a b) [
-    inl up ↦ let no : Less ≡ Equal = sym (ap (λ (c : Ordering). ordering_then c o) up.0) ∙ is in cc
-    | inr more ↦ elim more [
-        inl same ↦ (same.1, sym (ap (λ (c : Ordering). ordering_then c o) same.0) ∙ is)
-        | inr down ↦ let no : Greater ≡ Equal = sym (ap (λ (c : Ordering). ordering_then c o) down.0) ∙ is in cc
-      ]
+  | inl up ↦ let no : Less ≡ Equal = sym (ap (λ (c : Ordering). ordering_then c o) up.0) ∙ is in cc
+  | inr more ↦ elim more [
+    | inl same ↦ (same.1, sym (ap (λ (c : Ordering). ordering_then c o) same.0) ∙ is)
+    | inr down ↦ let no : Greater ≡ Equal = sym (ap (λ (c : Ordering). ordering_then c o) down.0) ∙ is in cc
   ]
+]
 
 pub less : (a b : ℕ) → nat_cmp a b ≡ Less → a < b
 less a b is = elim (compared a b) [
-    inl up ↦ up.1
-    | inr more ↦ elim more [
-        inl same ↦ let no : Equal ≡ Less = sym same.0 ∙ is in cc
-        | inr down ↦ let no : Greater ≡ Less = sym down.0 ∙ is in cc
-      ]
+  | inl up ↦ up.1
+  | inr more ↦ elim more [
+    | inl same ↦ let no : Equal ≡ Less = sym same.0 ∙ is in cc
+    | inr down ↦ let no : Greater ≡ Less = sym down.0 ∙ is in cc
   ]
+]
 
 pub equal : (a b : ℕ) → nat_cmp a b ≡ Equal → a ≡ b
 equal a b is = elim (compared a b) [
-    inl up ↦ let no : Less ≡ Equal = sym up.0 ∙ is in cc
-    | inr more ↦ elim more [
-        inl same ↦ same.1
-        | inr down ↦ let no : Greater ≡ Equal = sym down.0 ∙ is in cc
-      ]
+  | inl up ↦ let no : Less ≡ Equal = sym up.0 ∙ is in cc
+  | inr more ↦ elim more [
+    | inl same ↦ same.1
+    | inr down ↦ let no : Greater ≡ Equal = sym down.0 ∙ is in cc
   ]
+]
 
 -- events, by minute and then by stop
 abbrev pub event_cmp : Event → Event → Ordering
@@ -80,7 +80,7 @@ event_same a b is =
 not_less : (a b : Event) → IsBefore a b → (o : Ordering) → event_cmp b a ≡ o → is_lt o ≡ false
 not_less a b before Less is =
     absurd (elim (event_before b a is) [
-      inl up ↦ elim before [ inl up' ↦ omega (arith, up, up') | inr both ↦ omega (arith, up, both.0) ]
+      | inl up ↦ elim before [ inl up' ↦ omega (arith, up, up') | inr both ↦ omega (arith, up, both.0) ]
       | inr both ↦ elim before [ inl up' ↦ omega (arith, both.0, up') | inr both' ↦ omega (arith, both.1, both'.1) ]
     ])
 not_less a b before Equal is = refl

@@ -62,29 +62,34 @@ pull_outs_are p l events stays are old new adds =
     adds-as (Upto (OfDeparture p l stays) (length stays)) (IsPullOut p l events) old new adds
     (λ x (k, within, of).
     let s = are.only of.stay (k, within, of.at.1) in
-    let P : ℕ → Type 0 = λ v. HasPlace events v (event_of of.stay) in
-    (ap (λ (y : LayerArc). y.kind) of.is, record {
-      until = event_of of.stay;
-      by = of.by;
-      from = ap (λ (y : LayerArc). y.from) of.is;
-      to = subst P (sym (ap (λ (y : LayerArc). y.to) of.is)) s.0;
-      departs = s.1;
-      way_is = of.way_is;
-      in_time = of.in_time;
-      cost = ap (λ (y : LayerArc). y.cost) of.is;
-      room = ap (λ (y : LayerArc). y.room) of.is;
-    }))
+    let P : ℕ → Type 0 = λ v. HasPlace events v (event_of of.stay) in (
+      ap (λ (y : LayerArc). y.kind) of.is,
+      record {
+        until = event_of of.stay;
+        by = of.by;
+        from = ap (λ (y : LayerArc). y.from) of.is;
+        to = subst P (sym (ap (λ (y : LayerArc). y.to) of.is)) s.0;
+        departs = s.1;
+        way_is = of.way_is;
+        in_time = of.in_time;
+        cost = ap (λ (y : LayerArc). y.cost) of.is;
+        room = ap (λ (y : LayerArc). y.room) of.is;
+      },
+    ))
     (λ x (kind, arc).
     let s : Stay = record { stop = arc.until.stop; minute = arc.until.minute; node = x.to } in
-    let has = are.every s arc.to arc.departs in
-    (has.0, has.1, record {
-      stay = s;
-      by = arc.by;
-      at = (has.1, has.2);
-      way_is = arc.way_is;
-      in_time = arc.in_time;
-      is = λ i. record { from = arc.from i; to = x.to; kind = kind i; cost = arc.cost i; room = arc.room i };
-    }))
+    let has = are.every s arc.to arc.departs in (
+      has.0,
+      has.1,
+      record {
+        stay = s;
+        by = arc.by;
+        at = (has.1, has.2);
+        way_is = arc.way_is;
+        in_time = arc.in_time;
+        is = λ i. record { from = arc.from i; to = x.to; kind = kind i; cost = arc.cost i; room = arc.room i };
+      },
+    ))
 
 pub pull_ins_are : (p : Problem) (l : ℕ) (events : List Event) (stays : List Stay) → AreStays events (ArrivesAt p l) stays → (old new : List LayerArc)
     → Adds (Upto (OfArrived p l events stays) (length stays)) old new → Adds (IsPullIn p l events) old new
@@ -92,24 +97,29 @@ pull_ins_are p l events stays are old new adds =
     adds-as (Upto (OfArrived p l events stays) (length stays)) (IsPullIn p l events) old new adds
     (λ x (k, within, of).
     let s = are.only of.stay (k, within, of.at.1) in
-    let P : ℕ → Type 0 = λ v. HasPlace events v (event_of of.stay) in
-    (ap (λ (y : LayerArc). y.kind) of.is, record {
-      since = event_of of.stay;
-      by = of.by;
-      from = subst P (sym (ap (λ (y : LayerArc). y.from) of.is)) s.0;
-      to = ap (λ (y : LayerArc). y.to) of.is;
-      arrives = s.1;
-      way_is = of.way_is;
-      cost = ap (λ (y : LayerArc). y.cost) of.is;
-      room = ap (λ (y : LayerArc). y.room) of.is;
-    }))
+    let P : ℕ → Type 0 = λ v. HasPlace events v (event_of of.stay) in (
+      ap (λ (y : LayerArc). y.kind) of.is,
+      record {
+        since = event_of of.stay;
+        by = of.by;
+        from = subst P (sym (ap (λ (y : LayerArc). y.from) of.is)) s.0;
+        to = ap (λ (y : LayerArc). y.to) of.is;
+        arrives = s.1;
+        way_is = of.way_is;
+        cost = ap (λ (y : LayerArc). y.cost) of.is;
+        room = ap (λ (y : LayerArc). y.room) of.is;
+      },
+    ))
     (λ x (kind, arc).
     let s : Stay = record { stop = arc.since.stop; minute = arc.since.minute; node = x.from } in
-    let has = are.every s arc.from arc.arrives in
-    (has.0, has.1, record {
-      stay = s;
-      by = arc.by;
-      at = (has.1, has.2);
-      way_is = arc.way_is;
-      is = λ i. record { from = x.from; to = arc.to i; kind = kind i; cost = arc.cost i; room = arc.room i };
-    }))
+    let has = are.every s arc.from arc.arrives in (
+      has.0,
+      has.1,
+      record {
+        stay = s;
+        by = arc.by;
+        at = (has.1, has.2);
+        way_is = arc.way_is;
+        is = λ i. record { from = x.from; to = arc.to i; kind = kind i; cost = arc.cost i; room = arc.room i };
+      },
+    ))

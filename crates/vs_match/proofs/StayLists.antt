@@ -47,15 +47,15 @@ module _ (events : List Event) (ordered : AllPairs IsBefore events) (Such : Even
     (rising : AllPairs (λ a b. stay_cmp a b ≡ Less) stays) where
   before : (a b : Stay) → Contains stays a → Contains stays b → stay_cmp a b ≡ Less → IsStayBefore a b
   before a b has has' is = elim (less-then a.stop.0 b.stop.0 _ is) [
-      inl stop ↦ inl stop
-      | inr same ↦ elim (less-then a.minute b.minute (nat_cmp a.node b.node) same.1) [
-          inl minute ↦ inr (same.0, minute)
-          | inr both ↦
-              let same_event : event_of a ≡ event_of b = λ i. record { minute = both.0 i; stop = record { 0 = same.0 i } } in
-              let equal_stays = same_stay events ordered a b same_event (only a has).0 (only b has').0 in
-              absurd (omega (arith, less a.node b.node both.1, ap (λ (s : Stay). s.node) equal_stays))
-        ]
+    | inl stop ↦ inl stop
+    | inr same ↦ elim (less-then a.minute b.minute (nat_cmp a.node b.node) same.1) [
+      | inl minute ↦ inr (same.0, minute)
+      | inr both ↦
+          let same_event : event_of a ≡ event_of b = λ i. record { minute = both.0 i; stop = record { 0 = same.0 i } } in
+          let equal_stays = same_stay events ordered a b same_event (only a has).0 (only b has').0 in
+          absurd (omega (arith, less a.node b.node both.1, ap (λ (s : Stay). s.node) equal_stays))
     ]
+  ]
 
   pub are_stays : AreStays events Such stays
   are_stays = record {
@@ -95,7 +95,7 @@ pub trip_stays : (end : TripEnd) (p : Problem) (l : ℕ) (events : List Event) �
 trip_stays end p l events ordered found stays adds same rising =
     are_stays events ordered (HappensAt end p l) stays
     (λ s has. elim ((adds s).0 ((same s).0 has)) [
-      inl none ↦ absurd (contains-none s none)
+      | inl none ↦ absurd (contains-none s none)
       | inr is ↦ (is.2.1.1, happens end p l (event_of s) is.0 is.2.0 is.2.1.0)
     ])
     (λ s at is. let i = happening end p l (event_of s) is in (same s).1 ((adds s).1 (inr (i.0, i.1.0, (i.1, (i.2, at))))))
@@ -108,7 +108,7 @@ pub event_stays : (events : List Event) → AllPairs IsBefore events → (found 
 event_stays events ordered found stays adds same rising =
     are_stays events ordered (Contains events) stays
     (λ s has. elim ((adds s).0 ((same s).0 has)) [
-      inl none ↦ absurd (contains-none s none)
+      | inl none ↦ absurd (contains-none s none)
       | inr is ↦
           let k = is.0 in
           let e = get_or events k (event_of s) in
@@ -119,8 +119,14 @@ event_stays events ordered found stays adds same rising =
     ])
     (λ s at is.
     let x = placed events s.node (event_of s) at in
-    (same s).1 ((adds s).1 (inr (x.k, x.within, (x.within,
-    λ d. let event = sym (x.event d) in λ i. record { stop = (event i).stop; minute = (event i).minute; node = x.node i })))))
+    (same s).1 ((adds s).1 (inr (
+      x.k,
+      x.within,
+      (
+        x.within,
+        λ d. let event = sym (x.event d) in λ i. record { stop = (event i).stop; minute = (event i).minute; node = x.node i },
+      ),
+    ))))
     rising
 
 -- a trip's event is one of the events

@@ -20,7 +20,7 @@ use Rattle.vs_match.proofs.Adding.{Upto, adds-as}
 pub minutes-≤ : (stays : List Stay) → IsRising stays → (j k : ℕ) (d : Stay) → j ≤ k → k < length stays → (get_or stays j d).minute ≤ (get_or stays k d).minute
 minutes-≤ stays rising j k d le within =
     elim (cases_eq j k) [
-      inl same ↦ omega (arith, ap (λ (n : ℕ). (get_or stays n d).minute) same)
+      | inl same ↦ omega (arith, ap (λ (n : ℕ). (get_or stays n d).minute) same)
       | inr other ↦ omega (arith, rising j k d (omega (arith, le, other)) within)
     ]
 
@@ -37,7 +37,7 @@ module _ (arrivals : List Stay) (rising : IsRising arrivals) (w : Way) (k : ℕ)
   pub next_late : k + 1 < length arrivals → b.minute < (get_or arrivals (k + 1) d).minute + w.minutes → IsKept Latest arrivals w (get_or arrivals k d) b
   next_late more late c has early =
       elim (cases_lt k has.0) [
-        inl after ↦ absurd (omega (arith, late, early, minute-at arrivals c d has, minutes-≤ arrivals rising (k + 1) has.0 d (omega (arith, after)) has.1))
+        | inl after ↦ absurd (omega (arith, late, early, minute-at arrivals c d has, minutes-≤ arrivals rising (k + 1) has.0 d (omega (arith, after)) has.1))
         | inr before ↦ omega (arith, minute-at arrivals c d has, minutes-≤ arrivals rising has.0 k d before within)
       ]
 
@@ -45,7 +45,7 @@ module _ (arrivals : List Stay) (rising : IsRising arrivals) (w : Way) (k : ℕ)
   pub next_in_time : k + 1 < length arrivals → IsKept Latest arrivals w (get_or arrivals k d) b → b.minute < (get_or arrivals (k + 1) d).minute + w.minutes
   next_in_time more kept =
       elim (cases_lt b.minute ((get_or arrivals (k + 1) d).minute + w.minutes)) [
-        inl late ↦ late
+        | inl late ↦ late
         | inr early ↦
             let c = get_or arrivals (k + 1) d in
             let no_later = kept c (k + 1, more, get_or_default arrivals (k + 1) c d more) early in
@@ -72,12 +72,12 @@ first_departure departures rising minute place d within early late = record {
   departs = (place, within, get_or_default departures place _ d within);
   in_time = late;
   first = λ c has in_time. elim (cases_lt has.0 place) [
-      inl before ↦
-          let front : has.0 < length (take place departures) = omega (arith, length-take place departures, before, within) in
-          let minute' = ap (λ (s : Stay). s.minute) (get_or-take place departures has.0 d before) in
-          absurd (omega (arith, early has.0 d front, minute', minute-at departures c d has, in_time))
-      | inr after ↦ omega (arith, minute-at departures c d has, minutes-≤ departures rising place has.0 d after has.1)
-    ];
+    | inl before ↦
+        let front : has.0 < length (take place departures) = omega (arith, length-take place departures, before, within) in
+        let minute' = ap (λ (s : Stay). s.minute) (get_or-take place departures has.0 d before) in
+        absurd (omega (arith, early has.0 d front, minute', minute-at departures c d has, in_time))
+    | inr after ↦ omega (arith, minute-at departures c d has, minutes-≤ departures rising place has.0 d after has.1)
+  ];
 }
 
 -- there is none after these
@@ -97,11 +97,11 @@ same_departure departures rising minute a b first second =
     let le = first.first b second.departs second.in_time in
     let ge = second.first a first.departs first.in_time in
     elim (cases_order x.0 y.0) [
-      inl same ↦ sym x.2 ∙ ap (λ (k : ℕ). get_or departures k a) same ∙ get_or_default departures y.0 a b y.1 ∙ y.2
+      | inl same ↦ sym x.2 ∙ ap (λ (k : ℕ). get_or departures k a) same ∙ get_or_default departures y.0 a b y.1 ∙ y.2
       | inr more ↦ elim more [
-          inl up ↦ absurd (omega (arith, ge, minute-at departures a a x, minute-at departures b a y, rising x.0 y.0 a up y.1))
-          | inr down ↦ absurd (omega (arith, le, minute-at departures a a x, minute-at departures b a y, rising y.0 x.0 a down x.1))
-        ]
+        | inl up ↦ absurd (omega (arith, ge, minute-at departures a a x, minute-at departures b a y, rising x.0 y.0 a up y.1))
+        | inr down ↦ absurd (omega (arith, le, minute-at departures a a x, minute-at departures b a y, rising y.0 x.0 a down x.1))
+      ]
     ]
 
 -- all of them together
@@ -119,14 +119,17 @@ are_matches p l matching w arrivals departures old new adds =
     })
     (λ x m.
     let has = m.arrives in
-    let at = λ (d : Stay). get_or_default arrivals has.0 d m.since has.1 ∙ has.2 in
-    (has.0, has.1, record {
-      until = m.until;
-      within = has.1;
-      first = λ d. let P : Stay → Type 0 = λ a. IsFirstFrom departures (a.minute + w.minutes) m.until in subst P (sym (at d)) m.first;
-      kept = λ d. let P : Stay → Type 0 = λ a. IsKept matching arrivals w a m.until in subst P (sym (at d)) m.kept;
-      is = λ d. m.is ∙ ap (λ (a : Stay). deadhead_of p l w a m.until) (sym (at d));
-    }))
+    let at = λ (d : Stay). get_or_default arrivals has.0 d m.since has.1 ∙ has.2 in (
+      has.0,
+      has.1,
+      record {
+        until = m.until;
+        within = has.1;
+        first = λ d. let P : Stay → Type 0 = λ a. IsFirstFrom departures (a.minute + w.minutes) m.until in subst P (sym (at d)) m.first;
+        kept = λ d. let P : Stay → Type 0 = λ a. IsKept matching arrivals w a m.until in subst P (sym (at d)) m.kept;
+        is = λ d. m.is ∙ ap (λ (a : Stay). deadhead_of p l w a m.until) (sym (at d));
+      },
+    ))
 
 module _ (p : Problem) (l : ℕ) (matching : Matching) (w : Way) (arrivals departures : List Stay) (rising : IsRising arrivals) (rising' : IsRising departures)
     (k : ℕ) (within : k < length arrivals) (d : Stay) where

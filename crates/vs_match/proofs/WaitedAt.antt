@@ -52,13 +52,13 @@ module _ (p : Problem) (l : ℕ) (events : List Event) (are_events : AreEvents p
   further j k a b at at' same later =
       let number = ap (λ (s : StopNo). s.0) same in
       elim (cases_order j k) [
-        inl equal ↦
+        | inl equal ↦
             let P : ℕ → Type 0 = λ n. AtPlace stays n a in
             absurd (omega (arith, later, ap (λ (s : Stay). s.minute) (same_at stays k a b (subst P equal at) at')))
         | inr more ↦ elim more [
-            inl up ↦ up
-            | inr down ↦ absurd (elim (before k j b a at' at down) [ inl stop ↦ omega (arith, stop, number) | inr both ↦ omega (arith, both.1, later) ])
-          ]
+          | inl up ↦ up
+          | inr down ↦ absurd (elim (before k j b a at' at down) [ inl stop ↦ omega (arith, stop, number) | inr both ↦ omega (arith, both.1, later) ])
+        ]
       ]
 
   pub at_stop_later : (j k : ℕ) (a b : Stay) → AtPlace stays j a → AtPlace stays k b → a.stop ≡ b.stop → j < k → a.minute < b.minute
@@ -70,29 +70,31 @@ module _ (p : Problem) (l : ℕ) (events : List Event) (are_events : AreEvents p
       let a = are.only of.since (of.first, of.at.0, of.at.1) in
       let b = are.only of.until (k, of.at_next.0, of.at_next.1) in
       let P : ℕ → Type 0 = λ v. HasPlace events v (event_of of.since) in
-      let Q : ℕ → Type 0 = λ v. HasPlace events v (event_of of.until) in
-      (ap (λ (y : LayerArc). y.kind) of.is, record {
-        since = event_of of.since;
-        until = event_of of.until;
-        from = subst P (sym (ap (λ (y : LayerArc). y.from) of.is)) a.0;
-        to = subst Q (sym (ap (λ (y : LayerArc). y.to) of.is)) b.0;
-        same_stop = of.same;
-        later = at_stop_later of.first k of.since of.until of.at of.at_next of.same (omega (arith, of.follows));
-        next = λ e is same later.
-            let v = has_node events e (are_events.every e is) in
-            let s : Stay = record { stop = e.stop; minute = e.minute; node = v.0 } in
-            let has = are.every s v.1 is in
-            let up = further of.first has.0 of.since s of.at (has.1, has.2) (sym same) later in
-            elim (cases_eq has.0 k) [
-              inl last ↦
-                  let R : ℕ → Type 0 = λ n. AtPlace stays n s in
-                  omega (arith, ap (λ (y : Stay). y.minute) (same_at stays k s of.until (subst R last (has.1, has.2)) of.at_next))
-              | inr other ↦
-                  omega (arith, at_stop_later k has.0 of.until s of.at_next (has.1, has.2) (sym of.same ∙ sym same) (omega (arith, up, other, of.follows)))
-            ];
-        cost = ap (λ (y : LayerArc). y.cost) of.is;
-        room = ap (λ (y : LayerArc). y.room) of.is;
-      })
+      let Q : ℕ → Type 0 = λ v. HasPlace events v (event_of of.until) in (
+        ap (λ (y : LayerArc). y.kind) of.is,
+        record {
+          since = event_of of.since;
+          until = event_of of.until;
+          from = subst P (sym (ap (λ (y : LayerArc). y.from) of.is)) a.0;
+          to = subst Q (sym (ap (λ (y : LayerArc). y.to) of.is)) b.0;
+          same_stop = of.same;
+          later = at_stop_later of.first k of.since of.until of.at of.at_next of.same (omega (arith, of.follows));
+          next = λ e is same later.
+              let v = has_node events e (are_events.every e is) in
+              let s : Stay = record { stop = e.stop; minute = e.minute; node = v.0 } in
+              let has = are.every s v.1 is in
+              let up = further of.first has.0 of.since s of.at (has.1, has.2) (sym same) later in
+              elim (cases_eq has.0 k) [
+                | inl last ↦
+                    let R : ℕ → Type 0 = λ n. AtPlace stays n s in
+                    omega (arith, ap (λ (y : Stay). y.minute) (same_at stays k s of.until (subst R last (has.1, has.2)) of.at_next))
+                | inr other ↦
+                    omega (arith, at_stop_later k has.0 of.until s of.at_next (has.1, has.2) (sym of.same ∙ sym same) (omega (arith, up, other, of.follows)))
+              ];
+          cost = ap (λ (y : LayerArc). y.cost) of.is;
+          room = ap (λ (y : LayerArc). y.room) of.is;
+        },
+      )
 
   -- no node stands between the two of a waiting arc
   none_between : (x : LayerArc) (w : IsWaiting p l events x) (i j : ℕ) (a b : Stay) → event_of a ≡ w.1.since → event_of b ≡ w.1.until
@@ -109,13 +111,13 @@ module _ (p : Problem) (l : ℕ) (events : List Event) (are_events : AreEvents p
       let minute' = ap (λ (e : Event). e.minute) is' in
       let event = (are.only y (i + 1, at''.0, at''.1)).1 in
       elim first [
-        inl stop ↦ elim second [ inl stop' ↦ omega (arith, stop, stop', number) | inr both' ↦ omega (arith, stop, both'.0, number) ]
+        | inl stop ↦ elim second [ inl stop' ↦ omega (arith, stop, stop', number) | inr both' ↦ omega (arith, stop, both'.0, number) ]
         | inr both ↦ elim second [
-            inl stop' ↦ omega (arith, both.0, stop', number)
-            | inr both' ↦
-                let there : (event_of y).stop ≡ arc.since.stop = same_stop _ _ (sym both.0) ∙ ap (λ (e : Event). e.stop) is in
-                omega (arith, both'.1, minute', arc.next (event_of y) event there (omega (arith, both.1, minute)))
-          ]
+          | inl stop' ↦ omega (arith, both.0, stop', number)
+          | inr both' ↦
+              let there : (event_of y).stop ≡ arc.since.stop = same_stop _ _ (sym both.0) ∙ ap (λ (e : Event). e.stop) is in
+              omega (arith, both'.1, minute', arc.next (event_of y) event there (omega (arith, both.1, minute)))
+        ]
       ]
 
   from_waiting : (x : LayerArc) → IsWaiting p l events x → Upto (OfNeighbours p l stays) (length stays) x
@@ -126,19 +128,22 @@ module _ (p : Problem) (l : ℕ) (events : List Event) (are_events : AreEvents p
       let j = are.every b arc.to (is_event arc.until x.to arc.to) in
       let up = further i.0 j.0 a b (i.1, i.2) (j.1, j.2) arc.same_stop arc.later in
       let next : j.0 ≡ i.0 + 1 = elim (cases_lt (i.0 + 1) j.0) [
-          inl gap ↦ absurd (none_between x (kind, arc) i.0 j.0 a b refl refl (i.1, i.2) (j.1, j.2) gap)
-          | inr le ↦ omega (arith, up, le)
-        ] in
-      (j.0, j.1, record {
-        since = a;
-        until = b;
-        first = i.0;
-        follows = next;
-        at = (i.1, i.2);
-        at_next = (j.1, j.2);
-        same = arc.same_stop;
-        is = λ t. record { from = x.from; to = x.to; kind = kind t; cost = arc.cost t; room = arc.room t };
-      })
+        | inl gap ↦ absurd (none_between x (kind, arc) i.0 j.0 a b refl refl (i.1, i.2) (j.1, j.2) gap)
+        | inr le ↦ omega (arith, up, le)
+      ] in (
+        j.0,
+        j.1,
+        record {
+          since = a;
+          until = b;
+          first = i.0;
+          follows = next;
+          at = (i.1, i.2);
+          at_next = (j.1, j.2);
+          same = arc.same_stop;
+          is = λ t. record { from = x.from; to = x.to; kind = kind t; cost = arc.cost t; room = arc.room t };
+        },
+      )
 
   pub waiting_is : (old new : List LayerArc) → Adds (Upto (OfNeighbours p l stays) (length stays)) old new → Adds (IsWaiting p l events) old new
   waiting_is old new adds =

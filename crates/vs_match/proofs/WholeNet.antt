@@ -85,9 +85,9 @@ module _ (p : Problem) (l : ℕ) (matching : Matching) (events : List Event) whe
       → AllPairs (λ a b. arc_cmp a b ≡ Less) arcs → AreArcs p l matching events arcs
   are_arcs found arcs adds same rising =
       let only : (x : LayerArc) → Contains arcs x → IsOne x = λ x has. elim ((adds x).0 ((same x).0 has)) [
-          inl none ↦ absurd (contains-none x none)
-          | inr any ↦ one_of_any x any
-        ] in
+        | inl none ↦ absurd (contains-none x none)
+        | inr any ↦ one_of_any x any
+      ] in
       record {
         only = only;
         every = λ x one. (same x).1 ((adds x).1 (inr (any_of_kind x x.kind refl one)));
@@ -191,7 +191,7 @@ module _ (p : Problem) (is : IsInstance p) (l : ℕ) (matching : Matching) (even
         let from = ap (λ (x : LayerArc). x.from) return_item in
         let to = ap (λ (x : LayerArc). x.to) return_item in
         elim (cases_lt r k) [
-          inl before ↦ none_after events (item r).kind (item k).kind (arc_in (item r)) (arc_in (item k)) kind from to (item_lies k within)
+          | inl before ↦ none_after events (item r).kind (item k).kind (arc_in (item r)) (arc_in (item k)) kind from to (item_lies k within)
               (are.ordered r k no_layer_arc before within)
           | inr after ↦
               let same : r ≡ k = omega (arith, after, returns.1, last) in

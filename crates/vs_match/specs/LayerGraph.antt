@@ -16,6 +16,11 @@ pub record LayerGraph : Type 0 where
   pub kinds : List ArcKind
   pub events : List Event
 
+-- each arc has a kind, and each node an event but for the first and the last
+pub record IsLabelled (n : LayerGraph) : Type 0 where
+  pub each_arc : length n.kinds ≡ length n.graph.arcs
+  pub each_node : n.graph.nodes ≡ length n.events + 2
+
 abbrev pub kind_at : List ArcKind → ℕ → ArcKind
 kind_at kinds k = slice_index_or kinds k Return
 

@@ -1,8 +1,8 @@
 -- Which arc is a trip's.
-use Rattle.std.specs.Prelude.{◌≡◌, ℕ, ◌+◌, ◌<◌, List, length, Option, None, MatchOption, slice_index_or}
+use Rattle.std.specs.Prelude.{ℕ, ◌<◌, List, Option, None, MatchOption, slice_index_or}
 use Rattle.vs_match.specs.declared.arc_kind.ArcKind.{ArcKind}
 use Rattle.vs_match.specs.declared.arc_kind.ArcKind.TheVariants.{Trip, Waiting, Deadhead, PullOut, PullIn, Return}
-use Rattle.vs_match.specs.LayerGraph.{IsArcOfTrip}
+use Rattle.vs_match.specs.LayerGraph.{LayerGraph, IsLabelled, IsArcOfTrip}
 
 -- the trip of an arc is one of so many
 abbrev pub IsBelow : ℕ → ArcKind → Type 0
@@ -17,8 +17,7 @@ IsTripAt kinds i found = MatchOption found ((k : ℕ) → ¬ (IsArcOfTrip kinds 
 abbrev pub IsTripIndex : List ArcKind → List (Option ℕ) → Type 0
 IsTripIndex kinds index = (i : ℕ) → IsTripAt kinds i (slice_index_or index i None)
 
--- kinds for each arc, an index of the trips, and an event for each node but the first and the last
-pub record AreLabels (nodes arcs : ℕ) (kinds : List ArcKind) (events : ℕ) (index : List (Option ℕ)) : Type 0 where
-  pub each_arc : length kinds ≡ arcs
-  pub each_node : nodes ≡ events + 2
-  pub trips : IsTripIndex kinds index
+-- a labelled net, with an index of its trips
+pub record IsIndexed (n : LayerGraph) (index : List (Option ℕ)) : Type 0 where
+  pub labelled : IsLabelled n
+  pub trips : IsTripIndex n.kinds index

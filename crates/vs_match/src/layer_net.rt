@@ -1,7 +1,7 @@
 ghost use Rattle.std.specs.Prelude.{◌≡◌, ◌+◌, ◌*◌, ◌<◌, ◌≤◌, All, IfOk, length, map, option_map};
 ghost use Rattle.vs_layer.specs.Graph.{AllRight};
 ghost use Rattle.vs_match.specs.Adds.{arc_in};
-ghost use Rattle.vs_match.specs.LayerGraph.{kind_of, place_of};
+ghost use Rattle.vs_match.specs.LayerGraph.{IsLabelled, kind_of, place_of};
 ghost use Rattle.vs_match.specs.TripIndex.{IsBelow, IsTripAt, IsTripIndex};
 
 use crate::arc_kind::ArcKind;
@@ -23,16 +23,15 @@ pub struct LayerNet {
 }
 
 impl Model for LayerNet {
-    ghost use Rattle.std.specs.Prelude.{length};
     ghost use Rattle.vs_match.specs.LayerGraph.{LayerGraph};
-    ghost use Rattle.vs_match.specs.TripIndex.{AreLabels};
+    ghost use Rattle.vs_match.specs.TripIndex.{IsIndexed};
 
     ghost Value = { LayerGraph };
 
     ghost view = { λ n. record { graph = n.net; kinds = n.kinds.items; events = n.events.items } };
 
-    ghost invariant = { λ n. AreLabels n.net.nodes (length n.net.arcs) n.kinds.items
-        (length n.events.items) n.trip_arcs.items };
+    ghost invariant = { λ n. IsIndexed (record { graph = n.net; kinds = n.kinds.items; events = n.events.items })
+        n.trip_arcs.items };
 }
 
 impl LayerNet {
@@ -66,7 +65,8 @@ impl LayerNet {
 
     /// The nodes and arcs.
     pub fn net(&self) -> &Net
-        ensures { result.now ≡ self.now.graph }
+        ensures graph { result.now ≡ self.now.graph }
+        ensures labelled { IsLabelled self.now }
     {
         &self.net
     }

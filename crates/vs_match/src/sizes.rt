@@ -84,6 +84,7 @@ fn connects(instance: &Instance, l: LayerNo, i: TripNo, j: TripNo) -> bool
     requires second { j.0 < length instance.now.trips }
     ensures { result ≡ is_connection instance.now l.0 i.0 j.0 }
 {
+    prove!(l.0 < instance.layers() && i.0 < instance.trips() && j.0 < instance.trips());
     let (first, second) = (instance.trip(i), instance.trip(j));
     if first.end > second.start || !first.layers.has(l) || !second.layers.has(l) {
         return false;

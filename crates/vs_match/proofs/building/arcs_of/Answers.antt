@@ -20,7 +20,7 @@ returns-clause-arcs c =
     let back = c.return_arc.ensures ∙ ap (λ (n : ℕ). return_of p l (n + 1)) count in
     let e = c.push_pull_ins.new.arcs.items in
     let pushed : c.push.new.self.items ≡ e ++ return_of p l (last_node events) ∷ [] =
-        c.in_ok-push.ensures.items ∙ ap (λ (x : LayerArc). e ++ x ∷ []) back in
+    c.in_ok-push.ensures.items ∙ ap (λ (x : LayerArc). e ++ x ∷ []) back in
     let P : List LayerArc → Type 0 = λ xs. Adds (IsTrip p l events) xs c.push_trips.new.arcs.items in
     are_arcs p l c.args.matching events c.push.new.self.items c.put_in_order.new.items.items
     (rw pushed (adds_all p l c.args.matching events c.push_trips.new.arcs.items c.push_waiting.new.arcs.items c.push_deadheads.new.arcs.items
@@ -31,5 +31,14 @@ returns-clause-arcs c =
 pub returns-clause-few : goal.returns-clause-few
 returns-clause-few c =
     let pushed = ap length c.in_ok-push.ensures.items ∙ length-append c.push_pull_ins.new.arcs.items (c.return_arc.result ∷ []) in
-    omega (arith, c.put_in_order.ensures.few, pushed, c.in_ok-push_pull_ins.ensures.few, c.in_ok-push_pull_outs.ensures.few, c.in_ok-push_deadheads.ensures.few,
-    c.in_ok-push_waiting.ensures.few, c.in_ok-push_trips.ensures.few, ap length c.new-arcs.ensures.items)
+    omega (
+      arith,
+      c.put_in_order.ensures.few,
+      pushed,
+      c.in_ok-push_pull_ins.ensures.few,
+      c.in_ok-push_pull_outs.ensures.few,
+      c.in_ok-push_deadheads.ensures.few,
+      c.in_ok-push_waiting.ensures.few,
+      c.in_ok-push_trips.ensures.few,
+      ap length c.new-arcs.ensures.items,
+    )

@@ -17,19 +17,19 @@ kind x = x.kind
 pub new-requires-clause-some_arc : goal.new-requires-clause-some_arc
 new-requires-clause-some_arc c =
     let are = subst (λ (xs : List LayerArc). AreArcs c.args.instance.now c.args.l.0 c.args.matching c.in_ok-nodes.nodes.events.items xs)
-        (sym c.deref.ensures.value) c.in_ok-arcs.ensures.arcs in
+    (sym c.deref.ensures.value) c.in_ok-arcs.ensures.arcs in
     some_arc c.args.instance.now c.trips.ensures.instance c.args.l.0 c.args.matching c.in_ok-nodes.nodes.events.items c.in_ok-nodes.ensures.events c.deref.result.now are
 
 pub new-requires-clause-right : goal.new-requires-clause-right
 new-requires-clause-right c =
     let are = subst (λ (xs : List LayerArc). AreArcs c.args.instance.now c.args.l.0 c.args.matching c.in_ok-nodes.nodes.events.items xs)
-        (sym c.deref.ensures.value) c.in_ok-arcs.ensures.arcs in
+    (sym c.deref.ensures.value) c.in_ok-arcs.ensures.arcs in
     all_right c.args.instance.now c.trips.ensures.instance c.args.l.0 c.args.matching c.in_ok-nodes.nodes.events.items c.in_ok-nodes.ensures.events c.deref.result.now are
 
 pub new-requires-clause-of_trips : goal.new-requires-clause-of_trips
 new-requires-clause-of_trips c = λ k d within.
     let are = subst (λ (xs : List LayerArc). AreArcs c.args.instance.now c.args.l.0 c.args.matching c.in_ok-nodes.nodes.events.items xs)
-        (sym c.deref.ensures.value) c.in_ok-arcs.ensures.arcs in
+    (sym c.deref.ensures.value) c.in_ok-arcs.ensures.arcs in
     rw c.trips.ensures.count
     (all_below c.args.instance.now c.trips.ensures.instance c.args.l.0 c.args.matching c.in_ok-nodes.nodes.events.items c.in_ok-nodes.ensures.events c.deref.result.now are
     k d within)

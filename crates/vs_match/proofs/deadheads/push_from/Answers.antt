@@ -20,17 +20,19 @@ returns-then-is_empty-clause-adds c =
 
 pub push_matches-requires-clause-arrivals : goal.push_matches-requires-clause-arrivals
 push_matches-requires-clause-arrivals c =
-    let from : AreAt c.args.from c.args.nodes.now.arrivals.items c.at_stop-arrivals.result.now = rw (← c.deref.ensures.value) c.at_stop-arrivals.ensures.same in
-    (c.at_stop-arrivals.ensures.rising,
-     arrivals_within c.args.instance.now c.args.l.0 c.args.nodes.now c.requires.nodes c.stops-to-end.ensures.instance c.args.from c.at_stop-arrivals.result.now from)
+    let from : AreAt c.args.from c.args.nodes.now.arrivals.items c.at_stop-arrivals.result.now = rw (← c.deref.ensures.value) c.at_stop-arrivals.ensures.same in (
+      c.at_stop-arrivals.ensures.rising,
+      arrivals_within c.args.instance.now c.args.l.0 c.args.nodes.now c.requires.nodes c.stops-to-end.ensures.instance c.args.from c.at_stop-arrivals.result.now from,
+    )
 
 pub push_matches-requires-clause-departures : goal.push_matches-requires-clause-departures
 push_matches-requires-clause-departures c =
     let to : AreAt (record { 0 = c.loop-to.to }) c.args.nodes.now.departures.items c.at_stop-departures.result.now =
-        rw (← c.deref-in-Some.ensures.value) c.at_stop-departures.ensures.same in
-    (c.at_stop-departures.ensures.rising,
-     departures_within c.args.instance.now c.args.l.0 c.args.nodes.now c.requires.nodes c.stops-to-end.ensures.instance (record { 0 = c.loop-to.to })
-     c.at_stop-departures.result.now to)
+    rw (← c.deref-in-Some.ensures.value) c.at_stop-departures.ensures.same in (
+      c.at_stop-departures.ensures.rising,
+      departures_within c.args.instance.now c.args.l.0 c.args.nodes.now c.requires.nodes c.stops-to-end.ensures.instance (record { 0 = c.loop-to.to })
+          c.at_stop-departures.result.now to,
+    )
 
 pub loop-to-preserved : goal.loop-to-preserved
 loop-to-preserved c =
@@ -45,9 +47,9 @@ loop-to-preserved c =
     let To = IsDeadheadTo p l c.args.matching nodes.events.items k in
     let from : AreAt c.args.from nodes.arrivals.items c.at_stop-arrivals.result.now = rw (← c.deref.ensures.value) c.at_stop-arrivals.ensures.same in
     elim c.if-ne.branch [
-      then-ne+in-Some+in_ok-push_matches b ↦
+      | then-ne+in-Some+in_ok-push_matches b ↦
           let to : AreAt (record { 0 = s }) nodes.departures.items b.at_stop-departures.result.now =
-              rw (← b.deref-in-Some.ensures.value) b.at_stop-departures.ensures.same in
+          rw (← b.deref-in-Some.ensures.value) b.at_stop-departures.ensures.same in
           let apart = eqb-false k s (not-true _ (sym c.ne.ensures ∙ b.if-ne.true)) in
           let arcs = ap (λ (v : Vec LayerArc Global). v.items) b.arcs-is in
           let few = c.at_stop-arrivals.ensures.few in

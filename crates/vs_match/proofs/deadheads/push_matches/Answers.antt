@@ -44,12 +44,12 @@ loop-k-preserved c =
     let within = c.loop-k-test.true in
     let early = early_more p l c.args.matching w xs ys up up' k within no_stay place bound earlier in
     elim c.if-first-departures.branch [
-      then-first-departures+then-is_kept+in_ok-push b ↦
+      | then-first-departures+then-is_kept+in_ok-push b ↦
           let until = get_or ys place no_stay in
           let first = first_departure ys up' _ place no_stay b.if-first-departures.true earlier (c.first_from-first.ensures.first no_stay b.if-first-departures.true) in
           let kept = (b.is_kept.ensures no_stay).0 b.if-is_kept.true in
           let items : c.if-first-departures.arcs.items ≡ before ++ deadhead_of p l w (get_or xs k no_stay) until ∷ [] =
-              ap (λ (v : Vec LayerArc Global). v.items) b.arcs-is ∙ b.in_ok-push.ensures.items ∙ ap (λ (x : LayerArc). before ++ x ∷ []) b.deadhead_arc.ensures in
+          ap (λ (v : Vec LayerArc Global). v.items) b.arcs-is ∙ b.in_ok-push.ensures.items ∙ ap (λ (x : LayerArc). before ++ x ∷ []) b.deadhead_arc.ensures in
           record {
             adds = rw items (upto-one From k old before _ c.loop-k.invariant.adds (of_arrival p l c.args.matching w xs ys up up' k within no_stay until first kept)
                 (only_arrival p l c.args.matching w xs ys up up' k within no_stay until first));

@@ -24,7 +24,7 @@ index_mut-requires c =
 pub loop-k-preserved : goal.loop-k-preserved
 loop-k-preserved c =
     elim c.match-kind.branch [
-      in-Trip w ↦
+      | in-Trip w ↦
           let below = subst (λ (kind : ArcKind). IsBelow c.args.trips kind) w.in-Trip.is (c.requires.of_trips c.loop-k.k _ c.loop-k-test.true) in
           let items = ap (λ (v : Vec (Option ℕ) Global). v.items) w.index-is in
           let room : w.in-Trip.i.0 < length c.loop-k.index.items = omega (arith, below, c.loop-k.invariant.trips) in

@@ -28,14 +28,16 @@ loop-i-preserved c =
     let i = c.loop-i.i in
     let before = c.loop-i.events.items in
     elim c.if-has.branch [
-      then-has+in_ok-push+in_ok-push-2 w ↦
-          let may : MayRun p l i = (omega (arith, c.loop-i-test.true, c.trips-i-end.ensures.count),
-              ap (λ (t : Trip). bit_at t.layers.0 l) (sym c.trip.ensures) ∙ w.if-has.ensures.0 refl) in
+      | then-has+in_ok-push+in_ok-push-2 w ↦
+          let may : MayRun p l i = (
+            omega (arith, c.loop-i-test.true, c.trips-i-end.ensures.count),
+            ap (λ (t : Trip). bit_at t.layers.0 l) (sym c.trip.ensures) ∙ w.if-has.ensures.0 refl,
+          ) in
           let items : c.if-has.events.items ≡ (before ++ departure p i ∷ []) ++ arrival p i ∷ [] =
-              ap (λ (v : Vec Event Global). v.items) w.events-is ∙ w.in_ok-push-2.ensures.items
-              ∙ ap (λ (xs : List Event). xs ++ w.event-then-has.result ∷ []) w.in_ok-push.ensures.items
-              ∙ ap (λ (e : Event). (before ++ e ∷ []) ++ w.event-then-has.result ∷ []) w.event.ensures
-              ∙ ap (λ (e : Event). (before ++ departure p i ∷ []) ++ e ∷ []) w.event-then-has.ensures in
+          ap (λ (v : Vec Event Global). v.items) w.events-is ∙ w.in_ok-push-2.ensures.items
+          ∙ ap (λ (xs : List Event). xs ++ w.event-then-has.result ∷ []) w.in_ok-push.ensures.items
+          ∙ ap (λ (e : Event). (before ++ e ∷ []) ++ w.event-then-has.result ∷ []) w.event.ensures
+          ∙ ap (λ (e : Event). (before ++ departure p i ∷ []) ++ e ∷ []) w.event-then-has.ensures in
           record {
             adds = rw items (upto-many (OfTrip p l) i [] before _ c.loop-i.invariant.adds (adds_both_events p l i before may));
             few = rw items (omega (arith, c.loop-i.invariant.few, length-append (before ++ departure p i ∷ []) (arrival p i ∷ []), length-append before (departure p i ∷ [])));

@@ -22,8 +22,10 @@ node_of-requires-clause-known c =
     let p = c.args.instance.now in
     let l = c.args.l.0 in
     let i = c.loop-i.i in
-    let may : MayRun p l i = (omega (arith, c.loop-i-test.true, c.trips-i-end.ensures.count),
-        ap (λ (t : Trip). bit_at t.layers.0 l) (sym c.trip.ensures) ∙ c.if-has.ensures.0 refl) in
+    let may : MayRun p l i = (
+      omega (arith, c.loop-i-test.true, c.trips-i-end.ensures.count),
+      ap (λ (t : Trip). bit_at t.layers.0 l) (sym c.trip.ensures) ∙ c.if-has.ensures.0 refl,
+    ) in
     let P : Event → Type 0 = λ e. Contains c.args.events.now e in
     subst P (sym c.event-event.ensures) (event_known c.args.end p l i c.args.events.now c.requires.events may)
 
@@ -44,9 +46,11 @@ loop-i-preserved c =
     let before = c.loop-i.stays.items in
     let From = OfTripEnd c.args.end p l events in
     elim c.if-has.branch [
-      then-has+in_ok-push w ↦
-          let may : MayRun p l i = (omega (arith, c.loop-i-test.true, c.trips-i-end.ensures.count),
-              ap (λ (t : Trip). bit_at t.layers.0 l) (sym c.trip.ensures) ∙ w.if-has.ensures.0 refl) in
+      | then-has+in_ok-push w ↦
+          let may : MayRun p l i = (
+            omega (arith, c.loop-i-test.true, c.trips-i-end.ensures.count),
+            ap (λ (t : Trip). bit_at t.layers.0 l) (sym c.trip.ensures) ∙ w.if-has.ensures.0 refl,
+          ) in
           let s : Stay = record { stop = w.event-event.result.stop; minute = w.event-event.result.minute; node = w.node_of.result } in
           let items : c.if-has.stays.items ≡ before ++ s ∷ [] = ap (λ (v : Vec Stay Global). v.items) w.stays-is ∙ w.in_ok-push.ensures.items in
           let of : From i s = (may, (sym w.event-event.ensures, w.node_of.ensures)) in

@@ -51,11 +51,11 @@ loop-arrival-preserved c =
     let depot = ap (λ (x : Layer). x.depot.0) c.layer.ensures in
     let found = c.way.ensures ∙ ap (λ (n : ℕ). way p s.stop.0 n) depot in
     elim c.match-way.branch [
-      in-Some+in_ok-push w ↦
+      | in-Some+in_ok-push w ↦
           let count : c.len.result ≡ length events = omega (arith, c.len.ensures, c.args.nodes.now.events.ok.0) in
           let x = pull_in_of p l (last_node events) w.in-Some.way s in
           let items : c.match-way.arcs.items ≡ before ++ x ∷ [] = ap (λ (v : Vec LayerArc Global). v.items) w.arcs-is ∙ w.in_ok-push.ensures.items
-              ∙ ap (λ (y : LayerArc). before ++ y ∷ []) (w.pull_in_arc.ensures ∙ ap (λ (n : ℕ). pull_in_of p l (n + 1) w.in-Some.way s) count) in
+          ∙ ap (λ (y : LayerArc). before ++ y ∷ []) (w.pull_in_arc.ensures ∙ ap (λ (n : ℕ). pull_in_of p l (n + 1) w.in-Some.way s) count) in
           let of : From k x = record {
             stay = s;
             by = w.in-Some.way;
@@ -83,7 +83,7 @@ returns-clause-adds c =
     let p = c.args.instance.now in
     let stays = c.args.nodes.now.arrivals.items in
     let all : c.loop-arrival.arrival-index ≡ length stays =
-        omega (arith, c.loop-arrival.auto.arrival-index-end, c.loop-arrival-test.false, ap length c.deref-arrival-items.ensures.value) in
+    omega (arith, c.loop-arrival.auto.arrival-index-end, c.loop-arrival-test.false, ap length c.deref-arrival-items.ensures.value) in
     let P : ℕ → Type 0 = λ n. Adds (Upto (OfArrived p c.args.l.0 c.args.nodes.now.events.items stays) n) c.args.arcs.now.items c.loop-arrival.arcs.items in
     pull_ins_are p c.args.l.0 c.args.nodes.now.events.items stays c.requires.nodes.arrivals c.args.arcs.now.items c.loop-arrival.arcs.items
     (subst P all c.loop-arrival.invariant.adds)

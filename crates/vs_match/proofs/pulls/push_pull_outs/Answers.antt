@@ -49,10 +49,10 @@ loop-departure-preserved c =
     let depot = ap (λ (x : Layer). x.depot.0) c.layer.ensures in
     let found = c.way.ensures ∙ ap (λ (n : ℕ). way p n s.stop.0) depot in
     elim c.match-way.branch [
-      in-Some+then-way-departure+in_ok-push w ↦
+      | in-Some+then-way-departure+in_ok-push w ↦
           let x = pull_out_of p l w.in-Some.way s in
           let items : c.match-way.arcs.items ≡ before ++ x ∷ [] = ap (λ (v : Vec LayerArc Global). v.items) w.arcs-is ∙ w.in_ok-push.ensures.items
-              ∙ ap (λ (y : LayerArc). before ++ y ∷ []) w.pull_out_arc.ensures in
+          ∙ ap (λ (y : LayerArc). before ++ y ∷ []) w.pull_out_arc.ensures in
           let of : From k x = record {
             stay = s;
             by = w.in-Some.way;
@@ -91,7 +91,7 @@ returns-clause-adds c =
     let p = c.args.instance.now in
     let stays = c.args.nodes.now.departures.items in
     let all : c.loop-departure.departure-index ≡ length stays =
-        omega (arith, c.loop-departure.auto.departure-index-end, c.loop-departure-test.false, ap length c.deref-departure-items.ensures.value) in
+    omega (arith, c.loop-departure.auto.departure-index-end, c.loop-departure-test.false, ap length c.deref-departure-items.ensures.value) in
     let P : ℕ → Type 0 = λ n. Adds (Upto (OfDeparture p c.args.l.0 stays) n) c.args.arcs.now.items c.loop-departure.arcs.items in
     pull_outs_are p c.args.l.0 c.args.nodes.now.events.items stays c.requires.nodes.departures c.args.arcs.now.items c.loop-departure.arcs.items
     (subst P all c.loop-departure.invariant.adds)

@@ -17,9 +17,9 @@ slice_bounds-result-count c =
     let end = c.partition_point-end.result in
     let rise = stops_rise stays c.requires in
     let from = IsPartitionPoint-from_clause (λ (s : Stay). ltb s.stop.0 stop.0) stays start c.partition_point-start.ensures.partitioned
-        (IsPartitionedBy-ltb (λ (s : Stay). s.stop.0) stays stop.0 rise) (λ a r q k. search rules) in
+    (IsPartitionedBy-ltb (λ (s : Stay). s.stop.0) stays stop.0 rise) (λ a r q k. search rules) in
     let to = IsPartitionPoint-from_clause (λ (s : Stay). leb s.stop.0 stop.0) stays end c.partition_point-end.ensures.partitioned
-        (IsPartitionedBy-leb (λ (s : Stay). s.stop.0) stays stop.0 rise) (λ a r q k. search rules) in
+    (IsPartitionedBy-leb (λ (s : Stay). s.stop.0) stays stop.0 rise) (λ a r q k. search rules) in
     let bound = c.partition_point-start.ensures.bound in
     let bound' = c.partition_point-end.ensures.bound in
     start-≤ stays c.requires stop start end from to bound bound' no_stay
@@ -32,9 +32,9 @@ slice_bounds-result-start c =
     let end = c.partition_point-end.result in
     let rise = stops_rise stays c.requires in
     let from = IsPartitionPoint-from_clause (λ (s : Stay). ltb s.stop.0 stop.0) stays start c.partition_point-start.ensures.partitioned
-        (IsPartitionedBy-ltb (λ (s : Stay). s.stop.0) stays stop.0 rise) (λ a r q k. search rules) in
+    (IsPartitionedBy-ltb (λ (s : Stay). s.stop.0) stays stop.0 rise) (λ a r q k. search rules) in
     let to = IsPartitionPoint-from_clause (λ (s : Stay). leb s.stop.0 stop.0) stays end c.partition_point-end.ensures.partitioned
-        (IsPartitionedBy-leb (λ (s : Stay). s.stop.0) stays stop.0 rise) (λ a r q k. search rules) in
+    (IsPartitionedBy-leb (λ (s : Stay). s.stop.0) stays stop.0 rise) (λ a r q k. search rules) in
     let bound = c.partition_point-start.ensures.bound in
     let bound' = c.partition_point-end.ensures.bound in
     omega (arith, bound', start-≤ stays c.requires stop start end from to bound bound' no_stay)
@@ -47,9 +47,9 @@ returns-clause-same c =
     let end = c.partition_point-end.result in
     let rise = stops_rise stays c.requires in
     let from = IsPartitionPoint-from_clause (λ (s : Stay). ltb s.stop.0 stop.0) stays start c.partition_point-start.ensures.partitioned
-        (IsPartitionedBy-ltb (λ (s : Stay). s.stop.0) stays stop.0 rise) (λ a r q k. search rules) in
+    (IsPartitionedBy-ltb (λ (s : Stay). s.stop.0) stays stop.0 rise) (λ a r q k. search rules) in
     let to = IsPartitionPoint-from_clause (λ (s : Stay). leb s.stop.0 stop.0) stays end c.partition_point-end.ensures.partitioned
-        (IsPartitionedBy-leb (λ (s : Stay). s.stop.0) stays stop.0 rise) (λ a r q k. search rules) in
+    (IsPartitionedBy-leb (λ (s : Stay). s.stop.0) stays stop.0 rise) (λ a r q k. search rules) in
     let bound = c.partition_point-start.ensures.bound in
     let bound' = c.partition_point-end.ensures.bound in
     same_stays stays c.requires stop start end from to bound bound' no_stay
@@ -62,9 +62,9 @@ returns-clause-few c =
     let end = c.partition_point-end.result in
     let rise = stops_rise stays c.requires in
     let from = IsPartitionPoint-from_clause (λ (s : Stay). ltb s.stop.0 stop.0) stays start c.partition_point-start.ensures.partitioned
-        (IsPartitionedBy-ltb (λ (s : Stay). s.stop.0) stays stop.0 rise) (λ a r q k. search rules) in
+    (IsPartitionedBy-ltb (λ (s : Stay). s.stop.0) stays stop.0 rise) (λ a r q k. search rules) in
     let to = IsPartitionPoint-from_clause (λ (s : Stay). leb s.stop.0 stop.0) stays end c.partition_point-end.ensures.partitioned
-        (IsPartitionedBy-leb (λ (s : Stay). s.stop.0) stays stop.0 rise) (λ a r q k. search rules) in
+    (IsPartitionedBy-leb (λ (s : Stay). s.stop.0) stays stop.0 rise) (λ a r q k. search rules) in
     let bound = c.partition_point-start.ensures.bound in
     let bound' = c.partition_point-end.ensures.bound in
     few stays c.requires stop start end from to bound bound' no_stay
@@ -77,9 +77,9 @@ returns-clause-rising c =
     let end = c.partition_point-end.result in
     let rise = stops_rise stays c.requires in
     let from = IsPartitionPoint-from_clause (λ (s : Stay). ltb s.stop.0 stop.0) stays start c.partition_point-start.ensures.partitioned
-        (IsPartitionedBy-ltb (λ (s : Stay). s.stop.0) stays stop.0 rise) (λ a r q k. search rules) in
+    (IsPartitionedBy-ltb (λ (s : Stay). s.stop.0) stays stop.0 rise) (λ a r q k. search rules) in
     let to = IsPartitionPoint-from_clause (λ (s : Stay). leb s.stop.0 stop.0) stays end c.partition_point-end.ensures.partitioned
-        (IsPartitionedBy-leb (λ (s : Stay). s.stop.0) stays stop.0 rise) (λ a r q k. search rules) in
+    (IsPartitionedBy-leb (λ (s : Stay). s.stop.0) stays stop.0 rise) (λ a r q k. search rules) in
     let bound = c.partition_point-start.ensures.bound in
     let bound' = c.partition_point-end.ensures.bound in
     rising stays c.requires stop start end from to bound bound' no_stay

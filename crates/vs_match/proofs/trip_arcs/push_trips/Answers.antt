@@ -19,7 +19,7 @@ loop-i-preserved c =
     let before = c.loop-i.arcs.items in
     let From = OfTripNo p l events in
     elim c.if-has.branch [
-      then-has+in_ok-push w ↦
+      | then-has+in_ok-push w ↦
           let items : c.if-has.arcs.items ≡ before ++ w.trip_arc.result ∷ [] = ap (λ (v : Vec LayerArc Global). v.items) w.arcs-is ∙ w.in_ok-push.ensures.items in
           let of : From i w.trip_arc.result = (w.trip_arc.ensures.kind, w.trip_arc.ensures.arc) in
           record {

@@ -24,7 +24,7 @@ waiting_arc-requires-clause-in_time c =
     let at' : AtPlace stays c.loop-k.k until = (within, sym c.index-in-loop-k.ensures) in
     let same = same_stop _ _ (eqb-true since.stop.0 until.stop.0 (sym c.eq.ensures ∙ c.if-eq.true)) in
     let later = at_stop_later c.args.instance.now c.args.l.0 c.args.nodes.now.events.items c.requires.nodes.events stays c.requires.nodes.all
-        (c.loop-k.k - 1) c.loop-k.k since until at at' same (omega (arith, c.loop-k.auto.k)) in
+    (c.loop-k.k - 1) c.loop-k.k since until at at' same (omega (arith, c.loop-k.auto.k)) in
     let event = (c.requires.nodes.all.only until (c.loop-k.k, within, at'.1)).1 in
     (omega (arith, later), event_within c.args.instance.now c.layers.ensures.instance c.args.l.0 (event_of until) event)
 
@@ -54,11 +54,11 @@ loop-k-preserved c =
     let at : AtPlace all (k - 1) since = (omega (arith, within), sym c.index.ensures) in
     let at' : AtPlace all k until = (within, sym c.index-in-loop-k.ensures) in
     elim c.if-eq.branch [
-      then-eq+in_ok-push w ↦
+      | then-eq+in_ok-push w ↦
           let same = same_stop _ _ (eqb-true since.stop.0 until.stop.0 (sym c.eq.ensures ∙ w.if-eq.true)) in
           let x = waiting_of p l since until in
           let items : c.if-eq.arcs.items ≡ before ++ x ∷ [] = ap (λ (v : Vec LayerArc Global). v.items) w.arcs-is ∙ w.in_ok-push.ensures.items
-              ∙ ap (λ (y : LayerArc). before ++ y ∷ []) w.waiting_arc.ensures in
+          ∙ ap (λ (y : LayerArc). before ++ y ∷ []) w.waiting_arc.ensures in
           let of : From k x = record {
             since = since;
             until = until;

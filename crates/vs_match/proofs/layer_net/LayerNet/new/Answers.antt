@@ -27,7 +27,9 @@ invariant_of-result c =
     let arcs = ap (λ (g : Graph). length g.arcs) c.in_ok-net.ensures ∙ length-map c.args.arcs.now arc_in in
     let P : List ArcKind → Type 0 = λ ks. IsTripIndex ks c.in_ok-trip_arcs.trip_arcs.items in
     record {
-      each_arc = ap length c.in_ok-kinds.ensures ∙ length-map c.args.arcs.now kind ∙ sym arcs;
-      each_node = omega (arith, ap (λ (g : Graph). g.nodes) c.in_ok-net.ensures, c.len.ensures, c.args.events.ok.0);
+      labelled = record {
+        each_arc = ap length c.in_ok-kinds.ensures ∙ length-map c.args.arcs.now kind ∙ sym arcs;
+        each_node = omega (arith, ap (λ (g : Graph). g.nodes) c.in_ok-net.ensures, c.len.ensures, c.args.events.ok.0);
+      };
       trips = subst P c.deref.ensures.value c.in_ok-trip_arcs.ensures;
     }

@@ -13,7 +13,7 @@ returns-in-Some c =
     let list = c.deref.ensures.value in
     let within = ltb-true i (length c.deref.result.now) (sym c.in-Some.ensures.lookup.0) in
     let read : get_or index i None ≡ c.in-Some.arc.now =
-        ap (λ (xs : List (Option ℕ)). get_or xs i None) (sym list) ∙ get_or_default c.deref.result.now i None c.in-Some.arc.now within ∙ sym c.in-Some.ensures.lookup.1 in
+    ap (λ (xs : List (Option ℕ)). get_or xs i None) (sym list) ∙ get_or_default c.deref.result.now i None c.in-Some.arc.now within ∙ sym c.in-Some.ensures.lookup.1 in
     let kinds = ap (λ (g : LayerGraph). g.kinds) c.self.view_is in
     let P : List ArcKind → Type 0 = λ ks. IsTripAt ks i c.in-Some.arc.now in
     let Q : Option ℕ → Type 0 = λ o. IsTripAt c.self.inside.kinds.items i o in
