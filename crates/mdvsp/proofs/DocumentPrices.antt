@@ -10,8 +10,8 @@ use Rattle.std.proofs.lemmas.List.Elements.{All-push, All-nil}
 use Rattle.vs_instance.specs.Problem.{Problem}
 use Rattle.vs_instance.specs.Ways.{Permitted, trip_of}
 use Rattle.vs_instance.specs.HoldingTable.{price_of}
-use Rattle.vs_check.specs.declared.table.Table.{Table}
-use Rattle.vs_check.specs.Table.{IsPrice}
+use Rattle.vs_prices.specs.declared.table.Table.{Table}
+use Rattle.vs_prices.specs.Table.{IsPrice}
 use Rattle.mdvsp.specs.Rows.{Row}
 use Rattle.mdvsp.specs.Names.{NameLists}
 use Rattle.mdvsp.specs.DocumentText.{name_of}

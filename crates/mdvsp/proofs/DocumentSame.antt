@@ -15,8 +15,8 @@ use Rattle.vs_instance.specs.Plan.{LayerBlock}
 use Rattle.vs_instance.specs.HoldingTable.{price_of}
 use Rattle.vs_check.specs.declared.claim.Claim.{Claim}
 use Rattle.vs_check.specs.declared.claim.Claim.TheVariants.{Optimal, Infeasible, StillOpen}
-use Rattle.vs_check.specs.declared.table.Table.{Table}
-use Rattle.vs_check.specs.Table.{IsPrice, prices_in}
+use Rattle.vs_prices.specs.declared.table.Table.{Table}
+use Rattle.vs_prices.specs.Table.{IsPrice, prices_in}
 use Rattle.mdvsp.specs.Rows.{Field, Row}
 use Rattle.mdvsp.specs.Names.{NameLists}
 use Rattle.mdvsp.specs.NameRules.{AreNames}

@@ -1,5 +1,5 @@
 -- The parts of a document, and the document that has them.
-use Rattle.std.proofs.Common.{◌≡◌, ℕ, suc, ◌+◌, ◌-◌, ◌<◌, ◌≤◌, Bool, false, List, [], ◌∷◌, ◌++◌, length, get_or, map, drop, refl, sym, ap, ◌∙◌, subst, arith, All, Option, Some, None, IsSome, IfSome, ℤ, pos, negsuc, codes, decimal, flat_map}
+use Rattle.std.proofs.Common.{◌≡◌, ℕ, suc, ◌+◌, ◌-◌, ◌<◌, ◌≤◌, Bool, false, List, [], ◌∷◌, ◌++◌, length, get_or, map, drop, refl, sym, ap, ◌∙◌, subst, arith, All, Option, Some, None, IsSome, IfSome, IfNone, ℤ, pos, negsuc, codes, decimal, flat_map}
 use Rattle.std.specs.List.{enumerate_from}
 use Rattle.std.proofs.lemmas.Bool.{false≢true}
 use Rattle.std.proofs.lemmas.Fmt.{decimal_digit}
@@ -10,10 +10,11 @@ use Rattle.vs_instance.specs.Plan.{LayerBlock, all_trips}
 use Rattle.vs_check.specs.declared.document.Document.{Document}
 use Rattle.vs_check.specs.declared.shape.Shape.{Shape}
 use Rattle.vs_check.specs.declared.shape.Shape.TheVariants.{Leaf}
-use Rattle.vs_check.specs.declared.table.Table.{Table}
-use Rattle.vs_check.specs.Blocks.{blocks_of}
-use Rattle.vs_check.specs.Form.{IsReadBlock, IsReadFor}
-use Rattle.vs_check.specs.Table.{Fits}
+use Rattle.vs_prices.specs.declared.table.Table.{Table}
+use Rattle.vs_plan.specs.Blocks.{blocks_of}
+use Rattle.vs_check.specs.Form.{IsReadFor}
+use Rattle.vs_plan.specs.Blocks.{IsOfInstance}
+use Rattle.vs_prices.specs.Table.{Fits}
 use Rattle.mdvsp.specs.Rows.{Field, Row}
 use Rattle.mdvsp.specs.Names.{NameLists}
 use Rattle.mdvsp.specs.NameRules.{AreNames}
@@ -129,7 +130,7 @@ text_is_whole p names d table bound tables bounds =
 leaf_row_is : (codes "leaf" ∷ decimal (0 + 1) ∷ []) ≡ leaf_line
 leaf_row_is = ap (λ (n : List ℕ). codes "leaf" ∷ n ∷ []) (decimal_digit 1 (omega arith))
 
-read_block : (p : Problem) (names : NameLists) (b : LayerBlock) → length names.layers ≡ length p.layers → length names.trips ≡ length p.trips → IsNamedBlock names b → IsReadBlock p b
+read_block : (p : Problem) (names : NameLists) (b : LayerBlock) → length names.layers ≡ length p.layers → length names.trips ≡ length p.trips → IsNamedBlock names b → IsOfInstance p b
 read_block p names b layers trips named = record {
   layer = omega (arith, named.layer);
   some_trip = named.some_trip;
@@ -142,7 +143,7 @@ pub has_text : (p : Problem) (names : NameLists) (rows : List Row) (start : ℕ)
 has_text p names rows start head blocks table d layers trips parts has =
     let Cost : Option ℤ → Type 0 = λ c. IsCost c in
     let Bound : Option ℤ → Type 0 = λ b. IfSome b (IsBetween (negsuc 99999999999999999999) (pos 100000000000000000000)) in
-    let Blocks : List LayerBlock → Type 0 = λ bs. All (IsReadBlock p) bs in
+    let Blocks : List LayerBlock → Type 0 = λ bs. All (IsOfInstance p) bs in
     let FitsAll : List Table → Type 0 = λ ts. All (Fits p) ts in
     let BlankAll : List Table → Type 0 = λ ts. All (IsBlankElsewhere p) ts in
     let Tree : List Shape → Type 0 = λ ss. IsTreeOf 1 ss in
@@ -154,7 +155,7 @@ has_text p names rows start head blocks table d layers trips parts has =
       bound_with_cost = λ none. cc (has.bound_is, none);
       nodes = omega (arith, has.nodes_are, parts.is_head.nodes_range);
       blocks = subst Blocks (sym has.blocks_are) (λ k b lt.
-          let Q : LayerBlock → Type 0 = λ x. IsReadBlock p x in
+          let Q : LayerBlock → Type 0 = λ x. IsOfInstance p x in
           subst Q (get_or_default blocks k no_block b lt) (read_block p names (block_at blocks k) layers trips (parts.is_plan.blocks_are k lt).named));
       no_blocks = λ none. has.blocks_are ∙ parts.no_blocks (sym has.cost_is ∙ none);
       few_tables = omega (arith, ap length has.tables_are);
@@ -190,11 +191,16 @@ first_document d head blocks p table whole has =
     let P : Option ℤ → Type 0 = λ b. IsSome b in
     record { bound = subst P (sym has.bound_is) refl; table = table; one_table = has.tables_are; cost_table = whole.ray; one_leaf = has.shape_is }
 
+none_then : (o : Option ℤ) (P : Type 0) → (o ≡ None → P) → IfNone o P
+none_then None P then = then refl
+none_then (Some n) P then = search
+
 pub read_for : (p : Problem) (names : NameLists) (rows : List Row) (d : Document) → DocumentText p names rows d → IsFirstDocument d → IsReadFor p d
 read_for p names rows d text first = record {
-  blocks = text.has_text.blocks;
-  few_trips = text.few_trips;
+  blocks = record { of_instance = text.has_text.blocks; few_trips = text.few_trips };
+  no_blocks = none_then d.cost (blocks_of d.plan ≡ []) text.has_text.no_blocks;
   tables = text.has_text.fits;
+  few_tables = omega (arith, ap length first.one_table);
   leaf = (0, first.one_leaf, omega (arith, ap length first.one_table));
 }
 
@@ -215,7 +221,7 @@ drop_after rows at front rest e = sym (drop-drop (length front) at rows) ∙ ap 
 row_after : (rows : List Row) (at : ℕ) (front rest : List Row) (k : ℕ) → drop at rows ≡ front ++ rest → k < length front → get_or rows (at + k) [] ≡ get_or front k []
 row_after rows at front rest k e lt = sym (get_or-drop at rows k []) ∙ ap (λ (rs : List Row). get_or rs k []) e ∙ get_or_append_left front rest [] k lt
 
-named_block : (p : Problem) (names : NameLists) (b : LayerBlock) → length names.layers ≡ length p.layers → length names.trips ≡ length p.trips → IsReadBlock p b → IsNamedBlock names b
+named_block : (p : Problem) (names : NameLists) (b : LayerBlock) → length names.layers ≡ length p.layers → length names.trips ≡ length p.trips → IsOfInstance p b → IsNamedBlock names b
 named_block p names b layers trips read = record {
   layer = omega (arith, read.layer);
   some_trip = read.some_trip;
@@ -224,7 +230,7 @@ named_block p names b layers trips read = record {
 
 -- the rows of a plan, and after them a table
 plan_at : (p : Problem) (names : NameLists) (rows : List Row) (at : ℕ) (blocks : List LayerBlock) (after : List Row) → length names.layers ≡ length p.layers → length names.trips ≡ length p.trips
-    → All (IsReadBlock p) blocks → length (all_trips blocks) < 4294967296 → drop at rows ≡ map (block_row names) blocks ++ (table_line ∷ after) → IsPlanAt names rows at (at + length blocks) blocks
+    → All (IsOfInstance p) blocks → length (all_trips blocks) < 4294967296 → drop at rows ≡ map (block_row names) blocks ++ (table_line ∷ after) → IsPlanAt names rows at (at + length blocks) blocks
 plan_at p names rows at blocks after layers trips read few e =
     let no_block : LayerBlock = (record { 0 = 0 }, []) in
     let size : length (map (block_row names) blocks) ≡ length blocks = length-map blocks (block_row names) in

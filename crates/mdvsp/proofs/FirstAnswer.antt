@@ -9,21 +9,21 @@ use Rattle.vs_instance.specs.Instance.{IsInstance}
 use Rattle.vs_instance.specs.Blocks.{IsBlock}
 use Rattle.vs_instance.specs.Plan.{LayerBlock, IsPlan, plan_cost}
 use Rattle.vs_instance.specs.Restriction.{permitted_sets}
-use Rattle.vs_check.specs.declared.bound.Bound.{Bound}
-use Rattle.vs_check.specs.declared.bound.Bound.TheVariants.{AtLeast, NoPlan}
+use Rattle.vs_prices.specs.declared.bound.Bound.{Bound}
+use Rattle.vs_prices.specs.declared.bound.Bound.TheVariants.{AtLeast, NoPlan}
 use Rattle.vs_check.specs.declared.document.Document.{Document}
 use Rattle.vs_check.specs.declared.shape.Shape.TheVariants.{Leaf}
-use Rattle.vs_check.specs.declared.table.Table.{Table}
-use Rattle.vs_check.specs.Blocks.{blocks_of}
-use Rattle.vs_check.specs.Form.{IsReadBlock}
+use Rattle.vs_prices.specs.declared.table.Table.{Table}
+use Rattle.vs_plan.specs.Blocks.{blocks_of}
+use Rattle.vs_plan.specs.Blocks.{IsOfInstance}
 use Rattle.vs_check.specs.HoldingDocument.{HasLeaf, HoldingDocument, claim_found}
-use Rattle.vs_check.specs.Table.{Fits, HoldingTable}
-use Rattle.vs_check.specs.Worth.{IsWorth, Reaches}
+use Rattle.vs_prices.specs.Table.{Fits, HoldingTable}
+use Rattle.vs_prices.specs.Worth.{IsWorth, Reaches}
 use Rattle.mdvsp.specs.DocumentText.{HasText, IsBetween, IsBlankElsewhere, IsShapeOf, IsTreeOf}
-use Rattle.mdvsp.specs.Greedy.{IsPricedPlan}
+use Rattle.mdvsp.specs.PricedPlan.{IsPricedPlan}
 use Rattle.mdvsp.specs.Owed.{IsZeroTable}
 use Rattle.mdvsp.specs.SolveAnswer.{AreNamedInOrder, AreWorths, IsBoundOf, LeafPlace, SolveAnswer, leaves, leaves_from, splits}
-use Rattle.mdvsp.proofs.ZeroTable.{zero-Fits, zero-HoldingTable, zero-IsBlankElsewhere, zero-worth}
+use Rattle.mdvsp.proofs.ZeroTable.{zero-IsBlankElsewhere, zero-worth}
 
 -- a number within the limits of printed bounds
 abbrev Printed : ℤ → Type 0
@@ -69,10 +69,10 @@ module _ (p : Problem) (blocks : List LayerBlock) where
   priced_fits None is = search
   priced_fits (Some k) is = let value = is.value in let few = is.few in (omega (arith, ints), omega (arith, ints))
 
-  priced_blocks : (cost : Option ℤ) → IsPricedPlan p blocks cost → All (IsReadBlock p) blocks
-  priced_blocks None is = subst (All (IsReadBlock p)) (sym is.1) (All-nil (IsReadBlock p))
+  priced_blocks : (cost : Option ℤ) → IsPricedPlan p blocks cost → All (IsOfInstance p) blocks
+  priced_blocks None is = subst (All (IsOfInstance p)) (sym is.1) (All-nil (IsOfInstance p))
   priced_blocks (Some k) is =
-      All-weaker (λ (b : LayerBlock). IsBlock p b.0 b.1) (IsReadBlock p)
+      All-weaker (λ (b : LayerBlock). IsBlock p b.0 b.1) (IsOfInstance p)
       (λ b is_block. record { layer = is_block.layer; some_trip = is_block.some_trip; trips = is_block.of_instance }) blocks is.plan.each_block
 
   priced_none : (cost : Option ℤ) → IsPricedPlan p blocks cost → cost ≡ None → blocks ≡ []
@@ -90,7 +90,7 @@ worth_fits p table instance is_zero NoPlan is = tt
 -- what the parts of the document are
 module _ (p : Problem) (instance : IsInstance p) (d : Document) (table : Table) (worth : Bound)
     (tables_are : d.tables.items ≡ table ∷ []) (shape_is : d.shape.items ≡ Leaf 0 ∷ []) (nodes_are : d.nodes ≡ 0)
-    (is_zero : IsZeroTable p table) (is_worth : IsWorth p (permitted_sets p) table worth)
+    (is_zero : IsZeroTable p table) (is_holding : HoldingTable p table) (is_worth : IsWorth p (permitted_sets p) table worth)
     (priced : IsPricedPlan p (blocks_of d.plan) d.cost) (bound_is : IsBoundOf d.cost (worth ∷ []) d.bound) (claim_is : d.claim ≡ claim_found d.cost d.bound) where
   all_tables : (P : Table → Type 0) → P table → All P d.tables.items
   all_tables P here = subst (All P) (sym tables_are) (All-cons P table [] here (All-nil P))
@@ -110,7 +110,7 @@ module _ (p : Problem) (instance : IsInstance p) (d : Document) (table : Table) 
     blocks = priced_blocks p (blocks_of d.plan) d.cost priced;
     no_blocks = priced_none p (blocks_of d.plan) d.cost priced;
     few_tables = omega (arith, one_table);
-    fits = all_tables (Fits p) (zero-Fits p table is_zero);
+    fits = all_tables (Fits p) is_zero.fits;
     blank = all_tables (IsBlankElsewhere p) (zero-IsBlankElsewhere p table is_zero);
     tree = subst (IsTreeOf 1) (sym shape_is) tt;
     shape = subst (All (IsShapeOf p (length d.tables.items))) (sym shape_is)
@@ -123,7 +123,7 @@ module _ (p : Problem) (instance : IsInstance p) (d : Document) (table : Table) 
   holds : HoldingDocument p d
   holds = record {
     plan = priced_plan p (blocks_of d.plan) d.cost priced;
-    tables = all_tables (λ (t : Table). Fits p t × HoldingTable p t) (zero-Fits p table is_zero, zero-HoldingTable p table is_zero);
+    tables = all_tables (λ (t : Table). Fits p t × HoldingTable p t) (is_zero.fits, is_holding);
     leaf = has_leaf;
     claim = claim_is;
   }

@@ -10,14 +10,15 @@ use Rattle.vs_instance.specs.Pieces.{trip_piece}
 use Rattle.vs_instance.specs.Plan.{IsPlan, LayerBlock, plan_cost}
 use Rattle.vs_instance.specs.Restriction.{permitted_sets, set_of}
 use Rattle.vs_instance.specs.HoldingTable.{HoldsInLayer, price_of, scaled}
-use Rattle.vs_check.specs.declared.bound.Bound.{Bound}
-use Rattle.vs_check.specs.declared.bound.Bound.TheVariants.{AtLeast, NoPlan}
+use Rattle.vs_prices.specs.declared.bound.Bound.{Bound}
+use Rattle.vs_prices.specs.declared.bound.Bound.TheVariants.{AtLeast, NoPlan}
 use Rattle.vs_check.specs.declared.document.Document.{Document}
-use Rattle.vs_check.specs.declared.table.Table.{Table}
-use Rattle.vs_check.specs.Blocks.{blocks_of}
+use Rattle.vs_prices.specs.declared.table.Table.{Table}
+use Rattle.vs_plan.specs.Blocks.{blocks_of}
 use Rattle.vs_check.specs.HoldingDocument.{HasLeaf, HasPlan, HoldingDocument, ReachesBound, claim_found}
-use Rattle.vs_check.specs.Table.{Fits, HoldingTable, IsPrice, prices_in}
-use Rattle.vs_check.specs.Worth.{IsRoundedUp, IsWorth, Reaches, least, total}
+use Rattle.vs_prices.specs.Table.{Fits, HoldingTable, IsPrice, prices_in}
+use Rattle.vs_prices.specs.Worth.{IsRoundedUp, IsWorth, Reaches, least}
+use Rattle.vs_instance.specs.Lagrangian.{total}
 use Rattle.mdvsp.specs.Alike.{AreAlike, TableText, text_of_table}
 
 -- a table fits, holds and has a worth by its kind and its prices

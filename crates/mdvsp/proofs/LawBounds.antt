@@ -6,14 +6,14 @@ use Rattle.std.proofs.lemmas.Int.{ints}
 use Rattle.std.specs.Ordering.{int_eq}
 use Rattle.vs_instance.specs.Problem.{Problem}
 use Rattle.vs_instance.specs.Restriction.{permitted_sets}
-use Rattle.vs_check.specs.declared.bound.Bound.{Bound}
-use Rattle.vs_check.specs.declared.bound.Bound.TheVariants.{AtLeast, NoPlan}
+use Rattle.vs_prices.specs.declared.bound.Bound.{Bound}
+use Rattle.vs_prices.specs.declared.bound.Bound.TheVariants.{AtLeast, NoPlan}
 use Rattle.vs_check.specs.declared.claim.Claim.{Claim}
 use Rattle.vs_check.specs.declared.claim.Claim.TheVariants.{Optimal, Infeasible, StillOpen}
 use Rattle.vs_check.specs.declared.document.Document.{Document}
-use Rattle.vs_check.specs.declared.table.Table.{Table}
+use Rattle.vs_prices.specs.declared.table.Table.{Table}
 use Rattle.vs_check.specs.HoldingDocument.{claim_found}
-use Rattle.vs_check.specs.Worth.{IsWorth}
+use Rattle.vs_prices.specs.Worth.{IsWorth}
 use Rattle.mdvsp.specs.declared.status.Status.{Status}
 use Rattle.mdvsp.specs.declared.status.Status.TheVariants as status
 use Rattle.mdvsp.specs.Owed.{status_of}

@@ -1,16 +1,17 @@
 -- A document that `solve` owes is judged `yes` behind its instance's records.
-use Rattle.std.proofs.Common.{◌≡◌, ℕ, ◌<◌, ◌≤◌, Bool, false, List, [], ◌∷◌, ◌++◌, length, map, slice_get, refl, sym, ap, ◌∙◌, subst, inl, inr, arith, All, Option, Some, None, IsSome, ℤ}
+use Rattle.std.proofs.Common.{◌≡◌, ℕ, ◌<◌, ◌≤◌, Bool, false, List, [], ◌∷◌, ◌++◌, length, map, slice_get, refl, sym, ap, ◌∙◌, subst, inl, inr, arith, All, Option, Some, None, IsSome, ℤ, pos, MatchOption}
 use Rattle.std.proofs.lemmas.Bool.{false≢true}
 use Rattle.std.proofs.lemmas.List.{get_or_default, length_push}
 use Rattle.std.proofs.lemmas.List.Elements.{All-head, All-nil, All-push}
 use Rattle.std.proofs.lemmas.List.Quantifiers.{all_pairs_push}
 use Rattle.vs_instance.specs.Problem.{Problem}
-use Rattle.vs_check.specs.declared.bound.Bound.TheVariants.{AtLeast, NoPlan}
+use Rattle.vs_instance.specs.Plan.{IsPlan, LayerBlock, all_trips, plan_cost}
+use Rattle.vs_prices.specs.declared.bound.Bound.TheVariants.{AtLeast, NoPlan}
 use Rattle.vs_check.specs.declared.document.Document.{Document}
 use Rattle.vs_check.specs.declared.shape.Shape.{Shape}
 use Rattle.vs_check.specs.declared.shape.Shape.TheVariants.{Leaf}
-use Rattle.vs_check.specs.declared.table.Table.{Table}
-use Rattle.vs_check.specs.Blocks.{blocks_of}
+use Rattle.vs_prices.specs.declared.table.Table.{Table}
+use Rattle.vs_plan.specs.Blocks.{blocks_of}
 use Rattle.vs_check.specs.HoldingDocument.{ReachesBound}
 use Rattle.mdvsp.specs.declared.status.Status.{Status}
 use Rattle.mdvsp.specs.Rows.{Field, Row, AreLines, lines}
@@ -22,7 +23,7 @@ use Rattle.mdvsp.specs.FirstForm.{IsFirstDocument}
 use Rattle.mdvsp.specs.Owed.{OwesDocument, OwesYes, HasZeroTable, yes_row}
 use Rattle.mdvsp.specs.SolveAnswer.{SolveAnswer}
 use Rattle.mdvsp.proofs.LawPlain.{HaveNames, plain_document}
-use Rattle.mdvsp.proofs.LawTrips.{few_in_plan}
+use Rattle.vs_plan.proofs.PlanTrips.{plan_trips}
 use Rattle.mdvsp.proofs.LinesAppend.{AreLines-append}
 
 -- what records declare as names are names
@@ -62,6 +63,15 @@ abbrev ray_of : Option Table → Bool
 ray_of (Some table) = table.ray
 ray_of None = false
 
+-- a plan has so few trips that 32 bits count them
+few_in_plan : (p : Problem) (cost : Option ℤ) (blocks : List LayerBlock) → length p.trips ≤ 2000
+    → MatchOption cost (blocks ≡ []) (λ n. IsPlan p blocks × (n ≡ pos (plan_cost p blocks)))
+    → length (all_trips blocks) < 4294967296
+few_in_plan p None blocks few none =
+    let no_trips : length (all_trips blocks) ≡ 0 = ap (λ (bs : List LayerBlock). length (all_trips bs)) none in
+    omega arith
+few_in_plan p (Some n) blocks few plan = let size = plan_trips p blocks plan.0 in omega arith
+
 -- a document of the zero table that answers a search
 module _ (p : Problem) (d : Document) (budget : ℕ) (solves : SolveAnswer p budget d) (zero : HasZeroTable p d) (few : length p.trips ≤ 2000) where
   leaf_is : solves.holds.leaf.0 ≡ 0
@@ -80,14 +90,14 @@ module _ (p : Problem) (d : Document) (budget : ℕ) (solves : SolveAnswer p bud
       ap ray_of (sym solves.holds.leaf.3)
       ∙ ap (λ (t : ℕ). ray_of (slice_get d.tables.items t)) leaf_is
       ∙ ap (λ (tables : List Table). ray_of (slice_get tables 0)) zero.1
-      ∙ zero.2.0
+      ∙ zero.2.cost
 
   first_document : IsFirstDocument d
   first_document = record {
     bound = number_reached p solves.holds.leaf.1 d.bound cost_table solves.holds.leaf.4;
     table = zero.0;
     one_table = zero.1;
-    cost_table = zero.2.0;
+    cost_table = zero.2.cost;
     one_leaf = one_leaf;
   }
 
@@ -97,7 +107,7 @@ module _ (p : Problem) (d : Document) (budget : ℕ) (solves : SolveAnswer p bud
   document_text : (names : NameLists) → DocumentText p names (document_rows p names d) d
   document_text names = record {
     has_text = solves.has_text;
-    few_trips = few_in_plan p d.cost (blocks_of d.plan) few solves.holds.plan solves.has_text.blocks;
+    few_trips = few_in_plan p d.cost (blocks_of d.plan) few solves.holds.plan;
     shape_rows = map (shape_row names) d.shape.items;
     shapes_are = shape_rows names;
     rows_are = refl;
@@ -137,5 +147,6 @@ solved_holds bytes answer rows owed =
         };
       };
       holds = owed.solves.holds;
+      proves = owed.proves;
       rows_are = refl;
     })

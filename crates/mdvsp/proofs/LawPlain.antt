@@ -17,9 +17,9 @@ use Rattle.vs_check.specs.declared.claim.Claim.TheVariants.{Optimal, Infeasible,
 use Rattle.vs_check.specs.declared.document.Document.{Document}
 use Rattle.vs_check.specs.declared.shape.Shape.{Shape}
 use Rattle.vs_check.specs.declared.shape.Shape.TheVariants.{Leaf}
-use Rattle.vs_check.specs.declared.table.Table.{Table}
-use Rattle.vs_check.specs.Blocks.{blocks_of}
-use Rattle.vs_check.specs.Table.{Fits, IsPrice, prices_in}
+use Rattle.vs_prices.specs.declared.table.Table.{Table}
+use Rattle.vs_plan.specs.Blocks.{blocks_of}
+use Rattle.vs_prices.specs.Table.{Fits, IsPrice, prices_in}
 use Rattle.mdvsp.specs.Rows.{Field, Row, IsPlain, IsPlainRow}
 use Rattle.mdvsp.specs.Names.{IsName, IsNameByte, NameLists}
 use Rattle.mdvsp.specs.NameRules.{AreNames}

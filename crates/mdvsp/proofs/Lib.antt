@@ -25,14 +25,10 @@ pub mod CheckTexts
 pub mod OwedAnswers
 pub mod RunEnds
 pub mod WordLists
-pub mod Orders
-pub mod OpenBlocks
-pub mod Placing
 pub mod ZeroTable
 pub mod FirstAnswer
 pub mod WrittenRows
 pub mod LawPlain
-pub mod LawTrips
 pub mod LawDocuments
 pub mod LawAlike
 pub mod LawVerdicts

@@ -1,5 +1,5 @@
 -- Answers that are owed.
-use Rattle.std.proofs.Common.{◌≡◌, ◌∙◌, ℕ, length, take, arith, List, [], ◌∷◌, Result, Ok, Err, inl, inr, refl, sym, subst, IfOk}
+use Rattle.std.proofs.Common.{◌≡◌, ◌∙◌, ℕ, length, take, arith, List, [], ◌∷◌, Result, Ok, Err, Option, Some, None, inl, inr, refl, sym, subst, IfOk}
 use Rattle.std.proofs.lemmas.List.{take_all}
 use Rattle.vs_types.specs.declared.memory.Memory.{Memory}
 use Rattle.vs_instance.specs.Problem.{Problem}
@@ -16,7 +16,14 @@ use Rattle.mdvsp.specs.declared.words.Command.TheVariants.{Check, Solve}
 use Rattle.mdvsp.specs.Answered.{IsOwedFor, IsDocumentOf}
 use Rattle.mdvsp.specs.FirstForm.{CheckText, SolveText, SplitsAtResult, AreInOrder}
 use Rattle.mdvsp.specs.Names.{NameLists}
-use Rattle.mdvsp.specs.Owed.{CheckOwes, SolveOwes, OwesDocument, status_of, IsCheckText, IsSolveText, refused_row, yes_row, no_row}
+use Rattle.mdvsp.specs.Owed.{CheckOwes, SolveOwes, OwesDocument, status_of, IsCheckText, IsSolveText, refused_row, yes_row}
+use Rattle.mdvsp.specs.FlawRows.{no_row}
+use Rattle.vs_instance.specs.Firsts.{first}
+use Rattle.vs_check.specs.Flaws.{flaws_of, verdict_of}
+use Rattle.vs_check.specs.declared.flaw.Flaw.{Flaw}
+use Rattle.vs_check.specs.declared.verdict.Verdict.{Verdict}
+use Rattle.vs_check.specs.declared.verdict.Verdict.TheVariants.{No}
+use Rattle.vs_check.proofs.Claims.{prove_their_claims}
 use Rattle.mdvsp.specs.Rows.{Row, lines}
 
 check_owes : (bytes : List ℕ) (answer : Answer) (wanted : Status) (row : Row) → CheckOwes bytes wanted (row ∷ []) → (answer.status ≡ wanted) × (answer.text.items ≡ lines (row ∷ []))
@@ -35,14 +42,28 @@ refusal_owed bytes (Err m) none says = tt
 pub yes_owed : (bytes : List ℕ) (p : Problem) (names : NameLists) (d : Document) (r : Result Answer Memory) → CheckText bytes p names d → HoldingDocument p d
     → IfOk r (λ a. (a.status ≡ status.Done) × (a.text.items ≡ lines (yes_row d ∷ []))) → IfOk r (IsOwedFor Check bytes)
 yes_owed bytes p names d (Ok a) text holds says = check_owes bytes a status.Done (yes_row d)
-    (record { problem = p; names = names; document = d; text = text; holds = holds; rows_are = refl }) says
+    (record {
+      problem = p;
+      names = names;
+      document = d;
+      text = text;
+      holds = holds;
+      proves = prove_their_claims p d text.rows_are.instance.makes.instance holds;
+      rows_are = refl;
+    }) says
 yes_owed bytes p names d (Err m) text holds says = tt
 
-pub no_owed : (bytes : List ℕ) (p : Problem) (names : NameLists) (d : Document) (r : Result Answer Memory) → CheckText bytes p names d → ¬ (HoldingDocument p d)
-    → IfOk r (λ a. (a.status ≡ status.SaysNo) × (a.text.items ≡ lines (no_row ∷ []))) → IfOk r (IsOwedFor Check bytes)
-no_owed bytes p names d (Ok a) text fails says = check_owes bytes a status.SaysNo no_row
-    (record { problem = p; names = names; document = d; text = text; fails = fails; rows_are = refl }) says
-no_owed bytes p names d (Err m) text fails says = tt
+pub no_owed : (bytes : List ℕ) (p : Problem) (names : NameLists) (d : Document) (flaw : Flaw) (r : Result Answer Memory) → CheckText bytes p names d
+    → ¬ (HoldingDocument p d) → first (flaws_of p d) ≡ Some flaw
+    → IfOk r (λ a. (a.status ≡ status.SaysNo) × (a.text.items ≡ lines (no_row names flaw ∷ []))) → IfOk r (IsOwedFor Check bytes)
+no_owed bytes p names d flaw (Ok a) text fails is_first says = check_owes bytes a status.SaysNo (no_row names flaw)
+    (record { problem = p; names = names; document = d; text = text; fails = fails; flaw = flaw; is_first = is_first; rows_are = refl }) says
+no_owed bytes p names d flaw (Err m) text fails is_first says = tt
+
+-- the flaw of a verdict is the first
+pub first_of_verdict : (found : Option Flaw) (verdict : Verdict) (flaw : Flaw) → verdict ≡ verdict_of found → verdict ≡ No flaw → found ≡ Some flaw
+first_of_verdict None verdict flaw is refused = cc
+first_of_verdict (Some other) verdict flaw is refused = cc
 
 pub solve_refusal_owed : (bytes : List ℕ) (r : Result Answer Memory) → ¬ (IsSolveText bytes)
     → IfOk r (λ a. (a.status ≡ status.BadInput) × (a.text.items ≡ lines (refused_row ∷ []))) → IfOk r (IsOwedFor Solve bytes)
@@ -72,6 +93,7 @@ document_owed bytes p names (Ok a) text d = record {
           document = d.document;
           text = text;
           solves = d.solves;
+          proves = prove_their_claims p d.document text.instance.makes.instance d.solves.holds;
           plan = d.plan;
           table = d.table;
           status_is = refl;

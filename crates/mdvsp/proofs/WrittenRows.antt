@@ -6,12 +6,8 @@ use Rattle.std.proofs.lemmas.List.{append_assoc, append-nil, take_more, take_all
 use Rattle.std.proofs.lemmas.Nat.{mul-add-lt}
 use Rattle.std.proofs.lemmas.List.Concat.{flat_map-append}
 use Rattle.std.proofs.lemmas.List.FromFn.{get_or-range_with_len, length-range_with_len}
-use Rattle.mdvsp.specs.Rows.{Field, Row, line, lines}
+use Rattle.mdvsp.specs.Rows.{Field, Row, line, lines, more_fields}
 use Rattle.mdvsp.proofs.LinesAppend.{lines-append}
-
--- each with a comma before it
-abbrev pub more_fields : List Field → List ℕ
-more_fields fields = flat_map (λ field. 44 ∷ field) fields
 
 join-cons : (field : Field) (fields : List Field) → join_with_byte 44 (field ∷ fields) ≡ field ++ more_fields fields
 join-cons field [] = sym (append-nil field)
@@ -90,3 +86,12 @@ pub price_read : {X : Type 0} (xs : List X) (l rows n i : ℕ) (z d : X) → len
 price_read xs l rows n i z d size row within is =
     let placed : l * n + i < length xs = omega (arith, mul-add-lt l n i rows row within) in
     is ∙ get_or_default xs (l * n + i) z d placed ∙ sym (get_or-part xs (l * n) n i d within)
+
+-- one field is written, and then others
+pub wrote_field : (old new : List ℕ) (field : Field) (rest : List Field) → new ≡ old ++ 44 ∷ field
+    → new ++ more_fields rest ≡ old ++ more_fields (field ∷ rest)
+wrote_field old new field rest is = ap (λ bytes. bytes ++ more_fields rest) is ∙ append_assoc old (44 ∷ field) (more_fields rest)
+
+-- a last field is written
+pub wrote_last : (old : List ℕ) (field : Field) → old ++ 44 ∷ field ≡ old ++ more_fields (field ∷ [])
+wrote_last old field = ap (λ bytes. old ++ bytes) (sym (append-nil (44 ∷ field)))

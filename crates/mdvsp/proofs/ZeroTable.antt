@@ -1,4 +1,4 @@
--- The table in which every price is 0 fits, holds and is worth a small number.
+-- The table in which every price is 0 is worth a small number.
 use Rattle.std.proofs.Common.{◌≡◌, ℕ, zero, suc, ◌+◌, ◌-◌, ◌*◌, ◌<◌, ◌≤◌, Bool, false, List, [], ◌∷◌, length, map, replicate, ◌⊎◌, inl, inr, refl, sym, ap, ◌∙◌, subst, arith, Option, Some, None, ℤ, pos, ◌+ℤ◌, ◌≤ℤ◌}
 use Rattle.std.specs.Prelude.{IfSome, MatchBool}
 use Rattle.std.specs.List.{All, range_with_len}
@@ -15,10 +15,11 @@ use Rattle.vs_instance.specs.Ways.{trip_of, layer_of, no_trip, no_layer}
 use Rattle.vs_instance.specs.Pieces.{out_piece, trip_piece, link_piece, in_piece}
 use Rattle.vs_instance.specs.HoldingTable.{price_of, scaled}
 use Rattle.vs_instance.specs.Restriction.{set_of}
-use Rattle.vs_check.specs.declared.bound.Bound.TheVariants.{AtLeast}
-use Rattle.vs_check.specs.declared.table.Table.{Table}
-use Rattle.vs_check.specs.Table.{Fits, HoldingTable, IsPrice, prices_in}
-use Rattle.vs_check.specs.Worth.{IsRoundedUp, IsWorth, fleet_price, least, least_price, table_value, total, trip_price}
+use Rattle.vs_prices.specs.declared.bound.Bound.TheVariants.{AtLeast}
+use Rattle.vs_prices.specs.declared.table.Table.{Table}
+use Rattle.vs_prices.specs.Table.{Fits, HoldingTable, IsPrice, prices_in}
+use Rattle.vs_prices.specs.Worth.{IsRoundedUp, IsWorth, fleet_price, least, least_price, table_value, trip_price}
+use Rattle.vs_instance.specs.Lagrangian.{total}
 use Rattle.mdvsp.specs.DocumentText.{IsBlankElsewhere}
 use Rattle.mdvsp.specs.Owed.{IsZeroTable}
 
@@ -26,29 +27,12 @@ abbrev IsZero : ℤ → Type 0
 IsZero x = x ≡ pos 0
 
 -- prices that are all 0
-zeros : (n : ℕ) → All IsZero (replicate n (pos 0))
-zeros n = All-replicate IsZero n (pos 0) refl
-
 price-zero : (prices : List ℤ) (i : ℕ) → All IsZero prices → price_of prices i ≡ pos 0
 price-zero prices i all = by_place (cases_lt i (length prices))
   where
     by_place : (i < length prices) ⊎ (length prices ≤ i) → price_of prices i ≡ pos 0
     by_place (inl within) = All-get_or IsZero prices i (pos 0) within all
     by_place (inr past) = get_or_past prices i (pos 0) past
-
-zero_prices : (n : ℕ) → All IsPrice (replicate n (pos 0))
-zero_prices n = All-replicate IsPrice n (pos 0) (omega (arith, ints), omega (arith, ints))
-
-some_each : (o : Option ℕ) (P : ℕ → Type 0) → ((c : ℕ) → P c) → IfSome o P
-some_each None P each = search
-some_each (Some c) P each = each c
-
--- with prices of 0 every move costs at least what it is worth
-move_holds : (a b : ℤ) (ray : Bool) (c : ℕ) → a ≡ pos 0 → b ≡ pos 0 → ray ≡ false → a ≤ℤ (scaled ray c +ℤ b)
-move_holds a b ray c e f cost = rw (e, f, cost) (omega (arith, ints))
-
-move_back_holds : (a b : ℤ) (ray : Bool) (c : ℕ) → a ≡ pos 0 → b ≡ pos 0 → ray ≡ false → a ≤ℤ (b +ℤ scaled ray c)
-move_back_holds a b ray c e f cost = rw (e, f, cost) (omega (arith, ints))
 
 -- what a trip itself costs is small, also past the end of the layers and the trips
 module _ (p : Problem) (instance : IsInstance p) where
@@ -116,43 +100,25 @@ rounded_within value n within is =
 module _ (p : Problem) (table : Table) (is : IsZeroTable p table) where
   into-zero : (l i : ℕ) → price_of (prices_in p l table.into.items) i ≡ pos 0
   into-zero l i =
-      let all = subst (All IsZero) (sym is.1) (zeros (length p.layers * length p.trips)) in
-      price-zero (prices_in p l table.into.items) i (All-take IsZero _ _ (All-drop IsZero (l * length p.trips) table.into.items all))
+      price-zero (prices_in p l table.into.items) i
+      (All-take IsZero _ _ (All-drop IsZero (l * length p.trips) table.into.items is.zeros.into))
 
   from-zero : (l i : ℕ) → price_of (prices_in p l table.from.items) i ≡ pos 0
   from-zero l i =
-      let all = subst (All IsZero) (sym is.2) (zeros (length p.layers * length p.trips)) in
-      price-zero (prices_in p l table.from.items) i (All-take IsZero _ _ (All-drop IsZero (l * length p.trips) table.from.items all))
+      price-zero (prices_in p l table.from.items) i
+      (All-take IsZero _ _ (All-drop IsZero (l * length p.trips) table.from.items is.zeros.from))
 
   fleet-zero : (l : ℕ) → price_of table.fleet.items l ≡ pos 0
-  fleet-zero l = price-zero table.fleet.items l (subst (All IsZero) (sym is.3) (zeros (length p.layers)))
-
-  pub zero-Fits : Fits p table
-  zero-Fits = record {
-    into_size = ap length is.1 ∙ length-replicate _ (pos 0);
-    from_size = ap length is.2 ∙ length-replicate _ (pos 0);
-    fleet_size = ap length is.3 ∙ length-replicate _ (pos 0);
-    into = subst (All IsPrice) (sym is.1) (zero_prices (length p.layers * length p.trips));
-    from = subst (All IsPrice) (sym is.2) (zero_prices (length p.layers * length p.trips));
-    fleet = subst (All IsPrice) (sym is.3) (zero_prices (length p.layers));
-  }
+  fleet-zero l = price-zero table.fleet.items l is.zeros.fleet
 
   pub zero-IsBlankElsewhere : IsBlankElsewhere p table
   zero-IsBlankElsewhere l i of_layer of_trip not = (into-zero l i, from-zero l i)
-
-  pub zero-HoldingTable : HoldingTable p table
-  zero-HoldingTable l of_layer = record {
-    vehicle = let e = fleet-zero l in omega (arith, ints);
-    outs = λ i of_i may. some_each (out_piece p l i) _ (λ c. move_holds _ _ table.ray c (into-zero l i) (fleet-zero l) is.0);
-    links = λ i j of_i of_j may_i may_j. some_each (link_piece p l i j) _ (λ c. move_back_holds _ _ table.ray c (into-zero l j) (from-zero l i) is.0);
-    ins = λ i of_i may. some_each (in_piece p l i) _ (λ c. move_back_holds (pos 0) _ table.ray c refl (from-zero l i) is.0);
-  }
 
   module _ (instance : IsInstance p) where
     trip_price-within : (i l : ℕ) → Within 20000000000000 (trip_price p table i l)
     trip_price-within i l =
         let small = piece_small p instance l i in
-        rw (into-zero l i, from-zero l i, is.0) (omega (arith, ints), omega (arith, ints))
+        rw (into-zero l i, from-zero l i, is.cost) (omega (arith, ints), omega (arith, ints))
 
     fleet_price-zero : (l : ℕ) → fleet_price p table l ≡ pos 0
     fleet_price-zero l = rw (fleet-zero l) (omega (arith, ints))
@@ -171,4 +137,4 @@ module _ (p : Problem) (table : Table) (is : IsZeroTable p table) where
     pub zero-worth : (sets : List LayerSet) (n : ℤ) → IsWorth p sets table (AtLeast n) → Within 40000000000000 n
     zero-worth sets n worth =
         rounded_within (table_value p sets table) n (value_within sets)
-        (subst (λ (ray : Bool). MatchBool ray ((table_value p sets table ≤ℤ pos 0) × (n ≡ pos 0)) (IsRoundedUp (table_value p sets table) n)) is.0 worth)
+        (subst (λ (ray : Bool). MatchBool ray ((table_value p sets table ≤ℤ pos 0) × (n ≡ pos 0)) (IsRoundedUp (table_value p sets table) n)) is.cost worth)

@@ -1,8 +1,8 @@
 -- Documents that say the same.
 use Rattle.std.specs.Prelude.{◌≡◌, Bool, List, map, ℤ}
 use Rattle.vs_check.specs.declared.document.Document.{Document}
-use Rattle.vs_check.specs.declared.table.Table.{Table}
-use Rattle.vs_check.specs.Blocks.{blocks_of}
+use Rattle.vs_prices.specs.declared.table.Table.{Table}
+use Rattle.vs_plan.specs.Blocks.{blocks_of}
 
 -- the kind of a table and its prices
 pub record TableText : Type 0 where

@@ -11,9 +11,9 @@ use Rattle.vs_instance.specs.HoldingTable.{price_of}
 use Rattle.vs_check.specs.declared.claim.Claim.{Claim}
 use Rattle.vs_check.specs.declared.document.Document.{Document}
 use Rattle.vs_check.specs.declared.shape.Shape.TheVariants.{Leaf}
-use Rattle.vs_check.specs.declared.table.Table.{Table}
-use Rattle.vs_check.specs.Blocks.{blocks_of}
-use Rattle.vs_check.specs.Table.{IsPrice, Fits}
+use Rattle.vs_prices.specs.declared.table.Table.{Table}
+use Rattle.vs_plan.specs.Blocks.{blocks_of}
+use Rattle.vs_prices.specs.Table.{IsPrice, Fits}
 use Rattle.mdvsp.specs.declared.document.head.Head.{Head}
 use Rattle.mdvsp.specs.Rows.{Field, Row}
 use Rattle.mdvsp.specs.Names.{NameLists}

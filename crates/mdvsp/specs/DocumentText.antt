@@ -13,10 +13,10 @@ use Rattle.vs_check.specs.declared.claim.Claim.TheVariants.{Optimal, Infeasible,
 use Rattle.vs_check.specs.declared.document.Document.{Document}
 use Rattle.vs_check.specs.declared.shape.Shape.{Shape}
 use Rattle.vs_check.specs.declared.shape.Shape.TheVariants.{Split, Leaf}
-use Rattle.vs_check.specs.declared.table.Table.{Table}
-use Rattle.vs_check.specs.Blocks.{blocks_of}
-use Rattle.vs_check.specs.Form.{IsReadBlock}
-use Rattle.vs_check.specs.Table.{Fits, prices_in}
+use Rattle.vs_prices.specs.declared.table.Table.{Table}
+use Rattle.vs_plan.specs.Blocks.{blocks_of}
+use Rattle.vs_plan.specs.Blocks.{IsOfInstance}
+use Rattle.vs_prices.specs.Table.{Fits, prices_in}
 use Rattle.mdvsp.specs.Rows.{Field, Row}
 use Rattle.mdvsp.specs.Names.{NameLists}
 
@@ -104,7 +104,7 @@ pub record HasText (p : Problem) (d : Document) : Type 0 where
   pub bound : IfSome d.bound (IsBetween (negsuc 99999999999999999999) (pos 100000000000000000000))
   pub bound_with_cost : d.bound ≡ None → d.cost ≡ None
   pub nodes : d.nodes ≤ 1000000000000000000
-  pub blocks : All (IsReadBlock p) (blocks_of d.plan)
+  pub blocks : All (IsOfInstance p) (blocks_of d.plan)
   pub no_blocks : d.cost ≡ None → blocks_of d.plan ≡ []
   pub few_tables : length d.tables.items ≤ 1000000000
   pub fits : All (Fits p) d.tables.items

@@ -4,7 +4,7 @@ use Rattle.std.specs.List.{before_first}
 use Rattle.vs_instance.specs.Problem.{Problem}
 use Rattle.vs_check.specs.declared.document.Document.{Document}
 use Rattle.vs_check.specs.declared.shape.Shape.TheVariants.{Leaf}
-use Rattle.vs_check.specs.declared.table.Table.{Table}
+use Rattle.vs_prices.specs.declared.table.Table.{Table}
 use Rattle.mdvsp.specs.Rows.{Row, AreLines}
 use Rattle.mdvsp.specs.Names.{NameLists}
 use Rattle.mdvsp.specs.InstanceText.{InstanceText}

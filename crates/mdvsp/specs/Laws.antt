@@ -1,9 +1,9 @@
 -- When the plan that `solve` writes is shown to be optimal.
 use Rattle.std.specs.Prelude.{◌≡◌, ◌⊎◌, ℕ, List, IsSomeAnd, ℤ, ◌≤ℤ◌}
 use Rattle.vs_instance.specs.Restriction.{permitted_sets}
-use Rattle.vs_check.specs.declared.bound.Bound.TheVariants.{AtLeast}
-use Rattle.vs_check.specs.declared.table.Table.{Table}
-use Rattle.vs_check.specs.Worth.{IsWorth}
+use Rattle.vs_prices.specs.declared.bound.Bound.TheVariants.{AtLeast}
+use Rattle.vs_prices.specs.declared.table.Table.{Table}
+use Rattle.vs_prices.specs.Worth.{IsWorth}
 use Rattle.mdvsp.specs.declared.status.Status.{Status}
 use Rattle.mdvsp.specs.declared.status.Status.TheVariants as status
 use Rattle.mdvsp.specs.Owed.{OwesDocument, IsZeroTable}

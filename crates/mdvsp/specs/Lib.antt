@@ -9,6 +9,7 @@ pub mod InstanceText
 pub mod Kinds
 pub mod Drafts
 pub mod DocumentText
+pub mod FlawRows
 pub mod DocumentParts
 pub mod Alike
 pub mod WrittenParts
@@ -16,7 +17,7 @@ pub mod FirstForm
 pub mod BeforeResult
 pub mod Status
 pub mod Words
-pub mod Greedy
+pub mod PricedPlan
 pub mod SolveAnswer
 pub mod Owed
 pub mod Laws

@@ -1,19 +1,24 @@
 -- What a call has to answer, and what it has to write.
-use Rattle.std.specs.Prelude.{◌≡◌, ℕ, false, List, [], ◌∷◌, length, replicate, ◌*◌, codes, pos, MatchOption, ◌⊎◌}
+use Rattle.std.specs.Prelude.{◌≡◌, ℕ, false, List, [], ◌∷◌, codes, MatchOption, Some, ◌⊎◌}
 use Rattle.vs_instance.specs.Problem.{Problem}
 use Rattle.vs_check.specs.declared.claim.Claim.{Claim}
 use Rattle.vs_check.specs.declared.claim.Claim.TheVariants.{Optimal, Infeasible, StillOpen}
 use Rattle.vs_check.specs.declared.document.Document.{Document}
-use Rattle.vs_check.specs.declared.table.Table.{Table}
-use Rattle.vs_check.specs.Blocks.{blocks_of}
-use Rattle.vs_check.specs.HoldingDocument.{HoldingDocument}
+use Rattle.vs_prices.specs.declared.table.Table.{Table}
+use Rattle.vs_prices.specs.Table.{AreZeros, Fits}
+use Rattle.vs_plan.specs.Blocks.{blocks_of}
+use Rattle.vs_check.specs.HoldingDocument.{HoldingDocument, ProvesItsClaim}
+use Rattle.vs_check.specs.Flaws.{flaws_of}
+use Rattle.vs_check.specs.declared.flaw.Flaw.{Flaw}
+use Rattle.vs_instance.specs.Firsts.{first}
 use Rattle.mdvsp.specs.declared.status.Status.{Status}
 use Rattle.mdvsp.specs.declared.status.Status.TheVariants as status
 use Rattle.mdvsp.specs.Rows.{Row}
 use Rattle.mdvsp.specs.Names.{NameLists}
 use Rattle.mdvsp.specs.DocumentText.{claim_field, number_field, document_rows}
+use Rattle.mdvsp.specs.FlawRows.{no_row}
 use Rattle.mdvsp.specs.FirstForm.{CheckText, CheckRows, SolveText}
-use Rattle.mdvsp.specs.Greedy.{GreedyGives, GreedyGetsStuck}
+use Rattle.vs_plan.specs.Greedy.{GreedyGives, GreedyGetsStuck}
 use Rattle.mdvsp.specs.SolveAnswer.{SolveAnswer}
 use Rattle.mdvsp.specs.Words.{check_words, solve_words}
 
@@ -25,26 +30,26 @@ refused_row = codes "refused" ∷ codes "0" ∷ codes "90" ∷ codes "NotThisFor
 abbrev pub yes_row : Document → Row
 yes_row d = codes "yes" ∷ claim_field d.claim ∷ number_field d.cost ∷ number_field d.bound ∷ []
 
-abbrev pub no_row : Row
-no_row = codes "no" ∷ []
-
--- `check` is owed `yes` where the document holds
+-- `check` is owed `yes` where the document holds; it then proves what it claims, whoever wrote it
 pub record OwesYes (bytes : List ℕ) (rows : List Row) : Type 0 where
   pub problem : Problem
   pub names : NameLists
   pub document : Document
   pub text : CheckText bytes problem names document
   pub holds : HoldingDocument problem document
+  pub proves : ProvesItsClaim problem document
   pub rows_are : rows ≡ yes_row document ∷ []
 
--- and `no` where it doesn't
+-- and `no` where it doesn't, with the first of its flaws
 pub record OwesNo (bytes : List ℕ) (rows : List Row) : Type 0 where
   pub problem : Problem
   pub names : NameLists
   pub document : Document
   pub text : CheckText bytes problem names document
   pub fails : ¬ (HoldingDocument problem document)
-  pub rows_are : rows ≡ no_row ∷ []
+  pub flaw : Flaw
+  pub is_first : first (flaws_of problem document) ≡ Some flaw
+  pub rows_are : rows ≡ no_row names flaw ∷ []
 
 -- and a refusal where the bytes aren't of the first form
 pub record OwesRefusal (HasForm : Type 0) (rows : List Row) : Type 0 where
@@ -64,12 +69,11 @@ IsSolveText bytes = (p : Problem) × (names : NameLists) × SolveText bytes p na
 abbrev pub HasGreedyPlan : Problem → Document → Type 0
 HasGreedyPlan p d = MatchOption d.cost (GreedyGetsStuck p) (λ _. GreedyGives p (blocks_of d.plan))
 
--- a table in which every price is 0
-abbrev pub IsZeroTable : Problem → Table → Type 0
-IsZeroTable p table = (table.ray ≡ false)
-    × (table.into.items ≡ replicate (length p.layers * length p.trips) (pos 0))
-    × (table.from.items ≡ replicate (length p.layers * length p.trips) (pos 0))
-    × (table.fleet.items ≡ replicate (length p.layers) (pos 0))
+-- a cost table of the instance in which every price is 0
+pub record IsZeroTable (p : Problem) (table : Table) : Type 0 where
+  pub cost : table.ray ≡ false
+  pub fits : Fits p table
+  pub zeros : AreZeros table
 
 -- without a search the only table is the zero table
 abbrev pub HasZeroTable : Problem → Document → Type 0
@@ -80,13 +84,14 @@ status_of Optimal = status.Done
 status_of Infeasible = status.Infeasible
 status_of StillOpen = status.StillOpen
 
--- `solve` is owed a document that answers for the instance, with the status of its claim
+-- `solve` is owed a document that answers for the instance and proves what it claims, with the status of its claim
 pub record OwesDocument (bytes : List ℕ) (answer : Status) (rows : List Row) : Type 0 where
   pub problem : Problem
   pub names : NameLists
   pub document : Document
   pub text : SolveText bytes problem names
   pub solves : SolveAnswer problem 0 document
+  pub proves : ProvesItsClaim problem document
   pub plan : HasGreedyPlan problem document
   pub table : HasZeroTable problem document
   pub status_is : answer ≡ status_of document.claim

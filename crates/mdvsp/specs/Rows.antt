@@ -9,6 +9,10 @@ Field = List ℕ
 abbrev pub Row : Type 0
 Row = List Field
 
+-- fields, each with a comma before it
+abbrev pub more_fields : List Field → List ℕ
+more_fields fields = flat_map (λ field. 44 ∷ field) fields
+
 -- the fields with commas between them, and a line feed
 abbrev pub line : Row → List ℕ
 line row = join_with_byte 44 row ++ 10 ∷ []

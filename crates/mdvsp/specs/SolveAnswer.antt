@@ -4,15 +4,15 @@ use Rattle.vs_types.specs.declared.layer_set.LayerSet.{LayerSet}
 use Rattle.vs_instance.specs.Problem.{Problem}
 use Rattle.vs_instance.specs.Lagrangian.{IsStartingValue}
 use Rattle.vs_instance.specs.Restriction.{set_of, permitted_sets}
-use Rattle.vs_check.specs.declared.bound.Bound.{Bound}
-use Rattle.vs_check.specs.declared.bound.Bound.TheVariants.{AtLeast, NoPlan}
+use Rattle.vs_prices.specs.declared.bound.Bound.{Bound}
+use Rattle.vs_prices.specs.declared.bound.Bound.TheVariants.{AtLeast, NoPlan}
 use Rattle.vs_check.specs.declared.claim.Claim.TheVariants.{StillOpen}
 use Rattle.vs_check.specs.declared.document.Document.{Document}
 use Rattle.vs_check.specs.declared.shape.Shape.{Shape}
 use Rattle.vs_check.specs.declared.shape.Shape.TheVariants.{Split, Leaf}
-use Rattle.vs_check.specs.declared.table.Table.{Table}
+use Rattle.vs_prices.specs.declared.table.Table.{Table}
 use Rattle.vs_check.specs.HoldingDocument.{HoldingDocument}
-use Rattle.vs_check.specs.Worth.{IsWorth, IsRoundedUp}
+use Rattle.vs_prices.specs.Worth.{IsWorth, IsRoundedUp}
 use Rattle.mdvsp.specs.DocumentText.{HasText}
 
 -- a leaf: which layers each trip may be run in there, and the number of its table

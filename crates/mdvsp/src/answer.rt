@@ -1,15 +1,18 @@
-ghost use Rattle.std.specs.Prelude.{◌≡◌, ◌≤◌, [], ◌∷◌, IfOk};
+ghost use Rattle.std.specs.Prelude.{◌≡◌, ◌≤◌, [], ◌∷◌, length, IfOk};
+ghost use Rattle.vs_check.specs.Flaws.{IsFlawWithin};
 ghost use Rattle.mdvsp.specs.Answered.{IsSaid};
-ghost use Rattle.mdvsp.specs.Owed.{refused_row, yes_row, no_row};
+ghost use Rattle.mdvsp.specs.FlawRows.{no_row};
+ghost use Rattle.mdvsp.specs.Owed.{refused_row, yes_row};
 ghost use Rattle.mdvsp.specs.Rows.{lines};
 ghost use Rattle.mdvsp.specs.Words.{words_row};
 
+use crate::reader::Names;
 use crate::status::Status;
 use crate::text::Text;
 use crate::words::BadWord;
-use crate::writing::{bound_field, claim_field, cost_field};
+use crate::writing::{bound_field, claim_field, cost_field, flaw_fields};
 use std::alloc::Global;
-use vs_check::Document;
+use vs_check::{Document, Flaw};
 use vs_io::{Sink, emit};
 use vs_types::Memory;
 
@@ -58,12 +61,14 @@ impl Answer {
         Ok(Answer::of(Status::Done, text))
     }
 
-    /// The document doesn't hold.
-    pub fn no(alloc: Global) -> Result<Answer, Memory>
-        ensures { IfOk result (λ a. (a.status ≡ Status.SaysNo) × (a.text.items ≡ lines (no_row ∷ []))) }
+    /// The document doesn't hold, first of all for this flaw.
+    pub fn no(alloc: Global, names: &Names, flaw: Flaw) -> Result<Answer, Memory>
+        requires { IsFlawWithin (length names.now.layers) (length names.now.trips) flaw }
+        ensures { IfOk result (λ a. (a.status ≡ Status.SaysNo) × (a.text.items ≡ lines (no_row names.now flaw ∷ []))) }
     {
         let mut text = Text::new(alloc);
         text.begin_row("no")?;
+        flaw_fields(&mut text, names, flaw)?;
         text.end_row()?;
         Ok(Answer::of(Status::SaysNo, text))
     }

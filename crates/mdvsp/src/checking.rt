@@ -35,7 +35,7 @@ pub fn answer_check(alloc: Global, bytes: &[u8]) -> Result<Answer, Memory>
     };
     match check(alloc, &case.input.instance, &case.document)? {
         Verdict::Yes => Answer::yes(alloc, &case.document),
-        Verdict::No => Answer::no(alloc),
+        Verdict::No(flaw) => Answer::no(alloc, &case.input.names, flaw),
     }
 }
 

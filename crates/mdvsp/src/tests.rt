@@ -31,6 +31,18 @@ const REFUSED: &str = "refused,0,90,NotThisForm\n";
 const BROKEN_TABLE: &str =
     "table,1,cost\nfleet,L1,0\nprice,L1,t1,1010000,-1\nprice,L1,t2,0,-10000\n";
 
+/// Another layer, whose depot is at P, and trips of one layer each.
+const OTHER_LAYER: &str = "layer,L2,P,2,1000,1,0\n";
+
+const TRIPS_APART: &str = "trip,t1,P,8:00,Q,8:30,0,L1\ntrip,t2,Q,8:30,P,9:00,0,L2\n";
+
+const TABLE_APART: &str =
+    "table,1,cost\nfleet,L1,0\nprice,L1,t1,0,0\nfleet,L2,0\nprice,L2,t2,0,0\n";
+
+/// With one more for entering t1 than its pull-out costs.
+const TABLE_TOO_HIGH: &str =
+    "table,1,cost\nfleet,L1,0\nprice,L1,t1,1010001,0\nprice,L1,t2,0,-10000\n";
+
 const NO_TRIP_HEAD: &str = "result,1,optimal\ncost,0\nbound,0\nnodes,0\n";
 
 const NO_TRIP_TABLE: &str = "table,1,cost\nfleet,L1,0\n";
@@ -38,7 +50,7 @@ const NO_TRIP_TABLE: &str = "table,1,cost\nfleet,L1,0\n";
 /// What a document is like, the input, how the run ends, and what it writes.
 type Judged = (&'static str, &'static [&'static str], Status, &'static str);
 
-const DOCUMENTS: [Judged; 10] = [
+const DOCUMENTS: [Judged; 13] = [
     (
         "holds",
         &[STOPS, LAYER, TRIPS, HEAD, BLOCK, TABLE, END],
@@ -49,7 +61,7 @@ const DOCUMENTS: [Judged; 10] = [
         "a link broken",
         &[STOPS, LAYER, TRIPS, HEAD, BLOCK, BROKEN_TABLE, END],
         Status::SaysNo,
-        "no\n",
+        "no,3,TableBroken,1,link,L1,t1,t2\n",
     ),
     (
         "cost too low",
@@ -63,7 +75,7 @@ const DOCUMENTS: [Judged; 10] = [
             END,
         ],
         Status::SaysNo,
-        "no\n",
+        "no,2,CostDiffers,1079,1080\n",
     ),
     (
         "bound too high",
@@ -77,7 +89,7 @@ const DOCUMENTS: [Judged; 10] = [
             END,
         ],
         Status::SaysNo,
-        "no\n",
+        "no,5,LeafTooWeak,1,1080,1081\n",
     ),
     (
         "claim too bold",
@@ -91,7 +103,7 @@ const DOCUMENTS: [Judged; 10] = [
             END,
         ],
         Status::SaysNo,
-        "no\n",
+        "no,6,ClaimDiffers,optimal,open\n",
     ),
     (
         "open",
@@ -111,13 +123,13 @@ const DOCUMENTS: [Judged; 10] = [
         "no connection",
         &[STOPS, LAYER, LATE_TRIPS, HEAD, BLOCK, TABLE, END],
         Status::SaysNo,
-        "no\n",
+        "no,1,NoConnection,1,2\n",
     ),
     (
         "a trip left out",
         &[STOPS, LAYER, TRIPS, HEAD, "block,L1,t1\n", TABLE, END],
         Status::SaysNo,
-        "no\n",
+        "no,1,Uncovered,t2\n",
     ),
     (
         "one vehicle short",
@@ -131,7 +143,42 @@ const DOCUMENTS: [Judged; 10] = [
             END,
         ],
         Status::SaysNo,
-        "no\n",
+        "no,1,Fleet,L1,2\n",
+    ),
+    (
+        "a trip of another layer",
+        &[
+            STOPS,
+            LAYER,
+            OTHER_LAYER,
+            TRIPS_APART,
+            HEAD,
+            BLOCK,
+            TABLE_APART,
+            END,
+        ],
+        Status::SaysNo,
+        "no,1,NotPermitted,1,2\n",
+    ),
+    (
+        "a trip run twice, and a table broken at a pull-out",
+        &[
+            STOPS,
+            LAYER,
+            TRIPS,
+            HEAD,
+            "block,L1,t1,t2\nblock,L1,t2\n",
+            TABLE_TOO_HIGH,
+            END,
+        ],
+        Status::SaysNo,
+        "no,1,Twice,t2\n",
+    ),
+    (
+        "a table broken at a pull-out",
+        &[STOPS, LAYER, TRIPS, HEAD, BLOCK, TABLE_TOO_HIGH, END],
+        Status::SaysNo,
+        "no,3,TableBroken,1,out,L1,t1\n",
     ),
     (
         "no trips",

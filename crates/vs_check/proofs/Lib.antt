@@ -1,9 +1,6 @@
-pub mod Prices
-pub mod TableLemmas
-pub mod Rounding
-pub mod Totals
-pub mod Layers
-pub mod Running
-pub mod Worths
+pub mod PlanFlaws
+pub mod LeafFlaws
+pub mod Flawless
+pub mod Claims
+pub mod NamedFlaws
 pub mod Examples
-pub mod Tried

@@ -1,18 +1,18 @@
 -- When a document proves what it claims.
-use Rattle.std.specs.Prelude.{◌≡◌, ℕ, [], ◌∷◌, All, ℤ, pos, if◌then◌else◌, Option, Some, None, MatchOption, slice_get}
+use Rattle.std.specs.Prelude.{◌≡◌, ℕ, ◌≤◌, List, [], ◌∷◌, All, ℤ, pos, ◌≤ℤ◌, if◌then◌else◌, Option, Some, None, MatchOption, IfSome, IfNone, slice_get}
 use Rattle.std.specs.Ordering.{int_eq}
 use Rattle.vs_instance.specs.Problem.{Problem}
-use Rattle.vs_instance.specs.Plan.{IsPlan, plan_cost}
+use Rattle.vs_instance.specs.Plan.{IsPlan, LayerBlock, plan_cost}
 use Rattle.vs_instance.specs.Restriction.{permitted_sets}
-use Rattle.vs_check.specs.declared.bound.Bound.{Bound}
+use Rattle.vs_prices.specs.declared.bound.Bound.{Bound}
 use Rattle.vs_check.specs.declared.claim.Claim.{Claim}
 use Rattle.vs_check.specs.declared.claim.Claim.TheVariants.{Optimal, Infeasible, StillOpen}
 use Rattle.vs_check.specs.declared.document.Document.{Document}
 use Rattle.vs_check.specs.declared.shape.Shape.TheVariants.{Leaf}
-use Rattle.vs_check.specs.declared.table.Table.{Table}
-use Rattle.vs_check.specs.Blocks.{blocks_of}
-use Rattle.vs_check.specs.Table.{Fits, HoldingTable}
-use Rattle.vs_check.specs.Worth.{IsWorth, Reaches}
+use Rattle.vs_prices.specs.declared.table.Table.{Table}
+use Rattle.vs_plan.specs.Blocks.{blocks_of}
+use Rattle.vs_prices.specs.Table.{Fits, HoldingTable}
+use Rattle.vs_prices.specs.Worth.{IsWorth, Reaches}
 
 -- what a cost and a bound claim together
 abbrev pub claim_found : Option ℤ → Option ℤ → Claim
@@ -23,7 +23,9 @@ claim_found None (Some bound) = StillOpen
 
 -- the blocks are a plan of the printed cost, and where none is printed there are none
 abbrev pub HasPlan : Problem → Document → Type 0
-HasPlan p d = MatchOption d.cost (blocks_of d.plan ≡ []) (λ cost. IsPlan p (blocks_of d.plan) × (cost ≡ pos (plan_cost p (blocks_of d.plan))))
+HasPlan p d =
+    MatchOption d.cost (blocks_of d.plan ≡ []) (λ cost. IsPlan p (blocks_of d.plan)
+    × (cost ≡ pos (plan_cost p (blocks_of d.plan))))
 
 -- the table reaches the printed bound, whichever permitted layer each trip is run in
 abbrev pub ReachesBound : Problem → Table → Option ℤ → Type 0
@@ -31,10 +33,24 @@ ReachesBound p table bound = (worth : Bound) × IsWorth p (permitted_sets p) tab
 
 -- a shape of one leaf, whose table reaches the printed bound
 abbrev pub HasLeaf : Problem → Document → Type 0
-HasLeaf p d = (t : ℕ) × (table : Table) × (d.shape.items ≡ Leaf t ∷ []) × (slice_get d.tables.items t ≡ Some table) × ReachesBound p table d.bound
+HasLeaf p d =
+    (t : ℕ) × (table : Table) × (d.shape.items ≡ Leaf t ∷ []) × (slice_get d.tables.items t ≡ Some table)
+    × ReachesBound p table d.bound
 
 pub record HoldingDocument (p : Problem) (d : Document) : Type 0 where
   pub plan : HasPlan p d
   pub tables : All (λ t. Fits p t × HoldingTable p t) d.tables.items
   pub leaf : HasLeaf p d
   pub claim : d.claim ≡ claim_found d.cost d.bound
+
+-- What a document that holds proves, whoever wrote it: its blocks are a plan of the printed cost; no plan of the
+-- instance costs less than the
+-- printed bound, and where the bound is none there is no plan; where it claims so, no plan costs less than its own.
+pub record ProvesItsClaim (p : Problem) (d : Document) : Type 0 where
+  pub plan : IfSome d.cost (λ cost. IsPlan p (blocks_of d.plan) × (cost ≡ pos (plan_cost p (blocks_of d.plan))))
+  pub bound : IfSome d.bound (λ bound. (blocks : List LayerBlock) → IsPlan p blocks → bound ≤ℤ pos (plan_cost p blocks))
+  pub no_plan : IfNone d.bound ((blocks : List LayerBlock) → ¬ (IsPlan p blocks))
+  pub optimal : d.claim ≡ Optimal → (blocks : List LayerBlock) → IsPlan p blocks
+      → plan_cost p (blocks_of d.plan) ≤ plan_cost p blocks
+  pub has_plan : d.claim ≡ Optimal → IsPlan p (blocks_of d.plan)
+  pub infeasible : d.claim ≡ Infeasible → (blocks : List LayerBlock) → ¬ (IsPlan p blocks)

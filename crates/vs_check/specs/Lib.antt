@@ -1,5 +1,4 @@
-pub mod Blocks
-pub mod Table
-pub mod Worth
-pub mod HoldingDocument
 pub mod Form
+pub mod HoldingDocument
+pub mod Flaws
+pub mod Laws

@@ -1,7 +1,7 @@
 use crate::claim::Claim;
-use crate::plan::Plan;
 use crate::shape::Shape;
-use crate::table::Table;
+use vs_plan::Plan;
+use vs_prices::Table;
 
 /// A plan with what proves it.
 #[derive(Debug, Drop)]
@@ -9,7 +9,8 @@ pub struct Document {
     pub claim: Claim,
     /// What the plan costs, 0 to 10^17 cost units. None where there is no plan.
     pub cost: Option<i64>,
-    /// What every plan costs at least, within -10^20 and 10^20 cost units. None where no plan exists.
+    /// What every plan costs at least, within -10^20 and 10^20 cost units. None where no plan
+    /// exists.
     pub bound: Option<i128>,
     /// How many cases the search finished, 0 to 10^18.
     pub nodes: u64,

@@ -24,27 +24,33 @@ module _ (k s t : ℕ) (a b : Way) where
   none_of_no_longer w is =
       none-append _ _ (none_from_false _ _ (le-ltb _ _ is.minutes)) (none_from_false _ _ (le-ltb _ _ is.metres))
 
-  direct_way : (o : Option Way) → None (detour_misfits k s t (option.Some a) (option.Some b) o) → IsSomeAnd o (IsNoLonger a b)
+  direct_way : (o : Option Way) → None (detour_misfits k s t (option.Some a) (option.Some b) o)
+      → IsSomeAnd o (IsNoLonger a b)
   direct_way (option.Some w) none = no_longer w none
   direct_way option.None none = cc
 
-  none_of_direct : (o : Option Way) → IsSomeAnd o (IsNoLonger a b) → None (detour_misfits k s t (option.Some a) (option.Some b) o)
+  none_of_direct : (o : Option Way) → IsSomeAnd o (IsNoLonger a b)
+      → None (detour_misfits k s t (option.Some a) (option.Some b) o)
   none_of_direct (option.Some w) is = none_of_no_longer w is
   none_of_direct option.None is = absurd is
 
-none_of_detour : (k s t : ℕ) (a b o : Option Way) → ((x y : Way) → a ≡ option.Some x → b ≡ option.Some y → IsSomeAnd o (IsNoLonger x y))
+none_of_detour : (k s t : ℕ) (a b o : Option Way)
+    → ((x y : Way) → a ≡ option.Some x → b ≡ option.Some y → IsSomeAnd o (IsNoLonger x y))
     → None (detour_misfits k s t a b o)
 none_of_detour k s t (option.Some x) (option.Some y) o each = none_of_direct k s t x y o (each x y refl refl)
 none_of_detour k s t (option.Some x) option.None o each = refl
 none_of_detour k s t option.None b o each = refl
 
 -- the three stops are three
-apart_none : (k s t : ℕ) (a b o : Option Way) → k ≢ s → s ≢ t → k ≢ t → None (apart_misfits k s t a b o) → None (detour_misfits k s t a b o)
+apart_none : (k s t : ℕ) (a b o : Option Way) → k ≢ s → s ≢ t → k ≢ t → None (apart_misfits k s t a b o)
+    → None (detour_misfits k s t a b o)
 apart_none k s t a b o ks st kt none =
-    let test : ((eqb k s || eqb s t) || eqb k t) ≡ false = or_from _ _ (or_from _ _ (ne_eqb k s ks) (ne_eqb s t st)) (ne_eqb k t kt) in
+    let test : ((eqb k s || eqb s t) || eqb k t) ≡ false =
+    or_from _ _ (or_from _ _ (ne_eqb k s ks) (ne_eqb s t st)) (ne_eqb k t kt) in
     subst (λ (x : Bool). None (cond x [] (detour_misfits k s t a b o))) test none
 
-none_of_apart : (k s t : ℕ) (a b o : Option Way) → (k ≢ t → None (detour_misfits k s t a b o)) → None (apart_misfits k s t a b o)
+none_of_apart : (k s t : ℕ) (a b o : Option Way) → (k ≢ t → None (detour_misfits k s t a b o))
+    → None (apart_misfits k s t a b o)
 none_of_apart k s t a b o each = by_test ((eqb k s || eqb s t) || eqb k t) refl
   where
     by_test : (x : Bool) → ((eqb k s || eqb s t) || eqb k t) ≡ x → None (cond x [] (detour_misfits k s t a b o))
@@ -62,18 +68,23 @@ module _ (n : ℕ) (given : Map) where
   abbrev pub BetweenStops : Type 0
   BetweenStops = (k s : ℕ) (w : Way) → map.get given (k, s) ≡ option.Some w → (k < n) × (s < n) × (k ≢ s)
 
-  pub closed_from_none : BetweenStops → None (closure_misfits n given) → (k s t : ℕ) (a b : Way) → k ≢ t → map.get given (k, s) ≡ option.Some a
+  pub closed_from_none : BetweenStops → None (closure_misfits n given) → (k s t : ℕ) (a b : Way) → k ≢ t
+      → map.get given (k, s) ≡ option.Some a
       → map.get given (s, t) ≡ option.Some b → IsSomeAnd (map.get given (k, t)) (IsNoLonger a b)
   closed_from_none between none k s t a b apart first second =
       let ks = between k s a first in
       let st = between s t b second in
       let triple = triple_none none k s t ks.0 ks.1 st.1 in
-      let detour = apart_none k s t (map.get given (k, s)) (map.get given (s, t)) (map.get given (k, t)) ks.2 st.2 apart triple in
+      let detour =
+      apart_none k s t (map.get given (k, s)) (map.get given (s, t))
+      (map.get given (k, t)) ks.2 st.2 apart triple in
       direct_way k s t a b (map.get given (k, t))
       (subst (λ (o : Option Way). None (detour_misfits k s t (option.Some a) o (map.get given (k, t)))) second
-      (subst (λ (o : Option Way). None (detour_misfits k s t o (map.get given (s, t)) (map.get given (k, t)))) first detour))
+      (subst (λ (o : Option Way). None (detour_misfits k s t o (map.get given (s, t)) (map.get given (k, t)))) first
+      detour))
 
-  pub none_of_closed : ((k s t : ℕ) (a b : Way) → k ≢ t → map.get given (k, s) ≡ option.Some a → map.get given (s, t) ≡ option.Some b
+  pub none_of_closed : ((k s t : ℕ) (a b : Way) → k ≢ t → map.get given (k, s) ≡ option.Some a
+      → map.get given (s, t) ≡ option.Some b
       → IsSomeAnd (map.get given (k, t)) (IsNoLonger a b)) → None (closure_misfits n given)
   none_of_closed closed =
       none_numbers (misfits_from n given) 0 n (λ k _ _.

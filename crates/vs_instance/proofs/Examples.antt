@@ -1,6 +1,8 @@
 -- The definitions at work on a small timetable.
--- Stops D, P and Q are 0, 1 and 2. Deadheads take 10 minutes to and from D, and 15 between P and Q; nothing has a length. One layer of two vehicles
--- at D costs 1000 a vehicle and 1 a minute. Trip 0 goes from P at 8:00 to Q at 8:30, and trip 1 from Q at 8:30 to P at 9:00.
+-- Stops D, P and Q are 0, 1 and 2. Deadheads take 10 minutes to and from D, and 15 between P and Q; nothing has a
+-- length. One layer of two vehicles
+-- at D costs 1000 a vehicle and 1 a minute. Trip 0 goes from P at 8:00 to Q at 8:30, and trip 1 from Q at 8:30 to P at
+-- 9:00.
 use Rattle.std.proofs.Common.{◌≡◌, ℕ, zero, suc, ◌<◌, ◌≤◌, false, List, [], ◌∷◌, refl, ap, arith, rules, pos, negsuc}
 use Rattle.std.specs.List.{All}
 use Rattle.std.specs.declared.option.Option.TheVariants.{Some}
@@ -31,10 +33,26 @@ abbrev layer : Layer
 layer = record { depot = record { 0 = 0 }; fleet = 2; fixed = 1000; per_minute = 1; per_metre = 0 }
 
 abbrev first : Trip
-first = record { from = record { 0 = 1 }; start = 480; to = record { 0 = 2 }; end = 510; metres = 0; layers = record { 0 = 1 } }
+first = record {
+  from = record { 0 = 1 };
+  start = 480;
+  to = record { 0 = 2 };
+  end = 510;
+  metres = 0;
+  layers =
+      record { 0 = 1 };
+}
 
 abbrev second : Trip
-second = record { from = record { 0 = 2 }; start = 510; to = record { 0 = 1 }; end = 540; metres = 0; layers = record { 0 = 1 } }
+second = record {
+  from = record { 0 = 2 };
+  start = 510;
+  to = record { 0 = 1 };
+  end = 540;
+  metres = 0;
+  layers =
+      record { 0 = 1 };
+}
 
 abbrev a : Problem
 a = record { stops = 3; deadheads = deadheads_of given; layers = layer ∷ []; trips = first ∷ second ∷ [] }
@@ -148,8 +166,10 @@ holds = record {
   outs = below_two _ (λ _. rw way-0-1 (search rules)) (λ _. rw way-0-2 (search rules));
   links = λ i j of_i of_j.
       below_two (λ (i : ℕ). Permitted a 0 i → Permitted a 0 j → LinkHolds i j)
-      (below_two (λ (j : ℕ). Permitted a 0 0 → Permitted a 0 j → LinkHolds 0 j) (λ _ _. rw way-2-1 tt) (λ _ _. search rules) j of_j)
-      (below_two (λ (j : ℕ). Permitted a 0 1 → Permitted a 0 j → LinkHolds 1 j) (λ _ _. search rules) (λ _ _. rw way-1-2 tt) j of_j)
+      (below_two (λ (j : ℕ). Permitted a 0 0 → Permitted a 0 j → LinkHolds 0 j) (λ _ _. rw way-2-1 tt)
+      (λ _ _. search rules) j of_j)
+      (below_two (λ (j : ℕ). Permitted a 0 1 → Permitted a 0 j → LinkHolds 1 j) (λ _ _. search rules)
+      (λ _ _. rw way-1-2 tt) j of_j)
       i of_i;
   ins = below_two _ (λ _. rw way-2-0 (search rules)) (λ _. rw way-1-0 (search rules));
 }

@@ -35,10 +35,12 @@ abbrev pub last_given : List Deadhead → ℕ × ℕ → Option Way → Option W
 last_given [] q o = o
 last_given (d ∷ ds) q o = last_given ds q (cond (eq_by_cmp pair_cmp q (pair_of d)) (Some (way_given d)) o)
 
-pub get-last_given : (m : Map) (ds : List Deadhead) (q : ℕ × ℕ) → map.get (fold with_deadhead m ds) q ≡ last_given ds q (map.get m q)
+pub get-last_given : (m : Map) (ds : List Deadhead) (q : ℕ × ℕ)
+    → map.get (fold with_deadhead m ds) q ≡ last_given ds q (map.get m q)
 get-last_given m [] q = refl
 get-last_given m (d ∷ ds) q =
-    get-last_given (with_deadhead m d) ds q ∙ ap (last_given ds q) (map.get-insert pair_cmp-total m (pair_of d) (way_given d) q)
+    get-last_given (with_deadhead m d) ds q
+    ∙ ap (last_given ds q) (map.get-insert pair_cmp-total m (pair_of d) (way_given d) q)
 
 pub get-deadheads_of : (ds : List Deadhead) (q : ℕ × ℕ) → map.get (deadheads_of ds) q ≡ last_given ds q None
 get-deadheads_of ds q = get-last_given map.empty ds q ∙ ap (last_given ds q) (map.get-empty pair_cmp q)
@@ -66,16 +68,19 @@ or-none false = refl
 pub tied_twins : (e d : Deadhead) → eq_by_cmp pair_cmp (d.from.0, d.to.0) (e.from.0, e.to.0) ≡ are_twins e d
 tied_twins e d =
     sym (both_tied (eqb e.from.0 d.from.0) (eqb e.to.0 d.to.0) (nat_cmp d.from.0 e.from.0) (nat_cmp d.to.0 e.to.0)
-    (nat_eq_equiv.symm e.from.0 d.from.0 ∙ unsigned_ties d.from.0 e.from.0) (nat_eq_equiv.symm e.to.0 d.to.0 ∙ unsigned_ties d.to.0 e.to.0))
+    (nat_eq_equiv.symm e.from.0 d.from.0 ∙ unsigned_ties d.from.0 e.from.0)
+    (nat_eq_equiv.symm e.to.0 d.to.0 ∙ unsigned_ties d.to.0 e.to.0))
 
 -- the deadhead's pair is given after the others exactly where it was before, or is that of one of them
 given_after : (m : Map) (ds : List Deadhead) (d : Deadhead)
-    → is_some (map.get (fold with_deadhead m ds) (d.from.0, d.to.0)) ≡ (is_some (map.get m (d.from.0, d.to.0)) || list_any (λ e. are_twins e d) ds)
+    → is_some (map.get (fold with_deadhead m ds) (d.from.0, d.to.0))
+    ≡ (is_some (map.get m (d.from.0, d.to.0)) || list_any (λ e. are_twins e d) ds)
 given_after m [] d = or-none _
 given_after m (e ∷ ds) d =
     given_after (with_deadhead m e) ds d
     ∙ ap (λ (o : Option Way). is_some o || list_any (λ e. are_twins e d) ds)
-    (map.get-insert pair_cmp-total m (e.from.0, e.to.0) (record { minutes = e.minutes; metres = e.metres }) (d.from.0, d.to.0))
+    (map.get-insert pair_cmp-total m (e.from.0, e.to.0) (record { minutes = e.minutes; metres = e.metres })
+    (d.from.0, d.to.0))
     ∙ ap (λ (b : Bool). b || list_any (λ e. are_twins e d) ds)
     (some_either _ (record { minutes = e.minutes; metres = e.metres }) (map.get m (d.from.0, d.to.0))
     ∙ ap (λ (b : Bool). is_some (map.get m (d.from.0, d.to.0)) || b) (tied_twins e d))
@@ -84,7 +89,9 @@ given_after m (e ∷ ds) d =
 -- the table has the pair of a deadhead exactly where an earlier one is its twin
 pub has_twin_before-is : (ds : List Deadhead) (n : ℕ) (d : Deadhead)
     → is_some (map.get (deadheads_of (take n ds)) (d.from.0, d.to.0)) ≡ has_twin_before ds n d
-has_twin_before-is ds n d = given_after map.empty (take n ds) d ∙ ap (λ (o : Option Way). is_some o || has_twin_before ds n d) (map.get-empty pair_cmp (d.from.0, d.to.0))
+has_twin_before-is ds n d =
+    given_after map.empty (take n ds) d
+    ∙ ap (λ (o : Option Way). is_some o || has_twin_before ds n d) (map.get-empty pair_cmp (d.from.0, d.to.0))
 
 abbrev pub no_deadhead : Deadhead
 no_deadhead = record { from = record { 0 = 0 }; to = record { 0 = 0 }; minutes = 0; metres = 0 }

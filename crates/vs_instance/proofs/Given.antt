@@ -48,8 +48,10 @@ none_of_deadhead twice n d is =
     (none_from_false _ _ (le-ltb MAX_METRES d.metres is.metres))) (none_from_false _ _ is.once)
 
 -- what holds of the pair and the way of each deadhead holds of all that the map has
-pub given_all : (P : ℕ × ℕ → Way → Type 0) (m : Map) (ds : List Deadhead) → ((q : ℕ × ℕ) (w : Way) → map.get m q ≡ option.Some w → P q w)
-    → All (λ d. P (pair_of d) (way_given d)) ds → (q : ℕ × ℕ) (w : Way) → map.get (fold with_deadhead m ds) q ≡ option.Some w → P q w
+pub given_all : (P : ℕ × ℕ → Way → Type 0) (m : Map) (ds : List Deadhead)
+    → ((q : ℕ × ℕ) (w : Way) → map.get m q ≡ option.Some w → P q w)
+    → All (λ d. P (pair_of d) (way_given d)) ds → (q : ℕ × ℕ) (w : Way)
+    → map.get (fold with_deadhead m ds) q ≡ option.Some w → P q w
 given_all P m [] before each q w is = before q w is
 given_all P m (d ∷ ds) before each q w is =
     given_all P (with_deadhead m d) ds
@@ -59,11 +61,13 @@ given_all P m (d ∷ ds) before each q w is =
     one_of P m d r v before (each 0 d (omega arith)) (eq_by_cmp pair_cmp r (pair_of d)) refl inserted)
     (λ k e within. each (suc k) e (omega arith)) q w is
   where
-    one_of : (P : ℕ × ℕ → Way → Type 0) (m : Map) (d : Deadhead) (r : ℕ × ℕ) (v : Way) → ((q : ℕ × ℕ) (w : Way) → map.get m q ≡ option.Some w → P q w)
+    one_of : (P : ℕ × ℕ → Way → Type 0) (m : Map) (d : Deadhead) (r : ℕ × ℕ) (v : Way)
+        → ((q : ℕ × ℕ) (w : Way) → map.get m q ≡ option.Some w → P q w)
         → P (pair_of d) (way_given d) → (b : Bool) → eq_by_cmp pair_cmp r (pair_of d) ≡ b
         → cond b (option.Some (way_given d)) (map.get m r) ≡ option.Some v → P r v
     one_of P m d r v before own true tied is =
-        let same : pair_of d ≡ r = sym (pair_cmp-IsAntisymmetric r (pair_of d) ((Equal-is (pair_cmp r (pair_of d))).0 tied)) in
+        let same : pair_of d ≡ r =
+        sym (pair_cmp-IsAntisymmetric r (pair_of d) ((Equal-is (pair_cmp r (pair_of d))).0 tied)) in
         let way : way_given d ≡ v = cc in
         subst (λ (x : ℕ × ℕ). P x v) same (subst (P (pair_of d)) way own)
     one_of P m d r v before own false tied is = before r v is
@@ -82,27 +86,35 @@ are_twins-comm : (d e : Deadhead) → are_twins d e ≡ are_twins e d
 are_twins-comm d e = λ i. nat_eq_equiv.symm d.from.0 e.from.0 i && nat_eq_equiv.symm d.to.0 e.to.0 i
 
 -- where no deadhead stands twice, the map has each one's own way
-pub own_way : (m : Map) (ds : List Deadhead) → AllPairs (λ d e. are_twins d e ≡ false) ds → (k : ℕ) (x : Deadhead) → k < length ds
+pub own_way : (m : Map) (ds : List Deadhead) → AllPairs (λ d e. are_twins d e ≡ false) ds → (k : ℕ) (x : Deadhead)
+    → k < length ds
     → map.get (fold with_deadhead m ds) (pair_of (get_or ds k x)) ≡ option.Some (way_given (get_or ds k x))
 own_way m [] once k x within = absurd (omega arith)
 own_way m (d ∷ ds) once zero x within =
-    let none = list_any_none (λ e. are_twins e d) ds (λ k e inside. are_twins-comm (get_or ds k e) d ∙ once 0 (suc k) e (omega arith) (omega arith)) in
+    let none =
+    list_any_none (λ e. are_twins e d) ds
+    (λ k e inside. are_twins-comm (get_or ds k e) d ∙ once 0 (suc k) e (omega arith) (omega arith)) in
     kept (with_deadhead m d) ds d none
     ∙ map.get-insert pair_cmp-total m (pair_of d) (way_given d) (pair_of d)
-    ∙ ap (λ (b : Bool). cond b (option.Some (way_given d)) (map.get m (pair_of d))) (tied_same (pair_of d) (pair_of d) refl)
+    ∙ ap (λ (b : Bool). cond b (option.Some (way_given d)) (map.get m (pair_of d)))
+    (tied_same (pair_of d) (pair_of d) refl)
 own_way m (d ∷ ds) once (suc k) x within =
-    own_way (with_deadhead m d) ds (λ i j e less inside. once (suc i) (suc j) e (omega arith) (omega arith)) k x (omega arith)
+    own_way (with_deadhead m d) ds (λ i j e less inside. once (suc i) (suc j) e (omega arith) (omega arith)) k x
+    (omega arith)
 
 -- no deadhead has a twin before it exactly where no two are twins
-pub once_from : (ds : List Deadhead) → ((n : ℕ) (d : Deadhead) → n < length ds → has_twin_before ds n (get_or ds n d) ≡ false)
+pub once_from : (ds : List Deadhead)
+    → ((n : ℕ) (d : Deadhead) → n < length ds → has_twin_before ds n (get_or ds n d) ≡ false)
     → AllPairs (λ d e. are_twins d e ≡ false) ds
 once_from ds none i j d less within =
     let inside : i < length (take j ds) = omega (arith, length-take j ds) in
     let here : get_or (take j ds) i d ≡ get_or ds i d = get_or-take j ds i d less in
     false_from_ne_true _ (λ twins. both_ways _ (none j d within)
-    (list_any_at (λ e. are_twins e (get_or ds j d)) (take j ds) i d inside (ap (λ (e : Deadhead). are_twins e (get_or ds j d)) here ∙ twins)))
+    (list_any_at (λ e. are_twins e (get_or ds j d)) (take j ds) i d inside
+    (ap (λ (e : Deadhead). are_twins e (get_or ds j d)) here ∙ twins)))
 
-pub none_before : (ds : List Deadhead) → AllPairs (λ d e. are_twins d e ≡ false) ds → (n : ℕ) (d : Deadhead) → n < length ds
+pub none_before : (ds : List Deadhead) → AllPairs (λ d e. are_twins d e ≡ false) ds → (n : ℕ) (d : Deadhead)
+    → n < length ds
     → has_twin_before ds n (get_or ds n d) ≡ false
 none_before ds once n d within =
     list_any_none (λ e. are_twins e (get_or ds n d)) (take n ds) (λ k e inside.

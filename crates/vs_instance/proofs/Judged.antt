@@ -33,9 +33,12 @@ pub record NoMisfits (parts : Parts) : Type 0 where
   pub closure : None (closure_misfits parts.stops (deadheads_of parts.deadheads.items))
 
 fit_deadheads : (parts : Parts) → NoMisfits parts → (n : ℕ) (d : Deadhead) → n < length parts.deadheads.items
-    → IsFit (has_twin_before parts.deadheads.items n (get_or parts.deadheads.items n d)) (get_or parts.deadheads.items n d)
+    → IsFit (has_twin_before parts.deadheads.items n (get_or parts.deadheads.items n d))
+    (get_or parts.deadheads.items n d)
 fit_deadheads parts none n d within =
-    deadhead_fits _ n _ (each_none (nth_misfits parts.deadheads.items) 0 parts.deadheads.items none.deadheads n n d within (omega arith))
+    deadhead_fits _ n _
+    (each_none (nth_misfits parts.deadheads.items) 0 parts.deadheads.items none.deadheads n n d within
+    (omega arith))
 
 all_deadheads : (parts : Parts) → AreParts parts → NoMisfits parts → (q : ℕ × ℕ) (w : Way)
     → map.get (deadheads_of parts.deadheads.items) q ≡ option.Some w → IsDeadhead (problem_of parts) q.0 q.1 w
@@ -64,8 +67,11 @@ makes_instance parts are none =
         few_layers = are.few_layers;
         few_trips = are.few_trips;
         layers = λ l layer within.
-            layer_fits (problem_of parts) l _ (are.layers l layer within) (each_none layer_misfits 0 parts.layers.items none.layers l l layer within (omega arith));
-        deadheads = λ k s. if_some (IsDeadhead (problem_of parts) k s) (map.get (deadheads_of parts.deadheads.items) (k, s)) (given (k, s));
+            layer_fits (problem_of parts) l _ (are.layers l layer within)
+            (each_none layer_misfits 0 parts.layers.items none.layers l l layer within (omega arith));
+        deadheads =
+            λ k s. if_some (IsDeadhead (problem_of parts) k s) (map.get (deadheads_of parts.deadheads.items) (k, s))
+            (given (k, s));
         trips = λ i trip within.
             let stops = are.trip_stops i trip within in
             let layers = are.trip_layers i trip within in
@@ -81,10 +87,14 @@ pub no_misfits : (parts : Parts) → MakeInstance parts → NoMisfits parts
 no_misfits parts made =
     let q = made.instance in
     record {
-      layers = none_each layer_misfits 0 parts.layers.items (λ k j layer within is. none_of_layer (problem_of parts) j _ (q.layers k layer within));
+      layers = none_each layer_misfits 0 parts.layers.items
+          (λ k j layer within is. none_of_layer (problem_of parts) j _ (q.layers k layer within));
       deadheads = none_each (nth_misfits parts.deadheads.items) 0 parts.deadheads.items (λ k j d within is.
           let own = own_way map.empty parts.deadheads.items made.once k d within in
-          let here = MatchOption-at_some _ (IsDeadhead (problem_of parts) (get_or parts.deadheads.items k d).from.0 (get_or parts.deadheads.items k d).to.0) _ own
+          let here =
+          MatchOption-at_some _
+          (IsDeadhead (problem_of parts) (get_or parts.deadheads.items k d).from.0
+          (get_or parts.deadheads.items k d).to.0) _ own
           (q.deadheads (get_or parts.deadheads.items k d).from.0 (get_or parts.deadheads.items k d).to.0) in
           let at : k ≡ j = omega arith in
           none_of_deadhead _ j _ (record {
@@ -95,7 +105,8 @@ no_misfits parts made =
             once = ap (λ (n : ℕ). has_twin_before parts.deadheads.items n (get_or parts.deadheads.items k d)) (sym at)
                 ∙ none_before parts.deadheads.items made.once k d within;
           }));
-      trips = none_each trip_misfits 0 parts.trips.items (λ k j trip within is. none_of_trip (problem_of parts) j _ (q.trips k trip within));
+      trips = none_each trip_misfits 0 parts.trips.items
+          (λ k j trip within is. none_of_trip (problem_of parts) j _ (q.trips k trip within));
       closure = none_of_closed parts.stops (deadheads_of parts.deadheads.items) q.closed;
     }
 
@@ -113,38 +124,52 @@ module _ (ls ds ts cs : List Misfit) where
   at_first : (m : Misfit) → first_misfit ls ≡ option.Some m → first_misfit (((ls ++ ds) ++ ts) ++ cs) ≡ option.Some m
   at_first m is = first-stop ((ls ++ ds) ++ ts) cs m (first-stop (ls ++ ds) ts m (first-stop ls ds m is))
 
-  at_second : (m : Misfit) → first_misfit ls ≡ option.None → first_misfit ds ≡ option.Some m → first_misfit (((ls ++ ds) ++ ts) ++ cs) ≡ option.Some m
+  at_second : (m : Misfit) → first_misfit ls ≡ option.None → first_misfit ds ≡ option.Some m
+      → first_misfit (((ls ++ ds) ++ ts) ++ cs) ≡ option.Some m
   at_second m none is = first-stop ((ls ++ ds) ++ ts) cs m (first-stop (ls ++ ds) ts m (first-skip ls ds none ∙ is))
 
-  at_third : (m : Misfit) → first_misfit ls ≡ option.None → first_misfit ds ≡ option.None → first_misfit ts ≡ option.Some m
+  at_third : (m : Misfit) → first_misfit ls ≡ option.None → first_misfit ds ≡ option.None
+      → first_misfit ts ≡ option.Some m
       → first_misfit (((ls ++ ds) ++ ts) ++ cs) ≡ option.Some m
-  at_third m none none' is = first-stop ((ls ++ ds) ++ ts) cs m (first-skip (ls ++ ds) ts (first-skip ls ds none ∙ none') ∙ is)
+  at_third m none none' is =
+      first-stop ((ls ++ ds) ++ ts) cs m (first-skip (ls ++ ds) ts (first-skip ls ds none ∙ none') ∙ is)
 
-  at_fourth : (m : Misfit) → first_misfit ls ≡ option.None → first_misfit ds ≡ option.None → first_misfit ts ≡ option.None
+  at_fourth : (m : Misfit) → first_misfit ls ≡ option.None → first_misfit ds ≡ option.None
+      → first_misfit ts ≡ option.None
       → first_misfit cs ≡ option.Some m → first_misfit (((ls ++ ds) ++ ts) ++ cs) ≡ option.Some m
   at_fourth m none none' none'' is =
       first-skip ((ls ++ ds) ++ ts) cs (first-skip (ls ++ ds) ts (first-skip ls ds none ∙ none') ∙ none'') ∙ is
 
 module _ (parts : Parts) where
-  pub at_layers : (m : Misfit) → option.Some m ≡ first_misfit (layers_misfits parts.layers.items) → first_misfit (misfits_of parts) ≡ option.Some m
-  at_layers m is = at_first (layers_misfits parts.layers.items) (deadheads_misfits parts.deadheads.items) (trips_misfits parts.trips.items)
+  pub at_layers : (m : Misfit) → option.Some m ≡ first_misfit (layers_misfits parts.layers.items)
+      → first_misfit (misfits_of parts) ≡ option.Some m
+  at_layers m is =
+      at_first (layers_misfits parts.layers.items) (deadheads_misfits parts.deadheads.items)
+      (trips_misfits parts.trips.items)
       (closure_misfits parts.stops (deadheads_of parts.deadheads.items)) m (sym is)
 
   pub at_deadheads : (e : NewError) → option.None ≡ first_misfit (layers_misfits parts.layers.items)
       → IsFirstOf (deadheads_misfits parts.deadheads.items) e → IsFirstMisfit parts e
-  at_deadheads (error.Misfit m) none is = at_second (layers_misfits parts.layers.items) (deadheads_misfits parts.deadheads.items)
-      (trips_misfits parts.trips.items) (closure_misfits parts.stops (deadheads_of parts.deadheads.items)) m (sym none) is
+  at_deadheads (error.Misfit m) none is =
+      at_second (layers_misfits parts.layers.items) (deadheads_misfits parts.deadheads.items)
+      (trips_misfits parts.trips.items) (closure_misfits parts.stops (deadheads_of parts.deadheads.items)) m
+      (sym none) is
   at_deadheads error.Memory none is = tt
 
-  pub at_trips : (m : Misfit) → option.None ≡ first_misfit (layers_misfits parts.layers.items) → None (deadheads_misfits parts.deadheads.items)
+  pub at_trips : (m : Misfit) → option.None ≡ first_misfit (layers_misfits parts.layers.items)
+      → None (deadheads_misfits parts.deadheads.items)
       → option.Some m ≡ first_misfit (trips_misfits parts.trips.items) → first_misfit (misfits_of parts) ≡ option.Some m
   at_trips m none none' is = at_third (layers_misfits parts.layers.items) (deadheads_misfits parts.deadheads.items)
-      (trips_misfits parts.trips.items) (closure_misfits parts.stops (deadheads_of parts.deadheads.items)) m (sym none) (ap first_misfit none') (sym is)
+      (trips_misfits parts.trips.items) (closure_misfits parts.stops (deadheads_of parts.deadheads.items)) m
+      (sym none) (ap first_misfit none') (sym is)
 
-  pub at_closure : (m : Misfit) → option.None ≡ first_misfit (layers_misfits parts.layers.items) → None (deadheads_misfits parts.deadheads.items)
+  pub at_closure : (m : Misfit) → option.None ≡ first_misfit (layers_misfits parts.layers.items)
+      → None (deadheads_misfits parts.deadheads.items)
       → option.None ≡ first_misfit (trips_misfits parts.trips.items)
-      → option.Some m ≡ first_misfit (closure_misfits parts.stops (deadheads_of parts.deadheads.items)) → first_misfit (misfits_of parts) ≡ option.Some m
-  at_closure m none none' none'' is = at_fourth (layers_misfits parts.layers.items) (deadheads_misfits parts.deadheads.items)
+      → option.Some m ≡ first_misfit (closure_misfits parts.stops (deadheads_of parts.deadheads.items))
+      → first_misfit (misfits_of parts) ≡ option.Some m
+  at_closure m none none' none'' is =
+      at_fourth (layers_misfits parts.layers.items) (deadheads_misfits parts.deadheads.items)
       (trips_misfits parts.trips.items) (closure_misfits parts.stops (deadheads_of parts.deadheads.items)) m
       (sym none) (ap first_misfit none') (sym none'') (sym is)
 
@@ -153,9 +178,11 @@ module _ (parts : Parts) where
   refuses_error error.Memory is misfit = absurd misfit
 
   -- nothing was found, part by part
-  pub made : AreParts parts → option.None ≡ first_misfit (layers_misfits parts.layers.items) → None (deadheads_misfits parts.deadheads.items)
+  pub made : AreParts parts → option.None ≡ first_misfit (layers_misfits parts.layers.items)
+      → None (deadheads_misfits parts.deadheads.items)
       → option.None ≡ first_misfit (trips_misfits parts.trips.items)
-      → option.None ≡ first_misfit (closure_misfits parts.stops (deadheads_of parts.deadheads.items)) → MakeInstance parts
+      → option.None ≡ first_misfit (closure_misfits parts.stops (deadheads_of parts.deadheads.items))
+      → MakeInstance parts
   made are layers deadheads trips closure =
       makes_instance parts are (record {
         layers = none_from_first _ (sym layers);

@@ -59,29 +59,38 @@ module _ (p : Problem) (is : IsInstance p) where
       by_way (Some w) e = let limits = way-within k s w e in (limits.minutes, limits.metres)
 
   -- ways are closed, also where two of the three stops are one
-  pub way-closed : (k s t : ℕ) (a b : Way) → way p k s ≡ Some a → way p s t ≡ Some b → IsSomeAnd (way p k t) (IsNoLonger a b)
+  pub way-closed : (k s t : ℕ) (a b : Way) → way p k s ≡ Some a → way p s t ≡ Some b
+      → IsSomeAnd (way p k t) (IsNoLonger a b)
   way-closed k s t a b first second =
       elim (cases_eq k t) [
-        | inl same ↦ subst (λ (o : Option Way). IsSomeAnd o (IsNoLonger a b)) (sym (way-same p k t same)) (record { minutes = omega arith; metres = omega arith })
+        | inl same ↦
+            subst (λ (o : Option Way). IsSomeAnd o (IsNoLonger a b)) (sym (way-same p k t same))
+            (record { minutes = omega arith; metres = omega arith })
         | inr apart ↦ elim (cases_eq k s) [
           | inl same ↦
               let whole : way p k t ≡ Some b = ap (λ (x : ℕ). way p x t) same ∙ second in
-              subst (λ (o : Option Way). IsSomeAnd o (IsNoLonger a b)) (sym whole) (record { minutes = omega arith; metres = omega arith })
+              subst (λ (o : Option Way). IsSomeAnd o (IsNoLonger a b)) (sym whole)
+              (record { minutes = omega arith; metres = omega arith })
           | inr before ↦ elim (cases_eq s t) [
             | inl same ↦
                 let whole : way p k t ≡ Some a = ap (λ (x : ℕ). way p k x) (sym same) ∙ first in
-                subst (λ (o : Option Way). IsSomeAnd o (IsNoLonger a b)) (sym whole) (record { minutes = omega arith; metres = omega arith })
+                subst (λ (o : Option Way). IsSomeAnd o (IsNoLonger a b)) (sym whole)
+                (record { minutes = omega arith; metres = omega arith })
             | inr after ↦
                 subst (λ (o : Option Way). IsSomeAnd o (IsNoLonger a b)) (sym (way-other p k t apart))
-                (is.closed k s t a b apart (sym (way-other p k s before) ∙ first) (sym (way-other p s t after) ∙ second))
+                (is.closed k s t a b apart (sym (way-other p k s before) ∙ first)
+                (sym (way-other p s t after) ∙ second))
           ]
         ]
       ]
 
   -- what minutes and metres cost at most: each fits 34 bits
-  pub rated-below : (l minutes metres : ℕ) → l < length p.layers → minutes ≤ TWO_DAYS → metres ≤ MAX_METRES → rated p l minutes metres ≤ 12880000000
+  pub rated-below : (l minutes metres : ℕ) → l < length p.layers → minutes ≤ TWO_DAYS → metres ≤ MAX_METRES
+      → rated p l minutes metres ≤ 12880000000
   rated-below l minutes metres within few short =
       let layer = layer_of-IsLayer p is l within in
-      let time : (layer_of p l).per_minute * minutes ≤ MAX_PER_MINUTE * TWO_DAYS = mul-le _ _ _ _ layer.per_minute few in
-      let length' : (layer_of p l).per_metre * metres ≤ MAX_PER_METRE * MAX_METRES = mul-le _ _ _ _ layer.per_metre short in
+      let time : (layer_of p l).per_minute * minutes ≤ MAX_PER_MINUTE * TWO_DAYS =
+      mul-le _ _ _ _ layer.per_minute few in
+      let length' : (layer_of p l).per_metre * metres ≤ MAX_PER_METRE * MAX_METRES =
+      mul-le _ _ _ _ layer.per_metre short in
       omega arith

@@ -1,4 +1,5 @@
 pub mod Firsts
+pub mod FirstHolds
 pub mod Pairs
 pub mod WayMap
 pub mod Gathered
@@ -10,4 +11,7 @@ pub mod Given
 pub mod Closed
 pub mod Judged
 pub mod Known
+pub mod PieceLemmas
+pub mod BlockPieces
+pub mod PermittedSets
 pub mod Examples

@@ -11,7 +11,8 @@ pair_cmp-total = then_total (on_total (λ (x : ℕ × ℕ). x.0) nat_cmp_total) 
 
 both_equal : (a b : ℕ × ℕ) → is_eq (pair_cmp a b) ≡ true → (eqb a.0 b.0 && eqb a.1 b.1) ≡ true
 both_equal a b e =
-    both_tied (eqb a.0 b.0) (eqb a.1 b.1) (nat_cmp a.0 b.0) (nat_cmp a.1 b.1) (unsigned_ties a.0 b.0) (unsigned_ties a.1 b.1) ∙ e
+    both_tied (eqb a.0 b.0) (eqb a.1 b.1) (nat_cmp a.0 b.0) (nat_cmp a.1 b.1) (unsigned_ties a.0 b.0)
+    (unsigned_ties a.1 b.1) ∙ e
 
 pub pair_cmp-IsAntisymmetric : IsAntisymmetric pair_cmp
 pair_cmp-IsAntisymmetric a b e =

@@ -25,16 +25,19 @@ other_place n p a b some other e =
     other within (ap (λ (x : ℕ). x * n + b) row ∙ ap (λ (x : ℕ). p / n * n + x) column ∙ div-add-mod' p n)
 
 -- a pair whose place comes before, or that has no place, is not in the map
-get-before : (n p a b : ℕ) (ps : List (Option Way)) → 0 < n → (b < n → a * n + b < p) → map.get (map_from n p ps) (a, b) ≡ None
+get-before : (n p a b : ℕ) (ps : List (Option Way)) → 0 < n → (b < n → a * n + b < p)
+    → map.get (map_from n p ps) (a, b) ≡ None
 get-before n p a b [] some before = map.get-empty pair_cmp (a, b)
 get-before n p a b (None ∷ ps) some before = get-before n (p + 1) a b ps some (λ h. omega (arith, before h))
 get-before n p a b (Some w ∷ ps) some before =
     let rest = get-before n (p + 1) a b ps some (λ h. omega (arith, before h)) in
     let apart = other_place n p a b some (λ within is. omega (arith, before within)) in
     map.get-insert pair_cmp-total (map_from n (p + 1) ps) (p / n, p % n) w (a, b)
-    ∙ ap (λ (t : Bool). cond t (Some w) (map.get (map_from n (p + 1) ps) (a, b))) (tied_apart (a, b) (p / n, p % n) apart) ∙ rest
+    ∙ ap (λ (t : Bool). cond t (Some w) (map.get (map_from n (p + 1) ps) (a, b)))
+    (tied_apart (a, b) (p / n, p % n) apart) ∙ rest
 
-get-from : (n p a b k : ℕ) (ps : List (Option Way)) → b < n → a * n + b ≡ p + k → map.get (map_from n p ps) (a, b) ≡ get_or ps k None
+get-from : (n p a b k : ℕ) (ps : List (Option Way)) → b < n → a * n + b ≡ p + k
+    → map.get (map_from n p ps) (a, b) ≡ get_or ps k None
 get-from n p a b k [] within is = map.get-empty pair_cmp (a, b)
 get-from n p a b zero (None ∷ ps) within is = get-before n (p + 1) a b ps (omega arith) (λ h. omega arith)
 get-from n p a b zero (Some w ∷ ps) within is =
@@ -42,16 +45,19 @@ get-from n p a b zero (Some w ∷ ps) within is =
     let row : a ≡ p / n = sym (div-mul-add a n b within) ∙ ap (λ (x : ℕ). x / n) here in
     let column : b ≡ p % n = sym (mod-mul-add a n b within) ∙ ap (λ (x : ℕ). x % n) here in
     map.get-insert pair_cmp-total (map_from n (p + 1) ps) (p / n, p % n) w (a, b)
-    ∙ ap (λ (t : Bool). cond t (Some w) (map.get (map_from n (p + 1) ps) (a, b))) (tied_same (a, b) (p / n, p % n) (λ i. (row i, column i)))
+    ∙ ap (λ (t : Bool). cond t (Some w) (map.get (map_from n (p + 1) ps) (a, b)))
+    (tied_same (a, b) (p / n, p % n) (λ i. (row i, column i)))
 get-from n p a b (suc k) (None ∷ ps) within is = get-from n (p + 1) a b k ps within (omega arith)
 get-from n p a b (suc k) (Some w ∷ ps) within is =
     let apart = other_place n p a b (omega arith) (λ _ same. omega arith) in
     map.get-insert pair_cmp-total (map_from n (p + 1) ps) (p / n, p % n) w (a, b)
-    ∙ ap (λ (t : Bool). cond t (Some w) (map.get (map_from n (p + 1) ps) (a, b))) (tied_apart (a, b) (p / n, p % n) apart)
+    ∙ ap (λ (t : Bool). cond t (Some w) (map.get (map_from n (p + 1) ps) (a, b)))
+    (tied_apart (a, b) (p / n, p % n) apart)
     ∙ get-from n (p + 1) a b k ps within (omega arith)
 
 -- what stands at the pair's place
-pub get-way_map : (n a b : ℕ) (ps : List (Option Way)) → b < n → map.get (way_map n ps) (a, b) ≡ get_or ps (a * n + b) None
+pub get-way_map : (n a b : ℕ) (ps : List (Option Way)) → b < n
+    → map.get (way_map n ps) (a, b) ≡ get_or ps (a * n + b) None
 get-way_map n a b ps within = get-from n 0 a b (a * n + b) ps within (omega arith)
 
 -- a pair that has no place isn't in the map
@@ -72,11 +78,14 @@ way_map-set n a b ps w within inside =
                 let place = same_from_place q.0 q.1 a b n column within same in
                 left ∙ ap (λ (x : ℕ). get_or (set ps (a * n + b) (Some w)) x None) same
                 ∙ get_or-set_same ps (a * n + b) (Some w) None inside
-                ∙ sym (inserted ∙ ap (λ (t : Bool). cond t (Some w) (map.get (way_map n ps) q)) (tied_same q (a, b) (λ i. (place.0 i, place.1 i))))
+                ∙ sym (inserted
+                ∙ ap (λ (t : Bool). cond t (Some w) (map.get (way_map n ps) q))
+                (tied_same q (a, b) (λ i. (place.0 i, place.1 i))))
             | inr other ↦
                 let apart : q ≡ (a, b) → ⊥ = λ e. other (ap (λ (x : ℕ × ℕ). x.0 * n + x.1) e) in
                 left ∙ get_or-set_other ps (a * n + b) (q.0 * n + q.1) (Some w) None other
-                ∙ sym (inserted ∙ ap (λ (t : Bool). cond t (Some w) (map.get (way_map n ps) q)) (tied_apart q (a, b) apart)
+                ∙ sym (inserted
+                ∙ ap (λ (t : Bool). cond t (Some w) (map.get (way_map n ps) q)) (tied_apart q (a, b) apart)
                 ∙ get-way_map n q.0 q.1 ps column)
           ]
       | inr past ↦
@@ -104,11 +113,14 @@ row_of-way_map n k ps all within =
     rw size
     (fill_by_all (λ s. map.get (way_map n ps) (k, s)) (take n (drop (k * n) ps)) n None
     (omega (arith, length-take n (drop (k * n) ps), length-drop (k * n) ps))
-    (λ s inside. get_or-take n (drop (k * n) ps) s None inside ∙ get_or-drop (k * n) ps s None ∙ sym (get-way_map n k s ps inside)))
+    (λ s inside. get_or-take n (drop (k * n) ps) s None inside ∙ get_or-drop (k * n) ps s None
+    ∙ sym (get-way_map n k s ps inside)))
 
 pub length-row_of : (ways : WayMap) (k : ℕ) → length (row_of ways k) ≡ ways.stops
 length-row_of ways k = length-map-range_with_len (λ s. map.get ways.given (k, s)) 0 ways.stops
 
 -- what stands in a stop's row
-pub get_or-row_of : (ways : WayMap) (k s : ℕ) (d : Option Way) → s < ways.stops → get_or (row_of ways k) s d ≡ map.get ways.given (k, s)
-get_or-row_of ways k s d within = get_or-map-range_with_len (λ t. map.get ways.given (k, t)) 0 ways.stops s s d within (omega arith)
+pub get_or-row_of : (ways : WayMap) (k s : ℕ) (d : Option Way) → s < ways.stops
+    → get_or (row_of ways k) s d ≡ map.get ways.given (k, s)
+get_or-row_of ways k s d within =
+    get_or-map-range_with_len (λ t. map.get ways.given (k, t)) 0 ways.stops s s d within (omega arith)

@@ -15,7 +15,8 @@ first_of trips = (slice_index_or trips 0 (record { 0 = 0 })).0
 abbrev pub last_of : List TripNo → ℕ
 last_of trips = (slice_index_or trips (length trips - 1) (record { 0 = 0 })).0
 
--- a block of layer l: some trips of the instance, all permitted in l, each of which connects to the next, with a pull-out to the first and a pull-in from the last
+-- a block of layer l: some trips of the instance, all permitted in l, each of which connects to the next, with a
+-- pull-out to the first and a pull-in from the last
 pub record IsBlock (p : Problem) (l : LayerNo) (trips : List TripNo) : Type 0 where
   pub layer : l.0 < length p.layers
   pub some_trip : 0 < length trips

@@ -12,7 +12,8 @@ scaled ray piece = if ray then pos 0 else pos (1000 * piece)
 abbrev pub price_of : List ℤ → ℕ → ℤ
 price_of prices i = slice_index_or prices i (pos 0)
 
--- The prices for entering and for leaving each trip, and for a vehicle, hold in layer l. Over all trips i and j permitted there, no move from
+-- The prices for entering and for leaving each trip, and for a vehicle, hold in layer l. Over all trips i and j
+-- permitted there, no move from
 -- the depot into a trip, from a trip into another, or from a trip back to the depot is worth more than it costs.
 pub record HoldsInLayer (p : Problem) (l : ℕ) (ray : Bool) (into from : List ℤ) (fleet : ℤ) : Type 0 where
   pub vehicle : pos 0 ≤ℤ fleet

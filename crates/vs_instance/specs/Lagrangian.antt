@@ -31,7 +31,8 @@ paid_for multipliers (i ∷ trips) = multiplier_of multipliers i.0 +ℤ paid_for
 
 -- the cost of blocks in 1/1000 of a cost unit, less the multipliers of their trips
 abbrev pub reduced_cost : Problem → List ℤ → List LayerBlock → ℤ
-reduced_cost p multipliers blocks = pos (1000 * sum_by (λ b. block_cost p b.0 b.1) blocks) -ℤ paid_for multipliers (all_trips blocks)
+reduced_cost p multipliers blocks =
+    pos (1000 * sum_by (λ b. block_cost p b.0 b.1) blocks) -ℤ paid_for multipliers (all_trips blocks)
 
 -- low is the least reduced cost of a block list of layer l
 pub record IsLow (p : Problem) (sets : List LayerSet) (multipliers : List ℤ) (l : LayerNo) (low : ℤ) : Type 0 where

@@ -1,10 +1,12 @@
 pub mod Problem
+pub mod Firsts
 pub mod WayMap
 pub mod Ways
 pub mod Codes
 pub mod Instance
 pub mod Pieces
 pub mod Blocks
+pub mod BlockPieces
 pub mod Plan
 pub mod Restriction
 pub mod HoldingTable

@@ -1,5 +1,5 @@
 -- What is wrong with the parts of an instance, in the order in which it is answered.
-use Rattle.std.specs.Prelude.{◌≡◌, ◌≢◌, ℕ, ◌+◌, ◌^◌, ◌<◌, ◌≤◌, Bool, not, nat_lt, ◌==◌, ◌&&◌, ◌||◌, if◌then◌else◌, List, [], ◌∷◌, ◌++◌, length, take, flat_map, fold, All, AllPairs, Option, Some, None, slice_get}
+use Rattle.std.specs.Prelude.{◌≡◌, ◌≢◌, ℕ, ◌+◌, ◌^◌, ◌<◌, ◌≤◌, Bool, not, nat_lt, ◌==◌, ◌&&◌, ◌||◌, if◌then◌else◌, List, [], ◌∷◌, ◌++◌, length, take, flat_map, fold, All, AllPairs, Option, Some, None}
 use Rattle.std.specs.List.{list_any, enumerate_from, range_with_len}
 use Rattle.std.specs.FinMap as map
 use Rattle.vs_types.specs.LayerSet.{Has, members}
@@ -15,12 +15,15 @@ use Rattle.vs_instance.specs.declared.misfit.NewError.TheVariants as error
 use Rattle.vs_instance.specs.declared.misfit.Field.TheVariants as field
 use Rattle.vs_instance.specs.declared.misfit.Place.TheVariants as place
 use Rattle.vs_instance.specs.declared.limits.TheConstants.{MAX_STOPS, MAX_LAYERS, MAX_TRIPS, MAX_FLEET, MAX_FIXED, MAX_PER_MINUTE, MAX_PER_METRE, MAX_MINUTES, MAX_METRES, TWO_DAYS}
+use Rattle.vs_instance.specs.Firsts.{when, first}
 use Rattle.vs_instance.specs.Problem.{Problem, pair_cmp}
 use Rattle.vs_instance.specs.Instance.{IsInstance}
 
 -- the deadheads as a map, written down one after another
 abbrev pub deadheads_of : List Deadhead → map.FinMap pair_cmp Way
-deadheads_of deadheads = fold (λ m d. map.insert m (d.from.0, d.to.0) (record { minutes = d.minutes; metres = d.metres })) map.empty deadheads
+deadheads_of deadheads =
+    fold (λ m d. map.insert m (d.from.0, d.to.0) (record { minutes = d.minutes; metres = d.metres })) map.empty
+    deadheads
 
 -- what the parts say
 abbrev pub problem_of : Parts → Problem
@@ -39,10 +42,6 @@ are_twins d e = (d.from.0 == e.from.0) && (d.to.0 == e.to.0)
 pub record MakeInstance (parts : Parts) : Type 0 where
   pub once : AllPairs (λ d e. are_twins d e ≡ Bool.false) parts.deadheads.items
   pub instance : IsInstance (problem_of parts)
-
--- the misfit where the test is true
-abbrev pub when : Bool → Misfit → List Misfit
-when wrong misfit = if wrong then misfit ∷ [] else []
 
 abbrev pub layer_misfits : ℕ → Layer → List Misfit
 layer_misfits l layer = let at = place.Layer (record { 0 = l }) in
@@ -67,8 +66,10 @@ trip_misfits i trip =
 -- what is wrong with the way w from k to t, beside the two ways by s
 abbrev pub longer_misfits : ℕ → ℕ → ℕ → Way → Way → Way → List Misfit
 longer_misfits k s t a b w =
-    when (nat_lt (a.minutes + b.minutes) w.minutes) (LongerMinutes (record { 0 = k }) (record { 0 = s }) (record { 0 = t }))
-    ++ when (nat_lt (a.metres + b.metres) w.metres) (LongerMetres (record { 0 = k }) (record { 0 = s }) (record { 0 = t }))
+    when (nat_lt (a.minutes + b.minutes) w.minutes)
+    (LongerMinutes (record { 0 = k }) (record { 0 = s }) (record { 0 = t }))
+    ++ when (nat_lt (a.metres + b.metres) w.metres)
+    (LongerMetres (record { 0 = k }) (record { 0 = s }) (record { 0 = t }))
 
 -- what is wrong with the way from k to t, where there is one to s and one from s on
 abbrev pub detour_misfits : ℕ → ℕ → ℕ → Option Way → Option Way → Option Way → List Misfit
@@ -113,7 +114,8 @@ deadheads_misfits deadheads =
 abbrev pub trips_misfits : List Trip → List Misfit
 trips_misfits trips = flat_map (λ e. trip_misfits e.0 e.1) (enumerate_from 0 trips)
 
--- all that is wrong with the parts, in order: layers, deadheads, trips, and then closure by the numbers of the three stops
+-- all that is wrong with the parts, in order: layers, deadheads, trips, and then closure by the numbers of the three
+-- stops
 abbrev pub misfits_of : Parts → List Misfit
 misfits_of parts =
     layers_misfits parts.layers.items
@@ -123,7 +125,7 @@ misfits_of parts =
 
 -- the first of all
 abbrev pub first_misfit : List Misfit → Option Misfit
-first_misfit misfits = slice_get misfits 0
+first_misfit misfits = first misfits
 
 -- the error is a misfit
 abbrev pub IsMisfit : NewError → Type 0
@@ -149,4 +151,5 @@ pub record AreParts (parts : Parts) : Type 0 where
   pub deadheads : All (λ d. (d.from.0 < parts.stops) × (d.to.0 < parts.stops)) parts.deadheads.items
   pub trip_stops : All (λ t. (t.from.0 < parts.stops) × (t.to.0 < parts.stops)) parts.trips.items
   pub trip_times : All (λ t. (t.start < TWO_DAYS) × (t.end < TWO_DAYS)) parts.trips.items
-  pub trip_layers : All (λ t. (members t.layers ≢ []) × ((l : ℕ) → Has t.layers l → l < length parts.layers.items)) parts.trips.items
+  pub trip_layers : All (λ t. (members t.layers ≢ [])
+      × ((l : ℕ) → Has t.layers l → l < length parts.layers.items)) parts.trips.items

@@ -10,7 +10,8 @@ rated p l minutes metres = (layer_of p l).per_minute * minutes + (layer_of p l).
 -- the fixed cost of a vehicle, and its way from the depot to trip i
 abbrev pub out_piece : Problem → ℕ → ℕ → Option ℕ
 out_piece p l i = option_and_then
-    (λ w. if nat_le w.minutes (trip_of p i).start then Some ((layer_of p l).fixed + rated p l w.minutes w.metres) else None)
+    (λ w. if nat_le w.minutes (trip_of p i).start then Some
+    ((layer_of p l).fixed + rated p l w.minutes w.metres) else None)
     (way_out p l i)
 
 -- trip i itself
@@ -20,7 +21,8 @@ trip_piece p l i = rated p l ((trip_of p i).end - (trip_of p i).start) (trip_of 
 -- all the time from the end of trip i to the start of trip j, be it driven or waited, and the way between them
 abbrev pub link_piece : Problem → ℕ → ℕ → ℕ → Option ℕ
 link_piece p l i j = option_and_then
-    (λ w. if nat_le ((trip_of p i).end + w.minutes) (trip_of p j).start then Some (rated p l ((trip_of p j).start - (trip_of p i).end) w.metres) else None)
+    (λ w. if nat_le ((trip_of p i).end + w.minutes) (trip_of p j).start then Some
+    (rated p l ((trip_of p j).start - (trip_of p i).end) w.metres) else None)
     (way_between p i j)
 
 -- the way from trip i back to the depot

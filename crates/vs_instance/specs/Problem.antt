@@ -11,7 +11,8 @@ use Rattle.vs_instance.specs.declared.way.Way.{Way}
 abbrev pub pair_cmp : ℕ × ℕ → ℕ × ℕ → Ordering
 pair_cmp a b = ordering_then (nat_cmp a.0 b.0) (nat_cmp a.1 b.1)
 
--- how many stops there are, the deadheads as a map from pairs of distinct stops, the layers and the trips, each in number order
+-- how many stops there are, the deadheads as a map from pairs of distinct stops, the layers and the trips, each in
+-- number order
 pub record Problem : Type 0 where
   pub stops : ℕ
   pub deadheads : FinMap pair_cmp Way

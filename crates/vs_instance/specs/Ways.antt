@@ -17,7 +17,8 @@ way p k s = if k == s then Some no_way else map.get p.deadheads (k, s)
 
 -- what stands past the end of the trips and of the layers
 abbrev pub no_trip : Trip
-no_trip = record { from = record { 0 = 0 }; start = 0; to = record { 0 = 0 }; end = 0; metres = 0; layers = record { 0 = 0 } }
+no_trip =
+    record { from = record { 0 = 0 }; start = 0; to = record { 0 = 0 }; end = 0; metres = 0; layers = record { 0 = 0 } }
 
 abbrev pub no_layer : Layer
 no_layer = record { depot = record { 0 = 0 }; fleet = 0; fixed = 0; per_minute = 0; per_metre = 0 }
@@ -29,7 +30,8 @@ trip_of p i = slice_index_or p.trips i no_trip
 abbrev pub layer_of : Problem → ℕ → Layer
 layer_of p l = slice_index_or p.layers l no_layer
 
--- the ways that a vehicle takes from trip i to trip j, from the depot of layer l to trip i, and from trip i back to the depot
+-- the ways that a vehicle takes from trip i to trip j, from the depot of layer l to trip i, and from trip i back to the
+-- depot
 abbrev pub way_between : Problem → ℕ → ℕ → Option Way
 way_between p i j = way p (trip_of p i).to.0 (trip_of p j).from.0
 

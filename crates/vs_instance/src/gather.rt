@@ -41,7 +41,8 @@ pub fn ways_of(alloc: Global, stops: u32, deadheads: &[Deadhead]) -> Result<Ways
     requires stops { stops ≤ MAX_STOPS }
     requires count { length deadheads.now < 2 ^ 32 }
     requires of_stops { All (λ d. (d.from.0 < stops) × (d.to.0 < stops)) deadheads.now }
-    ensures given { IfOk result (λ ways. (ways.stops ≡ stops) × (ways.given ≡ deadheads_of deadheads.now)) }
+    ensures given { IfOk result (λ ways.
+        (ways.stops ≡ stops) × (ways.given ≡ deadheads_of deadheads.now)) }
     ensures fit { OnOk result (deadheads_misfits deadheads.now ≡ []) }
     ensures misfit { IfErr result (IsFirstOf (deadheads_misfits deadheads.now)) }
 {

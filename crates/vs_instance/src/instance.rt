@@ -30,14 +30,15 @@ impl Model for Instance {
     ghost use Rattle.vs_instance.specs.Problem.{Problem};
     ghost use Rattle.vs_instance.specs.Instance.{IsInstance};
     ghost use Rattle.vs_instance.specs.Codes.{coded_problem};
+    ghost use Rattle.vs_instance.specs.WayMap.{problem_with};
 
     ghost Value = { Problem };
 
     ghost coded = { coded_problem };
 
-    ghost view = { λ a. record { stops = a.ways.stops; deadheads = a.ways.given; layers = a.layers.items; trips = a.trips.items } };
+    ghost view = { λ a. problem_with a.ways a.layers.items a.trips.items };
 
-    ghost invariant = { λ a. IsInstance (record { stops = a.ways.stops; deadheads = a.ways.given; layers = a.layers.items; trips = a.trips.items }) };
+    ghost invariant = { λ a. IsInstance (problem_with a.ways a.layers.items a.trips.items) };
 }
 
 impl Instance {

@@ -83,17 +83,20 @@ impl Sink for MemSink {
         requires { 0 < length piece.now }
         ensures some { IfOk result (λ n. 0 < n) }
         ensures within { IfOk result (λ n. n ≤ length piece.now) }
-        ensures appended { IfOk result (λ n. Appends (Some self.old.taken) (Some self.new.taken) (take n piece.now)) }
+        ensures appended { IfOk result (λ n.
+            Appends (Some self.old.taken) (Some self.new.taken) (take n piece.now)) }
         ensures unmoved { OnErr result (Some self.new.taken ≡ Some self.old.taken) }
         ensures fault { OnErr result (Rose self.old.faults self.new.faults) }
         ensures never_falls { self.old.faults ≤ self.new.faults }
 
         // Exactly which calls fail, and how many bytes the others take.
         ensures counted { self.new.calls ≡ one_more self.old.calls }
-        ensures failing { IsErr result ↔ (Contains self.old.failing self.new.calls ⊎ (self.old.room ≡ 0)) }
+        ensures failing { IsErr result
+            ↔ (Contains self.old.failing self.new.calls ⊎ (self.old.room ≡ 0)) }
         ensures risen { OnErr result (self.new.faults ≡ one_more self.old.faults) }
         ensures not_risen { OnOk result (self.new.faults ≡ self.old.faults) }
-        ensures given { IfOk result (λ n. n ≡ min (min self.old.piece (length piece.now)) self.old.room) }
+        ensures given { IfOk result (λ n.
+            n ≡ min (min self.old.piece (length piece.now)) self.old.room) }
         ensures room { IfOk result (λ n. self.new.room + n ≡ self.old.room) }
         ensures same_room { OnErr result (self.new.room ≡ self.old.room) }
         ensures same_piece { self.new.piece ≡ self.old.piece }

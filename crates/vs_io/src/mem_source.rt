@@ -66,7 +66,8 @@ impl Source for MemSource {
     fn take(&mut self, buf: &mut [u8]) -> Result<usize, Failed>
         requires { 0 < length buf.old }
         ensures within { IfOk result (λ n. n ≤ length buf.new) }
-        ensures moved { IfOk result (λ n. Takes (Some self.old.left) (Some self.new.left) (take n buf.new)) }
+        ensures moved { IfOk result (λ n.
+            Takes (Some self.old.left) (Some self.new.left) (take n buf.new)) }
         ensures end { IfOk result (λ n. n ≡ 0 → self.old.left ≡ []) }
         ensures unmoved { OnErr result (Some self.new.left ≡ Some self.old.left) }
         ensures fault { OnErr result (Rose self.old.faults self.new.faults) }
@@ -77,7 +78,8 @@ impl Source for MemSource {
         ensures failing { IsErr result ↔ Contains self.old.failing self.new.calls }
         ensures risen { OnErr result (self.new.faults ≡ one_more self.old.faults) }
         ensures not_risen { OnOk result (self.new.faults ≡ self.old.faults) }
-        ensures given { IfOk result (λ n. n ≡ min (min self.old.piece (length buf.new)) (length self.old.left)) }
+        ensures given { IfOk result (λ n.
+            n ≡ min (min self.old.piece (length buf.new)) (length self.old.left)) }
         ensures same_piece { self.new.piece ≡ self.old.piece }
         ensures same_failing { self.new.failing ≡ self.old.failing }
     {

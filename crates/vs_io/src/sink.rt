@@ -19,7 +19,8 @@ pub trait Sink {
         requires { 0 < length piece.now }
         ensures some { IfOk result (λ n. 0 < n) }
         ensures within { IfOk result (λ n. n ≤ length piece.now) }
-        ensures appended { IfOk result (λ n. Appends (taken self.old) (taken self.new) (take n piece.now)) }
+        ensures appended { IfOk result (λ n.
+            Appends (taken self.old) (taken self.new) (take n piece.now)) }
         ensures unmoved { OnErr result (taken self.new ≡ taken self.old) }
         ensures fault { OnErr result (Rose (faults self.old) (faults self.new)) }
         ensures never_falls { faults self.old ≤ faults self.new };

@@ -42,13 +42,15 @@ pub fn slurp<S: Source>(alloc: Global, src: &mut S, limit: u64) -> Result<Vec<u8
     ensures all { IfOk result (λ bytes. TakesAll (S.left src.old) (S.left src.new) bytes.items) }
     ensures within { IfOk result (λ bytes. vec_len bytes ≤ limit) }
 
-    // What a refusal took is gone, and it took more than the limit where it says so, and only there.
+    // What a refusal took is gone, and it took more than the limit exactly where it says so.
     ensures gone { IfErr result (λ e. (gone : List ℕ)
         × Takes (S.left src.old) (S.left src.new) gone
         × ((e ≡ SlurpError.TooLong) ↔ (limit < length gone))) }
-    ensures too_long { IsErrOf result SlurpError.TooLong → IfSome (S.left src.old) (λ left. limit < length left) }
+    ensures too_long { IsErrOf result SlurpError.TooLong
+        → IfSome (S.left src.old) (λ left. limit < length left) }
 
-    ensures fault { IsErrOf result SlurpError.ReadFault → Rose (S.faults src.old) (S.faults src.new) }
+    ensures fault { IsErrOf result SlurpError.ReadFault
+        → Rose (S.faults src.old) (S.faults src.new) }
     ensures never_falls { S.faults src.old ≤ S.faults src.new }
 
     // It takes at least once, and no more often than the limit has bytes and once more.

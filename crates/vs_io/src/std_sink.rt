@@ -46,8 +46,10 @@ impl<W: Write + Drop> Sink for StdSink<W> {
         ensures never_falls { self.old.faults ≤ self.new.faults }
 
         // The writer took what it says, where that tells its bytes.
-        ensures written { IfOk result (λ n. Appends (W.contents self.old.device) (W.contents self.new.device) (take n piece.now)) }
-        ensures unwritten { OnErr result (Keeps (W.contents self.old.device) (W.contents self.new.device)) }
+        ensures written { IfOk result (λ n.
+            Appends (W.contents self.old.device) (W.contents self.new.device) (take n piece.now)) }
+        ensures unwritten { OnErr result
+            (Keeps (W.contents self.old.device) (W.contents self.new.device)) }
 
         // Exactly how the count moves.
         ensures risen { OnErr result (self.new.faults ≡ one_more self.old.faults) }

@@ -1,5 +1,5 @@
 -- What the members of a set of layers are.
-use Rattle.std.proofs.Common.{◌≡◌, ℕ, zero, suc, ◌+◌, ◌-◌, ◌*◌, ◌/◌, ◌%◌, ◌^◌, ◌<◌, ◌≤◌, ◌↔◌, ◌⊎◌, inl, inr, Bool, true, false, cond, eqb, List, [], ◌∷◌, length, get_or, refl, sym, ap, ◌∙◌, subst, arith, rules, bit_and, bit_or, w16, lit<, add-one, IsTrue, not, nat_eq}
+use Rattle.std.proofs.Common.{◌≡◌, ◌≢◌, ℕ, zero, suc, ◌+◌, ◌-◌, ◌*◌, ◌/◌, ◌%◌, ◌^◌, ◌<◌, ◌≤◌, ◌↔◌, ◌⊎◌, inl, inr, Bool, true, false, cond, eqb, List, [], ◌∷◌, length, get_or, refl, sym, ap, ◌∙◌, subst, arith, rules, bit_and, bit_or, w16, lit<, add-one, IsTrue, not, nat_eq}
 use Rattle.std.specs.Prelude.{Contains, filter}
 use Rattle.std.specs.Int.{bit_at, trailing_zeros}
 use Rattle.std.specs.Int.Count.{ones, ones_in, ones_step}
@@ -62,14 +62,18 @@ Contains-filter p (y ∷ xs) x (suc k, within, is) passes =
     elim (p y) as (λ b. Contains (cond b (y ∷ filter p xs) (filter p xs)) x)
     [ true ↦ Contains-cons y (filter p xs) x rest | false ↦ rest ]
 
+-- a layer below 16 that stands in the set is a member
+pub Contains-members_below : (set : LayerSet) (l : ℕ) → l < 16 → Has set l → Contains (members set) l
+Contains-members_below set l within has =
+    Contains-filter (λ k. eqb (bit_at set.0 k) 1) layer_numbers l (Contains-layer_numbers l within) (eq-eqb _ _ has)
+
 -- the members are those layers that stand in the set
 pub Contains-members : (set : LayerSet) (l : ℕ) → set.0 < 2 ^ 16 → Contains (members set) l ↔ Has set l
 Contains-members set l fits = (
   (λ among. eqb-true (bit_at set.0 l) 1
       (All-contains (λ k. eqb (bit_at set.0 k) 1 ≡ true) (members set) l
       (filter_passes (λ k. eqb (bit_at set.0 k) 1) layer_numbers) among)),
-  (λ has. Contains-filter (λ k. eqb (bit_at set.0 k) 1) layer_numbers l
-      (Contains-layer_numbers l (Has-below set l fits has)) (eq-eqb _ _ has)),
+  (λ has. Contains-members_below set l (Has-below set l fits has) has),
 )
 
 IsStrictlyIncreasing-layer_numbers : IsStrictlyIncreasing layer_numbers
@@ -201,3 +205,9 @@ IsLowest-trailing_zeros n some fits =
         ]
       ]),
     )
+
+-- a set with a layer below 16 isn't empty
+pub members-some : (set : LayerSet) (l : ℕ) → l < 16 → Has set l → members set ≢ []
+members-some set l within has empty =
+    let among = Contains-members_below set l within has in
+    omega (arith, among.1, ap length empty)

@@ -1,7 +1,7 @@
 ghost use Rattle.std.specs.Prelude.{◌≡◌, ℕ, ◌+◌, ◌<◌, ◌≤◌, ◌↔◌, List, length, drop, IsTrue, IfSome, IfNone, IfOk, SomeIff, slice_index_or, vec_len};
 ghost use Rattle.vs_types.specs.declared.numbers.TripNo.{TripNo as TripOf};
 ghost use Rattle.vs_instance.specs.Plan.{LayerBlock};
-ghost use Rattle.vs_check.specs.Blocks.{blocks_of};
+ghost use Rattle.vs_plan.specs.Blocks.{blocks_of};
 ghost use Rattle.mdvsp.specs.NameRules.{AreNames};
 ghost use Rattle.mdvsp.specs.DocumentText.{name_of};
 ghost use Rattle.mdvsp.specs.DocumentParts.{row_at, IsBlockKind, IsBlockRow, IsPlanAt, NameTrips};
@@ -11,7 +11,7 @@ use crate::form_error::FormError;
 use crate::reader::Names;
 use crate::rows::Rows;
 use std::alloc::Global;
-use vs_check::{Block, Plan};
+use vs_plan::{Block, Plan};
 use vs_types::{LayerNo, TripNo};
 
 /// The blocks that stand from a row on, and the first row after them.

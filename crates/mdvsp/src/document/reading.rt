@@ -1,8 +1,8 @@
 ghost use Rattle.std.specs.Prelude.{◌≡◌, ◌≤◌, ◌↔◌, [], ◌∷◌, List, length, drop, IsTrue, IfOk, IsOkUnless};
 ghost use Rattle.vs_instance.specs.Plan.{LayerBlock};
 ghost use Rattle.vs_check.specs.declared.document.Document.{Document as DocumentOf};
-ghost use Rattle.vs_check.specs.declared.table.Table.{Table as TableOf};
-ghost use Rattle.vs_check.specs.Blocks.{blocks_of};
+ghost use Rattle.vs_prices.specs.declared.table.Table.{Table as TableOf};
+ghost use Rattle.vs_plan.specs.Blocks.{blocks_of};
 ghost use Rattle.vs_check.specs.Form.{IsReadFor};
 ghost use Rattle.mdvsp.specs.declared.document.head.Head.{Head as HeadOf};
 ghost use Rattle.mdvsp.specs.NameRules.{AreNames};
@@ -19,8 +19,10 @@ use crate::form_error::FormError;
 use crate::reader::Names;
 use crate::rows::Rows;
 use std::alloc::Global;
-use vs_check::{Document, Plan, Shape, Table};
+use vs_check::{Document, Shape};
 use vs_instance::Instance;
+use vs_plan::Plan;
+use vs_prices::Table;
 
 /// What the rows of a document of the first form give.
 #[derive(Drop)]

@@ -1,6 +1,6 @@
 ghost use Rattle.std.specs.Prelude.{◌≡◌, ℕ, ◌^◌, ◌<◌, ◌≤◌, ◌↔◌, [], ◌∷◌, ◌++◌, List, length, drop, codes, IsTrue, IfSome, IfNone, IfOk, IsOkUnless, ℤ, false};
-ghost use Rattle.vs_check.specs.Table.{IsPrice, Fits};
-ghost use Rattle.vs_check.specs.declared.table.Table.{Table as TableOf};
+ghost use Rattle.vs_prices.specs.Table.{IsPrice, Fits};
+ghost use Rattle.vs_prices.specs.declared.table.Table.{Table as TableOf};
 ghost use Rattle.std.specs.Fmt.{signed_decimal};
 ghost use Rattle.mdvsp.specs.Rows.{Row};
 ghost use Rattle.mdvsp.specs.NameRules.{AreNames};
@@ -13,8 +13,8 @@ use crate::form_error::FormError;
 use crate::reader::Names;
 use crate::rows::Rows;
 use std::alloc::Global;
-use vs_check::Table;
 use vs_instance::Instance;
+use vs_prices::Table;
 use vs_types::{LayerNo, TripNo};
 
 /// The most that a price may be in either direction, in 1/1000 of a cost unit.

@@ -1,12 +1,12 @@
 ghost use Rattle.std.specs.Prelude.{◌≡◌, ◌<◌, ◌++◌, length, map, All, OnOk};
-ghost use Rattle.vs_check.specs.Blocks.{blocks_of};
+ghost use Rattle.vs_plan.specs.Blocks.{blocks_of};
 ghost use Rattle.mdvsp.specs.Rows.{line, lines};
 ghost use Rattle.mdvsp.specs.DocumentText.{block_row};
 ghost use Rattle.mdvsp.specs.WrittenParts.{IsNamedBlock};
 
 use crate::reader::Names;
 use crate::text::Text;
-use vs_check::{Block, Plan};
+use vs_plan::{Block, Plan};
 use vs_types::Memory;
 
 /// Writes a row for each block.

@@ -2,9 +2,11 @@
 mod amounts;
 mod blocks;
 mod document;
+mod flaws;
 mod prices;
 mod shapes;
 mod tables;
 
 pub use amounts::{bound_field, claim_field, cost_field};
 pub use document::write_document;
+pub use flaws::flaw_fields;

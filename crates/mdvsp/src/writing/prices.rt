@@ -1,13 +1,13 @@
 ghost use Rattle.std.specs.Prelude.{◌≡◌, ◌∷◌, [], ◌<◌, ◌++◌, length, codes, OnOk};
 ghost use Rattle.std.specs.Fmt.{signed_decimal};
-ghost use Rattle.vs_check.specs.Table.{Fits};
+ghost use Rattle.vs_prices.specs.Table.{Fits};
 ghost use Rattle.mdvsp.specs.Rows.{line, lines};
 ghost use Rattle.mdvsp.specs.DocumentText.{layer_rows, name_of};
 
 use crate::reader::Names;
 use crate::text::Text;
-use vs_check::Table;
 use vs_instance::Instance;
+use vs_prices::Table;
 use vs_types::{LayerNo, Memory, TripNo};
 
 /// Writes a layer of a table: the price of a vehicle, and the prices of each trip that the layer may run.

@@ -1,14 +1,14 @@
 ghost use Rattle.std.specs.Prelude.{◌≡◌, ◌∷◌, [], ◌<◌, ◌++◌, length, flat_map, All, OnOk, if◌then◌else◌, codes, decimal};
 ghost use Rattle.std.specs.List.{enumerate_from};
-ghost use Rattle.vs_check.specs.Table.{Fits};
+ghost use Rattle.vs_prices.specs.Table.{Fits};
 ghost use Rattle.mdvsp.specs.Rows.{line, lines};
 ghost use Rattle.mdvsp.specs.DocumentText.{table_rows};
 
 use super::prices::write_layer;
 use crate::reader::Names;
 use crate::text::Text;
-use vs_check::Table;
 use vs_instance::Instance;
+use vs_prices::Table;
 use vs_types::{LayerNo, Memory};
 
 /// Writes the tables, numbered from 1 on.

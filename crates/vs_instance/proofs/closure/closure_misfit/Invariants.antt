@@ -5,4 +5,6 @@ use Rattle.vs_instance.proofs.closure.closure_misfit.Given as goal
 
 -- the stops from here on have the first misfit of all
 abbrev pub invariant-loop-k : goal.invariant-loop-k
-invariant-loop-k l = first_below (misfits_from l.ways.stops l.ways.given) l.k l.ways.stops ≡ first_misfit (closure_misfits l.ways.stops l.ways.given)
+invariant-loop-k l =
+    first_below (misfits_from l.ways.stops l.ways.given) l.k l.ways.stops
+    ≡ first_misfit (closure_misfits l.ways.stops l.ways.given)

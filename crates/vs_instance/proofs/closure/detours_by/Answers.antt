@@ -9,7 +9,9 @@ use Rattle.vs_instance.proofs.closure.detours_by.Goals as goal
 pub returns-in_err-first : goal.returns-in_err-first
 returns-in_err-first c =
     c.from_residual.ensures
-    ∙ sym (ap first_misfit (misfits_by-none c.args.ways.now.stops c.args.k.0 c.args.s.0 c.args.ways.now.given (sym c.get.ensures ∙ c.in_err-first.was)))
+    ∙ sym (ap first_misfit
+    (misfits_by-none c.args.ways.now.stops c.args.k.0 c.args.s.0 c.args.ways.now.given
+    (sym c.get.ensures ∙ c.in_err-first.was)))
 
 pub bounds-onward-place : goal.bounds-onward-place
 bounds-onward-place c =
@@ -24,13 +26,20 @@ bounds-direct-place c =
 pub returns-in-Some : goal.returns-in-Some
 returns-in-Some c =
     let within : c.loop-t.t < c.args.ways.now.stops = omega arith in
-    let is = triple-is c.args.ways.now c.args.k.0 c.args.s.0 c.loop-t.t c.get.result c.in_ok-first.first c.row-onward.result.now c.row-direct.result.now
-    (Some c.in-Some.misfit) c.get.ensures c.in_ok-first.was c.row-onward.ensures c.row-direct.ensures within c.in-Some.ensures in
-    first_below-found (triple_misfits c.args.ways.now.given c.args.k.0 c.args.s.0) c.loop-t.t c.args.ways.now.stops _ c.loop-t.invariant c.in-Some.misfit within is
+    let is = triple-is c.args.ways.now c.args.k.0 c.args.s.0 c.loop-t.t c.get.result c.in_ok-first.first
+    c.row-onward.result.now c.row-direct.result.now
+    (Some c.in-Some.misfit) c.get.ensures c.in_ok-first.was c.row-onward.ensures c.row-direct.ensures within
+    c.in-Some.ensures in
+    first_below-found
+    (triple_misfits c.args.ways.now.given c.args.k.0 c.args.s.0) c.loop-t.t c.args.ways.now.stops _
+    c.loop-t.invariant c.in-Some.misfit within is
 
 pub loop-t-preserved : goal.loop-t-preserved
 loop-t-preserved c =
     let within : c.loop-t.t < c.args.ways.now.stops = omega arith in
-    let is = triple-is c.args.ways.now c.args.k.0 c.args.s.0 c.loop-t.t c.get.result c.in_ok-first.first c.row-onward.result.now c.row-direct.result.now
+    let is = triple-is c.args.ways.now c.args.k.0 c.args.s.0 c.loop-t.t c.get.result c.in_ok-first.first
+    c.row-onward.result.now c.row-direct.result.now
     None c.get.ensures c.in_ok-first.was c.row-onward.ensures c.row-direct.ensures within c.in_default.ensures in
-    first_below-step (triple_misfits c.args.ways.now.given c.args.k.0 c.args.s.0) c.loop-t.t c.args.ways.now.stops _ c.loop-t.invariant within is
+    first_below-step
+    (triple_misfits c.args.ways.now.given c.args.k.0 c.args.s.0) c.loop-t.t c.args.ways.now.stops _
+    c.loop-t.invariant within is

@@ -13,7 +13,8 @@ returns-in-Some-clause-misfit c =
     let ds : List Deadhead = c.args.deadheads.now in
     let is = judged-is ds c.loop-n.n c.loop-n.ways.given c.get.result c.is_some-twice.result (Some c.in-Some.misfit)
     c.loop-n.invariant.given c.get.ensures c.is_some-twice.ensures c.in-Some.ensures in
-    sym c.loop-n.invariant.first ∙ first_from-here (nth_misfits ds) ds c.loop-n.n no_deadhead c.in-Some.misfit (omega arith) (sym is)
+    sym c.loop-n.invariant.first
+    ∙ first_from-here (nth_misfits ds) ds c.loop-n.n no_deadhead c.in-Some.misfit (omega arith) (sym is)
 
 pub loop-n-preserved : goal.loop-n-preserved
 loop-n-preserved c =
@@ -36,4 +37,5 @@ loop-n-preserved c =
 pub returns-clause-fit : goal.returns-clause-fit
 returns-clause-fit c =
     let ds : List Deadhead = c.args.deadheads.now in
-    none_from_first (deadheads_misfits ds) (sym c.loop-n.invariant.first ∙ first_from-past (nth_misfits ds) ds c.loop-n.n (omega arith))
+    none_from_first (deadheads_misfits ds)
+    (sym c.loop-n.invariant.first ∙ first_from-past (nth_misfits ds) ds c.loop-n.n (omega arith))

@@ -19,7 +19,8 @@ returns-then-n-limit-clause-gone g c =
 pub returns-in_err-extend_from_slice-clause-gone :
     goal.returns-in_err-extend_from_slice-clause-gone
 returns-in_err-extend_from_slice-clause-gone g c =
-    let p = err_from_is_err_and c.from_residual-in_err-extend_from_slice.result c.from_residual-in_err-extend_from_slice.ensures.1 in
+    let p = err_from_is_err_and c.from_residual-in_err-extend_from_slice.result
+    c.from_residual-in_err-extend_from_slice.ensures.1 in
     let piece : length (take c.in_ok-n.n c.take.new.buf) ≡ c.in_ok-n.n =
     length-take-le c.in_ok-n.n c.take.new.buf c.in_ok-n.ensures.within in
     let within : length (c.pieces.bytes.items ++ take c.in_ok-n.n c.take.new.buf) ≤ c.args.limit =
@@ -36,7 +37,8 @@ pieces-preserved g c =
     length-take-le c.in_ok-n.n c.take.new.buf c.in_ok-n.ensures.within in
     record {
       within = search rules;
-      taken = rw c.in_ok-extend_from_slice.ensures.items (Takes-append _ _ _ _ _ c.pieces.invariant.taken c.in_ok-n.ensures.moved);
+      taken = rw c.in_ok-extend_from_slice.ensures.items
+          (Takes-append _ _ _ _ _ c.pieces.invariant.taken c.in_ok-n.ensures.moved);
       kept = search rules;
       counted = inr (Rose-counted _ _ _ c.pieces.invariant.counted c.take.ensures.counted);
       few_takes = search (rules, one_more-within);

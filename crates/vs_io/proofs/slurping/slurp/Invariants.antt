@@ -8,7 +8,8 @@ invariant-pieces g l = record {
   within : vec_len l.bytes ≤ l.limit;
   taken : Takes (g.S.Source.left l.initial.src) (g.S.Source.left l.src) l.bytes.items;
   kept : g.S.Source.faults l.initial.src ≤ g.S.Source.faults l.src;
-  counted : (g.S.Source.calls l.src ≡ g.S.Source.calls l.initial.src) ⊎ Rose (g.S.Source.calls l.initial.src) (g.S.Source.calls l.src);
+  counted : (g.S.Source.calls l.src ≡ g.S.Source.calls l.initial.src)
+      ⊎ Rose (g.S.Source.calls l.initial.src) (g.S.Source.calls l.src);
   few_takes : g.S.Source.calls l.src ≤ g.S.Source.calls l.initial.src + vec_len l.bytes;
 }
 

@@ -1,7 +1,7 @@
 use Rattle.std.proofs.Common.{◌++◌, ◌∷◌, [], ◌≡◌, map, ap, arith, ◌∙◌}
 use Rattle.std.proofs.lemmas.Bool.{false≢true}
 use Rattle.std.proofs.lemmas.List.{map_push}
-use Rattle.vs_check.specs.declared.plan.Block.{Block}
+use Rattle.vs_plan.specs.declared.block.Block.{Block}
 use Rattle.vs_instance.specs.Plan.{LayerBlock}
 use Rattle.mdvsp.proofs.DocumentPlan.{plan_more, plan_ends, plan_ends_rows, too_many_trips}
 use Rattle.mdvsp.proofs.document.plan.read_plan.Goals as goal

@@ -1,5 +1,5 @@
 use Rattle.std.proofs.Common.{map}
-use Rattle.vs_check.specs.declared.plan.Block.{Block}
+use Rattle.vs_plan.specs.declared.block.Block.{Block}
 use Rattle.mdvsp.proofs.DocumentPlan.{PlanSoFar}
 use Rattle.mdvsp.proofs.document.plan.read_plan.Given as goal
 

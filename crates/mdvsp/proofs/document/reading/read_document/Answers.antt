@@ -1,6 +1,6 @@
 use Rattle.std.proofs.Common.{ap, ◌∙◌, Err}
 use Rattle.std.proofs.lemmas.Result.{IfOk-weaker}
-use Rattle.vs_check.specs.Blocks.{blocks_of}
+use Rattle.vs_plan.specs.Blocks.{blocks_of}
 use Rattle.mdvsp.specs.declared.form_error.FormError.{FormError}
 use Rattle.mdvsp.proofs.DocumentErrors.{same_error}
 use Rattle.mdvsp.proofs.DocumentWhole.{document_of_parts, first_document, read_for, no_document, alike}

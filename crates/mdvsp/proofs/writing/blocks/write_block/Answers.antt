@@ -3,9 +3,9 @@ use Rattle.std.specs.Prelude.{codes, map, flat_map}
 use Rattle.std.proofs.lemmas.List.{append_assoc}
 use Rattle.std.proofs.lemmas.Result.{IfOk-equal}
 use Rattle.vs_types.specs.declared.numbers.TripNo.{TripNo}
-use Rattle.mdvsp.specs.Rows.{Field}
+use Rattle.mdvsp.specs.Rows.{Field, more_fields}
 use Rattle.mdvsp.specs.DocumentText.{name_of}
-use Rattle.mdvsp.proofs.WrittenRows.{more_fields, more_fields-map, wrote_all, ended_row}
+use Rattle.mdvsp.proofs.WrittenRows.{more_fields-map, wrote_all, ended_row}
 use Rattle.mdvsp.proofs.writing.blocks.write_block.Goals as goal
 
 pub returns : goal.returns

@@ -3,7 +3,7 @@ use Rattle.std.specs.Prelude.{map}
 use Rattle.std.proofs.lemmas.List.{get_or-map, length-map}
 use Rattle.std.proofs.lemmas.List.Folds.{flat_map-map}
 use Rattle.vs_instance.specs.Plan.{LayerBlock}
-use Rattle.vs_check.specs.declared.plan.Block.{Block}
+use Rattle.vs_plan.specs.declared.block.Block.{Block}
 use Rattle.mdvsp.specs.Rows.{line}
 use Rattle.mdvsp.specs.DocumentText.{block_row}
 use Rattle.mdvsp.specs.WrittenParts.{IsNamedBlock}

@@ -2,7 +2,7 @@ use Rattle.std.proofs.Common.{◌≡◌, List, ◌∷◌, [], ◌++◌, sym, ap,
 use Rattle.std.specs.Prelude.{codes, map, flat_map}
 use Rattle.std.specs.List.{enumerate_from}
 use Rattle.std.proofs.lemmas.List.{append_assoc}
-use Rattle.vs_check.specs.Blocks.{blocks_of}
+use Rattle.vs_plan.specs.Blocks.{blocks_of}
 use Rattle.mdvsp.specs.Rows.{Row, lines}
 use Rattle.mdvsp.specs.DocumentText.{head_rows, block_row, table_rows, shape_row}
 use Rattle.mdvsp.proofs.LinesAppend.{lines-append}

@@ -10,7 +10,7 @@ use mir.Val.{SFits, to_z, of_z}
 use mir.Syntax.{w64}
 use Rattle.vs_instance.specs.Ways.{trip_of}
 use Rattle.vs_instance.specs.HoldingTable.{price_of}
-use Rattle.vs_check.specs.Table.{prices_in}
+use Rattle.vs_prices.specs.Table.{prices_in}
 use Rattle.mdvsp.specs.Rows.{Row, line}
 use Rattle.mdvsp.specs.DocumentText.{name_of, price_row}
 use Rattle.mdvsp.proofs.WrittenRows.{lines-map, flat_map-filter, numbered_more, numbered_all, price_read}

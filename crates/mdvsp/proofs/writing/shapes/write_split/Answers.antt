@@ -6,9 +6,9 @@ use Rattle.std.proofs.lemmas.Bool.{eq-eqb, ne_eqb, false≢true}
 use Rattle.std.proofs.lemmas.List.{append_assoc, append-nil}
 use Rattle.std.proofs.lemmas.Result.{IfOk-equal}
 use Rattle.vs_types.specs.LayerSet.{members, layer_numbers}
-use Rattle.mdvsp.specs.Rows.{Field}
+use Rattle.mdvsp.specs.Rows.{Field, more_fields}
 use Rattle.mdvsp.specs.DocumentText.{name_of}
-use Rattle.mdvsp.proofs.WrittenRows.{more_fields, more_fields-map, flat_map-filter, numbered_more, numbered_all, ended_row}
+use Rattle.mdvsp.proofs.WrittenRows.{more_fields-map, flat_map-filter, numbered_more, numbered_all, ended_row}
 use Rattle.mdvsp.proofs.writing.shapes.write_split.Goals as goal
 use Rattle.mdvsp.proofs.writing.shapes.write_split.Goals.{then-has+in_ok-field-2, else-has}
 

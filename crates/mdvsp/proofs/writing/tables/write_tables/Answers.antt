@@ -2,7 +2,7 @@ use Rattle.std.proofs.Common.{◌≡◌, ℕ, ◌+◌, ◌<◌, List, ◌++◌, 
 use Rattle.std.specs.List.{enumerate_from}
 use Rattle.std.proofs.Math.Nat.{add_comm}
 use Rattle.std.proofs.lemmas.List.FromFn.{get_or-enumerate_from, length-enumerate_from}
-use Rattle.vs_check.specs.declared.table.Table.{Table}
+use Rattle.vs_prices.specs.declared.table.Table.{Table}
 use Rattle.mdvsp.specs.Rows.{lines}
 use Rattle.mdvsp.specs.DocumentText.{table_rows}
 use Rattle.mdvsp.proofs.WrittenRows.{lines-flat_map, wrote_more, wrote_all}

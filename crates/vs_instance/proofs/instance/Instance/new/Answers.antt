@@ -10,7 +10,9 @@ use Rattle.vs_instance.proofs.instance.Instance.new.Goals as goal
 
 pub returns-in-Some-clause-refused : goal.returns-in-Some-clause-refused
 returns-in-Some-clause-refused c =
-    let first = at_layers c.args.parts c.in-Some.misfit (c.in-Some.ensures ∙ ap (λ (ls : List Layer). first_misfit (layers_misfits ls)) c.deref.ensures.value) in
+    let first =
+    at_layers c.args.parts c.in-Some.misfit
+    (c.in-Some.ensures ∙ ap (λ (ls : List Layer). first_misfit (layers_misfits ls)) c.deref.ensures.value) in
     λ _. refuses c.args.parts c.in-Some.misfit first
 
 pub returns-in_err-ways-clause-misfit : goal.returns-in_err-ways-clause-misfit
@@ -18,7 +20,8 @@ returns-in_err-ways-clause-misfit c =
     let p = err_from_is_err_and c.from_residual.result c.from_residual.ensures.1 in
     let h = at_deadheads c.args.parts c.in_err-ways.field-0.0
     (c.in_default.ensures ∙ ap (λ (ls : List Layer). first_misfit (layers_misfits ls)) c.deref.ensures.value)
-    (subst (λ (ds : List Deadhead). IsFirstOf (deadheads_misfits ds) c.in_err-ways.field-0.0) c.deref-2.ensures.value c.in_err-ways.ensures.misfit) in
+    (subst (λ (ds : List Deadhead). IsFirstOf (deadheads_misfits ds) c.in_err-ways.field-0.0)
+    c.deref-2.ensures.value c.in_err-ways.ensures.misfit) in
     rw (p.1, p.2) h
 
 pub returns-in_err-ways-clause-refused : goal.returns-in_err-ways-clause-refused
@@ -26,7 +29,8 @@ returns-in_err-ways-clause-refused c =
     let p = err_from_is_err_and c.from_residual.result c.from_residual.ensures.1 in
     let h = at_deadheads c.args.parts c.in_err-ways.field-0.0
     (c.in_default.ensures ∙ ap (λ (ls : List Layer). first_misfit (layers_misfits ls)) c.deref.ensures.value)
-    (subst (λ (ds : List Deadhead). IsFirstOf (deadheads_misfits ds) c.in_err-ways.field-0.0) c.deref-2.ensures.value c.in_err-ways.ensures.misfit) in
+    (subst (λ (ds : List Deadhead). IsFirstOf (deadheads_misfits ds) c.in_err-ways.field-0.0)
+    c.deref-2.ensures.value c.in_err-ways.ensures.misfit) in
     rw (p.1, p.2) (refuses_error c.args.parts c.in_err-ways.field-0.0 h)
 
 pub returns-in-Some-trips_misfit-clause-misfit : goal.returns-in-Some-trips_misfit-clause-misfit
@@ -41,7 +45,8 @@ returns-in-Some-trips_misfit-clause-refused c =
     let first = at_trips c.args.parts c.in-Some-trips_misfit.misfit
     (c.in_default.ensures ∙ ap (λ (ls : List Layer). first_misfit (layers_misfits ls)) c.deref.ensures.value)
     (sym (ap deadheads_misfits c.deref-2.ensures.value) ∙ c.in_ok-ways.ensures.fit)
-    (c.in-Some-trips_misfit.ensures ∙ ap (λ (ts : List Trip). first_misfit (trips_misfits ts)) c.deref-3.ensures.value) in
+    (c.in-Some-trips_misfit.ensures
+    ∙ ap (λ (ts : List Trip). first_misfit (trips_misfits ts)) c.deref-3.ensures.value) in
     λ _. refuses c.args.parts c.in-Some-trips_misfit.misfit first
 
 pub returns-in-Some-closure_misfit-clause-misfit : goal.returns-in-Some-closure_misfit-clause-misfit
@@ -51,8 +56,10 @@ returns-in-Some-closure_misfit-clause-misfit c =
     at_closure c.args.parts c.in-Some-closure_misfit.misfit
     (c.in_default.ensures ∙ ap (λ (ls : List Layer). first_misfit (layers_misfits ls)) c.deref.ensures.value)
     (sym (ap deadheads_misfits c.deref-2.ensures.value) ∙ c.in_ok-ways.ensures.fit)
-    (c.in_default-trips_misfit.ensures ∙ ap (λ (ts : List Trip). first_misfit (trips_misfits ts)) c.deref-3.ensures.value)
-    (c.in-Some-closure_misfit.ensures ∙ (λ i. first_misfit (closure_misfits (c.in_ok-ways.ensures.given.0 i) (given i))))
+    (c.in_default-trips_misfit.ensures
+    ∙ ap (λ (ts : List Trip). first_misfit (trips_misfits ts)) c.deref-3.ensures.value)
+    (c.in-Some-closure_misfit.ensures
+    ∙ (λ i. first_misfit (closure_misfits (c.in_ok-ways.ensures.given.0 i) (given i))))
 
 pub returns-in-Some-closure_misfit-clause-refused : goal.returns-in-Some-closure_misfit-clause-refused
 returns-in-Some-closure_misfit-clause-refused c =
@@ -61,8 +68,10 @@ returns-in-Some-closure_misfit-clause-refused c =
     let first = at_closure c.args.parts c.in-Some-closure_misfit.misfit
     (c.in_default.ensures ∙ ap (λ (ls : List Layer). first_misfit (layers_misfits ls)) c.deref.ensures.value)
     (sym (ap deadheads_misfits c.deref-2.ensures.value) ∙ c.in_ok-ways.ensures.fit)
-    (c.in_default-trips_misfit.ensures ∙ ap (λ (ts : List Trip). first_misfit (trips_misfits ts)) c.deref-3.ensures.value)
-    (c.in-Some-closure_misfit.ensures ∙ (λ i. first_misfit (closure_misfits (c.in_ok-ways.ensures.given.0 i) (given i)))) in
+    (c.in_default-trips_misfit.ensures
+    ∙ ap (λ (ts : List Trip). first_misfit (trips_misfits ts)) c.deref-3.ensures.value)
+    (c.in-Some-closure_misfit.ensures
+    ∙ (λ i. first_misfit (closure_misfits (c.in_ok-ways.ensures.given.0 i) (given i)))) in
     λ _. refuses c.args.parts c.in-Some-closure_misfit.misfit first
 
 pub invariant_of-result : goal.invariant_of-result
@@ -72,8 +81,10 @@ invariant_of-result c =
     let whole = made c.args.parts c.requires
     (c.in_default.ensures ∙ ap (λ (ls : List Layer). first_misfit (layers_misfits ls)) c.deref.ensures.value)
     (sym (ap deadheads_misfits c.deref-2.ensures.value) ∙ c.in_ok-ways.ensures.fit)
-    (c.in_default-trips_misfit.ensures ∙ ap (λ (ts : List Trip). first_misfit (trips_misfits ts)) c.deref-3.ensures.value)
-    (c.in_default-closure_misfit.ensures ∙ (λ i. first_misfit (closure_misfits (c.in_ok-ways.ensures.given.0 i) (given i)))) in
+    (c.in_default-trips_misfit.ensures
+    ∙ ap (λ (ts : List Trip). first_misfit (trips_misfits ts)) c.deref-3.ensures.value)
+    (c.in_default-closure_misfit.ensures
+    ∙ (λ i. first_misfit (closure_misfits (c.in_ok-ways.ensures.given.0 i) (given i)))) in
     subst IsInstance
     (λ i. record {
       stops = sym c.in_ok-ways.ensures.given.0 i;
@@ -90,5 +101,7 @@ returns-clause-made c =
     made c.args.parts c.requires
     (c.in_default.ensures ∙ ap (λ (ls : List Layer). first_misfit (layers_misfits ls)) c.deref.ensures.value)
     (sym (ap deadheads_misfits c.deref-2.ensures.value) ∙ c.in_ok-ways.ensures.fit)
-    (c.in_default-trips_misfit.ensures ∙ ap (λ (ts : List Trip). first_misfit (trips_misfits ts)) c.deref-3.ensures.value)
-    (c.in_default-closure_misfit.ensures ∙ (λ i. first_misfit (closure_misfits (c.in_ok-ways.ensures.given.0 i) (given i))))
+    (c.in_default-trips_misfit.ensures
+    ∙ ap (λ (ts : List Trip). first_misfit (trips_misfits ts)) c.deref-3.ensures.value)
+    (c.in_default-closure_misfit.ensures
+    ∙ (λ i. first_misfit (closure_misfits (c.in_ok-ways.ensures.given.0 i) (given i))))

@@ -10,8 +10,10 @@ use Rattle.vs_instance.proofs.ways.Ways.get.Goals as goal
 
 pub returns : goal.returns
 returns c =
-    let from : c.args.from.0 < c.self.inside.stops = subst (λ (w : WayMap). c.args.from.0 < w.stops) (sym c.self.view_is) c.requires.from in
-    let to : c.args.to.0 < c.self.inside.stops = subst (λ (w : WayMap). c.args.to.0 < w.stops) (sym c.self.view_is) c.requires.to in
+    let from : c.args.from.0 < c.self.inside.stops =
+    subst (λ (w : WayMap). c.args.from.0 < w.stops) (sym c.self.view_is) c.requires.from in
+    let to : c.args.to.0 < c.self.inside.stops =
+    subst (λ (w : WayMap). c.args.to.0 < w.stops) (sym c.self.view_is) c.requires.to in
     let inside : c.args.from.0 * c.self.inside.stops + c.args.to.0 < length c.self.inside.places.items =
     rw c.self.invariant.1 (mul-add-lt c.args.from.0 c.self.inside.stops c.args.to.0 c.self.inside.stops from to) in
     get_or_read c.self.inside.places.items _ c.index.result.now inside c.index.ensures None

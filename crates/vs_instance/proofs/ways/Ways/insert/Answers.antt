@@ -8,8 +8,10 @@ use Rattle.vs_instance.proofs.ways.Ways.insert.Goals as goal
 
 pub returns-clause-given : goal.returns-clause-given
 returns-clause-given c =
-    let from : c.args.from.0 < c.self.inside.stops = subst (λ (w : WayMap). c.args.from.0 < w.stops) (sym c.self.view_is) c.requires.from in
-    let to : c.args.to.0 < c.self.inside.stops = subst (λ (w : WayMap). c.args.to.0 < w.stops) (sym c.self.view_is) c.requires.to in
+    let from : c.args.from.0 < c.self.inside.stops =
+    subst (λ (w : WayMap). c.args.from.0 < w.stops) (sym c.self.view_is) c.requires.from in
+    let to : c.args.to.0 < c.self.inside.stops =
+    subst (λ (w : WayMap). c.args.to.0 < w.stops) (sym c.self.view_is) c.requires.to in
     let inside : c.args.from.0 * c.self.inside.stops + c.args.to.0 < length c.self.inside.places.items =
     rw c.self.invariant.1 (mul-add-lt c.args.from.0 c.self.inside.stops c.args.to.0 c.self.inside.stops from to) in
     way_map-set c.self.inside.stops c.args.from.0 c.args.to.0 c.self.inside.places.items c.args.way to inside

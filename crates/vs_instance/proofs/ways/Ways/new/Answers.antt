@@ -6,5 +6,6 @@ use Rattle.vs_instance.proofs.ways.Ways.new.Goals as goal
 
 pub returns : goal.returns
 returns c =
-    let e : c.in_ok-places.places.items ≡ replicate (c.args.stops * c.args.stops) None = c.in_ok-places.ensures.items_if_clones_equal (search rules) in
+    let e : c.in_ok-places.places.items ≡ replicate (c.args.stops * c.args.stops) None =
+    c.in_ok-places.ensures.items_if_clones_equal (search rules) in
     (refl, ap (way_map c.args.stops) e ∙ way_map-none c.args.stops (c.args.stops * c.args.stops))

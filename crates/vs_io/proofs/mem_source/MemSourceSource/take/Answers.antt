@@ -6,6 +6,11 @@ pub returns-clause-moved : goal.returns-clause-moved
 returns-clause-moved c =
     let fits : c.self.inside.next + c.min-n.result ≤ length c.self.inside.bytes.items =
     omega (arith, c.min-n.ensures, c.len.ensures, c.self.invariant.1) in
-    let copied : c.copy_from_slice.new.self ≡ take (c.self.inside.next + c.min-n.result - c.self.inside.next) (drop c.self.inside.next c.self.inside.bytes.items) =
-    c.copy_from_slice.ensures.after ∙ ap (λ xs. take (c.self.inside.next + c.min-n.result - c.self.inside.next) (drop c.self.inside.next xs)) c.deref-2.ensures.value in
-    rw (← c.self.view_is) (ap Some (take-moved c.self.inside.bytes.items _ _ c.self.inside.next c.min-n.result fits copied))
+    let copied : c.copy_from_slice.new.self
+    ≡ take (c.self.inside.next + c.min-n.result - c.self.inside.next)
+    (drop c.self.inside.next c.self.inside.bytes.items) =
+    c.copy_from_slice.ensures.after
+    ∙ ap (λ xs. take (c.self.inside.next + c.min-n.result - c.self.inside.next) (drop c.self.inside.next xs))
+    c.deref-2.ensures.value in
+    rw (← c.self.view_is)
+    (ap Some (take-moved c.self.inside.bytes.items _ _ c.self.inside.next c.min-n.result fits copied))

@@ -1,8 +1,0 @@
-use Rattle.vs_check.proofs.Rounding.{next_rounded, whole_rounded}
-use Rattle.vs_check.proofs.worth.rounded_up.Goals as goal
-
-pub returns-then-value-scale-gt0 : goal.returns-then-value-scale-gt0
-returns-then-value-scale-gt0 c = next_rounded c.args.value c.from-scale.result c.ranges.value c.from-scale.ensures c.if-value-scale-gt0.true
-
-pub returns-else-value-scale-gt0 : goal.returns-else-value-scale-gt0
-returns-else-value-scale-gt0 c = whole_rounded c.args.value c.from-scale.result c.ranges.value c.from-scale.ensures c.if-value-scale-gt0.false

@@ -1,0 +1,95 @@
+ghost use Rattle.std.specs.Prelude.{◌≡◌, ℕ, ◌+◌, ◌*◌, ◌<◌, ◌≤◌, length, option_map, IfSome, ℤ, pos, ◌≤ℤ◌};
+ghost use Rattle.vs_connect.specs.Cost.{IsCost};
+ghost use Rattle.vs_instance.specs.HoldingTable.{scaled};
+ghost use Rattle.vs_instance.specs.Pieces.{out_piece, trip_piece, link_piece, in_piece};
+
+use vs_instance::{Instance, Layer, MAX_METRES, MAX_PER_METRE, MAX_PER_MINUTE, TWO_DAYS};
+use vs_types::{LayerNo, SCALE, TripNo};
+
+/// No move and no trip costs more cost units than this, within the limits of an instance.
+pub const MAX_PIECE: i64 = 20_000_000_000;
+
+/// So many minutes and metres at the rates of a layer, in cost units.
+fn rated(layer: &Layer, minutes: u32, metres: u64) -> u64
+    requires per_minute { layer.now.per_minute ≤ MAX_PER_MINUTE }
+    requires per_metre { layer.now.per_metre ≤ MAX_PER_METRE }
+    requires minutes { minutes < TWO_DAYS }
+    requires metres { metres ≤ MAX_METRES }
+    ensures value { result ≡ layer.now.per_minute * minutes + layer.now.per_metre * metres }
+    ensures limit { result ≤ 15000000000 }
+{
+    layer.per_minute * u64::from(minutes) + layer.per_metre * metres
+}
+
+/// What it costs to take a vehicle of layer l from its depot to trip i, its fixed cost included, in cost
+/// units. None exactly where there is no such pull-out.
+pub fn out_cost(instance: &Instance, l: LayerNo, i: TripNo) -> Option<i64>
+    requires layer { l.0 < length instance.now.layers }
+    requires trip { i.0 < length instance.now.trips }
+    ensures value { result ≡ option_map pos (out_piece instance.now l.0 i.0) }
+    ensures limit { IfSome result IsCost }
+{
+    prove!(l.0 < instance.layers() && i.0 < instance.trips());
+    let layer = instance.layer(l);
+    let trip = instance.trip(i);
+    let way = instance.way(layer.depot, trip.from)?;
+    if way.minutes > trip.start {
+        return None;
+    }
+    let cost = layer.fixed + rated(layer, way.minutes, u64::from(way.metres));
+    Some(cost as i64)
+}
+
+/// What trip i itself costs in layer l, in cost units.
+pub fn trip_cost(instance: &Instance, l: LayerNo, i: TripNo) -> i64
+    requires layer { l.0 < length instance.now.layers }
+    requires trip { i.0 < length instance.now.trips }
+    ensures value { result ≡ pos (trip_piece instance.now l.0 i.0) }
+    ensures limit { IsCost result }
+{
+    prove!(l.0 < instance.layers() && i.0 < instance.trips());
+    let trip = instance.trip(i);
+    rated(instance.layer(l), trip.end - trip.start, trip.metres) as i64
+}
+
+/// What a vehicle of layer l costs from the end of trip i to the start of trip j, in cost units. None
+/// exactly where i doesn't connect to j.
+pub fn link_cost(instance: &Instance, l: LayerNo, i: TripNo, j: TripNo) -> Option<i64>
+    requires layer { l.0 < length instance.now.layers }
+    requires trip { i.0 < length instance.now.trips }
+    requires next { j.0 < length instance.now.trips }
+    ensures value { result ≡ option_map pos (link_piece instance.now l.0 i.0 j.0) }
+    ensures limit { IfSome result IsCost }
+{
+    prove!(i.0 < instance.trips() && j.0 < instance.trips());
+    let ended = instance.trip(i);
+    let next = instance.trip(j);
+    let way = instance.way(ended.to, next.from)?;
+    if ended.end + way.minutes > next.start {
+        return None;
+    }
+    let layer = instance.layer(l);
+    Some(rated(layer, next.start - ended.end, u64::from(way.metres)) as i64)
+}
+
+/// What it costs to take a vehicle of layer l from trip i back to its depot, in cost units. None exactly
+/// where there is no such pull-in.
+pub fn in_cost(instance: &Instance, l: LayerNo, i: TripNo) -> Option<i64>
+    requires layer { l.0 < length instance.now.layers }
+    requires trip { i.0 < length instance.now.trips }
+    ensures value { result ≡ option_map pos (in_piece instance.now l.0 i.0) }
+    ensures limit { IfSome result IsCost }
+{
+    prove!(l.0 < instance.layers() && i.0 < instance.trips());
+    let layer = instance.layer(l);
+    let way = instance.way(instance.trip(i).to, layer.depot)?;
+    Some(rated(layer, way.minutes, u64::from(way.metres)) as i64)
+}
+
+/// A cost in 1/1000 of a cost unit, or nothing in a ray, where no piece counts.
+pub fn scaled(ray: bool, cost: i64) -> i64
+    requires { IsCost cost }
+    ensures { (piece : ℕ) → cost ≡ pos piece → result ≡ scaled ray piece }
+{
+    if ray { 0 } else { SCALE * cost }
+}

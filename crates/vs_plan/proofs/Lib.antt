@@ -1,0 +1,9 @@
+pub mod TakenBlocks
+pub mod BlockCosts
+pub mod PlanTrips
+pub mod OpenBlocks
+pub mod Orders
+pub mod Placing
+pub mod Faultless
+pub mod GreedyOnce
+pub mod CheckedPlans

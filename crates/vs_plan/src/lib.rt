@@ -1,0 +1,27 @@
+//! Plans of vehicles: which blocks are one, what is wrong with those that aren't, what a plan costs, and a
+//! first plan by a simple rule.
+#![tactic(auto)]
+
+mod block;
+mod checked_plan;
+mod costs;
+mod cover;
+mod draft;
+mod judging;
+mod laws;
+mod order;
+mod plan;
+mod plan_fault;
+mod planning;
+
+pub use block::Block;
+pub use checked_plan::{CheckedPlan, check_plan};
+pub use costs::{MAX_PLAN_COST, block_cost, block_times};
+pub use judging::judge;
+pub use laws::{blocks_cost_their_pieces, greedy_gives_one_answer};
+pub use plan::Plan;
+pub use plan_fault::{PlanError, PlanFault};
+pub use planning::greedy;
+
+#[cfg(test)]
+mod tests;

@@ -1,0 +1,14 @@
+pub mod Totals
+pub mod BlockPrices
+pub mod PlanPrices
+pub mod Duality
+pub mod PriceNumbers
+pub mod PricePlaces
+pub mod RunningTotals
+pub mod Rounding
+pub mod SetPrices
+pub mod NoBreaks
+pub mod FirstBreaks
+pub mod Worths
+pub mod RealBreaks
+pub mod Examples

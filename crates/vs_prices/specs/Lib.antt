@@ -1,0 +1,4 @@
+pub mod Table
+pub mod Breaks
+pub mod Worth
+pub mod Laws

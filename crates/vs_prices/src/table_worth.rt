@@ -1,0 +1,120 @@
+ghost use Rattle.std.specs.Prelude.{◌≡◌, ℕ, ◌<◌, length, map, ℤ, pos, neg_ℤ, ◌≤ℤ◌, ◌*ℤ◌};
+ghost use Rattle.std.specs.Int.{int_min};
+ghost use Rattle.std.specs.Option.{option_map_or};
+ghost use Rattle.vs_instance.specs.Instance.{IsInstance};
+ghost use Rattle.vs_instance.specs.Restriction.{IsRestriction};
+ghost use Rattle.vs_types.specs.LayerSet.{Has, members};
+ghost use Rattle.vs_prices.specs.Table.{Fits, HoldingTable};
+ghost use Rattle.vs_prices.specs.Worth.{BoundsPlans, IsRoundedUp, IsWorth};
+ghost use Rattle.vs_prices.specs.Worth.{least, trip_price, trips_pay, vehicles_pay};
+
+use crate::bound::Bound;
+use crate::table::Table;
+use vs_connect::{scaled, trip_cost};
+use vs_instance::Instance;
+use vs_types::{LayerNo, LayerSet, SCALE, TripNo};
+
+/// What trip i pays in layer l, in 1/1000 of a cost unit.
+fn trip_price(instance: &Instance, table: &Table, l: LayerNo, i: TripNo) -> i64
+    requires fits { Fits instance.now table.now }
+    requires layer { l.0 < length instance.now.layers }
+    requires trip { i.0 < length instance.now.trips }
+    ensures value { result ≡ trip_price instance.now table.now i.0 l.0 }
+    ensures low { neg_ℤ (pos 3000000000000000000) ≤ℤ result }
+    ensures high { result ≤ℤ pos 3000000000000000000 }
+{
+    let into = table.into_price(instance, l, i);
+    let from = table.from_price(instance, l, i);
+    into + scaled(table.ray, trip_cost(instance, l, i)) - from
+}
+
+/// The lesser of the least price so far, where there is one, and another price.
+fn lesser(least: Option<i64>, price: i64) -> i64
+    ensures { result ≡ option_map_or (λ x. int_min x price) least price }
+{
+    match least {
+        None => price,
+        Some(least) => least.min(price),
+    }
+}
+
+/// What trip i pays in the cheapest layer of its set.
+fn least_price(instance: &Instance, set: LayerSet, table: &Table, i: TripNo) -> i64
+    requires fits { Fits instance.now table.now }
+    requires trip { i.0 < length instance.now.trips }
+    requires set { (l : ℕ) → Has set l → l < length instance.now.layers }
+    ensures value { result ≡ least (map (trip_price instance.now table.now i.0) (members set)) }
+    ensures low { neg_ℤ (pos 3000000000000000000) ≤ℤ result }
+    ensures high { result ≤ℤ pos 3000000000000000000 }
+{
+    let mut least: Option<i64> = None;
+    for l in 0..instance.layers() {
+        if set.has(LayerNo(l)) {
+            let price = trip_price(instance, table, LayerNo(l), i);
+            least = Some(lesser(least, price));
+        }
+    }
+    least.unwrap_or(0)
+}
+
+/// What all trips pay in the cheapest layers of their sets.
+fn trips_pay(instance: &Instance, sets: &[LayerSet], table: &Table) -> i128
+    requires fits { Fits instance.now table.now }
+    requires restriction { IsRestriction instance.now sets.now }
+    ensures value { result ≡ trips_pay instance.now sets.now table.now }
+    ensures low { neg_ℤ (pos 10000000000000000000000) ≤ℤ result }
+    ensures high { result ≤ℤ pos 10000000000000000000000 }
+{
+    let mut paid = 0;
+    for i in 0..instance.trips() {
+        paid += i128::from(least_price(instance, sets[i as usize], table, TripNo(i)));
+    }
+    paid
+}
+
+/// What all vehicles pay.
+fn vehicles_pay(instance: &Instance, table: &Table) -> i128
+    requires { Fits instance.now table.now }
+    ensures value { result ≡ vehicles_pay instance.now table.now }
+    ensures low { neg_ℤ (pos 100000000000000000000000) ≤ℤ result }
+    ensures high { result ≤ℤ pos 100000000000000000000000 }
+    ensures instance { IsInstance instance.now }
+{
+    let mut paid = 0;
+    for l in 0..instance.layers() {
+        let vehicles = instance.layer(LayerNo(l)).fleet;
+        paid += i128::from(table.vehicle_price(LayerNo(l))) * i128::from(vehicles);
+    }
+    paid
+}
+
+/// The least whole number of cost units that is no less than a value in 1/1000 of one.
+fn rounded_up(value: i128) -> i128
+    ensures { IsRoundedUp value result }
+{
+    let scale = i128::from(SCALE);
+    let whole = value / scale;
+    if value % scale > 0 { whole + 1 } else { whole }
+}
+
+/// What the table is worth where each trip is run in a layer of its set, one set per trip: what the
+/// trips pay in the cheapest layers of their sets, less what all vehicles pay, rounded up to whole
+/// cost units. A ray, in which costs count nothing, shows by a value above 0 that there is no such
+/// plan, and else nothing. Where the table holds, no plan within the sets costs less.
+pub fn worth(instance: &Instance, sets: &[LayerSet], table: &Table) -> Bound
+    requires fits { Fits instance.now table.now }
+    requires restriction { IsRestriction instance.now sets.now }
+    ensures worth { IsWorth instance.now sets.now table.now result }
+    ensures bounds { HoldingTable instance.now table.now
+        → BoundsPlans instance.now sets.now result }
+{
+    let value = trips_pay(instance, sets, table) - vehicles_pay(instance, table);
+    if !table.ray {
+        return Bound::AtLeast(rounded_up(value));
+    }
+    if value > 0 {
+        Bound::NoPlan
+    } else {
+        Bound::AtLeast(0)
+    }
+}

@@ -1,0 +1,27 @@
+-- What the records of an instance give, and what is left behind them.
+use Rattle.std.specs.Prelude.{◌≡◌, ◌+◌, List, ◌++◌, length, Result, Ok, Err}
+use Rattle.vs_reader.specs.declared.reading.Declarations.{Declarations}
+use Rattle.vs_reader.specs.declared.refused.ReadError.{ReadError}
+use Rattle.vs_reader.specs.declared.text_records.TextRecords.{TextRecords}
+use Rattle.vs_reader.specs.Rows.{Row}
+use Rattle.vs_reader.specs.Kinds.{before_result}
+use Rattle.vs_reader.specs.InstanceText.{AddAll, nothing_yet}
+use Rattle.vs_reader.specs.Refusals.{BreaksRule}
+use Rattle.vs_reader.specs.RecordNumbers.{HasNumbers}
+use Rattle.vs_reader.specs.Drafts.{declared_of}
+use Rattle.vs_reader.specs.Left.{GivesNext}
+use Rattle.vs_reader.specs.ReadErrors.{RefusesAs}
+
+-- the records before the first `result` record declare this, and that record is the current one if there is one
+pub record AreDeclared (rows : List Row) (records : TextRecords) (d : Declarations) : Type 0 where
+  pub left : List Row
+  pub rows_are : rows ≡ before_result rows ++ left
+  pub before : d.before ≡ length (before_result rows) + 1
+  pub declares : AddAll nothing_yet (before_result rows) (declared_of d.draft)
+  pub numbers : HasNumbers d.draft.numbers (before_result rows)
+  pub left_are : GivesNext records left d.in_rest
+
+-- they are, or the first record that breaks a rule is refused
+abbrev pub DeclareOrRefuse : List Row → TextRecords → Result Declarations ReadError → Type 0
+DeclareOrRefuse rows records (Ok d) = AreDeclared rows records d
+DeclareOrRefuse rows records (Err e) = RefusesAs (BreaksRule 2 nothing_yet.names (before_result rows)) e

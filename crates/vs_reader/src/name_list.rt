@@ -1,0 +1,100 @@
+ghost use Rattle.std.specs.Prelude.{◌≡◌, ℕ, ◌<◌, ◌+◌, ◌^◌, [], ◌∷◌, ◌++◌, length, Contains, MatchOption, IfSome, IfOk, OnOk, slice_index_or};
+ghost use Rattle.std.specs.String.{string_bytes};
+ghost use Rattle.vs_reader.specs.Names.{IsName, Names as Numbered};
+ghost use Rattle.vs_reader.specs.NameRules.{AreNames};
+
+use indexmap::IndexSet;
+use std::alloc::Global;
+use std::collections::BTreeMap;
+use std::marker::Model;
+use vs_types::Memory;
+
+/// Names, no two of which are the same, numbered from 0 in the order in which they were added. An ordered map
+/// from names to numbers stands beside them, by which they are found: strangers choose the names, and could
+/// choose such as a hash takes for one another, but none that are slow to find in order.
+#[derive(Drop)]
+pub struct NameList {
+    names: IndexSet<String>,
+    numbers: BTreeMap<String, u32>,
+}
+
+impl Model for NameList {
+    ghost use Rattle.std.specs.Prelude.{List, map};
+    ghost use Rattle.std.specs.String.{string_bytes};
+    ghost use Rattle.vs_reader.specs.Rows.{Field};
+    ghost use Rattle.vs_reader.specs.NameRules.{AreNames, AreNumbers};
+
+    ghost Value = { List Field };
+
+    ghost view = { λ a. map string_bytes a.names.keys };
+
+    ghost invariant = { λ a. AreNames (map string_bytes a.names.keys) × AreNumbers (map string_bytes a.names.keys) a.numbers };
+}
+
+impl NameList {
+    /// No names.
+    pub fn new(alloc: Global) -> NameList
+        ensures { result ≡ [] }
+    {
+        NameList {
+            names: IndexSet::new(alloc),
+            numbers: BTreeMap::new(alloc),
+        }
+    }
+
+    /// How many names there are.
+    pub fn len(&self) -> usize
+        ensures count { result ≡ length self.now }
+        ensures names { AreNames self.now }
+    {
+        self.names.len()
+    }
+
+    /// The name of this number, which has no other.
+    pub fn get(&self, number: u32) -> &str
+        requires { number < length self.now }
+        ensures name { result.now ≡ slice_index_or self.now number [] }
+        ensures only { (k : ℕ) → Numbered self.now result.now k → k ≡ number }
+    {
+        self.names.as_slice()[number as usize].as_str()
+    }
+
+    /// The number of a name. None where it isn't one of these.
+    pub fn find(&self, name: &str) -> Option<u32>
+        ensures found { MatchOption result
+            (¬ (Contains self.now name.now))
+            (λ k. Numbered self.now name.now k) }
+        ensures within { IfSome result (λ k. k < length self.now) }
+        ensures only { IfSome result (λ k. (j : ℕ) → Numbered self.now name.now j → j ≡ k) }
+    {
+        self.numbers.get(name).copied()
+    }
+
+    /// Adds a name as the last one. After an error the list is of no more use.
+    pub fn add(&mut self, name: &[u8]) -> Result<(), Memory>
+        requires name { IsName name.now }
+        requires new { ¬ (Contains self.old name.now) }
+        requires room { length self.old + 1 < 2 ^ 32 }
+        ensures { OnOk result (self.new ≡ self.old ++ name.now ∷ []) }
+    {
+        let alloc = *self.names.allocator();
+        let number = self.names.len() as u32;
+        let added = text(alloc, name)?;
+        let key = text(alloc, name)?;
+        self.names.reserve(1)?;
+        self.numbers.insert(key, number)?;
+        self.names.insert_full(added)?;
+        Ok(())
+    }
+}
+
+/// A name as a text.
+fn text(alloc: Global, name: &[u8]) -> Result<String, Memory>
+    requires { IsName name.now }
+    ensures { IfOk result (λ text. string_bytes text ≡ name.now) }
+{
+    let Ok(name) = str::from_utf8(name) else {
+        unreachable!()
+    };
+    Ok(String::from_str(alloc, name)?)
+}

@@ -1,0 +1,167 @@
+ghost use Rattle.std.specs.Prelude.{◌≡◌, ◌≤◌, ◌<◌, ◌^◌, ℕ, List, [], ◌∷◌, length, IfOk, IfErr, IsTrue, MatchBool, true};
+ghost use Rattle.csv.specs.Records.{fields_of};
+ghost use Rattle.vs_instance.specs.Problem.{Problem};
+ghost use Rattle.vs_reader.specs.declared.limits.TheConstants.{MAX_BYTES};
+ghost use Rattle.vs_reader.specs.Rows.{Row};
+ghost use Rattle.vs_reader.specs.Names.{NameLists};
+ghost use Rattle.vs_reader.specs.Kinds.{HasHeader};
+ghost use Rattle.vs_reader.specs.InstanceText.{AddAll, Makes, nothing_yet};
+ghost use Rattle.vs_reader.specs.Refusals.{HasMisfit};
+ghost use Rattle.vs_reader.specs.RecordNumbers.{HasNumbers};
+ghost use Rattle.vs_reader.specs.Drafts.{declared_of, IsSound};
+ghost use Rattle.vs_reader.specs.Texts.{StandsFor, IsRefused};
+ghost use Rattle.vs_reader.specs.Left.{AreLeft, GivesNext, IsOpen};
+ghost use Rattle.vs_reader.specs.ReadErrors.{RefusesAs, IsRefusedError, error_at};
+ghost use Rattle.vs_reader.specs.Declarations.{DeclareOrRefuse};
+
+use crate::draft::Draft;
+use crate::input::Input;
+use crate::names::Names;
+use crate::record::{RecordError, is_header, is_result};
+use crate::refused::{ReadError, Refused, Why};
+use crate::rows::{RowBuilder, Rows};
+use crate::text_records::TextRecords;
+use std::alloc::Global;
+use vs_instance::{Instance, NewError, Parts};
+use vs_types::Memory;
+
+/// What the records of an instance declare.
+#[derive(Drop)]
+pub struct Declarations {
+    pub draft: Draft,
+    /// How many records come before the first `result` record.
+    pub before: u32,
+    /// Whether there is a `result` record.
+    pub in_rest: bool,
+}
+
+/// The instance that a text stands for, with its names and the rows from its first `result` record on; else
+/// the first refusal of the text.
+pub fn read(alloc: Global, bytes: &[u8]) -> Result<Input, ReadError>
+    requires { length bytes.now ≤ MAX_BYTES }
+    ensures found { IfOk result (λ input.
+        StandsFor bytes.now input.instance input.names input.before input.rest) }
+    ensures only { IfOk result (λ input. (p : Problem) (names : NameLists) (before : ℕ) (rest : List Row)
+        → StandsFor bytes.now p names before rest
+        → (p ≡ input.instance) × (names ≡ input.names) × (before ≡ input.before) × (rest ≡ input.rest)) }
+    ensures refused { IfErr result (RefusesAs (IsRefused bytes.now)) }
+    ensures none { IfErr result (λ e. IsRefusedError e
+        → (p : Problem) (names : NameLists) (before : ℕ) (rest : List Row)
+        → ¬ (StandsFor bytes.now p names before rest)) }
+{
+    let mut records = TextRecords::new(alloc, bytes);
+    if !read_header(&mut records)? {
+        return Err(ReadError::Refused(Refused {
+            row: 1,
+            why: Why::NoHeader,
+        }));
+    }
+    let declarations = read_declarations(alloc, &mut records)?;
+    let rest = read_rest(alloc, &mut records, declarations.in_rest)?;
+    let before = u64::from(declarations.before);
+    let (instance, names) = made(alloc, declarations.draft)?;
+    Ok(Input {
+        instance,
+        names,
+        before,
+        rest,
+    })
+}
+
+/// Whether the next record is `instance`, `1`.
+fn read_header(records: &mut TextRecords) -> Result<bool, Memory>
+    ensures { IfOk result (λ is_one. (rows : List Row) → AreLeft records.old rows → MatchBool is_one
+        (HasHeader rows × GivesNext records.new rows true)
+        (¬ (HasHeader rows))) }
+{
+    Ok(records.next()? && is_header(&records.current))
+}
+
+/// Reads the records of the instance that come next, and the first `result` record behind them.
+fn read_declarations(alloc: Global, records: &mut TextRecords) -> Result<Declarations, ReadError>
+    requires { IsOpen records.old }
+    ensures { (rows : List Row) → AreLeft records.old rows → DeclareOrRefuse rows records.new result }
+{
+    let mut draft = Draft::new(alloc);
+    for number in 2..u32::MAX {
+        let found = records.next()?;
+        if !found || is_result(&records.current) {
+            return Ok(Declarations {
+                draft,
+                before: number - 1,
+                in_rest: found,
+            });
+        }
+        if let Err(e) = draft.add(number, &records.current) {
+            return Err(refused_at(number, e));
+        }
+    }
+    unreachable!()
+}
+
+/// The error of the record with this number.
+fn refused_at(number: u32, error: RecordError) -> ReadError
+    ensures { result ≡ error_at number error }
+{
+    match error {
+        RecordError::Refused(why) => ReadError::Refused(Refused {
+            row: u64::from(number),
+            why,
+        }),
+        RecordError::Memory => ReadError::Memory,
+    }
+}
+
+/// The rows from the current record on, where there are any.
+fn read_rest(alloc: Global, records: &mut TextRecords, any: bool) -> Result<Rows, Memory>
+    requires { IsTrue any → IsOpen records.old }
+    ensures { IfOk result (λ rest. (rows : List Row) → GivesNext records.old rows any → rest ≡ rows) }
+{
+    let mut rest = RowBuilder::new(alloc);
+    if !any {
+        return Ok(rest.into_rows());
+    }
+    rest.push(&records.current)?;
+    for _count in 1..u32::MAX {
+        if !records.next()? {
+            return Ok(rest.into_rows());
+        }
+        rest.push(&records.current)?;
+    }
+    unreachable!()
+}
+
+/// What is declared, as an instance and its names.
+fn made(alloc: Global, draft: Draft) -> Result<(Instance, Names), ReadError>
+    requires sound { IsSound (declared_of draft) }
+    requires few { length draft.deadheads.items < 2 ^ 32 }
+    ensures found { IfOk result (λ made.
+        Makes (declared_of draft) made.0 × (made.1 ≡ draft.names)) }
+    ensures refused { IfErr result (RefusesAs (λ refused. (records : List Row)
+        → AddAll nothing_yet records (declared_of draft) → HasNumbers draft.numbers records
+        → HasMisfit records refused)) }
+    ensures none { IfErr result (λ e. IsRefusedError e
+        → (p : Problem) → ¬ (Makes (declared_of draft) p)) }
+{
+    let Draft {
+        names,
+        deadheads,
+        layers,
+        trips,
+        numbers,
+    } = draft;
+    let parts = Parts {
+        stops: names.stops() as u32,
+        deadheads,
+        layers,
+        trips,
+    };
+    match Instance::new(alloc, parts) {
+        Ok(instance) => Ok((instance, names)),
+        Err(NewError::Misfit(misfit)) => Err(ReadError::Refused(Refused {
+            row: u64::from(numbers.of_misfit(misfit)),
+            why: Why::Misfit(misfit),
+        })),
+        Err(NewError::Memory) => Err(ReadError::Memory),
+    }
+}

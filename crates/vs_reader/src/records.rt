@@ -1,0 +1,179 @@
+//! The records of each kind, judged in the order of their rules.
+ghost use Rattle.std.specs.Prelude.{◌≡◌, ℕ, ◌<◌, ◌≤◌, [], ◌∷◌, length, drop, codes};
+ghost use Rattle.csv.specs.Records.{fields_of};
+ghost use Rattle.vs_instance.specs.declared.limits.TheConstants.{MAX_LAYERS};
+ghost use Rattle.vs_reader.specs.Rows.{field_of};
+ghost use Rattle.vs_reader.specs.Numbers.{IsNumber, IsTime};
+ghost use Rattle.vs_reader.specs.Names.{Names as Numbered};
+ghost use Rattle.vs_reader.specs.InstanceText.{DeadheadRow, LayerRow, TripRow, NameLayers};
+ghost use Rattle.vs_reader.specs.Rules.{WritesName, WritesNumber, WritesTime, new_name, known_name, layer_names, stop_rules, deadhead_rules, layer_rules, trip_rules};
+ghost use Rattle.vs_reader.specs.Judged.{Judged};
+
+use crate::name::name;
+use crate::names::Names;
+use crate::number::number;
+use crate::record::field;
+use crate::refused::Why;
+use crate::time::time;
+use csv::ByteRecord;
+use vs_instance::{Deadhead, Layer, MAX_LAYERS, MAX_STOPS, MAX_TRIPS, Trip};
+use vs_types::{LayerNo, LayerSet, StopNo};
+
+/// The name of a stop that a record declares.
+pub fn stop<'r>(names: &Names, record: &'r ByteRecord) -> Result<&'r [u8], Why>
+    requires { field_of (fields_of record.now) 0 ≡ codes "stop" }
+    ensures { Judged (stop_rules names.now (fields_of record.now)) (λ name. name.now ≡ field_of (fields_of record.now) 1) result }
+{
+    if record.len() != 2 {
+        return Err(Why::FieldCount);
+    }
+    let name = written_name(field(record, 1))?;
+    if names.stop_of(name).is_some() {
+        return Err(Why::NameTwice);
+    }
+    if names.stops() >= MAX_STOPS as usize {
+        return Err(Why::TooMany);
+    }
+    Ok(name.as_bytes())
+}
+
+/// The deadhead that a record declares.
+pub fn deadhead(names: &Names, record: &ByteRecord) -> Result<Deadhead, Why>
+    requires kind { field_of (fields_of record.now) 0 ≡ codes "deadhead" }
+    ensures { Judged (deadhead_rules names.now (fields_of record.now))
+        (DeadheadRow names.now.stops (fields_of record.now)) result }
+{
+    if record.len() != 5 {
+        return Err(Why::FieldCount);
+    }
+    let from = known_stop(names, field(record, 1))?;
+    let to = known_stop(names, field(record, 2))?;
+    let minutes = written_number(field(record, 3))?;
+    let metres = written_number(field(record, 4))?;
+    Ok(Deadhead {
+        from,
+        to,
+        minutes,
+        metres,
+    })
+}
+
+/// The layer that a record declares.
+pub fn layer(names: &Names, record: &ByteRecord) -> Result<Layer, Why>
+    requires kind { field_of (fields_of record.now) 0 ≡ codes "layer" }
+    ensures { Judged (layer_rules names.now (fields_of record.now))
+        (LayerRow names.now.stops (fields_of record.now) (field_of (fields_of record.now) 1)) result }
+{
+    if record.len() != 7 {
+        return Err(Why::FieldCount);
+    }
+    let name = written_name(field(record, 1))?;
+    if names.layer_of(name).is_some() {
+        return Err(Why::NameTwice);
+    }
+    let depot = known_stop(names, field(record, 2))?;
+    let fleet = written_number(field(record, 3))?;
+    let fixed = written_number(field(record, 4))?;
+    let per_minute = written_number(field(record, 5))?;
+    let per_metre = written_number(field(record, 6))?;
+    if names.layers() >= MAX_LAYERS as usize {
+        return Err(Why::TooMany);
+    }
+    Ok(Layer {
+        depot,
+        fleet,
+        fixed,
+        per_minute,
+        per_metre,
+    })
+}
+
+/// The trip that a record declares.
+pub fn trip(names: &Names, record: &ByteRecord) -> Result<Trip, Why>
+    requires kind { field_of (fields_of record.now) 0 ≡ codes "trip" }
+    requires layers { length names.now.layers ≤ MAX_LAYERS }
+    ensures { Judged (trip_rules names.now (fields_of record.now))
+        (TripRow names.now (fields_of record.now) (field_of (fields_of record.now) 1)) result }
+{
+    if record.len() < 8 {
+        return Err(Why::FieldCount);
+    }
+    let name = written_name(field(record, 1))?;
+    if names.trip_of(name).is_some() {
+        return Err(Why::NameTwice);
+    }
+    let from = known_stop(names, field(record, 2))?;
+    let start = written_time(field(record, 3))?;
+    let to = known_stop(names, field(record, 4))?;
+    let end = written_time(field(record, 5))?;
+    let metres = written_number(field(record, 6))?;
+    let layers = named_layers(names, record)?;
+    if names.trips() >= MAX_TRIPS as usize {
+        return Err(Why::TooMany);
+    }
+    Ok(Trip {
+        from,
+        start,
+        to,
+        end,
+        metres,
+        layers,
+    })
+}
+
+/// The layers that the fields of a record name from the eighth on.
+fn named_layers(names: &Names, record: &ByteRecord) -> Result<LayerSet, Why>
+    requires fields { 7 ≤ length (fields_of record.now) }
+    requires layers { length names.now.layers ≤ MAX_LAYERS }
+    ensures { Judged (layer_names names.now.layers [] (drop 7 (fields_of record.now)))
+        (NameLayers names.now.layers (drop 7 (fields_of record.now))) result }
+{
+    let mut set = LayerSet(0);
+    for k in 7..record.len() {
+        let l = known_layer(names, field(record, k))?;
+        if set.has(l) {
+            return Err(Why::NameTwice);
+        }
+        set = set.with(l);
+    }
+    Ok(set)
+}
+
+/// The name that a field writes.
+fn written_name(field: &[u8]) -> Result<&str, Why>
+    ensures { Judged (WritesName field.now ∷ []) (λ name. name.now ≡ field.now) result }
+{
+    name(field).ok_or(Why::BadName)
+}
+
+/// The stop that a field names.
+fn known_stop(names: &Names, field: &[u8]) -> Result<StopNo, Why>
+    ensures { Judged (known_name names.now.stops field.now)
+        (λ k. Numbered names.now.stops field.now k.0) result }
+{
+    let name = written_name(field)?;
+    names.stop_of(name).ok_or(Why::UnknownName)
+}
+
+/// The one layer that a field names.
+fn known_layer(names: &Names, field: &[u8]) -> Result<LayerNo, Why>
+    ensures { Judged (known_name names.now.layers field.now) (λ l. Numbered names.now.layers field.now l.0
+        × ((j : ℕ) → Numbered names.now.layers field.now j → j ≡ l.0)) result }
+{
+    let name = written_name(field)?;
+    names.layer_of(name).ok_or(Why::UnknownName)
+}
+
+/// The number that a field writes.
+fn written_number(field: &[u8]) -> Result<u64, Why>
+    ensures { Judged (WritesNumber field.now ∷ []) (IsNumber field.now) result }
+{
+    number(field).ok_or(Why::BadNumber)
+}
+
+/// The minute of a time that a field writes, from 0:00 of the first day.
+fn written_time(field: &[u8]) -> Result<u32, Why>
+    ensures { Judged (WritesTime field.now ∷ []) (λ t. IsTime field.now t) result }
+{
+    time(field).ok_or(Why::BadTime)
+}

@@ -1,0 +1,5 @@
+pub mod Bits
+pub mod Rests
+pub mod RunIn
+pub mod Restrictions
+pub mod Sharing
