@@ -1,0 +1,3 @@
+pub mod ArcsAt
+pub mod Starts
+pub mod Placed

@@ -1,0 +1,132 @@
+ghost use Rattle.std.specs.Prelude.{◌≡◌, ◌<◌, ◌≤◌, IfOk, IfErr, MatchOption, length};
+ghost use Rattle.vs_layer.specs.Graph.{IsNet, IsRightArc, AllRight, arc_of, leaving, reaching};
+ghost use Rattle.vs_layer.specs.Faults.{IsFaultOf, IsFirstFault, IfFirstFault};
+
+use crate::arc::{Arc, End, MAX_ARCS};
+use crate::net_error::{NetError, NetFault};
+use crate::star::Star;
+use std::alloc::Global;
+use std::marker::Model;
+
+/// A net: nodes counted from 0 and arcs counted from 0. Each arc but the last goes from a lower to a higher
+/// node; the last goes from the last node to node 0. The arcs that leave a node, and those that reach it, are
+/// kept as a forward and a reverse star (Ahuja, Magnanti and Orlin, Network Flows, 1993, section 2.3).
+#[derive(Drop)]
+pub struct Net {
+    nodes: u32,
+    arcs: Vec<Arc>,
+    forward: Star,
+    reverse: Star,
+}
+
+impl Model for Net {
+    ghost use Rattle.vs_layer.specs.Graph.{Graph};
+    ghost use Rattle.vs_layer.specs.Stars.{IsStarred};
+
+    ghost Value = { Graph };
+
+    ghost view = { λ n. record { nodes = n.nodes; arcs = n.arcs.items } };
+
+    ghost invariant = { λ n. IsStarred (record { nodes = n.nodes; arcs = n.arcs.items }) n.forward n.reverse };
+}
+
+impl Net {
+    /// The net of so many nodes and these arcs, or the first arc that is wrong.
+    pub fn new(alloc: Global, nodes: u32, arcs: Vec<Arc>) -> Result<Net, NetError>
+        requires nodes { 2 ≤ nodes }
+        requires some_arc { 0 < length arcs.items }
+        requires few_arcs { length arcs.items ≤ MAX_ARCS }
+        ensures given { IfOk result (λ net. net ≡ record { nodes = nodes; arcs = arcs.items }) }
+        ensures net { IfOk result IsNet }
+        ensures fault { IfErr result (IfFirstFault nodes arcs.items) }
+    {
+        if let Some(fault) = first_fault(nodes, &arcs) {
+            return Err(NetError::Fault(fault));
+        }
+        let forward = Star::new(alloc, nodes, &arcs, End::From)?;
+        let reverse = Star::new(alloc, nodes, &arcs, End::To)?;
+        Ok(Net {
+            nodes,
+            arcs,
+            forward,
+            reverse,
+        })
+    }
+
+    /// How many nodes there are, at least 2.
+    pub fn nodes(&self) -> u32
+        ensures count { result ≡ self.now.nodes }
+        ensures net { IsNet self.now }
+    {
+        self.nodes
+    }
+
+    /// How many arcs there are, at least 1.
+    pub fn arcs(&self) -> u32
+        ensures count { result ≡ length self.now.arcs }
+        ensures net { IsNet self.now }
+    {
+        self.arcs.len() as u32
+    }
+
+    /// An arc.
+    pub fn arc(&self, k: u32) -> Arc
+        requires { k < length self.now.arcs }
+        ensures { result ≡ arc_of self.now k }
+    {
+        self.arcs[k as usize]
+    }
+
+    /// The numbers of the arcs that leave a node, in order.
+    pub fn leaving(&self, node: u32) -> &[u32]
+        requires { node < self.now.nodes }
+        ensures { result.now ≡ leaving self.now node }
+    {
+        self.forward.group(node)
+    }
+
+    /// The numbers of the arcs that reach a node, in order.
+    pub fn reaching(&self, node: u32) -> &[u32]
+        requires { node < self.now.nodes }
+        ensures { result.now ≡ reaching self.now node }
+    {
+        self.reverse.group(node)
+    }
+}
+
+/// The first arc that makes these no net.
+fn first_fault(nodes: u32, arcs: &[Arc]) -> Option<NetFault>
+    requires { length arcs.now ≤ MAX_ARCS }
+    ensures { MatchOption result (AllRight nodes arcs.now) (IsFirstFault nodes arcs.now) }
+{
+    for (k, arc) in arcs.iter().enumerate() {
+        if let Some(fault) = fault_of(nodes, arcs.len(), k, arc) {
+            return Some(fault);
+        }
+    }
+    None
+}
+
+/// What is wrong with arc k of so many.
+fn fault_of(nodes: u32, count: usize, k: usize, arc: &Arc) -> Option<NetFault>
+    requires of_net { k < count }
+    requires few { count ≤ MAX_ARCS }
+    ensures { MatchOption result (IsRightArc nodes count k arc.now) (IsFaultOf nodes count k arc.now) }
+{
+    if arc.from >= nodes || arc.to >= nodes {
+        return Some(NetFault::NoSuchNode(k as u32));
+    }
+    let goes_on = if k + 1 == count {
+        arc.from == nodes - 1 && arc.to == 0
+    } else {
+        arc.from < arc.to
+    };
+    if goes_on {
+        None
+    } else {
+        Some(NetFault::NotForward(k as u32))
+    }
+}
+
+#[cfg(test)]
+mod tests;

@@ -1,0 +1,37 @@
+-- Counts of kinds and of connections, one by one.
+use Rattle.std.proofs.Common.{◌≡◌, ℕ, zero, suc, ◌+◌, ◌-◌, ◌*◌, ◌<◌, ◌≤◌, Bool, true, false, cond, eqb, leb, ltb, ◌&&◌, List, [], ◌∷◌, ◌++◌, take, length, get_or, Option, Some, None, refl, sym, ap, ◌∙◌, subst, inl, inr, arith, add-one}
+use Rattle.std.specs.Prelude.{count_by, sum_by, is_some, option_and_then, nat_le, if◌then◌else◌}
+use Rattle.std.specs.List.{range_with_len}
+use Rattle.std.specs.Int.{bit_at}
+use Rattle.std.proofs.lemmas.List.Sums.{sum_by-append}
+use Rattle.vs_instance.specs.declared.way.Way.{Way}
+use Rattle.vs_instance.specs.Problem.{Problem}
+use Rattle.vs_instance.specs.Ways.{trip_of, way_between}
+use Rattle.vs_instance.specs.Pieces.{rated, link_piece}
+use Rattle.vs_match.specs.declared.arc_kind.ArcKind.{ArcKind}
+use Rattle.vs_match.specs.declared.arc_kind.ArcKind.TheVariants.{Trip, Waiting, Deadhead, PullOut, PullIn, Return}
+use Rattle.vs_match.specs.declared.sizes.NetCounts.{NetCounts}
+use Rattle.vs_match.specs.NetArcs.{rank}
+use Rattle.vs_match.specs.Sizes.{counts_from, with_kind, HasRoom}
+
+-- the numbers from a on, with one more at their end
+range_more : (a n j : ℕ) → a + n ≡ j → range_with_len a (n + 1) ≡ range_with_len a n ++ j ∷ []
+range_more a zero j e = let same : a ≡ j = omega arith in ap (λ (x : ℕ). x ∷ []) same
+range_more a (suc n) j e =
+    let up : suc n + 1 ≡ suc (n + 1) = omega arith in
+    rw up (ap (λ (xs : List ℕ). a ∷ xs) (range_more (a + 1) n j (omega arith)))
+
+-- one number more is added
+pub sum_by-next : (f : ℕ → ℕ) (n : ℕ) → sum_by f (range_with_len 0 (n + 1)) ≡ sum_by f (range_with_len 0 n) + f n
+sum_by-next f n = ap (sum_by f) (range_more 0 n n (omega arith)) ∙ sum_by-append f (range_with_len 0 n) (n ∷ []) ∙ ap (λ (x : ℕ). sum_by f (range_with_len 0 n) + x) (omega arith)
+
+-- one number more is counted, or isn't
+pub count_by-next : (p : ℕ → Bool) (n : ℕ) → count_by p (range_with_len 0 (n + 1)) ≡ count_by p (range_with_len 0 n) + cond (p n) 1 0
+count_by-next p n = sum_by-next (λ k. cond (p k) 1 0) n
+
+-- a sum of numbers that are all at most m
+pub sum_by-≤ : (f : ℕ → ℕ) (m n : ℕ) → ((k : ℕ) → f k ≤ m) → sum_by f (range_with_len 0 n) ≤ n * m
+sum_by-≤ f m zero each = omega arith
+sum_by-≤ f m (suc n) each =
+    let up = ap (λ (k : ℕ). sum_by f (range_with_len 0 k)) (sym (add-one n)) in
+    omega (arith, up, sum_by-next f n, sum_by-≤ f m n each, each n)

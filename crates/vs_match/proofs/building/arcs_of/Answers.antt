@@ -1,0 +1,44 @@
+use Rattle.std.proofs.Common.{◌≡◌, ℕ, ◌+◌, ◌∙◌, ap, sym, subst, length, length-append, arith, List, [], ◌∷◌, ◌++◌}
+use Rattle.vs_match.specs.declared.layer_arc.LayerArc.{LayerArc}
+use Rattle.vs_match.specs.Adds.{Adds}
+use Rattle.vs_match.specs.ArcsOf.{return_of}
+use Rattle.vs_match.specs.Events.{last_node}
+use Rattle.vs_match.specs.Parts.{IsTrip}
+use Rattle.vs_match.proofs.ArcOrder.{arc_equal}
+use Rattle.vs_match.proofs.WholeNet.{adds_return, adds_all, are_arcs}
+use Rattle.vs_match.proofs.building.arcs_of.Goals as goal
+
+pub put_in_order-requires : goal.put_in_order-requires
+put_in_order-requires c = arc_equal
+
+pub returns-clause-arcs : goal.returns-clause-arcs
+returns-clause-arcs c =
+    let p = c.args.instance.now in
+    let l = c.args.l.0 in
+    let events = c.args.nodes.now.events.items in
+    let count : c.len.result ≡ length events = omega (arith, c.len.ensures, c.args.nodes.now.events.ok.0) in
+    let back = c.return_arc.ensures ∙ ap (λ (n : ℕ). return_of p l (n + 1)) count in
+    let e = c.push_pull_ins.new.arcs.items in
+    let pushed : c.push.new.self.items ≡ e ++ return_of p l (last_node events) ∷ [] =
+    c.in_ok-push.ensures.items ∙ ap (λ (x : LayerArc). e ++ x ∷ []) back in
+    let P : List LayerArc → Type 0 = λ xs. Adds (IsTrip p l events) xs c.push_trips.new.arcs.items in
+    are_arcs p l c.args.matching events c.push.new.self.items c.put_in_order.new.items.items
+    (rw pushed (adds_all p l c.args.matching events c.push_trips.new.arcs.items c.push_waiting.new.arcs.items c.push_deadheads.new.arcs.items
+    c.push_pull_outs.new.arcs.items e _ (subst P c.new-arcs.ensures.items c.in_ok-push_trips.ensures.adds) c.in_ok-push_waiting.ensures.adds
+    c.in_ok-push_deadheads.ensures.adds c.in_ok-push_pull_outs.ensures.adds c.in_ok-push_pull_ins.ensures.adds (adds_return p l c.args.matching events e)))
+    c.put_in_order.ensures.same c.put_in_order.ensures.ordered
+
+pub returns-clause-few : goal.returns-clause-few
+returns-clause-few c =
+    let pushed = ap length c.in_ok-push.ensures.items ∙ length-append c.push_pull_ins.new.arcs.items (c.return_arc.result ∷ []) in
+    omega (
+      arith,
+      c.put_in_order.ensures.few,
+      pushed,
+      c.in_ok-push_pull_ins.ensures.few,
+      c.in_ok-push_pull_outs.ensures.few,
+      c.in_ok-push_deadheads.ensures.few,
+      c.in_ok-push_waiting.ensures.few,
+      c.in_ok-push_trips.ensures.few,
+      ap length c.new-arcs.ensures.items,
+    )

@@ -1,0 +1,63 @@
+use Rattle.std.proofs.Common.{◌≡◌, ℕ, ◌∙◌, sym, ap, subst, refl, length, arith, [], ◌∷◌, ◌++◌, List, length-append, Vec, Global}
+use Rattle.std.specs.Int.{bit_at}
+use Rattle.std.proofs.lemmas.Bool.{false≢true}
+use Rattle.vs_instance.specs.declared.trip.Trip.{Trip}
+use Rattle.vs_match.specs.Events.{departure, arrival, MayRun}
+use Rattle.vs_match.specs.declared.event.Event.{Event}
+use Rattle.vs_match.specs.Adds.{Adds}
+use Rattle.vs_match.proofs.Adding.{Upto, upto-none, upto-many, upto-skip}
+use Rattle.vs_match.proofs.EventLists.{OfTrip, are_events, event_equal, adds_both_events}
+use Rattle.vs_match.proofs.nodes.events_of.Goals as goal
+use Rattle.vs_match.proofs.nodes.events_of.Goals.{then-has+in_ok-push+in_ok-push-2, else-has}
+
+pub put_in_order-requires : goal.put_in_order-requires
+put_in_order-requires c = event_equal
+
+pub loop-i-init : goal.loop-i-init
+loop-i-init c =
+    let none = c.new-events.ensures.items in
+    record {
+      adds = rw none (upto-none (OfTrip c.args.instance.now c.args.l.0) []);
+      few = rw none (omega arith);
+    }
+
+pub loop-i-preserved : goal.loop-i-preserved
+loop-i-preserved c =
+    let p = c.args.instance.now in
+    let l = c.args.l.0 in
+    let i = c.loop-i.i in
+    let before = c.loop-i.events.items in
+    elim c.if-has.branch [
+      | then-has+in_ok-push+in_ok-push-2 w ↦
+          let may : MayRun p l i = (
+            omega (arith, c.loop-i-test.true, c.trips-i-end.ensures.count),
+            ap (λ (t : Trip). bit_at t.layers.0 l) (sym c.trip.ensures) ∙ w.if-has.ensures.0 refl,
+          ) in
+          let items : c.if-has.events.items ≡ (before ++ departure p i ∷ []) ++ arrival p i ∷ [] =
+          ap (λ (v : Vec Event Global). v.items) w.events-is ∙ w.in_ok-push-2.ensures.items
+          ∙ ap (λ (xs : List Event). xs ++ w.event-then-has.result ∷ []) w.in_ok-push.ensures.items
+          ∙ ap (λ (e : Event). (before ++ e ∷ []) ++ w.event-then-has.result ∷ []) w.event.ensures
+          ∙ ap (λ (e : Event). (before ++ departure p i ∷ []) ++ e ∷ []) w.event-then-has.ensures in
+          record {
+            adds = rw items (upto-many (OfTrip p l) i [] before _ c.loop-i.invariant.adds (adds_both_events p l i before may));
+            few = rw items (omega (arith, c.loop-i.invariant.few, length-append (before ++ departure p i ∷ []) (arrival p i ∷ []), length-append before (departure p i ∷ [])));
+          }
+      | else-has w ↦
+          let same = ap (λ (v : Vec Event Global). v.items) w.events-is in
+          record {
+            adds = rw same (upto-skip (OfTrip p l) i [] before c.loop-i.invariant.adds
+                (λ e of. false≢true (w.if-has.ensures.1 (ap (λ (t : Trip). bit_at t.layers.0 l) c.trip.ensures ∙ of.0.1))));
+            few = rw same (omega (arith, c.loop-i.invariant.few));
+          }
+    ]
+
+pub returns-clause-events : goal.returns-clause-events
+returns-clause-events c =
+    let all : c.loop-i.i ≡ length c.args.instance.now.trips = omega (arith, c.loop-i.auto.i-end, c.loop-i-test.false, c.trips-i-end.ensures.count) in
+    let P : ℕ → Type 0 = λ n. Adds (Upto (OfTrip c.args.instance.now c.args.l.0) n) [] c.loop-i.events.items in
+    are_events c.args.instance.now c.args.l.0 c.loop-i.events.items c.put_in_order.new.items.items
+    (subst P all c.loop-i.invariant.adds) c.put_in_order.ensures.same c.put_in_order.ensures.ordered
+
+pub returns-clause-few : goal.returns-clause-few
+returns-clause-few c =
+    omega (arith, c.put_in_order.ensures.few, c.loop-i.invariant.few, c.loop-i.auto.i-end, c.trips-i-end.ensures.count, c.trips-i-end.ensures.instance.few_trips)

@@ -1,0 +1,12 @@
+use Rattle.std.proofs.Common.{[], ◌*◌, ◌≤◌, length}
+use Rattle.vs_match.specs.Adds.{Adds}
+use Rattle.vs_match.proofs.Adding.{Upto}
+use Rattle.vs_match.proofs.EventLists.{OfTrip}
+use Rattle.vs_match.proofs.nodes.events_of.Given as goal
+
+-- the events of the trips so far
+abbrev pub invariant-loop-i : goal.invariant-loop-i
+invariant-loop-i l = record {
+  adds : Adds (Upto (OfTrip l.instance l.l.0) l.i) [] l.events.items;
+  few : length l.events.items ≤ 2 * l.i;
+}

@@ -1,0 +1,27 @@
+use Rattle.std.proofs.Common.{List, subst}
+use Rattle.std.specs.Prelude.{Contains}
+use Rattle.vs_match.specs.declared.event.Event.{Event}
+use Rattle.vs_match.specs.Events.{ArrivesAt, DepartsAt}
+use Rattle.vs_match.specs.Stays.{AreStays}
+use Rattle.vs_match.proofs.nodes.nodes_of.Goals as goal
+
+pub returns : goal.returns
+returns c =
+    let p = c.args.instance.now in
+    let l = c.args.l.0 in
+    let events = c.in_ok-events.ensures.events in
+    let all = subst (λ (es : List Event). AreStays es (Contains es) c.in_ok-all.all.items) c.deref.ensures.value c.in_ok-all.ensures.stays in
+    record {
+      events = events;
+      few = c.in_ok-events.ensures.few;
+      all = record {
+        only = λ s has. let both = all.only s has in (both.0, events.only _ both.1);
+        every = λ s at is. all.every s at (events.every _ is);
+        ordered = all.ordered;
+      };
+      few_all = c.in_ok-all.ensures.few;
+      departures = subst (λ (es : List Event). AreStays es (DepartsAt p l) c.in_ok-departures.departures.items) c.deref-2.ensures.value c.in_ok-departures.ensures.stays;
+      few_departures = c.in_ok-departures.ensures.few;
+      arrivals = subst (λ (es : List Event). AreStays es (ArrivesAt p l) c.in_ok-arrivals.arrivals.items) c.deref-3.ensures.value c.in_ok-arrivals.ensures.stays;
+      few_arrivals = c.in_ok-arrivals.ensures.few;
+    }

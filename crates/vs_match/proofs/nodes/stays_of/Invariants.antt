@@ -1,0 +1,12 @@
+use Rattle.std.proofs.Common.{[], ◌≤◌, length}
+use Rattle.vs_match.specs.Adds.{Adds}
+use Rattle.vs_match.proofs.Adding.{Upto}
+use Rattle.vs_match.proofs.StayLists.{OfTripEnd}
+use Rattle.vs_match.proofs.nodes.stays_of.Given as goal
+
+-- the nodes of the trips so far
+abbrev pub invariant-loop-i : goal.invariant-loop-i
+invariant-loop-i l = record {
+  adds : Adds (Upto (OfTripEnd l.end l.instance l.l.0 l.events) l.i) [] l.stays.items;
+  few : length l.stays.items ≤ l.i;
+}

@@ -1,0 +1,26 @@
+use Rattle.std.proofs.Common.{◌≡◌, ℕ, ◌-◌, ◌∙◌, List, [], length, take, ap, sym, arith}
+use Rattle.std.proofs.lemmas.List.{take_all}
+use Rattle.vs_layer.specs.Graph.{Graph}
+use Rattle.vs_match.specs.declared.arc_kind.ArcKind.{ArcKind}
+use Rattle.vs_match.specs.Sizes.{counts_from}
+use Rattle.vs_match.proofs.sizes.counts.Goals as goal
+
+pub loop-k-init : goal.loop-k-init
+loop-k-init c =
+    let nodes : c.nodes.result - 2 ≡ length c.args.net.now.events =
+    omega (arith, c.nodes.ensures.count, ap (λ (g : Graph). g.nodes) c.net.ensures.graph, c.net.ensures.labelled.each_node) in
+    ap (λ (n : ℕ). counts_from n []) nodes
+
+pub returns : goal.returns
+returns c =
+    let n = c.args.net.now in
+    let all : c.loop-k.k ≡ length n.kinds =
+    omega (
+      arith,
+      c.loop-k.auto.k-end,
+      c.loop-k-test.false,
+      c.arcs-k-end.ensures.count,
+      ap (λ (g : Graph). length g.arcs) c.net-2.ensures.graph,
+      c.net-2.ensures.labelled.each_arc,
+    ) in
+    c.loop-k.invariant ∙ ap (λ (ks : List ArcKind). counts_from (length n.events) ks) (ap (λ (k : ℕ). take k n.kinds) all ∙ take_all (length n.kinds) n.kinds (omega arith))

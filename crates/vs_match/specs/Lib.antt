@@ -1,0 +1,14 @@
+pub mod Events
+pub mod Matches
+pub mod NetArcs
+pub mod LayerGraph
+pub mod WalkLaw
+pub mod Sizes
+pub mod TripEnds
+pub mod Stays
+pub mod Nodes
+pub mod Adds
+pub mod Parts
+pub mod ArcsOf
+pub mod Sweep
+pub mod TripIndex

@@ -1,0 +1,55 @@
+-- How large a layer's net is, and how many connections it stands for.
+use Rattle.std.specs.Prelude.{◌≡◌, ℕ, ◌+◌, ◌<◌, ◌==◌, ◌&&◌, Bool, List, length, is_some, count_by, sum_by}
+use Rattle.std.specs.Int.{bit_at}
+use Rattle.std.specs.List.{range_with_len}
+use Rattle.vs_instance.specs.Problem.{Problem}
+use Rattle.vs_instance.specs.Ways.{trip_of}
+use Rattle.vs_instance.specs.Pieces.{link_piece}
+use Rattle.vs_match.specs.declared.arc_kind.ArcKind.{ArcKind}
+use Rattle.vs_match.specs.declared.arc_kind.ArcKind.TheVariants.{Trip, Waiting, Deadhead, PullOut, PullIn, Return}
+use Rattle.vs_match.specs.declared.sizes.NetCounts.{NetCounts}
+use Rattle.vs_match.specs.NetArcs.{rank}
+use Rattle.vs_match.specs.LayerGraph.{LayerGraph}
+
+-- so many nodes that stand for an event, and the arcs of each kind
+abbrev pub counts_from : ℕ → List ArcKind → NetCounts
+counts_from nodes kinds = record {
+  nodes = nodes;
+  waiting = count_by (λ kind. rank kind == 1) kinds;
+  deadheads = count_by (λ kind. rank kind == 2) kinds;
+  pull_outs = count_by (λ kind. rank kind == 3) kinds;
+  pull_ins = count_by (λ kind. rank kind == 4) kinds;
+  trips = count_by (λ kind. rank kind == 0) kinds;
+}
+
+abbrev pub counts_of : LayerGraph → NetCounts
+counts_of n = counts_from (length n.events) n.kinds
+
+-- one arc of this kind more
+abbrev pub with_kind : ArcKind → NetCounts → NetCounts
+with_kind (Trip i) c = record c { trips = c.trips + 1 }
+with_kind Waiting c = record c { waiting = c.waiting + 1 }
+with_kind Deadhead c = record c { deadheads = c.deadheads + 1 }
+with_kind PullOut c = record c { pull_outs = c.pull_outs + 1 }
+with_kind PullIn c = record c { pull_ins = c.pull_ins + 1 }
+with_kind Return c = c
+
+-- each count can be one more
+pub record HasRoom (c : NetCounts) : Type 0 where
+  pub trips : c.trips + 1 < 4294967296
+  pub waiting : c.waiting + 1 < 4294967296
+  pub deadheads : c.deadheads + 1 < 4294967296
+  pub pull_outs : c.pull_outs + 1 < 4294967296
+  pub pull_ins : c.pull_ins + 1 < 4294967296
+
+-- the trips in number order
+abbrev pub numbers : Problem → List ℕ
+numbers p = range_with_len 0 (length p.trips)
+
+-- layer l may run both trips, and the first connects to the second
+abbrev pub is_connection : Problem → ℕ → ℕ → ℕ → Bool
+is_connection p l i j = (bit_at (trip_of p i).layers.0 l == 1) && (bit_at (trip_of p j).layers.0 l == 1) && is_some (link_piece p l i j)
+
+-- how many ordered pairs of trips are such
+abbrev pub full_count_of : Problem → ℕ → ℕ
+full_count_of p l = sum_by (λ i. count_by (is_connection p l i) (numbers p)) (numbers p)

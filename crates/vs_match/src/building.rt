@@ -1,0 +1,75 @@
+ghost use Rattle.std.specs.Prelude.{◌≡◌, ◌<◌, ◌≤◌, IfOk, length};
+ghost use Rattle.vs_match.specs.Adds.{AreArcs};
+ghost use Rattle.vs_match.specs.ArcsOf.{return_of};
+ghost use Rattle.vs_match.specs.LayerGraph.{IsNetOf};
+ghost use Rattle.vs_match.specs.Nodes.{AreNodes};
+ghost use Rattle.vs_match.specs.WalkLaw.{HasWalkLaw};
+
+use crate::arc_kind::ArcKind;
+use crate::deadheads::push_deadheads;
+use crate::in_order::put_in_order;
+use crate::layer_arc::LayerArc;
+use crate::layer_net::LayerNet;
+use crate::matching::Matching;
+use crate::nodes::{Nodes, nodes_of};
+use crate::pulls::{push_pull_ins, push_pull_outs};
+use crate::rates::fleet;
+use crate::trip_arcs::push_trips;
+use crate::waiting::push_waiting;
+use std::alloc::Global;
+use vs_instance::Instance;
+use vs_layer::MAX_ARCS;
+use vs_types::{LayerNo, Memory};
+
+/// The net of a layer by this matching.
+pub fn build(
+    alloc: Global,
+    instance: &Instance,
+    l: LayerNo,
+    matching: Matching,
+) -> Result<LayerNet, Memory>
+    requires { l.0 < length instance.now.layers }
+    ensures net { IfOk result (IsNetOf instance.now l.0 matching) }
+    ensures walks { IfOk result (HasWalkLaw instance.now l.0) }
+{
+    let nodes = nodes_of(alloc, instance, l)?;
+    let arcs = arcs_of(alloc, instance, l, matching, &nodes)?;
+    LayerNet::new(alloc, instance.trips(), nodes.events, &arcs)
+}
+
+/// The arcs of a layer's net, in order.
+fn arcs_of(
+    alloc: Global,
+    instance: &Instance,
+    l: LayerNo,
+    matching: Matching,
+    nodes: &Nodes,
+) -> Result<Vec<LayerArc>, Memory>
+    requires layer { l.0 < length instance.now.layers }
+    requires nodes { AreNodes instance.now l.0 nodes.now }
+    ensures arcs { IfOk result (λ arcs. AreArcs instance.now l.0 matching nodes.now.events.items arcs.items) }
+    ensures few { IfOk result (λ arcs. length arcs.items ≤ MAX_ARCS) }
+{
+    let mut arcs = Vec::new(alloc);
+    push_trips(instance, l, nodes, &mut arcs)?;
+    push_waiting(instance, l, nodes, &mut arcs)?;
+    push_deadheads(instance, l, matching, nodes, &mut arcs)?;
+    push_pull_outs(instance, l, nodes, &mut arcs)?;
+    push_pull_ins(instance, l, nodes, &mut arcs)?;
+    arcs.push(return_arc(instance, l, nodes.events.len() as u32 + 1))?;
+    put_in_order(&mut arcs);
+    Ok(arcs)
+}
+
+fn return_arc(instance: &Instance, l: LayerNo, last: u32) -> LayerArc
+    requires { l.0 < length instance.now.layers }
+    ensures { result ≡ return_of instance.now l.0 last }
+{
+    LayerArc {
+        from: last,
+        to: 0,
+        kind: ArcKind::Return,
+        cost: 0,
+        room: fleet(instance, l),
+    }
+}

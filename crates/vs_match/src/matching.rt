@@ -1,0 +1,42 @@
+ghost use Rattle.std.specs.Prelude.{◌<◌, IfOk, length};
+ghost use Rattle.vs_match.specs.declared.matching.Matching.TheVariants.{First, Latest};
+ghost use Rattle.vs_match.specs.LayerGraph.{IsNetOf};
+ghost use Rattle.vs_match.specs.WalkLaw.{HasWalkLaw};
+
+use crate::building::build;
+use crate::layer_net::LayerNet;
+use std::alloc::Global;
+use vs_instance::Instance;
+use vs_types::{LayerNo, Memory};
+
+/// Which arrivals at a stop have a deadhead to a departure at another.
+#[derive(Clone, Copy, Debug, PartialEq, Eq)]
+pub enum Matching {
+    /// All from which it is the first departure there that can be reached.
+    First,
+    /// Of these the latest.
+    Latest,
+}
+
+/// The net of a layer by first match. Costs are in 1/1000 of a cost unit.
+pub fn first_match(alloc: Global, instance: &Instance, l: LayerNo) -> Result<LayerNet, Memory>
+    requires { l.0 < length instance.now.layers }
+    ensures net { IfOk result (IsNetOf instance.now l.0 First) }
+    ensures walks { IfOk result (HasWalkLaw instance.now l.0) }
+{
+    build(alloc, instance, l, Matching::First)
+}
+
+/// The net of a layer by latest first match, in which an earlier arrival waits for the later one and leaves with
+/// it. Costs are in 1/1000 of a cost unit.
+pub fn latest_first_match(
+    alloc: Global,
+    instance: &Instance,
+    l: LayerNo,
+) -> Result<LayerNet, Memory>
+    requires { l.0 < length instance.now.layers }
+    ensures net { IfOk result (IsNetOf instance.now l.0 Latest) }
+    ensures walks { IfOk result (HasWalkLaw instance.now l.0) }
+{
+    build(alloc, instance, l, Matching::Latest)
+}

@@ -1,0 +1,54 @@
+ghost use Rattle.std.specs.Prelude.{◌≡◌, ◌+◌, ◌<◌, ◌≤◌, length, OnOk};
+ghost use Rattle.vs_match.specs.declared.arc_kind.ArcKind.TheVariants.{Trip};
+ghost use Rattle.vs_match.specs.Events.{MayRun};
+ghost use Rattle.vs_match.specs.NetArcs.{IsTripArc};
+ghost use Rattle.vs_match.specs.Nodes.{AreNodes};
+ghost use Rattle.vs_match.specs.Adds.{Adds, arc_in};
+ghost use Rattle.vs_match.specs.Parts.{IsTrip};
+
+use crate::arc_kind::ArcKind;
+use crate::layer_arc::LayerArc;
+use crate::nodes::{Nodes, node_of};
+use crate::rates::rate;
+use crate::trip_end::TripEnd;
+use vs_instance::{Instance, MAX_TRIPS};
+use vs_types::{LayerNo, Memory, TripNo};
+
+/// Puts the trips of a layer to its arcs.
+pub fn push_trips(
+    instance: &Instance,
+    l: LayerNo,
+    nodes: &Nodes,
+    arcs: &mut Vec<LayerArc>,
+) -> Result<(), Memory>
+    requires layer { l.0 < length instance.now.layers }
+    requires nodes { AreNodes instance.now l.0 nodes.now }
+    ensures adds { OnOk result (Adds (IsTrip instance.now l.0 nodes.now.events.items) arcs.old.items arcs.new.items) }
+    ensures few { OnOk result (length arcs.new.items ≤ length arcs.old.items + MAX_TRIPS) }
+{
+    for i in 0..instance.trips() {
+        let i = TripNo(i);
+        if instance.trip(i).layers.has(l) {
+            arcs.push(trip_arc(instance, l, nodes, i))?;
+        }
+    }
+    Ok(())
+}
+
+fn trip_arc(instance: &Instance, l: LayerNo, nodes: &Nodes, i: TripNo) -> LayerArc
+    requires layer { l.0 < length instance.now.layers }
+    requires nodes { AreNodes instance.now l.0 nodes.now }
+    requires may_run { MayRun instance.now l.0 i.0 }
+    ensures kind { result.kind ≡ Trip i }
+    ensures arc { IsTripArc instance.now l.0 nodes.now.events.items i.0 (arc_in result) }
+{
+    prove!(i.0 < instance.trips());
+    let trip = instance.trip(i);
+    LayerArc {
+        from: node_of(&nodes.events, &TripEnd::Departure.event(instance, i)),
+        to: node_of(&nodes.events, &TripEnd::Arrival.event(instance, i)),
+        kind: ArcKind::Trip(i),
+        cost: rate(instance, l, trip.end - trip.start, trip.metres),
+        room: 1,
+    }
+}
