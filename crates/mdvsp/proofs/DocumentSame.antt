@@ -156,7 +156,8 @@ same_lines p names l (suc n) i f g f' g' size a b c d e k low high may =
                 let from = same_price (g i) (g' i) (b i) (d i) (ap (λ (r : Row). get_or r 4 []) first) in
                 (ap f (sym here) ∙ into ∙ ap f' here, ap g (sym here) ∙ from ∙ ap g' here)
             | inr later ↦
-                same_lines p names l n (i + 1) f g f' g' (omega arith) a b c d (ap (drop 1) both) k (omega arith) high may
+                same_lines p names l n (i + 1) f g f' g' (omega arith) a b c d (ap (drop 1) both) k
+                (omega arith) high may
           ]
       | inr idle ↦
           let both =

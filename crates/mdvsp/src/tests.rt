@@ -237,46 +237,106 @@ type Refused = (&'static str, &'static [&'static str], &'static str);
 const NO_INSTANCES: [Refused; 25] = [
     ("empty", &[""], "refused,1,1,NoHeader\n"),
     ("no header", &["stop,D\n"], "refused,1,1,NoHeader\n"),
-    ("header with a field more", &["instance,1,2\n"], "refused,1,1,NoHeader\n"),
-    ("header with a field less", &["instance\n"], "refused,1,1,NoHeader\n"),
-    ("another kind", &[STOPS, "Stop,R\n"], "refused,11,2,UnknownKind\n"),
-    ("stop with a field more", &["instance,1\nstop,D,E\n"], "refused,2,3,FieldCount\n"),
-    ("stop with a field less", &["instance,1\nstop,D\nstop\n"], "refused,3,3,FieldCount\n"),
+    (
+        "header with a field more",
+        &["instance,1,2\n"],
+        "refused,1,1,NoHeader\n",
+    ),
+    (
+        "header with a field less",
+        &["instance\n"],
+        "refused,1,1,NoHeader\n",
+    ),
+    (
+        "another kind",
+        &[STOPS, "Stop,R\n"],
+        "refused,11,2,UnknownKind\n",
+    ),
+    (
+        "stop with a field more",
+        &["instance,1\nstop,D,E\n"],
+        "refused,2,3,FieldCount\n",
+    ),
+    (
+        "stop with a field less",
+        &["instance,1\nstop,D\nstop\n"],
+        "refused,3,3,FieldCount\n",
+    ),
     (
         "deadhead with a field less",
         &["instance,1\nstop,D\nstop,P\ndeadhead,D,P,10\n"],
         "refused,4,3,FieldCount\n",
     ),
-    ("layer with a field more", &[STOPS, "layer,L1,D,2,1000,1,0,0\n"], "refused,11,3,FieldCount\n"),
-    ("layer with a field less", &[STOPS, "layer,L1,D,2,1000,1\n"], "refused,11,3,FieldCount\n"),
-    ("trip of no layer", &[STOPS, LAYER, "trip,t1,P,8:00,Q,8:30,0\n"], "refused,12,3,FieldCount\n"),
+    (
+        "layer with a field more",
+        &[STOPS, "layer,L1,D,2,1000,1,0,0\n"],
+        "refused,11,3,FieldCount\n",
+    ),
+    (
+        "layer with a field less",
+        &[STOPS, "layer,L1,D,2,1000,1\n"],
+        "refused,11,3,FieldCount\n",
+    ),
+    (
+        "trip of no layer",
+        &[STOPS, LAYER, "trip,t1,P,8:00,Q,8:30,0\n"],
+        "refused,12,3,FieldCount\n",
+    ),
     (
         "name of 33 letters",
         &["instance,1\nstop,D\nstop,abcdefghijklmnopqrstuvwxyzabcdefg\n"],
         "refused,3,4,BadName\n",
     ),
-    ("stop twice", &["instance,1\nstop,D\nstop,D\n"], "refused,3,5,NameTwice\n"),
-    ("undeclared depot", &[STOPS, "layer,L1,X,2,1000,1,0\n", TRIPS], "refused,11,6,UnknownName\n"),
+    (
+        "stop twice",
+        &["instance,1\nstop,D\nstop,D\n"],
+        "refused,3,5,NameTwice\n",
+    ),
+    (
+        "undeclared depot",
+        &[STOPS, "layer,L1,X,2,1000,1,0\n", TRIPS],
+        "refused,11,6,UnknownName\n",
+    ),
     (
         "trip of an undeclared layer",
         &[STOPS, LAYER, "trip,t1,P,8:00,Q,8:30,0,L1,0\n"],
         "refused,12,6,UnknownName\n",
     ),
-    ("number of 11 digits", &[STOPS, "layer,L1,D,00000000002,1000,1,0\n"], "refused,11,7,BadNumber\n"),
-    ("time of 48:00", &[STOPS, LAYER, "trip,t1,P,8:00,Q,48:00,0,L1\n"], "refused,12,8,BadTime\n"),
+    (
+        "number of 11 digits",
+        &[STOPS, "layer,L1,D,00000000002,1000,1,0\n"],
+        "refused,11,7,BadNumber\n",
+    ),
+    (
+        "time of 48:00",
+        &[STOPS, LAYER, "trip,t1,P,8:00,Q,48:00,0,L1\n"],
+        "refused,12,8,BadTime\n",
+    ),
     (
         "end not after the start",
         &[STOPS, LAYER, "trip,t1,P,8:00,Q,8:00,0,L1\n"],
         "refused,12,10,EndNotAfterStart\n",
     ),
-    ("fleet of 2001", &[STOPS, "layer,L1,D,2001,1000,1,0\n", TRIPS], "refused,11,10,Range,fleet\n"),
+    (
+        "fleet of 2001",
+        &[STOPS, "layer,L1,D,2001,1000,1,0\n", TRIPS],
+        "refused,11,10,Range,fleet\n",
+    ),
     (
         "deadhead of no minutes",
         &["instance,1\nstop,D\nstop,P\ndeadhead,D,P,0,0\n"],
         "refused,4,10,Range,minutes\n",
     ),
-    ("deadhead to where it begins", &[STOPS, "deadhead,D,D,10,0\n"], "refused,11,10,SelfDeadhead\n"),
-    ("deadhead twice", &[STOPS, LAYER, "deadhead,D,P,10,0\n"], "refused,12,10,DeadheadTwice\n"),
+    (
+        "deadhead to where it begins",
+        &[STOPS, "deadhead,D,D,10,0\n"],
+        "refused,11,10,SelfDeadhead\n",
+    ),
+    (
+        "deadhead twice",
+        &[STOPS, LAYER, "deadhead,D,P,10,0\n"],
+        "refused,12,10,DeadheadTwice\n",
+    ),
     (
         "open deadheads",
         &["instance,1\nstop,P\nstop,Q\nstop,R\ndeadhead,P,Q,15,0\ndeadhead,Q,R,5,0\n"],
@@ -284,12 +344,16 @@ const NO_INSTANCES: [Refused; 25] = [
     ),
     (
         "deadheads with a shorter way round",
-        &["instance,1\nstop,P\nstop,Q\nstop,R\ndeadhead,P,Q,15,0\ndeadhead,Q,R,5,0\ndeadhead,P,R,21,0\n"],
+        &[
+            "instance,1\nstop,P\nstop,Q\nstop,R\ndeadhead,P,Q,15,0\ndeadhead,Q,R,5,0\ndeadhead,P,R,21,0\n",
+        ],
         "refused,0,10,LongerMinutes,1,2,3\n",
     ),
     (
         "deadheads with fewer metres the way round",
-        &["instance,1\nstop,P\nstop,Q\nstop,R\ndeadhead,P,Q,15,7\ndeadhead,Q,R,5,8\ndeadhead,P,R,20,16\n"],
+        &[
+            "instance,1\nstop,P\nstop,Q\nstop,R\ndeadhead,P,Q,15,7\ndeadhead,Q,R,5,8\ndeadhead,P,R,20,16\n",
+        ],
         "refused,0,10,LongerMetres,1,2,3\n",
     ),
 ];
@@ -344,7 +408,10 @@ const OTHER_FORMS: [OtherForm; 9] = [
         ],
     ),
     ("no end", &[HEAD, BLOCK, TABLE, "leaf,1\n"]),
-    ("a record behind the end", &[HEAD, BLOCK, TABLE, "leaf,1\nend\nend\n"]),
+    (
+        "a record behind the end",
+        &[HEAD, BLOCK, TABLE, "leaf,1\nend\nend\n"],
+    ),
     (
         "a price out of range",
         &[
@@ -412,7 +479,11 @@ fn refuses_other_forms(rt: HostRuntime) -> Result<(), Fail> {
         input.extend_from_slice(behind)?;
         let (ended, text) = outcome(rt.alloc(), &["check"], &input)?;
         assert_eq!(rt; ended, Status::BadInput, "{case}");
-        assert_eq!(rt; text.as_slice(), b"refused,0,90,NotThisForm\n".as_slice(), "{case}");
+        assert_eq!(rt;
+            text.as_slice(),
+            b"refused,0,90,NotThisForm\n".as_slice(),
+            "{case}"
+        );
     }
     Ok(())
 }

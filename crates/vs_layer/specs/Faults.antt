@@ -8,7 +8,8 @@ use Rattle.vs_layer.specs.declared.net_error.NetError.TheVariants as error
 use Rattle.vs_layer.specs.Ends.{arc_at}
 use Rattle.vs_layer.specs.Graph.{GoesOn, IsRightArc}
 
--- the fault is that of arc k of so many, in a net of so many nodes: an end is no node; else the arc doesn't go as it should
+-- the fault is that of arc k of so many, in a net of so many nodes: an end is no node; else the arc doesn't go as it
+-- should
 abbrev pub IsFaultOf : ℕ → ℕ → ℕ → Arc → NetFault → Type 0
 IsFaultOf nodes count k a (NoSuchNode n) = (n ≡ k) × ((nodes ≤ a.from) ⊎ (nodes ≤ a.to))
 IsFaultOf nodes count k a (NotForward n) = (n ≡ k) × (a.from < nodes) × (a.to < nodes) × (¬ (GoesOn nodes count k a))

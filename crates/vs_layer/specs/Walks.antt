@@ -2,7 +2,8 @@
 use Rattle.std.specs.Prelude.{◌≡◌, ℕ, ◌<◌, List, [], ◌∷◌, length, Option, Some, None, ℤ, pos, ◌+ℤ◌, ◌≤ℤ◌}
 use Rattle.vs_layer.specs.Graph.{Graph, arc_of}
 
--- The arcs lead from node u to node v, each of them one that may be taken, each from the node that the one before it reaches.
+-- The arcs lead from node u to node v, each of them one that may be taken, each from the node that the one before it
+-- reaches.
 -- No arc at all leads from a node to itself.
 abbrev pub Leads : Graph → (ℕ → Type 0) → ℕ → List ℕ → ℕ → Type 0
 Leads g May u [] v = u ≡ v

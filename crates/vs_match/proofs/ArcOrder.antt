@@ -30,18 +30,21 @@ use Rattle.vs_match.proofs.Places.{same_event}
 use Rattle.vs_match.proofs.WalkBounds.{first_of_match}
 
 -- arcs of a layer with the same ends and kind have the same cost and room
-pub same_cost : (p : Problem) (l : ℕ) (matching : Matching) (events : List Event) (kind : ArcKind) (a b : Arc) → IsArcOf p l matching events kind a
+pub same_cost : (p : Problem) (l : ℕ) (matching : Matching) (events : List Event) (kind : ArcKind) (a b : Arc)
+    → IsArcOf p l matching events kind a
     → IsArcOf p l matching events kind b → a.from ≡ b.from → a.to ≡ b.to → (a.cost ≡ b.cost) × (a.room ≡ b.room)
 same_cost p l matching events (Trip i) a b x y from to = (x.cost ∙ sym y.cost, x.room ∙ sym y.room)
 same_cost p l matching events Waiting a b x y from to =
-    let since = same_event events b.from x.since y.since (subst (λ (v : ℕ). HasPlace events v x.since) from x.from) y.from in
+    let since =
+    same_event events b.from x.since y.since (subst (λ (v : ℕ). HasPlace events v x.since) from x.from) y.from in
     let until = same_event events b.to x.until y.until (subst (λ (v : ℕ). HasPlace events v x.until) to x.to) y.to in (
       x.cost ∙ ap (λ (e : Event). at_scale ((layer_of p l).per_minute * (x.until.minute - e.minute))) since
           ∙ ap (λ (e : Event). at_scale ((layer_of p l).per_minute * (e.minute - y.since.minute))) until ∙ sym y.cost,
       x.room ∙ sym y.room,
     )
 same_cost p l matching events Deadhead a b x y from to =
-    let since = same_event events b.from x.since y.since (subst (λ (v : ℕ). HasPlace events v x.since) from x.from) y.from in
+    let since =
+    same_event events b.from x.since y.since (subst (λ (v : ℕ). HasPlace events v x.since) from x.from) y.from in
     let until = same_event events b.to x.until y.until (subst (λ (v : ℕ). HasPlace events v x.until) to x.to) y.to in
     let first = first_of_match p l matching x.by x.since x.until x.matched in
     let second = first_of_match p l matching y.by y.since y.until y.matched in
@@ -54,11 +57,16 @@ same_cost p l matching events Deadhead a b x y from to =
     )
 same_cost p l matching events PullOut a b x y from to =
     let until = same_event events b.to x.until y.until (subst (λ (v : ℕ). HasPlace events v x.until) to x.to) y.to in
-    let by = some-same x.by y.by (sym x.way_is ∙ ap (λ (e : Event). way p (layer_of p l).depot.0 e.stop.0) until ∙ y.way_is) in
-    (x.cost ∙ ap (λ (w : Way). at_scale ((layer_of p l).fixed + rated p l w.minutes w.metres)) by ∙ sym y.cost, x.room ∙ sym y.room)
+    let by = some-same x.by y.by
+    (sym x.way_is ∙ ap (λ (e : Event). way p (layer_of p l).depot.0 e.stop.0) until ∙ y.way_is) in (
+      x.cost ∙ ap (λ (w : Way). at_scale ((layer_of p l).fixed + rated p l w.minutes w.metres)) by ∙ sym y.cost,
+      x.room ∙ sym y.room,
+    )
 same_cost p l matching events PullIn a b x y from to =
-    let since = same_event events b.from x.since y.since (subst (λ (v : ℕ). HasPlace events v x.since) from x.from) y.from in
-    let by = some-same x.by y.by (sym x.way_is ∙ ap (λ (e : Event). way p e.stop.0 (layer_of p l).depot.0) since ∙ y.way_is) in
+    let since =
+    same_event events b.from x.since y.since (subst (λ (v : ℕ). HasPlace events v x.since) from x.from) y.from in
+    let by = some-same x.by y.by
+    (sym x.way_is ∙ ap (λ (e : Event). way p e.stop.0 (layer_of p l).depot.0) since ∙ y.way_is) in
     (x.cost ∙ ap (λ (w : Way). at_scale (rated p l w.minutes w.metres)) by ∙ sym y.cost, x.room ∙ sym y.room)
 same_cost p l matching events Return a b x y from to = (x.cost ∙ sym y.cost, x.room ∙ sym y.room)
 
@@ -66,11 +74,15 @@ abbrev pub rest_cmp : LayerArc → LayerArc → Ordering
 rest_cmp a b = ordering_then (int_cmp a.cost b.cost) (nat_cmp a.room b.room)
 
 abbrev pub arc_cmp : LayerArc → LayerArc → Ordering
-arc_cmp a b = ordering_then (nat_cmp a.from b.from) (ordering_then (nat_cmp a.to b.to) (ordering_then (order.ghosts.cmp a.kind b.kind) (rest_cmp a b)))
+arc_cmp a b =
+    ordering_then (nat_cmp a.from b.from)
+    (ordering_then (nat_cmp a.to b.to) (ordering_then (order.ghosts.cmp a.kind b.kind) (rest_cmp a b)))
 
 -- arcs that test equal are
 pub arc_equal : (a b : LayerArc)
-    → (eqb a.from b.from && (eqb a.to b.to && (equality.ghosts.eq a.kind b.kind && (int_eq a.cost b.cost && eqb a.room b.room)))) ≡ true → a ≡ b
+    → (eqb a.from b.from &&
+    (eqb a.to b.to && (equality.ghosts.eq a.kind b.kind && (int_eq a.cost b.cost && eqb a.room b.room)))) ≡ true
+    → a ≡ b
 arc_equal a b is =
     let first = and_parts _ _ is in
     let second = and_parts _ _ first.1 in
@@ -85,7 +97,8 @@ arc_equal a b is =
     λ i. record { from = from i; to = to i; kind = kind i; cost = cost i; room = room i }
 
 rest_cmp-total : IsTotalOrder rest_cmp
-rest_cmp-total = then_total (on_total (λ (x : LayerArc). x.cost) int_cmp_total) (on_total (λ (x : LayerArc). x.room) nat_cmp_total)
+rest_cmp-total =
+    then_total (on_total (λ (x : LayerArc). x.cost) int_cmp_total) (on_total (λ (x : LayerArc). x.room) nat_cmp_total)
 
 -- arcs of the same cost and room don't differ in them
 same_rest : (a b : LayerArc) → a.cost ≡ b.cost → a.room ≡ b.room → rest_cmp a b ≡ Equal
@@ -99,34 +112,42 @@ module _ (p : Problem) (l : ℕ) (matching : Matching) (events : List Event) whe
 
   -- two arcs with the same ends are told apart by their kinds
   kinds_differ : (a b : LayerArc) → IsOne a → IsOne b → a.from ≡ b.from → a.to ≡ b.to
-      → ordering_then (ordering_then (nat_cmp (rank a.kind) (rank b.kind)) (nat_cmp (trip_number a.kind) (trip_number b.kind))) (rest_cmp a b) ≡ Less
+      → ordering_then
+      (ordering_then (nat_cmp (rank a.kind) (rank b.kind)) (nat_cmp (trip_number a.kind) (trip_number b.kind)))
+      (rest_cmp a b) ≡ Less
       → IsKindBefore a.kind b.kind
   kinds_differ a b one one' from to is = elim (compared (rank a.kind) (rank b.kind)) [
     | inl up ↦ inl up.1
     | inr more ↦ elim more [
       | inl same ↦
-          let numbers = sym (ap (λ (o : Ordering). ordering_then (ordering_then o (nat_cmp (trip_number a.kind) (trip_number b.kind))) (rest_cmp a b)) same.0) ∙ is in
+          let numbers =
+          sym (ap (λ (o : Ordering). ordering_then
+          (ordering_then o (nat_cmp (trip_number a.kind) (trip_number b.kind))) (rest_cmp a b)) same.0) ∙ is in
           elim (less-then (trip_number a.kind) (trip_number b.kind) (rest_cmp a b) numbers) [
             | inl number ↦ inr (same.1, number)
             | inr tied ↦
                 let kind = kind_of_rank a.kind b.kind same.1 tied.0 in
-                let as_b : IsArcOf p l matching events b.kind (arc_in a) = subst (λ (t : ArcKind). IsArcOf p l matching events t (arc_in a)) kind one in
+                let as_b : IsArcOf p l matching events b.kind (arc_in a) =
+                subst (λ (t : ArcKind). IsArcOf p l matching events t (arc_in a)) kind one in
                 let rest = same_cost p l matching events b.kind (arc_in a) (arc_in b) as_b one' from to in
                 let no : Equal ≡ Less = sym (same_rest a b rest.0 rest.1) ∙ tied.1 in cc
           ]
       | inr down ↦
           let no : Greater ≡ Less =
-          sym (ap (λ (o : Ordering). ordering_then (ordering_then o (nat_cmp (trip_number a.kind) (trip_number b.kind))) (rest_cmp a b)) down.0) ∙ is in cc
+          sym (ap (λ (o : Ordering). ordering_then
+          (ordering_then o (nat_cmp (trip_number a.kind) (trip_number b.kind))) (rest_cmp a b)) down.0) ∙ is in cc
     ]
   ]
 
-  pub arc_before : (a b : LayerArc) → IsOne a → IsOne b → arc_cmp a b ≡ Less → IsArcBefore (arc_in a) a.kind (arc_in b) b.kind
+  pub arc_before : (a b : LayerArc) → IsOne a → IsOne b → arc_cmp a b ≡ Less
+      → IsArcBefore (arc_in a) a.kind (arc_in b) b.kind
   arc_before a b one one' is = elim (less-then a.from b.from _ is) [
     | inl from ↦ inl from
     | inr same ↦ elim (less-then a.to b.to _ same.1) [
       | inl to ↦ inr (same.0, inl to)
       | inr both ↦
-          let kinds = ap (λ (o : Ordering). ordering_then o (rest_cmp a b)) (sym (kind_cmp-is a.kind b.kind)) ∙ both.1 in
+          let kinds =
+          ap (λ (o : Ordering). ordering_then o (rest_cmp a b)) (sym (kind_cmp-is a.kind b.kind)) ∙ both.1 in
           inr (same.0, inr (both.0, kinds_differ a b one one' same.0 both.0 kinds))
     ]
   ]

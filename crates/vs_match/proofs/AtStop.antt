@@ -14,12 +14,19 @@ module _ (stays : List Stay) (ordered : AllPairs IsStayBefore stays) where
   stops_rise i j d le within =
       elim (cases_eq i j) [
         | inl same ↦ omega (arith, ap (λ (k : ℕ). (get_or stays k d).stop.0) same)
-        | inr other ↦ elim (ordered i j d (omega (arith, le, other)) within) [ inl up ↦ omega (arith, up) | inr both ↦ omega (arith, both.0) ]
+        | inr other ↦
+            elim (ordered i j d (omega (arith, le, other)) within) [
+              | inl up ↦ omega (arith, up)
+              | inr both ↦
+                  omega (arith, both.0)
+            ]
       ]
 
   module _ (stop : StopNo) (start finish : ℕ)
-      (from : IsPartitionPoint (λ (s : Stay). ltb s.stop.0 stop.0 ≡ true) (λ (s : Stay). ltb s.stop.0 stop.0 ≡ false) stays start)
-      (to : IsPartitionPoint (λ (s : Stay). leb s.stop.0 stop.0 ≡ true) (λ (s : Stay). leb s.stop.0 stop.0 ≡ false) stays finish)
+      (from : IsPartitionPoint (λ (s : Stay). ltb s.stop.0 stop.0 ≡ true)
+      (λ (s : Stay). ltb s.stop.0 stop.0 ≡ false) stays start)
+      (to : IsPartitionPoint (λ (s : Stay). leb s.stop.0 stop.0 ≡ true)
+      (λ (s : Stay). leb s.stop.0 stop.0 ≡ false) stays finish)
       (within : start ≤ length stays) (within' : finish ≤ length stays) (d : Stay) where
     pub start-≤ : start ≤ finish
     start-≤ = elim (cases_lt finish start) [
@@ -41,7 +48,8 @@ module _ (stays : List Stay) (ordered : AllPairs IsStayBefore stays) where
 
     get_or-here : (k : ℕ) (e : Stay) → k < length here → get_or here k e ≡ get_or stays (start + k) e
     get_or-here k e inside =
-        get_or-take (finish - start) (drop start stays) k e (omega (arith, inside, length-here)) ∙ get_or-drop start stays k e
+        get_or-take (finish - start) (drop start stays) k e (omega (arith, inside, length-here))
+        ∙ get_or-drop start stays k e
 
     at_stop-is : (k : ℕ) (e : Stay) → k < length here → (get_or stays (start + k) e).stop ≡ stop
     at_stop-is k e inside =
@@ -53,8 +61,10 @@ module _ (stays : List Stay) (ordered : AllPairs IsStayBefore stays) where
     pub same_stays : (s : Stay) → Contains here s ↔ (Contains stays s × (s.stop ≡ stop))
     same_stays s = (
       λ (k, inside, is).
-          let there = sym (get_or-here k s inside) ∙ is in
-          ((start + k, omega (arith, inside, length-here), there), ap (λ (x : Stay). x.stop) (sym there) ∙ at_stop-is k s inside),
+          let there = sym (get_or-here k s inside) ∙ is in (
+            (start + k, omega (arith, inside, length-here), there),
+            ap (λ (x : Stay). x.stop) (sym there) ∙ at_stop-is k s inside,
+          ),
       λ ((k, inside, is), at).
           let number = ap (λ (x : Stay). x.stop.0) is ∙ ap (λ (x : StopNo). x.0) at in
           let up : start ≤ k = elim (cases_lt k start) [
@@ -79,6 +89,7 @@ module _ (stays : List Stay) (ordered : AllPairs IsStayBefore stays) where
         let stop-is = at_stop-is i e (omega (arith, less, inside)) in
         let stop-is' = at_stop-is j e inside in
         elim (ordered (start + i) (start + j) e (omega (arith, less)) (omega (arith, inside, length-here))) [
-          | inl apart ↦ absurd (omega (arith, apart, ap (λ (x : StopNo). x.0) stop-is, ap (λ (x : StopNo). x.0) stop-is'))
+          | inl apart ↦
+              absurd (omega (arith, apart, ap (λ (x : StopNo). x.0) stop-is, ap (λ (x : StopNo). x.0) stop-is'))
           | inr both ↦ omega (arith, both.1, minute, minute')
         ]

@@ -24,19 +24,43 @@ pub record IsThrough (p : Problem) (k t : ℕ) (a b : Way) : Type 0 where
   pub minutes : by.minutes ≤ a.minutes + b.minutes
   pub metres : by.metres ≤ a.metres + b.metres
 
-from_closure : (p : Problem) (k t : ℕ) (a b : Way) (o : Option Way) → way p k t ≡ o → IsSomeAnd o (IsNoLonger a b) → IsThrough p k t a b
-from_closure p k t a b (Some w) is short = record { by = w; way_is = is; minutes = short.minutes; metres = short.metres }
+from_closure : (p : Problem) (k t : ℕ) (a b : Way) (o : Option Way) → way p k t ≡ o → IsSomeAnd o (IsNoLonger a b)
+    → IsThrough p k t a b
+from_closure p k t a b (Some w) is short =
+    record { by = w; way_is = is; minutes = short.minutes; metres = short.metres }
 from_closure p k t a b None is short = absurd short
 
 -- where ways lead from k to s and from s to t, one leads from k to t that is no longer than both
-pub way-through : (p : Problem) → IsInstance p → (k s t : ℕ) (a b : Way) → way p k s ≡ Some a → way p s t ≡ Some b → IsThrough p k t a b
+pub way-through : (p : Problem) → IsInstance p → (k s t : ℕ) (a b : Way) → way p k s ≡ Some a → way p s t ≡ Some b
+    → IsThrough p k t a b
 way-through p is k s t a b first second =
     elim (cases_eq k s) [
-      | inl same ↦ record { by = b; way_is = ap (λ (n : ℕ). way p n t) same ∙ second; minutes = omega arith; metres = omega arith }
+      | inl same ↦
+          record {
+            by = b;
+            way_is = ap (λ (n : ℕ). way p n t) same ∙ second;
+            minutes = omega arith;
+            metres =
+                omega arith;
+          }
       | inr apart ↦ elim (cases_eq s t) [
-        | inl same ↦ record { by = a; way_is = ap (λ (n : ℕ). way p k n) (sym same) ∙ first; minutes = omega arith; metres = omega arith }
+        | inl same ↦
+            record {
+              by = a;
+              way_is = ap (λ (n : ℕ). way p k n) (sym same) ∙ first;
+              minutes = omega arith;
+              metres =
+                  omega arith;
+            }
         | inr apart' ↦ elim (cases_eq k t) [
-          | inl same ↦ record { by = no_way; way_is = ap (λ (n : ℕ). way p k n) (sym same) ∙ way-own p k; minutes = omega arith; metres = omega arith }
+          | inl same ↦
+              record {
+                by = no_way;
+                way_is = ap (λ (n : ℕ). way p k n) (sym same) ∙ way-own p k;
+                minutes =
+                    omega arith;
+                metres = omega arith;
+              }
           | inr round ↦ from_closure p k t a b (map.get p.deadheads (k, t)) (way-apart p k t round)
               (is.closed k s t a b round (sym (way-apart p k s apart) ∙ first) (sym (way-apart p s t apart') ∙ second))
         ]

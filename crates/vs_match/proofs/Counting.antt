@@ -23,10 +23,13 @@ range_more a (suc n) j e =
 
 -- one number more is added
 pub sum_by-next : (f : ℕ → ℕ) (n : ℕ) → sum_by f (range_with_len 0 (n + 1)) ≡ sum_by f (range_with_len 0 n) + f n
-sum_by-next f n = ap (sum_by f) (range_more 0 n n (omega arith)) ∙ sum_by-append f (range_with_len 0 n) (n ∷ []) ∙ ap (λ (x : ℕ). sum_by f (range_with_len 0 n) + x) (omega arith)
+sum_by-next f n =
+    ap (sum_by f) (range_more 0 n n (omega arith)) ∙ sum_by-append f (range_with_len 0 n) (n ∷ [])
+    ∙ ap (λ (x : ℕ). sum_by f (range_with_len 0 n) + x) (omega arith)
 
 -- one number more is counted, or isn't
-pub count_by-next : (p : ℕ → Bool) (n : ℕ) → count_by p (range_with_len 0 (n + 1)) ≡ count_by p (range_with_len 0 n) + cond (p n) 1 0
+pub count_by-next : (p : ℕ → Bool) (n : ℕ)
+    → count_by p (range_with_len 0 (n + 1)) ≡ count_by p (range_with_len 0 n) + cond (p n) 1 0
 count_by-next p n = sum_by-next (λ k. cond (p k) 1 0) n
 
 -- a sum of numbers that are all at most m

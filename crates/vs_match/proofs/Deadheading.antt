@@ -37,7 +37,8 @@ use Rattle.vs_match.proofs.WaitingChains.{same_stop}
 abbrev pub AreAt : StopNo → List Stay → List Stay → Type 0
 AreAt stop stays here = (s : Stay) → Contains here s ↔ (Contains stays s × (s.stop ≡ stop))
 
-pub way_within : (p : Problem) → IsInstance p → (k s : ℕ) (w : Way) → way p k s ≡ Some w → (w.minutes ≤ 1440) × (w.metres ≤ 1000000)
+pub way_within : (p : Problem) → IsInstance p → (k s : ℕ) (w : Way) → way p k s ≡ Some w → (w.minutes ≤ 1440)
+    × (w.metres ≤ 1000000)
 way_within p is k s w way_is =
     elim (cases_eq k s) [
       | inl same ↦
@@ -48,12 +49,16 @@ way_within p is k s w way_is =
           (given.minutes, given.metres)
     ]
 
-pub departs_within : (p : Problem) → IsInstance p → (l : ℕ) (e : Event) → DepartsAt p l e → (e.minute < 2880) × (e.stop.0 < p.stops)
+pub departs_within : (p : Problem) → IsInstance p → (l : ℕ) (e : Event) → DepartsAt p l e → (e.minute < 2880)
+    × (e.stop.0 < p.stops)
 departs_within p is l e (i, may, at) =
-    let trip = is.trips i no_trip may.0 in
-    (omega (arith, trip.lasts, trip.end, ap (λ (x : Event). x.minute) at), omega (arith, trip.from, ap (λ (x : Event). x.stop.0) at))
+    let trip = is.trips i no_trip may.0 in (
+      omega (arith, trip.lasts, trip.end, ap (λ (x : Event). x.minute) at),
+      omega (arith, trip.from, ap (λ (x : Event). x.stop.0) at),
+    )
 
-pub arrives_within : (p : Problem) → IsInstance p → (l : ℕ) (e : Event) → ArrivesAt p l e → (e.minute < 2880) × (e.stop.0 < p.stops)
+pub arrives_within : (p : Problem) → IsInstance p → (l : ℕ) (e : Event) → ArrivesAt p l e → (e.minute < 2880)
+    × (e.stop.0 < p.stops)
 arrives_within p is l e (i, may, at) =
     let trip = is.trips i no_trip may.0 in
     (omega (arith, trip.end, ap (λ (x : Event). x.minute) at), omega (arith, trip.to, ap (λ (x : Event). x.stop.0) at))
@@ -62,7 +67,8 @@ module _ (p : Problem) (l : ℕ) (nodes : Nodes) (are : AreNodes p l nodes) wher
   abbrev events : List Event
   events = nodes.events.items
 
-  module _ (matching : Matching) (w : Way) (k s : StopNo) (apart : k.0 ≢ s.0) (way_is : way p k.0 s.0 ≡ Some w) (arrivals departures : List Stay)
+  module _ (matching : Matching) (w : Way) (k s : StopNo) (apart : k.0 ≢ s.0) (way_is : way p k.0 s.0 ≡ Some w)
+      (arrivals departures : List Stay)
       (from : AreAt k nodes.arrivals.items arrivals) (to : AreAt s nodes.departures.items departures) where
     -- the node of an arrival at the one stop, and of a departure at the other
     arrival_there : (e : Event) → ArrivesAt p l e → e.stop ≡ k → (x : Stay) × Contains arrivals x × (event_of x ≡ e)
@@ -77,16 +83,19 @@ module _ (p : Problem) (l : ℕ) (nodes : Nodes) (are : AreNodes p l nodes) wher
         let x : Stay = record { stop = e.stop; minute = e.minute; node = v.0 } in
         (x, (to x).1 (are.departures.every x v.1 departs, at), refl)
 
-    arrives_at : (a : Stay) → Contains arrivals a → (HasPlace events a.node (event_of a) × ArrivesAt p l (event_of a)) × (a.stop ≡ k)
+    arrives_at : (a : Stay) → Contains arrivals a
+        → (HasPlace events a.node (event_of a) × ArrivesAt p l (event_of a)) × (a.stop ≡ k)
     arrives_at a has = let both = (from a).0 has in (are.arrivals.only a both.0, both.1)
 
-    departs_at : (b : Stay) → Contains departures b → (HasPlace events b.node (event_of b) × DepartsAt p l (event_of b)) × (b.stop ≡ s)
+    departs_at : (b : Stay) → Contains departures b
+        → (HasPlace events b.node (event_of b) × DepartsAt p l (event_of b)) × (b.stop ≡ s)
     departs_at b has = let both = (to b).0 has in (are.departures.only b both.0, both.1)
 
     way_of : (a b : Stay) → a.stop ≡ k → b.stop ≡ s → way p a.stop.0 b.stop.0 ≡ Some w
     way_of a b at at' = ap (λ (x : StopNo). way p x.0 b.stop.0) at ∙ ap (λ (x : StopNo). way p k.0 x.0) at' ∙ way_is
 
-    first_match : (a b : Stay) → Contains arrivals a → IsFirstFrom departures (a.minute + w.minutes) b → IsFirstMatch p l w (event_of a) (event_of b)
+    first_match : (a b : Stay) → Contains arrivals a → IsFirstFrom departures (a.minute + w.minutes) b
+        → IsFirstMatch p l w (event_of a) (event_of b)
     first_match a b has first =
         let x = arrives_at a has in
         let y = departs_at b first.departs in
@@ -102,7 +111,8 @@ module _ (p : Problem) (l : ℕ) (nodes : Nodes) (are : AreNodes p l nodes) wher
               omega (arith, minute, first.first z.0 z.1 (omega (arith, minute, late)));
         }
 
-    match_of : (m : Matching) (a b : Stay) → Contains arrivals a → IsFirstFrom departures (a.minute + w.minutes) b → IsKept m arrivals w a b
+    match_of : (m : Matching) (a b : Stay) → Contains arrivals a → IsFirstFrom departures (a.minute + w.minutes) b
+        → IsKept m arrivals w a b
         → IsMatch p l m w (event_of a) (event_of b)
     match_of First a b has first kept = first_match a b has first
     match_of Latest a b has first kept = record {
@@ -114,7 +124,8 @@ module _ (p : Problem) (l : ℕ) (nodes : Nodes) (are : AreNodes p l nodes) wher
     }
 
     -- a match is a deadhead
-    to_deadhead : (x : LayerArc) → IsMatched p l matching w arrivals departures x → IsDeadheadTo p l matching events k.0 s.0 x
+    to_deadhead : (x : LayerArc) → IsMatched p l matching w arrivals departures x
+        → IsDeadheadTo p l matching events k.0 s.0 x
     to_deadhead x m =
         let a = arrives_at m.since m.arrives in
         let b = departs_at m.until m.first.departs in
@@ -147,7 +158,8 @@ module _ (p : Problem) (l : ℕ) (nodes : Nodes) (are : AreNodes p l nodes) wher
         }
 
     kept_from : (m : Matching) (a b : Event) (u v : ℕ) → a.stop ≡ k → b.stop ≡ s → IsMatch p l m w a b
-        → IsKept m arrivals w (record { stop = a.stop; minute = a.minute; node = u }) (record { stop = b.stop; minute = b.minute; node = v })
+        → IsKept m arrivals w (record { stop = a.stop; minute = a.minute; node = u })
+        (record { stop = b.stop; minute = b.minute; node = v })
     kept_from First a b u v at at' match = tt
     kept_from Latest a b u v at at' match = λ c has early.
         elim (cases_lt a.minute c.minute) [
@@ -166,13 +178,17 @@ module _ (p : Problem) (l : ℕ) (nodes : Nodes) (are : AreNodes p l nodes) wher
         ]
 
     -- a deadhead is a match
-    from_deadhead : (x : LayerArc) → IsDeadheadTo p l matching events k.0 s.0 x → IsMatched p l matching w arrivals departures x
+    from_deadhead : (x : LayerArc) → IsDeadheadTo p l matching events k.0 s.0 x
+        → IsMatched p l matching w arrivals departures x
     from_deadhead x d =
         let arc = d.arc in
         let first = first_of_match p l matching arc.by arc.since arc.until arc.matched in
         let at = same_stop arc.since.stop k d.leaves in
         let at' = same_stop arc.until.stop s d.reaches in
-        let by : arc.by ≡ w = some-same arc.by w (sym first.way_is ∙ ap (λ (z : StopNo). way p z.0 arc.until.stop.0) at ∙ ap (λ (z : StopNo). way p k.0 z.0) at' ∙ way_is) in
+        let by : arc.by ≡ w =
+        some-same arc.by w
+        (sym first.way_is ∙ ap (λ (z : StopNo). way p z.0 arc.until.stop.0) at
+        ∙ ap (λ (z : StopNo). way p k.0 z.0) at' ∙ way_is) in
         let P : Way → Type 0 = λ v. IsMatch p l matching v arc.since arc.until in
         let matched = subst P by arc.matched in
         let first' = first_of_match p l matching w arc.since arc.until matched in
@@ -188,12 +204,15 @@ module _ (p : Problem) (l : ℕ) (nodes : Nodes) (are : AreNodes p l nodes) wher
           is = λ i. record { from = x.from; to = x.to; kind = d.kind i; cost = cost i; room = arc.room i };
         }
 
-    pub matches_are : (old new : List LayerArc) → Adds (IsMatched p l matching w arrivals departures) old new → Adds (IsDeadheadTo p l matching events k.0 s.0) old new
+    pub matches_are : (old new : List LayerArc) → Adds (IsMatched p l matching w arrivals departures) old new
+        → Adds (IsDeadheadTo p l matching events k.0 s.0) old new
     matches_are old new adds =
-        adds-as (IsMatched p l matching w arrivals departures) (IsDeadheadTo p l matching events k.0 s.0) old new adds to_deadhead from_deadhead
+        adds-as (IsMatched p l matching w arrivals departures)
+        (IsDeadheadTo p l matching events k.0 s.0) old new adds to_deadhead from_deadhead
 
   -- no deadhead from a stop without an arrival, to the stop itself, or where there is no way
-  pub none_from : (matching : Matching) (k : StopNo) (arrivals : List Stay) → AreAt k nodes.arrivals.items arrivals → length arrivals ≡ 0
+  pub none_from : (matching : Matching) (k : StopNo) (arrivals : List Stay) → AreAt k nodes.arrivals.items arrivals
+      → length arrivals ≡ 0
       → (x : LayerArc) → ¬ (IsDeadheadFrom p l matching events k.0 x)
   none_from matching k arrivals from none x d =
       let arc = d.arc in
@@ -202,42 +221,67 @@ module _ (p : Problem) (l : ℕ) (nodes : Nodes) (are : AreNodes p l nodes) wher
       let has = (from since).1 (are.arrivals.every since arc.from first.arrives, same_stop arc.since.stop k d.leaves) in
       omega (arith, has.1, none)
 
-  pub none_itself : (matching : Matching) (k s : ℕ) → k ≡ s → (x : LayerArc) → ¬ (IsDeadheadTo p l matching events k s x)
+  pub none_itself : (matching : Matching) (k s : ℕ) → k ≡ s → (x : LayerArc)
+      → ¬ (IsDeadheadTo p l matching events k s x)
   none_itself matching k s same x d =
-      (first_of_match p l matching d.arc.by d.arc.since d.arc.until d.arc.matched).apart (d.leaves ∙ same ∙ sym d.reaches)
+      (first_of_match p l matching d.arc.by d.arc.since d.arc.until d.arc.matched).apart
+      (d.leaves ∙ same ∙ sym d.reaches)
 
-  pub none_without : (matching : Matching) (k s : ℕ) → ((w : Way) → ¬ (way p k s ≡ Some w)) → (x : LayerArc) → ¬ (IsDeadheadTo p l matching events k s x)
+  pub none_without : (matching : Matching) (k s : ℕ) → ((w : Way) → ¬ (way p k s ≡ Some w)) → (x : LayerArc)
+      → ¬ (IsDeadheadTo p l matching events k s x)
   none_without matching k s none x d =
-      none d.arc.by (sym (ap (λ (n : ℕ). way p n s) d.leaves) ∙ sym (ap (λ (n : ℕ). way p d.arc.since.stop.0 n) d.reaches)
+      none d.arc.by
+      (sym (ap (λ (n : ℕ). way p n s) d.leaves) ∙ sym (ap (λ (n : ℕ). way p d.arc.since.stop.0 n) d.reaches)
       ∙ (first_of_match p l matching d.arc.by d.arc.since d.arc.until d.arc.matched).way_is)
 
   -- the deadheads to all stops, and from all stops
-  pub from_all : IsInstance p → (matching : Matching) (k : ℕ) (old new : List LayerArc) → Adds (Upto (IsDeadheadTo p l matching events k) p.stops) old new
+  pub from_all : IsInstance p → (matching : Matching) (k : ℕ) (old new : List LayerArc)
+      → Adds (Upto (IsDeadheadTo p l matching events k) p.stops) old new
       → Adds (IsDeadheadFrom p l matching events k) old new
   from_all is matching k old new adds =
       adds-as (Upto (IsDeadheadTo p l matching events k) p.stops) (IsDeadheadFrom p l matching events k) old new adds
       (λ x (s, within, d). record { kind = d.kind; arc = d.arc; leaves = d.leaves })
       (λ x d.
-      let first = first_of_match p l matching d.arc.by d.arc.since d.arc.until d.arc.matched in
-      (d.arc.until.stop.0, (departs_within p is l d.arc.until first.departs).1, record { kind = d.kind; arc = d.arc; leaves = d.leaves; reaches = refl }))
+      let first = first_of_match p l matching d.arc.by d.arc.since d.arc.until d.arc.matched in (
+        d.arc.until.stop.0,
+        (departs_within p is l d.arc.until first.departs).1,
+        record {
+          kind = d.kind;
+          arc =
+              d.arc;
+          leaves = d.leaves;
+          reaches = refl;
+        },
+      ))
 
-  pub all_deadheads : IsInstance p → (matching : Matching) (old new : List LayerArc) → Adds (Upto (IsDeadheadFrom p l matching events) p.stops) old new
+  pub all_deadheads : IsInstance p → (matching : Matching) (old new : List LayerArc)
+      → Adds (Upto (IsDeadheadFrom p l matching events) p.stops) old new
       → Adds (IsDeadhead p l matching events) old new
   all_deadheads is matching old new adds =
       adds-as (Upto (IsDeadheadFrom p l matching events) p.stops) (IsDeadhead p l matching events) old new adds
       (λ x (k, within, d). (d.kind, d.arc))
       (λ x (kind, arc).
-      let first = first_of_match p l matching arc.by arc.since arc.until arc.matched in
-      (arc.since.stop.0, (arrives_within p is l arc.since first.arrives).1, record { kind = kind; arc = arc; leaves = refl }))
+      let first = first_of_match p l matching arc.by arc.since arc.until arc.matched in (
+        arc.since.stop.0,
+        (arrives_within p is l arc.since first.arrives).1,
+        record {
+          kind = kind;
+          arc =
+              arc;
+          leaves = refl;
+        },
+      ))
 
   -- nodes at a stop have minutes of the two days
-  pub arrivals_within : IsInstance p → (k : StopNo) (arrivals : List Stay) → AreAt k nodes.arrivals.items arrivals → All (λ s. s.minute < 2880) arrivals
+  pub arrivals_within : IsInstance p → (k : StopNo) (arrivals : List Stay) → AreAt k nodes.arrivals.items arrivals
+      → All (λ s. s.minute < 2880) arrivals
   arrivals_within is k arrivals from j d within =
       let s = get_or arrivals j d in
       let has = ((from s).0 (j, within, get_or_default arrivals j s d within)).0 in
       (arrives_within p is l (event_of s) (are.arrivals.only s has).1).0
 
-  pub departures_within : IsInstance p → (k : StopNo) (departures : List Stay) → AreAt k nodes.departures.items departures → All (λ s. s.minute < 2880) departures
+  pub departures_within : IsInstance p → (k : StopNo) (departures : List Stay)
+      → AreAt k nodes.departures.items departures → All (λ s. s.minute < 2880) departures
   departures_within is k departures to j d within =
       let s = get_or departures j d in
       let has = ((to s).0 (j, within, get_or_default departures j s d within)).0 in

@@ -11,7 +11,8 @@ use Rattle.vs_match.specs.contracts.arc_kind.ArcKindPartialEq.TheImpl as equalit
 use Rattle.vs_match.specs.contracts.arc_kind.ArcKindOrd.TheImpl as order
 use Rattle.vs_match.specs.NetArcs.{rank, trip_number}
 
-pub kind_eq-is : (a b : ArcKind) → equality.ghosts.eq a b ≡ (eqb (rank a) (rank b) && eqb (trip_number a) (trip_number b))
+pub kind_eq-is : (a b : ArcKind)
+    → equality.ghosts.eq a b ≡ (eqb (rank a) (rank b) && eqb (trip_number a) (trip_number b))
 kind_eq-is (Trip i) Waiting = refl
 kind_eq-is Waiting Waiting = refl
 kind_eq-is Deadhead Waiting = refl
@@ -20,7 +21,8 @@ kind_eq-is PullIn Waiting = refl
 kind_eq-is Return Waiting = refl
 kind_eq-is _ _ = refl
 
-pub kind_cmp-is : (a b : ArcKind) → order.ghosts.cmp a b ≡ ordering_then (nat_cmp (rank a) (rank b)) (nat_cmp (trip_number a) (trip_number b))
+pub kind_cmp-is : (a b : ArcKind)
+    → order.ghosts.cmp a b ≡ ordering_then (nat_cmp (rank a) (rank b)) (nat_cmp (trip_number a) (trip_number b))
 kind_cmp-is (Trip i) Waiting = refl
 kind_cmp-is Waiting Waiting = refl
 kind_cmp-is Deadhead Waiting = refl

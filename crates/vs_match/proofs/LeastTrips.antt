@@ -17,7 +17,8 @@ pub record IsLeast (n : ℕ) (Such : ℕ → Type 0) (measure : ℕ → ℕ) : T
 
 module _ (Such : ℕ → Type 0) (decide : (i : ℕ) → Such i ⊎ (¬ (Such i))) (measure : ℕ → ℕ) where
   below_or_last : (n j : ℕ) (P : ℕ → Type 0) → ((i : ℕ) → i < n → P i) → P n → j < suc n → P j
-  below_or_last n j P below last within = elim (cases_lt j n) [ inl less ↦ below j less | inr not ↦ subst P (omega arith) last ]
+  below_or_last n j P below last within =
+      elim (cases_lt j n) [ inl less ↦ below j less | inr not ↦ subst P (omega arith) last ]
 
   one_more : (n : ℕ) → IsLeast n Such measure ⊎ ((j : ℕ) → j < n → ¬ (Such j)) → Such n ⊎ (¬ (Such n))
       → IsLeast (suc n) Such measure ⊎ ((j : ℕ) → j < suc n → ¬ (Such j))
@@ -25,7 +26,8 @@ module _ (Such : ℕ → Type 0) (decide : (i : ℕ) → Such i ⊎ (¬ (Such i)
     i = old.i;
     within = omega (arith, old.within);
     passes = old.passes;
-    least = λ j within passes. below_or_last n j (λ k. Such k → measure old.i ≤ measure k) (λ k less. old.least k less) (λ has. absurd (not has)) within passes;
+    least = λ j within passes. below_or_last n j (λ k. Such k → measure old.i ≤ measure k)
+        (λ k less. old.least k less) (λ has. absurd (not has)) within passes;
   })
   one_more n (inl old) (inl has) =
       elim (cases_lt (measure n) (measure old.i)) [
@@ -33,21 +35,24 @@ module _ (Such : ℕ → Type 0) (decide : (i : ℕ) → Such i ⊎ (¬ (Such i)
           i = n;
           within = omega arith;
           passes = has;
-          least = λ j within passes. below_or_last n j (λ k. Such k → measure n ≤ measure k) (λ k less other. omega (arith, new, old.least k less other))
+          least = λ j within passes. below_or_last n j (λ k. Such k → measure n ≤ measure k)
+              (λ k less other. omega (arith, new, old.least k less other))
               (λ _. omega arith) within passes;
         })
         | inr same ↦ inl (record {
           i = old.i;
           within = omega (arith, old.within);
           passes = old.passes;
-          least = λ j within passes. below_or_last n j (λ k. Such k → measure old.i ≤ measure k) (λ k less. old.least k less) (λ _. same) within passes;
+          least = λ j within passes. below_or_last n j (λ k. Such k → measure old.i ≤ measure k)
+              (λ k less. old.least k less) (λ _. same) within passes;
         })
       ]
   one_more n (inr none) (inl has) = inl (record {
     i = n;
     within = omega arith;
     passes = has;
-    least = λ j within passes. below_or_last n j (λ k. Such k → measure n ≤ measure k) (λ k less other. absurd (none k less other)) (λ _. omega arith) within passes;
+    least = λ j within passes. below_or_last n j (λ k. Such k → measure n ≤ measure k)
+        (λ k less other. absurd (none k less other)) (λ _. omega arith) within passes;
   })
   one_more n (inr none) (inr not) = inr (λ j within. below_or_last n j (λ k. ¬ (Such k)) none not within)
 

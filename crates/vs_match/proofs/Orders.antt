@@ -15,10 +15,16 @@ use Rattle.vs_match.specs.Events.{IsBefore}
 use Rattle.vs_match.specs.Stays.{IsStayBefore}
 
 -- what a number compares as
-pub compared : (a b : ℕ) → ((nat_cmp a b ≡ Less) × (a < b)) ⊎ (((nat_cmp a b ≡ Equal) × (a ≡ b)) ⊎ ((nat_cmp a b ≡ Greater) × (b < a)))
+pub compared : (a b : ℕ) → ((nat_cmp a b ≡ Less) × (a < b))
+    ⊎ (((nat_cmp a b ≡ Equal) × (a ≡ b)) ⊎ ((nat_cmp a b ≡ Greater) × (b < a)))
 compared a b = elim (cases_order a b) [
   | inl same ↦ inr (inl (sym (nat_cmp_is a b Equal same), same))
-  | inr more ↦ elim more [ inl up ↦ inl (sym (nat_cmp_is a b Less up), up) | inr down ↦ inr (inr (sym (nat_cmp_is a b Greater down), down)) ]
+  | inr more ↦
+      elim more [
+        | inl up ↦ inl (sym (nat_cmp_is a b Less up), up)
+        | inr down ↦
+            inr (inr (sym (nat_cmp_is a b Greater down), down))
+      ]
 ]
 
 -- a comparison by a number and then by another test
@@ -63,14 +69,16 @@ abbrev pub event_cmp : Event → Event → Ordering
 event_cmp a b = ordering_then (nat_cmp a.minute b.minute) (nat_cmp a.stop.0 b.stop.0)
 
 pub event_cmp-total : IsTotalOrder event_cmp
-event_cmp-total = then_total (on_total (λ (e : Event). e.minute) nat_cmp_total) (on_total (λ (e : Event). e.stop.0) nat_cmp_total)
+event_cmp-total =
+    then_total (on_total (λ (e : Event). e.minute) nat_cmp_total) (on_total (λ (e : Event). e.stop.0) nat_cmp_total)
 
 -- an event of the same minute and stop
 pub event_of_both : (a b : Event) → a.minute ≡ b.minute → a.stop.0 ≡ b.stop.0 → a ≡ b
 event_of_both a b minute stop = λ i. record { minute = minute i; stop = record { 0 = stop i } }
 
 pub event_before : (a b : Event) → event_cmp a b ≡ Less → IsBefore a b
-event_before a b is = elim (less-then a.minute b.minute _ is) [ inl up ↦ inl up | inr both ↦ inr (both.0, less a.stop.0 b.stop.0 both.1) ]
+event_before a b is =
+    elim (less-then a.minute b.minute _ is) [ inl up ↦ inl up | inr both ↦ inr (both.0, less a.stop.0 b.stop.0 both.1) ]
 
 pub event_same : (a b : Event) → event_cmp a b ≡ Equal → a ≡ b
 event_same a b is =
@@ -88,11 +96,14 @@ not_less a b before Greater is = refl
 
 sorted_events : (events : List Event) → AllPairs IsBefore events → IsSortedBy (λ a b. is_lt (event_cmp a b)) events
 sorted_events events ordered k d low within =
-    not_less (get_or events k d) (get_or events (k + 1) d) (ordered k (k + 1) d (omega arith) within) (event_cmp (get_or events (k + 1) d) (get_or events k d)) refl
+    not_less (get_or events k d) (get_or events (k + 1) d) (ordered k (k + 1) d (omega arith) within)
+    (event_cmp (get_or events (k + 1) d) (get_or events k d)) refl
 
 -- events in order can be searched
-pub searchable_events : (events : List Event) (e : Event) → AllPairs IsBefore events → IsNonDecreasingBy (λ y. ordering_index (event_cmp y e)) events
-searchable_events events e ordered = searchable_from_sorted event_cmp-total (λ (y : Event). y) events e (sorted_events events ordered)
+pub searchable_events : (events : List Event) (e : Event) → AllPairs IsBefore events
+    → IsNonDecreasingBy (λ y. ordering_index (event_cmp y e)) events
+searchable_events events e ordered =
+    searchable_from_sorted event_cmp-total (λ (y : Event). y) events e (sorted_events events ordered)
 
 pub event_cmp-itself : (e : Event) → event_cmp e e ≡ Equal
 event_cmp-itself e = tied_itself event_cmp-total e

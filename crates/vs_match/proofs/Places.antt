@@ -23,7 +23,8 @@ placed events (suc k) e has = record {
   event = λ d. get_or_from_slice_get events k e d has;
 }
 
-pub place-at : (events : List Event) (k : ℕ) (e d : Event) → k < length events → get_or events k d ≡ e → HasPlace events (k + 1) e
+pub place-at : (events : List Event) (k : ℕ) (e d : Event) → k < length events → get_or events k d ≡ e
+    → HasPlace events (k + 1) e
 place-at events k e d within is = rw add-one (slice_get-get_or events k d within ∙ ap (λ (x : Event). Some x) is)
 
 -- an event has a node
@@ -45,10 +46,12 @@ not_both a b (inr x) (inl y) = omega (arith, x.0)
 not_both a b (inr x) (inr y) = omega (arith, x.1, y.1)
 
 module _ (events : List Event) (ordered : AllPairs IsBefore events) where
-  before_of : (j k : ℕ) (a b : Event) → j < k → k < length events → ((d : Event) → get_or events j d ≡ a) → ((d : Event) → get_or events k d ≡ b) → IsBefore a b
+  before_of : (j k : ℕ) (a b : Event) → j < k → k < length events → ((d : Event) → get_or events j d ≡ a)
+      → ((d : Event) → get_or events k d ≡ b) → IsBefore a b
   before_of j k a b less within is is' =
       let P : Event → Type 0 = λ x. IsBefore x b in
-      subst P (is a) (let Q : Event → Type 0 = λ y. IsBefore (get_or events j a) y in subst Q (is' a) (ordered j k a less within))
+      subst P (is a) (let Q : Event → Type 0 =
+      λ y. IsBefore (get_or events j a) y in subst Q (is' a) (ordered j k a less within))
 
   -- events that come in order have nodes that do
   pub nodes_in_order : (u v : ℕ) (a b : Event) → HasPlace events u a → HasPlace events v b → IsBefore a b → u < v
@@ -56,7 +59,8 @@ module _ (events : List Event) (ordered : AllPairs IsBefore events) where
       let x = placed events u a at in
       let y = placed events v b at' in
       elim (cases_order x.k y.k) [
-        | inl same ↦ absurd (not_before_itself a b (sym (x.event a) ∙ ap (λ (k : ℕ). get_or events k a) same ∙ y.event a) less)
+        | inl same ↦
+            absurd (not_before_itself a b (sym (x.event a) ∙ ap (λ (k : ℕ). get_or events k a) same ∙ y.event a) less)
         | inr more ↦ elim more [
           | inl up ↦ omega (arith, x.node, y.node, up)
           | inr down ↦ absurd (not_both a b less (before_of y.k x.k b a down x.within y.event x.event))

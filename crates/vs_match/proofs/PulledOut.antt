@@ -36,27 +36,35 @@ pub record OfDeparture (p : Problem) (l : ℕ) (stays : List Stay) (k : ℕ) (x 
   pub is : x ≡ pull_out_of p l by stay
 
 -- the pull-in from arrival k
-pub record OfArrived (p : Problem) (l : ℕ) (events : List Event) (stays : List Stay) (k : ℕ) (x : LayerArc) : Type 0 where
+pub record OfArrived (p : Problem) (l : ℕ) (events : List Event) (stays : List Stay) (k : ℕ)
+    (x : LayerArc) : Type 0 where
   pub stay : Stay
   pub by : Way
   pub at : AtPlace stays k stay
   pub way_is : way p stay.stop.0 (layer_of p l).depot.0 ≡ Some by
   pub is : x ≡ pull_in_of p l (last_node events) by stay
 
-pub only_out : (p : Problem) (l : ℕ) (stays : List Stay) (k : ℕ) (x y : LayerArc) → OfDeparture p l stays k x → OfDeparture p l stays k y → x ≡ y
+pub only_out : (p : Problem) (l : ℕ) (stays : List Stay) (k : ℕ) (x y : LayerArc) → OfDeparture p l stays k x
+    → OfDeparture p l stays k y → x ≡ y
 only_out p l stays k x y of of' =
     let stay = same_at stays k of.stay of'.stay of.at of'.at in
-    let by = some-same of.by of'.by (sym of.way_is ∙ ap (λ (s : Stay). way p (layer_of p l).depot.0 s.stop.0) stay ∙ of'.way_is) in
-    of.is ∙ ap (λ (w : Way). pull_out_of p l w of.stay) by ∙ ap (λ (s : Stay). pull_out_of p l of'.by s) stay ∙ sym of'.is
+    let by = some-same of.by of'.by
+    (sym of.way_is ∙ ap (λ (s : Stay). way p (layer_of p l).depot.0 s.stop.0) stay ∙ of'.way_is) in
+    of.is ∙ ap (λ (w : Way). pull_out_of p l w of.stay) by ∙ ap (λ (s : Stay). pull_out_of p l of'.by s) stay
+    ∙ sym of'.is
 
-pub only_in : (p : Problem) (l : ℕ) (events : List Event) (stays : List Stay) (k : ℕ) (x y : LayerArc) → OfArrived p l events stays k x
+pub only_in : (p : Problem) (l : ℕ) (events : List Event) (stays : List Stay) (k : ℕ) (x y : LayerArc)
+    → OfArrived p l events stays k x
     → OfArrived p l events stays k y → x ≡ y
 only_in p l events stays k x y of of' =
     let stay = same_at stays k of.stay of'.stay of.at of'.at in
-    let by = some-same of.by of'.by (sym of.way_is ∙ ap (λ (s : Stay). way p s.stop.0 (layer_of p l).depot.0) stay ∙ of'.way_is) in
-    of.is ∙ ap (λ (w : Way). pull_in_of p l (last_node events) w of.stay) by ∙ ap (λ (s : Stay). pull_in_of p l (last_node events) of'.by s) stay ∙ sym of'.is
+    let by = some-same of.by of'.by
+    (sym of.way_is ∙ ap (λ (s : Stay). way p s.stop.0 (layer_of p l).depot.0) stay ∙ of'.way_is) in
+    of.is ∙ ap (λ (w : Way). pull_in_of p l (last_node events) w of.stay) by
+    ∙ ap (λ (s : Stay). pull_in_of p l (last_node events) of'.by s) stay ∙ sym of'.is
 
-pub pull_outs_are : (p : Problem) (l : ℕ) (events : List Event) (stays : List Stay) → AreStays events (DepartsAt p l) stays → (old new : List LayerArc)
+pub pull_outs_are : (p : Problem) (l : ℕ) (events : List Event) (stays : List Stay)
+    → AreStays events (DepartsAt p l) stays → (old new : List LayerArc)
     → Adds (Upto (OfDeparture p l stays) (length stays)) old new → Adds (IsPullOut p l events) old new
 pull_outs_are p l events stays are old new adds =
     adds-as (Upto (OfDeparture p l stays) (length stays)) (IsPullOut p l events) old new adds
@@ -91,7 +99,8 @@ pull_outs_are p l events stays are old new adds =
       },
     ))
 
-pub pull_ins_are : (p : Problem) (l : ℕ) (events : List Event) (stays : List Stay) → AreStays events (ArrivesAt p l) stays → (old new : List LayerArc)
+pub pull_ins_are : (p : Problem) (l : ℕ) (events : List Event) (stays : List Stay)
+    → AreStays events (ArrivesAt p l) stays → (old new : List LayerArc)
     → Adds (Upto (OfArrived p l events stays) (length stays)) old new → Adds (IsPullIn p l events) old new
 pull_ins_are p l events stays are old new adds =
     adds-as (Upto (OfArrived p l events stays) (length stays)) (IsPullIn p l events) old new adds

@@ -20,7 +20,8 @@ use Rattle.vs_match.proofs.Orders.{less, equal, less-then, equal-then}
 use Rattle.vs_match.proofs.Places.{placed, place-at, same_node}
 
 abbrev pub stay_cmp : Stay → Stay → Ordering
-stay_cmp a b = ordering_then (nat_cmp a.stop.0 b.stop.0) (ordering_then (nat_cmp a.minute b.minute) (nat_cmp a.node b.node))
+stay_cmp a b =
+    ordering_then (nat_cmp a.stop.0 b.stop.0) (ordering_then (nat_cmp a.minute b.minute) (nat_cmp a.node b.node))
 
 -- nodes that test equal are
 pub stay_equal : (a b : Stay) → (eqb a.stop.0 b.stop.0 && (eqb a.minute b.minute && eqb a.node b.node)) ≡ true → a ≡ b
@@ -33,7 +34,8 @@ stay_equal a b is =
     λ i. record { stop = record { 0 = stop i }; minute = minute i; node = node i }
 
 -- a node of an event is known by the event
-pub same_stay : (events : List Event) → AllPairs IsBefore events → (a b : Stay) → event_of a ≡ event_of b → HasPlace events a.node (event_of a)
+pub same_stay : (events : List Event) → AllPairs IsBefore events → (a b : Stay) → event_of a ≡ event_of b
+    → HasPlace events a.node (event_of a)
     → HasPlace events b.node (event_of b) → a ≡ b
 same_stay events ordered a b same at at' =
     let P : Event → Type 0 = λ e. HasPlace events a.node e in
@@ -51,7 +53,8 @@ module _ (events : List Event) (ordered : AllPairs IsBefore events) (Such : Even
     | inr same ↦ elim (less-then a.minute b.minute (nat_cmp a.node b.node) same.1) [
       | inl minute ↦ inr (same.0, minute)
       | inr both ↦
-          let same_event : event_of a ≡ event_of b = λ i. record { minute = both.0 i; stop = record { 0 = same.0 i } } in
+          let same_event : event_of a ≡ event_of b =
+          λ i. record { minute = both.0 i; stop = record { 0 = same.0 i } } in
           let equal_stays = same_stay events ordered a b same_event (only a has).0 (only b has').0 in
           absurd (omega (arith, less a.node b.node both.1, ap (λ (s : Stay). s.node) equal_stays))
     ]
@@ -62,7 +65,8 @@ module _ (events : List Event) (ordered : AllPairs IsBefore events) (Such : Even
     only = only;
     every = every;
     ordered = λ j k d less within. before (get_or stays j d) (get_or stays k d)
-        (j, omega (arith, less, within), get_or_default stays j _ d (omega (arith, less, within))) (k, within, get_or_default stays k _ d within) (rising j k d less within);
+        (j, omega (arith, less, within), get_or_default stays j _ d (omega (arith, less, within)))
+        (k, within, get_or_default stays k _ d within) (rising j k d less within);
   }
 
 -- the node of event k
@@ -73,24 +77,31 @@ abbrev pub OfPlace : List Event → ℕ → Stay → Type 0
 OfPlace events k s = (k < length events) × ((d : Event) → s ≡ stay_at events k d)
 
 pub of_place : (events : List Event) (k : ℕ) (d : Event) → k < length events → OfPlace events k (stay_at events k d)
-of_place events k d within =
-    (within, λ e. ap (λ (x : Event). record { stop = x.stop; minute = x.minute; node = k + 1 }) (get_or_default events k d e within))
+of_place events k d within = (
+  within,
+  λ e. ap (λ (x : Event). record { stop = x.stop; minute = x.minute; node = k + 1 })
+      (get_or_default events k d e within),
+)
 
 -- the node of trip i's event
 abbrev pub OfTripEnd : TripEnd → Problem → ℕ → List Event → ℕ → Stay → Type 0
 OfTripEnd end p l events i s = MayRun p l i × ((event_at end p i ≡ event_of s) × HasPlace events s.node (event_of s))
 
-pub happens : (end : TripEnd) (p : Problem) (l : ℕ) (e : Event) (i : ℕ) → MayRun p l i → event_at end p i ≡ e → HappensAt end p l e
+pub happens : (end : TripEnd) (p : Problem) (l : ℕ) (e : Event) (i : ℕ) → MayRun p l i → event_at end p i ≡ e
+    → HappensAt end p l e
 happens Departure p l e i may is = (i, may, is)
 happens Arrival p l e i may is = (i, may, is)
 
-pub happening : (end : TripEnd) (p : Problem) (l : ℕ) (e : Event) → HappensAt end p l e → (i : ℕ) × MayRun p l i × (event_at end p i ≡ e)
+pub happening : (end : TripEnd) (p : Problem) (l : ℕ) (e : Event) → HappensAt end p l e → (i : ℕ) × MayRun p l i
+    × (event_at end p i ≡ e)
 happening Departure p l e has = has
 happening Arrival p l e has = has
 
 -- the nodes of all trips' events, put in order
-pub trip_stays : (end : TripEnd) (p : Problem) (l : ℕ) (events : List Event) → AllPairs IsBefore events → (found stays : List Stay)
-    → Adds (Upto (OfTripEnd end p l events) (length p.trips)) [] found → ((s : Stay) → Contains stays s ↔ Contains found s)
+pub trip_stays : (end : TripEnd) (p : Problem) (l : ℕ) (events : List Event) → AllPairs IsBefore events
+    → (found stays : List Stay)
+    → Adds (Upto (OfTripEnd end p l events) (length p.trips)) [] found
+    → ((s : Stay) → Contains stays s ↔ Contains found s)
     → AllPairs (λ a b. stay_cmp a b ≡ Less) stays → AreStays events (HappensAt end p l) stays
 trip_stays end p l events ordered found stays adds same rising =
     are_stays events ordered (HappensAt end p l) stays
@@ -98,7 +109,8 @@ trip_stays end p l events ordered found stays adds same rising =
       | inl none ↦ absurd (contains-none s none)
       | inr is ↦ (is.2.1.1, happens end p l (event_of s) is.0 is.2.0 is.2.1.0)
     ])
-    (λ s at is. let i = happening end p l (event_of s) is in (same s).1 ((adds s).1 (inr (i.0, i.1.0, (i.1, (i.2, at))))))
+    (λ s at is. let i =
+    happening end p l (event_of s) is in (same s).1 ((adds s).1 (inr (i.0, i.1.0, (i.1, (i.2, at))))))
     rising
 
 -- the nodes of all events, put in order
@@ -114,8 +126,11 @@ event_stays events ordered found stays adds same rising =
           let e = get_or events k (event_of s) in
           let same_as = is.2.1 (event_of s) in
           let event : e ≡ event_of s = ap event_of (sym same_as) in
-          let P : ℕ → Type 0 = λ v. HasPlace events v (event_of s) in
-          (subst P (sym (ap (λ (x : Stay). x.node) same_as)) (place-at events k (event_of s) (event_of s) is.1 event), (k, is.1, event))
+          let P : ℕ → Type 0 = λ v. HasPlace events v (event_of s) in (
+            subst P (sym (ap (λ (x : Stay). x.node) same_as))
+                (place-at events k (event_of s) (event_of s) is.1 event),
+            (k, is.1, event),
+          )
     ])
     (λ s at is.
     let x = placed events s.node (event_of s) at in
@@ -124,12 +139,14 @@ event_stays events ordered found stays adds same rising =
       x.within,
       (
         x.within,
-        λ d. let event = sym (x.event d) in λ i. record { stop = (event i).stop; minute = (event i).minute; node = x.node i },
+        λ d. let event =
+            sym (x.event d) in λ i. record { stop = (event i).stop; minute = (event i).minute; node = x.node i },
       ),
     ))))
     rising
 
 -- a trip's event is one of the events
-pub event_known : (end : TripEnd) (p : Problem) (l i : ℕ) (events : List Event) → AreEvents p l events → MayRun p l i → Contains events (event_at end p i)
+pub event_known : (end : TripEnd) (p : Problem) (l i : ℕ) (events : List Event) → AreEvents p l events
+    → MayRun p l i → Contains events (event_at end p i)
 event_known Departure p l i events are may = are.every (event_at Departure p i) (inl (i, may, refl))
 event_known Arrival p l i events are may = are.every (event_at Arrival p i) (inr (i, may, refl))

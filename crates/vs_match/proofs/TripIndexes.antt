@@ -24,7 +24,8 @@ get_or-copies a n i = elim (cases_lt i n) [
 ]
 
 -- nothing yet
-pub index_none : (kinds : List ArcKind) (index : List (Option ℕ)) → ((i : ℕ) → get_or index i None ≡ None) → IsIndexUpto kinds 0 index
+pub index_none : (kinds : List ArcKind) (index : List (Option ℕ)) → ((i : ℕ) → get_or index i None ≡ None)
+    → IsIndexUpto kinds 0 index
 index_none kinds index none = record {
   found = λ i k is. absurd (none-some k (sym (none i) ∙ is));
   missing = λ i k is within. absurd (omega arith);
@@ -45,35 +46,46 @@ trip_number-is : (a b : TripNo) → Trip a ≡ Trip b → a.0 ≡ b.0
 trip_number-is a b e = let same : a ≡ b = cc in ap (λ (t : TripNo). t.0) same
 
 -- the arc of trip i
-pub index_trip : (kinds : List ArcKind) (n i : ℕ) (index : List (Option ℕ)) → IsIndexUpto kinds n index → n < length kinds → i < length index
+pub index_trip : (kinds : List ArcKind) (n i : ℕ) (index : List (Option ℕ)) → IsIndexUpto kinds n index
+    → n < length kinds → i < length index
     → kind_at kinds n ≡ Trip (record { 0 = i }) → IsIndexUpto kinds (n + 1) (set index i (Some n))
 index_trip kinds n i index is within room kind = record {
   found = λ j k at. elim (cases_eq j i) [
     | inl same ↦
-        let here = ap (λ (m : ℕ). get_or (set index i (Some n)) m None) same ∙ get_or-set_same index i (Some n) None room in
-        let number : n ≡ k = some-same n k (sym here ∙ at) in
-        (omega (arith, number), (omega (arith, number, within), ap (kind_at kinds) (sym number) ∙ kind ∙ ap (λ (m : ℕ). Trip (record { 0 = m })) (sym same)))
+        let here =
+        ap (λ (m : ℕ). get_or (set index i (Some n)) m None) same ∙ get_or-set_same index i (Some n) None room in
+        let number : n ≡ k = some-same n k (sym here ∙ at) in (
+          omega (arith, number),
+          (
+            omega (arith, number, within),
+            ap (kind_at kinds) (sym number) ∙ kind ∙ ap (λ (m : ℕ). Trip (record { 0 = m })) (sym same),
+          ),
+        )
     | inr other ↦
         let f = is.found j k (sym (get_or-set_other index i j (Some n) None other) ∙ at) in
         (omega (arith, f.0), f.1)
   ];
   missing = λ j k at before arc. elim (cases_eq j i) [
     | inl same ↦
-        let here = ap (λ (m : ℕ). get_or (set index i (Some n)) m None) same ∙ get_or-set_same index i (Some n) None room in
+        let here =
+        ap (λ (m : ℕ). get_or (set index i (Some n)) m None) same ∙ get_or-set_same index i (Some n) None room in
         none-some n (sym at ∙ here)
     | inr other ↦ elim (cases_lt k n) [
       | inl old ↦ is.missing j k (sym (get_or-set_other index i j (Some n) None other) ∙ at) old arc
       | inr last ↦
           let same : n ≡ k = omega (arith, last, before) in
-          other (trip_number-is (record { 0 = j }) (record { 0 = i }) (sym arc.1 ∙ ap (kind_at kinds) (sym same) ∙ kind))
+          other (trip_number-is (record { 0 = j }) (record { 0 = i })
+          (sym arc.1 ∙ ap (kind_at kinds) (sym same) ∙ kind))
     ]
   ];
 }
 
-trip_at : (kinds : List ArcKind) (index : List (Option ℕ)) → IsIndexUpto kinds (length kinds) index → (i : ℕ) (o : Option ℕ) → get_or index i None ≡ o → IsTripAt kinds i o
+trip_at : (kinds : List ArcKind) (index : List (Option ℕ)) → IsIndexUpto kinds (length kinds) index
+    → (i : ℕ) (o : Option ℕ) → get_or index i None ≡ o → IsTripAt kinds i o
 trip_at kinds index is i (Some k) at = (is.found i k at).1
 trip_at kinds index is i None at = λ k arc. is.missing i k at arc.0 arc
 
 -- all arcs
-pub index_all : (kinds : List ArcKind) (index : List (Option ℕ)) → IsIndexUpto kinds (length kinds) index → IsTripIndex kinds index
+pub index_all : (kinds : List ArcKind) (index : List (Option ℕ)) → IsIndexUpto kinds (length kinds) index
+    → IsTripIndex kinds index
 index_all kinds index is i = trip_at kinds index is i (get_or index i None) refl

@@ -17,7 +17,8 @@ use Rattle.vs_match.proofs.Places.{same_node}
 abbrev pub OfTripNo : Problem → ℕ → List Event → ℕ → LayerArc → Type 0
 OfTripNo p l events i x = (x.kind ≡ Trip (record { 0 = i })) × IsTripArc p l events i (arc_in x)
 
-pub only_trip : (p : Problem) (l : ℕ) (events : List Event) → AllPairs IsBefore events → (i : ℕ) (x y : LayerArc) → OfTripNo p l events i x
+pub only_trip : (p : Problem) (l : ℕ) (events : List Event) → AllPairs IsBefore events → (i : ℕ) (x y : LayerArc)
+    → OfTripNo p l events i x
     → OfTripNo p l events i y → x ≡ y
 only_trip p l events ordered i x y (kind, arc) (kind', arc') =
     let from = same_node events ordered x.from y.from (departure p i) arc.from arc'.from in
@@ -27,7 +28,8 @@ only_trip p l events ordered i x y (kind, arc) (kind', arc') =
     let rooms = arc.room ∙ sym arc'.room in
     λ t. record { from = from t; to = to t; kind = kinds t; cost = costs t; room = rooms t }
 
-pub trips_are : (p : Problem) (l : ℕ) (events : List Event) (old new : List LayerArc) → Adds (Upto (OfTripNo p l events) (length p.trips)) old new
+pub trips_are : (p : Problem) (l : ℕ) (events : List Event) (old new : List LayerArc)
+    → Adds (Upto (OfTripNo p l events) (length p.trips)) old new
     → Adds (IsTrip p l events) old new
 trips_are p l events old new adds =
     adds-as (Upto (OfTripNo p l events) (length p.trips)) (IsTrip p l events) old new adds

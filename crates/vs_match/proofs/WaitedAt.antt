@@ -29,15 +29,18 @@ pub record OfNeighbours (p : Problem) (l : ℕ) (stays : List Stay) (k : ℕ) (x
   pub same : since.stop ≡ until.stop
   pub is : x ≡ waiting_of p l since until
 
-pub only_waiting : (p : Problem) (l : ℕ) (stays : List Stay) (k : ℕ) (x y : LayerArc) → OfNeighbours p l stays k x → OfNeighbours p l stays k y → x ≡ y
+pub only_waiting : (p : Problem) (l : ℕ) (stays : List Stay) (k : ℕ) (x y : LayerArc) → OfNeighbours p l stays k x
+    → OfNeighbours p l stays k y → x ≡ y
 only_waiting p l stays k x y of of' =
     let firsts : of'.first ≡ of.first = omega (arith, of.follows, of'.follows) in
     let P : ℕ → Type 0 = λ n. AtPlace stays n of'.since in
     let since = same_at stays of.first of.since of'.since of.at (subst P firsts of'.at) in
     let until = same_at stays k of.until of'.until of.at_next of'.at_next in
-    of.is ∙ ap (λ (s : Stay). waiting_of p l s of.until) since ∙ ap (λ (s : Stay). waiting_of p l of'.since s) until ∙ sym of'.is
+    of.is ∙ ap (λ (s : Stay). waiting_of p l s of.until) since ∙ ap (λ (s : Stay). waiting_of p l of'.since s) until
+    ∙ sym of'.is
 
-module _ (p : Problem) (l : ℕ) (events : List Event) (are_events : AreEvents p l events) (stays : List Stay) (are : AreStays events (IsEvent p l) stays) where
+module _ (p : Problem) (l : ℕ) (events : List Event) (are_events : AreEvents p l events) (stays : List Stay)
+    (are : AreStays events (IsEvent p l) stays) where
   is_event : (e : Event) (v : ℕ) → HasPlace events v e → IsEvent p l e
   is_event e v at = let x = placed events v e at in are_events.only e (x.k, x.within, x.event e)
 
@@ -48,7 +51,8 @@ module _ (p : Problem) (l : ℕ) (events : List Event) (are_events : AreEvents p
       subst P at.1 (subst Q (same_at stays k _ b (at_place stays k a at'.0) at') (are.ordered j k a less at'.0))
 
   -- of two nodes at a stop the later stands further on
-  further : (j k : ℕ) (a b : Stay) → AtPlace stays j a → AtPlace stays k b → a.stop ≡ b.stop → a.minute < b.minute → j < k
+  further : (j k : ℕ) (a b : Stay) → AtPlace stays j a → AtPlace stays k b → a.stop ≡ b.stop → a.minute < b.minute
+      → j < k
   further j k a b at at' same later =
       let number = ap (λ (s : StopNo). s.0) same in
       elim (cases_order j k) [
@@ -57,13 +61,23 @@ module _ (p : Problem) (l : ℕ) (events : List Event) (are_events : AreEvents p
             absurd (omega (arith, later, ap (λ (s : Stay). s.minute) (same_at stays k a b (subst P equal at) at')))
         | inr more ↦ elim more [
           | inl up ↦ up
-          | inr down ↦ absurd (elim (before k j b a at' at down) [ inl stop ↦ omega (arith, stop, number) | inr both ↦ omega (arith, both.1, later) ])
+          | inr down ↦
+              absurd (elim (before k j b a at' at down) [
+                | inl stop ↦ omega (arith, stop, number)
+                | inr both ↦
+                    omega (arith, both.1, later)
+              ])
         ]
       ]
 
-  pub at_stop_later : (j k : ℕ) (a b : Stay) → AtPlace stays j a → AtPlace stays k b → a.stop ≡ b.stop → j < k → a.minute < b.minute
+  pub at_stop_later : (j k : ℕ) (a b : Stay) → AtPlace stays j a → AtPlace stays k b → a.stop ≡ b.stop → j < k
+      → a.minute < b.minute
   at_stop_later j k a b at at' same less =
-      elim (before j k a b at at' less) [ inl stop ↦ absurd (omega (arith, stop, ap (λ (s : StopNo). s.0) same)) | inr both ↦ both.1 ]
+      elim (before j k a b at at' less) [
+        | inl stop ↦
+            absurd (omega (arith, stop, ap (λ (s : StopNo). s.0) same))
+        | inr both ↦ both.1
+      ]
 
   to_waiting : (k : ℕ) (x : LayerArc) → OfNeighbours p l stays k x → IsWaiting p l events x
   to_waiting k x of =
@@ -87,9 +101,17 @@ module _ (p : Problem) (l : ℕ) (events : List Event) (are_events : AreEvents p
               elim (cases_eq has.0 k) [
                 | inl last ↦
                     let R : ℕ → Type 0 = λ n. AtPlace stays n s in
-                    omega (arith, ap (λ (y : Stay). y.minute) (same_at stays k s of.until (subst R last (has.1, has.2)) of.at_next))
+                    omega (
+                      arith,
+                      ap (λ (y : Stay). y.minute)
+                          (same_at stays k s of.until (subst R last (has.1, has.2)) of.at_next),
+                    )
                 | inr other ↦
-                    omega (arith, at_stop_later k has.0 of.until s of.at_next (has.1, has.2) (sym of.same ∙ sym same) (omega (arith, up, other, of.follows)))
+                    omega (
+                      arith,
+                      at_stop_later k has.0 of.until s of.at_next (has.1, has.2) (sym of.same ∙ sym same)
+                          (omega (arith, up, other, of.follows)),
+                    )
               ];
           cost = ap (λ (y : LayerArc). y.cost) of.is;
           room = ap (λ (y : LayerArc). y.room) of.is;
@@ -97,11 +119,13 @@ module _ (p : Problem) (l : ℕ) (events : List Event) (are_events : AreEvents p
       )
 
   -- no node stands between the two of a waiting arc
-  none_between : (x : LayerArc) (w : IsWaiting p l events x) (i j : ℕ) (a b : Stay) → event_of a ≡ w.1.since → event_of b ≡ w.1.until
+  none_between : (x : LayerArc) (w : IsWaiting p l events x) (i j : ℕ) (a b : Stay) → event_of a ≡ w.1.since
+      → event_of b ≡ w.1.until
       → AtPlace stays i a → AtPlace stays j b → i + 1 < j → ⊥
   none_between x w i j a b is is' at at' gap =
       let arc = w.1 in
-      let same : a.stop ≡ b.stop = ap (λ (e : Event). e.stop) is ∙ arc.same_stop ∙ sym (ap (λ (e : Event). e.stop) is') in
+      let same : a.stop ≡ b.stop =
+      ap (λ (e : Event). e.stop) is ∙ arc.same_stop ∙ sym (ap (λ (e : Event). e.stop) is') in
       let y = get_or stays (i + 1) a in
       let at'' = at_place stays (i + 1) a (omega (arith, gap, at'.0)) in
       let first = before i (i + 1) a y at at'' (omega arith) in
@@ -111,11 +135,17 @@ module _ (p : Problem) (l : ℕ) (events : List Event) (are_events : AreEvents p
       let minute' = ap (λ (e : Event). e.minute) is' in
       let event = (are.only y (i + 1, at''.0, at''.1)).1 in
       elim first [
-        | inl stop ↦ elim second [ inl stop' ↦ omega (arith, stop, stop', number) | inr both' ↦ omega (arith, stop, both'.0, number) ]
+        | inl stop ↦
+            elim second [
+              | inl stop' ↦ omega (arith, stop, stop', number)
+              | inr both' ↦
+                  omega (arith, stop, both'.0, number)
+            ]
         | inr both ↦ elim second [
           | inl stop' ↦ omega (arith, both.0, stop', number)
           | inr both' ↦
-              let there : (event_of y).stop ≡ arc.since.stop = same_stop _ _ (sym both.0) ∙ ap (λ (e : Event). e.stop) is in
+              let there : (event_of y).stop ≡ arc.since.stop =
+              same_stop _ _ (sym both.0) ∙ ap (λ (e : Event). e.stop) is in
               omega (arith, both'.1, minute', arc.next (event_of y) event there (omega (arith, both.1, minute)))
         ]
       ]
@@ -145,9 +175,11 @@ module _ (p : Problem) (l : ℕ) (events : List Event) (are_events : AreEvents p
         },
       )
 
-  pub waiting_is : (old new : List LayerArc) → Adds (Upto (OfNeighbours p l stays) (length stays)) old new → Adds (IsWaiting p l events) old new
+  pub waiting_is : (old new : List LayerArc) → Adds (Upto (OfNeighbours p l stays) (length stays)) old new
+      → Adds (IsWaiting p l events) old new
   waiting_is old new adds =
-      adds-as (Upto (OfNeighbours p l stays) (length stays)) (IsWaiting p l events) old new adds (λ x (k, within, of). to_waiting k x of) from_waiting
+      adds-as (Upto (OfNeighbours p l stays) (length stays)) (IsWaiting p l events) old new adds
+      (λ x (k, within, of). to_waiting k x of) from_waiting
 
 -- nothing comes of places past the end
 pub waiting_past : (p : Problem) (l : ℕ) (stays : List Stay) (n : ℕ) (old new : List LayerArc) → length stays ≤ n

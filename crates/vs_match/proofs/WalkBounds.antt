@@ -1,4 +1,5 @@
--- What a walk shows of the two events that it joins: there is a way between them that fits, and the walk costs no less than it.
+-- What a walk shows of the two events that it joins: there is a way between them that fits, and the walk costs no less
+-- than it.
 use Rattle.std.proofs.Common.{◌≡◌, ℕ, ◌+◌, ◌-◌, ◌*◌, ◌<◌, ◌≤◌, List, [], ◌∷◌, length, Option, Some, None, refl, sym, ap, ◌∙◌, subst, arith, pos}
 use Rattle.std.specs.Prelude.{ℤ, ◌+ℤ◌}
 use Rattle.std.proofs.Math.Nat.{mul-le-mul_left}
@@ -24,7 +25,8 @@ use Rattle.vs_match.proofs.ClosedWays.{way-own, way-through, IsThrough}
 use Rattle.vs_match.proofs.Places.{same_event}
 
 -- a match by either rule is a first match
-pub first_of_match : (p : Problem) (l : ℕ) (matching : Matching) (w : Way) (a b : Event) → IsMatch p l matching w a b → IsFirstMatch p l w a b
+pub first_of_match : (p : Problem) (l : ℕ) (matching : Matching) (w : Way) (a b : Event)
+    → IsMatch p l matching w a b → IsFirstMatch p l w a b
 first_of_match p l First w a b is = is
 first_of_match p l Latest w a b is = is.is_match
 
@@ -39,7 +41,8 @@ pub record IsMoveArc (p : Problem) (l : ℕ) (events : List Event) (a : Arc) : T
   pub in_time : since.minute + by.minutes ≤ until.minute
   pub cost : a.cost ≡ pos (1000 * rated p l (until.minute - since.minute) by.metres)
 
-pub move_arc : (p : Problem) (l : ℕ) (matching : Matching) (events : List Event) (a : Arc) (kind : ArcKind) → IsMove kind → IsArcOf p l matching events kind a
+pub move_arc : (p : Problem) (l : ℕ) (matching : Matching) (events : List Event) (a : Arc) (kind : ArcKind)
+    → IsMove kind → IsArcOf p l matching events kind a
     → IsMoveArc p l events a
 move_arc p l matching events a (Trip i) moves is = absurd moves
 move_arc p l matching events a Waiting moves is = record {
@@ -78,11 +81,13 @@ pub record IsBound (p : Problem) (l : ℕ) (g : Graph) (a b : Event) (ks : List 
   pub at_least : 1000 * rated p l (b.minute - a.minute) by.metres ≤ cost
 
 -- no more minutes and metres than two parts have cost no more than these
-pub rated-≤ : (p : Problem) (l m m1 m2 d d1 d2 : ℕ) → m ≤ m1 + m2 → d ≤ d1 + d2 → rated p l m d ≤ rated p l m1 d1 + rated p l m2 d2
+pub rated-≤ : (p : Problem) (l m m1 m2 d d1 d2 : ℕ) → m ≤ m1 + m2 → d ≤ d1 + d2
+    → rated p l m d ≤ rated p l m1 d1 + rated p l m2 d2
 rated-≤ p l m m1 m2 d d1 d2 minutes metres =
     omega (arith, mul-le-mul_left (layer_of p l).per_metre metres, mul-le-mul_left (layer_of p l).per_minute minutes)
 
-module _ (p : Problem) (is : IsInstance p) (l : ℕ) (matching : Matching) (n : LayerGraph) (net : IsNetOf p l matching n) where
+module _ (p : Problem) (is : IsInstance p) (l : ℕ) (matching : Matching) (n : LayerGraph)
+    (net : IsNetOf p l matching n) where
   none_bound : (a b : Event) → a ≡ b → IsBound p l n.graph a b []
   none_bound a b same =
       let z : b.minute - a.minute ≡ 0 = omega (arith, ap (λ (e : Event). e.minute) same) in
@@ -96,24 +101,32 @@ module _ (p : Problem) (is : IsInstance p) (l : ℕ) (matching : Matching) (n : 
       }
 
   -- an arc, and a walk from where it leads
-  step_bound : (k : ℕ) (ks : List ℕ) (a c b : Event) (by : Way) → way p a.stop.0 c.stop.0 ≡ Some by → a.minute + by.minutes ≤ c.minute
-      → (arc_of n.graph k).cost ≡ pos (1000 * rated p l (c.minute - a.minute) by.metres) → IsBound p l n.graph c b ks → IsBound p l n.graph a b (k ∷ ks)
+  step_bound : (k : ℕ) (ks : List ℕ) (a c b : Event) (by : Way) → way p a.stop.0 c.stop.0 ≡ Some by
+      → a.minute + by.minutes ≤ c.minute
+      → (arc_of n.graph k).cost ≡ pos (1000 * rated p l (c.minute - a.minute) by.metres)
+      → IsBound p l n.graph c b ks → IsBound p l n.graph a b (k ∷ ks)
   step_bound k ks a c b by way_is in_time cost rest =
       let through = way-through p is a.stop.0 c.stop.0 b.stop.0 by rest.by way_is rest.way_is in
-      let rates = rated-≤ p l (b.minute - a.minute) (c.minute - a.minute) (b.minute - c.minute) through.by.metres by.metres rest.by.metres
+      let rates =
+      rated-≤ p l (b.minute - a.minute) (c.minute - a.minute)
+      (b.minute - c.minute) through.by.metres by.metres rest.by.metres
       (omega (arith, rest.in_time)) through.metres in
       record {
         by = through.by;
         way_is = through.way_is;
         in_time = omega (arith, rest.in_time, through.minutes);
         cost = 1000 * rated p l (c.minute - a.minute) by.metres + rest.cost;
-        cost_is = ap (λ (x : ℤ). x +ℤ path_cost n.graph ks) cost ∙ ap (λ (x : ℤ). pos (1000 * rated p l (c.minute - a.minute) by.metres) +ℤ x) rest.cost_is;
+        cost_is =
+            ap (λ (x : ℤ). x +ℤ path_cost n.graph ks) cost
+            ∙ ap (λ (x : ℤ). pos (1000 * rated p l (c.minute - a.minute) by.metres) +ℤ x) rest.cost_is;
         at_least = omega (arith, rest.at_least, rates);
       }
 
-  pub walk_bound : (ks : List ℕ) (u v : ℕ) (a b : Event) → IsWalk n u ks v → HasPlace n.events u a → HasPlace n.events v b → IsBound p l n.graph a b ks
+  pub walk_bound : (ks : List ℕ) (u v : ℕ) (a b : Event) → IsWalk n u ks v → HasPlace n.events u a
+      → HasPlace n.events v b → IsBound p l n.graph a b ks
   walk_bound [] u v a b same at at' =
-      none_bound a b (let P : ℕ → Type 0 = λ w. HasPlace n.events w a in same_event n.events v a b (subst P same at) at')
+      none_bound a b (let P : ℕ → Type 0 =
+      λ w. HasPlace n.events w a in same_event n.events v a b (subst P same at) at')
   walk_bound (k ∷ ks) u v a b walk at at' =
       let m = move_arc p l matching n.events (arc_of n.graph k) (kind_of n k) walk.1 (net.only k walk.0) in
       let P : ℕ → Type 0 = λ w. HasPlace n.events w m.since in

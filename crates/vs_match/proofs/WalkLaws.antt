@@ -29,17 +29,23 @@ use Rattle.vs_match.proofs.Matched.{IsMatchBetween, match_between}
 -- no list costs less than one that costs so much, where each costs a whole number that is no less
 least-from : (g : Graph) (Such : List ℕ → Type 0) (c : ℕ) (arcs : List ℕ) → Such arcs → path_cost g arcs ≡ pos c
     → ((ks : List ℕ) → Such ks → (d : ℕ) × (path_cost g ks ≡ pos d) × (c ≤ d)) → IsLeastCost g Such (Some (pos c))
-least-from g Such c arcs is cost others =
-    ((arcs, is, cost), λ ks such. let other = others ks such in subst (λ (x : ℤ). pos c ≤ℤ x) (sym other.1) (omega (arith, ints, other.2)))
+least-from g Such c arcs is cost others = (
+  (arcs, is, cost),
+  λ ks such. let other =
+      others ks such in subst (λ (x : ℤ). pos c ≤ℤ x) (sym other.1) (omega (arith, ints, other.2)),
+)
 
 minutes_of_all : (rate rest a s c b : ℕ) → a ≤ s → s ≤ c → c ≤ b
-    → 1000 * (rate * (s - a)) + (1000 * (rate * (c - s) + rest) + 1000 * (rate * (b - c))) ≡ 1000 * (rate * (b - a) + rest)
+    → 1000 * (rate * (s - a)) + (1000 * (rate * (c - s) + rest) + 1000 * (rate * (b - c)))
+    ≡ 1000 * (rate * (b - a) + rest)
 minutes_of_all rate rest a s c b first second third =
     let all : b - a ≡ (s - a) + ((c - s) + (b - c)) = omega arith in
     rw all (omega arith)
 
-module _ (p : Problem) (is : IsInstance p) (l : ℕ) (matching : Matching) (n : LayerGraph) (net : IsNetOf p l matching n) where
-  module _ (i j u v : ℕ) (may : MayRun p l i) (may' : MayRun p l j) (from : HasPlace n.events u (arrival p i)) (to : HasPlace n.events v (departure p j)) where
+module _ (p : Problem) (is : IsInstance p) (l : ℕ) (matching : Matching) (n : LayerGraph)
+    (net : IsNetOf p l matching n) where
+  module _ (i j u v : ℕ) (may : MayRun p l i) (may' : MayRun p l j) (from : HasPlace n.events u (arrival p i))
+      (to : HasPlace n.events v (departure p j)) where
     abbrev a : Event
     a = arrival p i
 
@@ -55,13 +61,16 @@ module _ (p : Problem) (is : IsInstance p) (l : ℕ) (matching : Matching) (n : 
     wait_only : (w : Way) → a.stop.0 ≡ b.stop.0 → way p a.stop.0 b.stop.0 ≡ Some w → a.minute + w.minutes ≤ b.minute
         → IsWalkOf n u v (1000 * rated p l (b.minute - a.minute) w.metres)
     wait_only w same way_is in_time =
-        let own : no_way ≡ w = some-same no_way w (sym (way-own p a.stop.0) ∙ ap (λ (s : ℕ). way p a.stop.0 s) same ∙ way_is) in
+        let own : no_way ≡ w =
+        some-same no_way w (sym (way-own p a.stop.0) ∙ ap (λ (s : ℕ). way p a.stop.0 s) same ∙ way_is) in
         let metres : w.metres ≡ 0 = ap (λ (x : Way). x.metres) (sym own) in
         let P : ℕ → Type 0 = λ c. IsWalkOf n u v c in
-        let cost : 1000 * ((layer_of p l).per_minute * (b.minute - a.minute)) ≡ 1000 * rated p l (b.minute - a.minute) w.metres = rw metres (omega arith) in
+        let cost : 1000 * ((layer_of p l).per_minute * (b.minute - a.minute))
+        ≡ 1000 * rated p l (b.minute - a.minute) w.metres = rw metres (omega arith) in
         subst P cost (wait p l matching n net a u v a b from to (same_stop _ _ same) (omega (arith, in_time)))
 
-    by_match : (w : Way) → IsMatchBetween p l matching w a b → IsWalkOf n u v (1000 * rated p l (b.minute - a.minute) w.metres)
+    by_match : (w : Way) → IsMatchBetween p l matching w a b
+        → IsWalkOf n u v (1000 * rated p l (b.minute - a.minute) w.metres)
     by_match w m =
         let first = first_of_match p l matching w m.since m.until m.matched in
         let s = has_node n.events m.since (net.events.every m.since (inr first.arrives)) in
@@ -82,7 +91,8 @@ module _ (p : Problem) (is : IsInstance p) (l : ℕ) (matching : Matching) (n : 
         let before = wait p l matching n net a u s.0 a m.since from s.1 m.same_start m.no_earlier in
         let after = wait p l matching n net a t.0 v m.until b t.1 to m.same_end m.no_later in
         walk_then n u s.0 v _ _ _ before (walk_then n s.0 t.0 v _ _ _ drive after refl)
-        (minutes_of_all (layer_of p l).per_minute ((layer_of p l).per_metre * w.metres) a.minute m.since.minute m.until.minute b.minute
+        (minutes_of_all (layer_of p l).per_minute
+        ((layer_of p l).per_metre * w.metres) a.minute m.since.minute m.until.minute b.minute
         m.no_earlier (omega (arith, first.in_time)) m.no_later)
 
     attained : (w : Way) → way p a.stop.0 b.stop.0 ≡ Some w → a.minute + w.minutes ≤ b.minute
@@ -93,8 +103,10 @@ module _ (p : Problem) (is : IsInstance p) (l : ℕ) (matching : Matching) (n : 
           | inr apart ↦ by_match w (match_between p is l matching w i j may may' apart way_is in_time)
         ]
 
-    link_in_time : (w : Way) → way p a.stop.0 b.stop.0 ≡ Some w → (t : Bool) → nat_le (a.minute + w.minutes) b.minute ≡ t
-        → IsLeastCost n.graph between (option_map at_scale (if t then Some (rated p l (b.minute - a.minute) w.metres) else None))
+    link_in_time : (w : Way) → way p a.stop.0 b.stop.0 ≡ Some w → (t : Bool)
+        → nat_le (a.minute + w.minutes) b.minute ≡ t
+        → IsLeastCost n.graph between
+        (option_map at_scale (if t then Some (rated p l (b.minute - a.minute) w.metres) else None))
     link_in_time w way_is false late = λ ks walk.
         let bound = bound_of ks walk in
         let same = ap (λ (x : Way). x.minutes) (some-same bound.by w (sym bound.way_is ∙ way_is)) in
@@ -104,11 +116,16 @@ module _ (p : Problem) (is : IsInstance p) (l : ℕ) (matching : Matching) (n : 
         least-from n.graph between (1000 * rated p l (b.minute - a.minute) w.metres) there.arcs there.walk there.cost_is
         (λ ks walk.
         let bound = bound_of ks walk in
-        let same = some-same bound.by w (sym bound.way_is ∙ way_is) in
-        (bound.cost, bound.cost_is, subst (λ (x : Way). 1000 * rated p l (b.minute - a.minute) x.metres ≤ bound.cost) same bound.at_least))
+        let same = some-same bound.by w (sym bound.way_is ∙ way_is) in (
+          bound.cost,
+          bound.cost_is,
+          subst (λ (x : Way). 1000 * rated p l (b.minute - a.minute) x.metres ≤ bound.cost) same bound.at_least,
+        ))
 
-    link_by : (o : Option Way) → way p a.stop.0 b.stop.0 ≡ o → IsLeastCost n.graph between (option_map at_scale (option_and_then
-        (λ w. if nat_le (a.minute + w.minutes) b.minute then Some (rated p l (b.minute - a.minute) w.metres) else None) o))
+    link_by : (o : Option Way) → way p a.stop.0 b.stop.0 ≡ o
+        → IsLeastCost n.graph between (option_map at_scale (option_and_then
+        (λ w. if nat_le (a.minute + w.minutes) b.minute then Some
+        (rated p l (b.minute - a.minute) w.metres) else None) o))
     link_by None way_is = λ ks walk. none-some (bound_of ks walk).by (sym way_is ∙ (bound_of ks walk).way_is)
     link_by (Some w) way_is = link_in_time w way_is (nat_le (a.minute + w.minutes) b.minute) refl
 
@@ -137,10 +154,13 @@ module _ (p : Problem) (is : IsInstance p) (l : ℕ) (matching : Matching) (n : 
     out_of : (ks : List ℕ) → IsWayOut n v ks → IsOut ks
     out_of [] none = absurd none
     out_of (k ∷ walk) out =
-        let pull = subst (λ (t : ArcKind). IsArcOf p l matching n.events t (arc_of n.graph k)) out.1 (net.only k out.0) in
+        let pull =
+        subst (λ (t : ArcKind). IsArcOf p l matching n.events t (arc_of n.graph k)) out.1 (net.only k out.0) in
         let rest = walk_bound p is l matching n net walk (arc_of n.graph k).to v pull.until goal out.2 pull.to to in
         let through = way-through p is depot pull.until.stop.0 goal.stop.0 pull.by rest.by pull.way_is rest.way_is in
-        let rates = rated-≤ p l through.by.minutes pull.by.minutes (goal.minute - pull.until.minute) through.by.metres pull.by.metres rest.by.metres
+        let rates =
+        rated-≤ p l through.by.minutes pull.by.minutes
+        (goal.minute - pull.until.minute) through.by.metres pull.by.metres rest.by.metres
         (omega (arith, through.minutes, rest.in_time)) through.metres in
         record {
           by = through.by;
@@ -153,7 +173,8 @@ module _ (p : Problem) (is : IsInstance p) (l : ℕ) (matching : Matching) (n : 
         }
 
     out_in_time : (w : Way) → way p depot goal.stop.0 ≡ Some w → (t : Bool) → nat_le w.minutes goal.minute ≡ t
-        → IsLeastCost n.graph (IsWayOut n v) (option_map at_scale (if t then Some (fixed + rated p l w.minutes w.metres) else None))
+        → IsLeastCost n.graph (IsWayOut n v)
+        (option_map at_scale (if t then Some (fixed + rated p l w.minutes w.metres) else None))
     out_in_time w way_is false late = λ ks out.
         let o = out_of ks out in
         let same = ap (λ (x : Way). x.minutes) (some-same o.by w (sym o.way_is ∙ way_is)) in
@@ -176,10 +197,14 @@ module _ (p : Problem) (is : IsInstance p) (l : ℕ) (matching : Matching) (n : 
         (ap (λ (x : Arc). x.cost +ℤ pos 0) found.3 ∙ omega (arith, ints))
         (λ ks out.
         let o = out_of ks out in
-        let same = some-same o.by w (sym o.way_is ∙ way_is) in
-        (o.cost, o.cost_is, subst (λ (x : Way). 1000 * (fixed + rated p l x.minutes x.metres) ≤ o.cost) same o.at_least))
+        let same = some-same o.by w (sym o.way_is ∙ way_is) in (
+          o.cost,
+          o.cost_is,
+          subst (λ (x : Way). 1000 * (fixed + rated p l x.minutes x.metres) ≤ o.cost) same o.at_least,
+        ))
 
-    out_by : (o : Option Way) → way p depot goal.stop.0 ≡ o → IsLeastCost n.graph (IsWayOut n v) (option_map at_scale (option_and_then
+    out_by : (o : Option Way) → way p depot goal.stop.0 ≡ o
+        → IsLeastCost n.graph (IsWayOut n v) (option_map at_scale (option_and_then
         (λ w. if nat_le w.minutes goal.minute then Some (fixed + rated p l w.minutes w.metres) else None) o))
     out_by None way_is = λ ks out. none-some (out_of ks out).by (sym way_is ∙ (out_of ks out).way_is)
     out_by (Some w) way_is = out_in_time w way_is (nat_le w.minutes goal.minute) refl
@@ -205,10 +230,16 @@ module _ (p : Problem) (is : IsInstance p) (l : ℕ) (matching : Matching) (n : 
     in_of : (ks : List ℕ) → IsWayIn n u ks → IsIn ks
     in_of ks way_in' =
         let last = way_in'.last in
-        let pull = subst (λ (t : ArcKind). IsArcOf p l matching n.events t (arc_of n.graph last)) way_in'.pull_in (net.only last way_in'.of_net) in
-        let first = walk_bound p is l matching n net way_in'.walk u (arc_of n.graph last).from start pull.since way_in'.is_walk from pull.from in
+        let pull =
+        subst (λ (t : ArcKind). IsArcOf p l matching n.events t (arc_of n.graph last)) way_in'.pull_in
+        (net.only last way_in'.of_net) in
+        let first =
+        walk_bound p is l matching n net way_in'.walk u
+        (arc_of n.graph last).from start pull.since way_in'.is_walk from pull.from in
         let through = way-through p is start.stop.0 pull.since.stop.0 home first.by pull.by first.way_is pull.way_is in
-        let rates = rated-≤ p l through.by.minutes (pull.since.minute - start.minute) pull.by.minutes through.by.metres first.by.metres pull.by.metres
+        let rates =
+        rated-≤ p l through.by.minutes
+        (pull.since.minute - start.minute) pull.by.minutes through.by.metres first.by.metres pull.by.metres
         (omega (arith, through.minutes, first.in_time)) through.metres in
         record {
           by = through.by;
@@ -237,7 +268,15 @@ module _ (p : Problem) (is : IsInstance p) (l : ℕ) (matching : Matching) (n : 
           room = refl;
         }) in
         least-from n.graph (IsWayIn n u) c (found.0 ∷ [])
-        (record { walk = []; last = found.0; is = refl; of_net = found.1; pull_in = found.2; is_walk = sym (ap (λ (x : Arc). x.from) found.3) })
+        (record {
+          walk = [];
+          last = found.0;
+          is = refl;
+          of_net = found.1;
+          pull_in = found.2;
+          is_walk =
+              sym (ap (λ (x : Arc). x.from) found.3);
+        })
         (ap (λ (x : Arc). x.cost +ℤ pos 0) found.3 ∙ omega (arith, ints))
         (λ ks way_in'.
         let o = in_of ks way_in' in
@@ -249,4 +288,5 @@ module _ (p : Problem) (is : IsInstance p) (l : ℕ) (matching : Matching) (n : 
 
   -- the walk law
   pub walk_law : HasWalkLaw p l n
-  walk_law = record { outs = pull_out; ins = pull_in; links = λ i j u v may may' from to. link i j u v may may' from to }
+  walk_law =
+      record { outs = pull_out; ins = pull_in; links = λ i j u v may may' from to. link i j u v may may' from to }

@@ -17,7 +17,8 @@ abbrev pub Adds : {X : Type 0} → (X → Type 0) → List X → List X → Type
 Adds {X} Such old new = (x : X) → Contains new x ↔ (Contains old x ⊎ Such x)
 
 -- the arcs of layer l's net by this matching, in order
-pub record AreArcs (p : Problem) (l : ℕ) (matching : Matching) (events : List Event) (arcs : List LayerArc) : Type 0 where
+pub record AreArcs (p : Problem) (l : ℕ) (matching : Matching) (events : List Event)
+    (arcs : List LayerArc) : Type 0 where
   pub only : (x : LayerArc) → Contains arcs x → IsArcOf p l matching events x.kind (arc_in x)
   pub every : (x : LayerArc) → IsArcOf p l matching events x.kind (arc_in x) → Contains arcs x
   pub ordered : AllPairs (λ x y. IsArcBefore (arc_in x) x.kind (arc_in y) y.kind) arcs

@@ -35,7 +35,8 @@ pub record AreEvents (p : Problem) (l : ℕ) (events : List Event) : Type 0 wher
   pub every : (e : Event) → IsEvent p l e → Contains events e
   pub ordered : AllPairs IsBefore events
 
--- which event a node stands for: node 0 is the beginning of the depot, then come the events in order, and the last node is the depot's end
+-- which event a node stands for: node 0 is the beginning of the depot, then come the events in order, and the last node
+-- is the depot's end
 abbrev pub place_at : List Event → ℕ → Option Event
 place_at events zero = None
 place_at events (suc k) = slice_get events k

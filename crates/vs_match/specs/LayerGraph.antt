@@ -31,7 +31,8 @@ kind_of n k = kind_at n.kinds k
 abbrev pub place_of : LayerGraph → ℕ → Option Event
 place_of n v = place_at n.events v
 
--- the net of layer l by this matching: its nodes are the layer's events between the depot's beginning and its end, and its arcs those of the
+-- the net of layer l by this matching: its nodes are the layer's events between the depot's beginning and its end, and
+-- its arcs those of the
 -- layer, in order, each once
 pub record IsNetOf (p : Problem) (l : ℕ) (matching : Matching) (n : LayerGraph) : Type 0 where
   pub events : AreEvents p l n.events

@@ -19,12 +19,14 @@ abbrev pub IsDeadhead : Problem → ℕ → Matching → List Event → LayerArc
 IsDeadhead p l matching events x = (x.kind ≡ Deadhead) × IsDeadheadArc p l matching events (arc_in x)
 
 -- the deadheads from stop k, and of these the ones to stop s
-pub record IsDeadheadFrom (p : Problem) (l : ℕ) (matching : Matching) (events : List Event) (k : ℕ) (x : LayerArc) : Type 0 where
+pub record IsDeadheadFrom (p : Problem) (l : ℕ) (matching : Matching) (events : List Event) (k : ℕ)
+    (x : LayerArc) : Type 0 where
   pub kind : x.kind ≡ Deadhead
   pub arc : IsDeadheadArc p l matching events (arc_in x)
   pub leaves : arc.since.stop.0 ≡ k
 
-pub record IsDeadheadTo (p : Problem) (l : ℕ) (matching : Matching) (events : List Event) (k s : ℕ) (x : LayerArc) : Type 0 where
+pub record IsDeadheadTo (p : Problem) (l : ℕ) (matching : Matching) (events : List Event) (k s : ℕ)
+    (x : LayerArc) : Type 0 where
   pub kind : x.kind ≡ Deadhead
   pub arc : IsDeadheadArc p l matching events (arc_in x)
   pub leaves : arc.since.stop.0 ≡ k

@@ -48,7 +48,8 @@ numbers p = range_with_len 0 (length p.trips)
 
 -- layer l may run both trips, and the first connects to the second
 abbrev pub is_connection : Problem → ℕ → ℕ → ℕ → Bool
-is_connection p l i j = (bit_at (trip_of p i).layers.0 l == 1) && (bit_at (trip_of p j).layers.0 l == 1) && is_some (link_piece p l i j)
+is_connection p l i j =
+    (bit_at (trip_of p i).layers.0 l == 1) && (bit_at (trip_of p j).layers.0 l == 1) && is_some (link_piece p l i j)
 
 -- how many ordered pairs of trips are such
 abbrev pub full_count_of : Problem → ℕ → ℕ

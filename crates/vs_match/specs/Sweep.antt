@@ -20,7 +20,8 @@ IsKept First arrivals w a b = Unit {0}
 IsKept Latest arrivals w a b = (c : Stay) → Contains arrivals c → c.minute + w.minutes ≤ b.minute → c.minute ≤ a.minute
 
 -- the deadhead from an arrival to its match
-pub record IsMatched (p : Problem) (l : ℕ) (matching : Matching) (w : Way) (arrivals departures : List Stay) (x : LayerArc) : Type 0 where
+pub record IsMatched (p : Problem) (l : ℕ) (matching : Matching) (w : Way) (arrivals departures : List Stay)
+    (x : LayerArc) : Type 0 where
   pub since : Stay
   pub until : Stay
   pub arrives : Contains arrivals since

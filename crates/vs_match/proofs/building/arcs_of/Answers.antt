@@ -23,14 +23,20 @@ returns-clause-arcs c =
     c.in_ok-push.ensures.items ∙ ap (λ (x : LayerArc). e ++ x ∷ []) back in
     let P : List LayerArc → Type 0 = λ xs. Adds (IsTrip p l events) xs c.push_trips.new.arcs.items in
     are_arcs p l c.args.matching events c.push.new.self.items c.put_in_order.new.items.items
-    (rw pushed (adds_all p l c.args.matching events c.push_trips.new.arcs.items c.push_waiting.new.arcs.items c.push_deadheads.new.arcs.items
-    c.push_pull_outs.new.arcs.items e _ (subst P c.new-arcs.ensures.items c.in_ok-push_trips.ensures.adds) c.in_ok-push_waiting.ensures.adds
-    c.in_ok-push_deadheads.ensures.adds c.in_ok-push_pull_outs.ensures.adds c.in_ok-push_pull_ins.ensures.adds (adds_return p l c.args.matching events e)))
+    (rw pushed
+    (adds_all p l c.args.matching events c.push_trips.new.arcs.items c.push_waiting.new.arcs.items
+    c.push_deadheads.new.arcs.items
+    c.push_pull_outs.new.arcs.items e _
+    (subst P c.new-arcs.ensures.items c.in_ok-push_trips.ensures.adds) c.in_ok-push_waiting.ensures.adds
+    c.in_ok-push_deadheads.ensures.adds c.in_ok-push_pull_outs.ensures.adds c.in_ok-push_pull_ins.ensures.adds
+    (adds_return p l c.args.matching events e)))
     c.put_in_order.ensures.same c.put_in_order.ensures.ordered
 
 pub returns-clause-few : goal.returns-clause-few
 returns-clause-few c =
-    let pushed = ap length c.in_ok-push.ensures.items ∙ length-append c.push_pull_ins.new.arcs.items (c.return_arc.result ∷ []) in
+    let pushed =
+    ap length c.in_ok-push.ensures.items
+    ∙ length-append c.push_pull_ins.new.arcs.items (c.return_arc.result ∷ []) in
     omega (
       arith,
       c.put_in_order.ensures.few,

@@ -16,22 +16,31 @@ kind x = x.kind
 
 pub new-requires-clause-some_arc : goal.new-requires-clause-some_arc
 new-requires-clause-some_arc c =
-    let are = subst (λ (xs : List LayerArc). AreArcs c.args.instance.now c.args.l.0 c.args.matching c.in_ok-nodes.nodes.events.items xs)
+    let are =
+    subst (λ (xs : List LayerArc). AreArcs c.args.instance.now c.args.l.0 c.args.matching
+    c.in_ok-nodes.nodes.events.items xs)
     (sym c.deref.ensures.value) c.in_ok-arcs.ensures.arcs in
-    some_arc c.args.instance.now c.trips.ensures.instance c.args.l.0 c.args.matching c.in_ok-nodes.nodes.events.items c.in_ok-nodes.ensures.events c.deref.result.now are
+    some_arc c.args.instance.now c.trips.ensures.instance c.args.l.0 c.args.matching
+    c.in_ok-nodes.nodes.events.items c.in_ok-nodes.ensures.events c.deref.result.now are
 
 pub new-requires-clause-right : goal.new-requires-clause-right
 new-requires-clause-right c =
-    let are = subst (λ (xs : List LayerArc). AreArcs c.args.instance.now c.args.l.0 c.args.matching c.in_ok-nodes.nodes.events.items xs)
+    let are =
+    subst (λ (xs : List LayerArc). AreArcs c.args.instance.now c.args.l.0 c.args.matching
+    c.in_ok-nodes.nodes.events.items xs)
     (sym c.deref.ensures.value) c.in_ok-arcs.ensures.arcs in
-    all_right c.args.instance.now c.trips.ensures.instance c.args.l.0 c.args.matching c.in_ok-nodes.nodes.events.items c.in_ok-nodes.ensures.events c.deref.result.now are
+    all_right c.args.instance.now c.trips.ensures.instance c.args.l.0 c.args.matching
+    c.in_ok-nodes.nodes.events.items c.in_ok-nodes.ensures.events c.deref.result.now are
 
 pub new-requires-clause-of_trips : goal.new-requires-clause-of_trips
 new-requires-clause-of_trips c = λ k d within.
-    let are = subst (λ (xs : List LayerArc). AreArcs c.args.instance.now c.args.l.0 c.args.matching c.in_ok-nodes.nodes.events.items xs)
+    let are =
+    subst (λ (xs : List LayerArc). AreArcs c.args.instance.now c.args.l.0 c.args.matching
+    c.in_ok-nodes.nodes.events.items xs)
     (sym c.deref.ensures.value) c.in_ok-arcs.ensures.arcs in
     rw c.trips.ensures.count
-    (all_below c.args.instance.now c.trips.ensures.instance c.args.l.0 c.args.matching c.in_ok-nodes.nodes.events.items c.in_ok-nodes.ensures.events c.deref.result.now are
+    (all_below c.args.instance.now c.trips.ensures.instance c.args.l.0 c.args.matching
+    c.in_ok-nodes.nodes.events.items c.in_ok-nodes.ensures.events c.deref.result.now are
     k d within)
 
 pub returns-clause-net : goal.returns-clause-net
@@ -40,8 +49,11 @@ returns-clause-net c =
     let l = c.args.l.0 in
     let events = c.in_ok-nodes.nodes.events.items in
     let arcs = c.deref.result.now in
-    let are = subst (λ (xs : List LayerArc). AreArcs p l c.args.matching events xs) (sym c.deref.ensures.value) c.in_ok-arcs.ensures.arcs in
-    net_of_parts (IsNetOf p l c.args.matching) (record { nodes = length events + 2; arcs = map arc_in arcs }) (map kind arcs) events c.new.result
+    let are =
+    subst (λ (xs : List LayerArc). AreArcs p l c.args.matching events xs)
+    (sym c.deref.ensures.value) c.in_ok-arcs.ensures.arcs in
+    net_of_parts (IsNetOf p l c.args.matching) (record { nodes = length events + 2; arcs = map arc_in arcs })
+    (map kind arcs) events c.new.result
     c.new.ensures.graph c.new.ensures.kinds c.new.ensures.events
     (is_net p c.trips.ensures.instance l c.args.matching events c.in_ok-nodes.ensures.events arcs are)
 
@@ -51,7 +63,11 @@ returns-clause-walks c =
     let l = c.args.l.0 in
     let events = c.in_ok-nodes.nodes.events.items in
     let arcs = c.deref.result.now in
-    let are = subst (λ (xs : List LayerArc). AreArcs p l c.args.matching events xs) (sym c.deref.ensures.value) c.in_ok-arcs.ensures.arcs in
-    net_of_parts (HasWalkLaw p l) (record { nodes = length events + 2; arcs = map arc_in arcs }) (map kind arcs) events c.new.result
+    let are =
+    subst (λ (xs : List LayerArc). AreArcs p l c.args.matching events xs)
+    (sym c.deref.ensures.value) c.in_ok-arcs.ensures.arcs in
+    net_of_parts (HasWalkLaw p l) (record { nodes = length events + 2; arcs = map arc_in arcs })
+    (map kind arcs) events c.new.result
     c.new.ensures.graph c.new.ensures.kinds c.new.ensures.events
-    (walk_law p c.trips.ensures.instance l c.args.matching _ (is_net p c.trips.ensures.instance l c.args.matching events c.in_ok-nodes.ensures.events arcs are))
+    (walk_law p c.trips.ensures.instance l c.args.matching _
+    (is_net p c.trips.ensures.instance l c.args.matching events c.in_ok-nodes.ensures.events arcs are))

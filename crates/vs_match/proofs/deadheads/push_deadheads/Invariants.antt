@@ -7,6 +7,7 @@ use Rattle.vs_match.proofs.deadheads.push_deadheads.Given as goal
 -- the deadheads from the stops so far
 abbrev pub invariant-loop-stop : goal.invariant-loop-stop
 invariant-loop-stop l = record {
-  adds : Adds (Upto (IsDeadheadFrom l.instance l.l.0 l.matching l.nodes.events.items) l.stop) l.initial.arcs.items l.arcs.items;
+  adds : Adds
+      (Upto (IsDeadheadFrom l.instance l.l.0 l.matching l.nodes.events.items) l.stop) l.initial.arcs.items l.arcs.items;
   few : length l.arcs.items ≤ length l.initial.arcs.items + l.stop * 1000000;
 }

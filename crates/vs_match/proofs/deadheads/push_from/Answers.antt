@@ -13,16 +13,21 @@ use Rattle.vs_match.proofs.deadheads.push_from.Goals.{then-ne+in-Some+in_ok-push
 pub returns-then-is_empty-clause-adds : goal.returns-then-is_empty-clause-adds
 returns-then-is_empty-clause-adds c =
     let p = c.args.instance.now in
-    let from : AreAt c.args.from c.args.nodes.now.arrivals.items c.at_stop-arrivals.result.now = rw (← c.deref.ensures.value) c.at_stop-arrivals.ensures.same in
+    let from : AreAt c.args.from c.args.nodes.now.arrivals.items c.at_stop-arrivals.result.now =
+    rw (← c.deref.ensures.value) c.at_stop-arrivals.ensures.same in
     let none = eqb-true _ 0 (sym c.is_empty.ensures ∙ c.if-is_empty.true) in
-    adds-none (IsDeadheadFrom p c.args.l.0 c.args.matching c.args.nodes.now.events.items c.args.from.0) c.args.arcs.now.items
-    (none_from p c.args.l.0 c.args.nodes.now c.requires.nodes c.args.matching c.args.from c.at_stop-arrivals.result.now from none)
+    adds-none
+    (IsDeadheadFrom p c.args.l.0 c.args.matching c.args.nodes.now.events.items c.args.from.0) c.args.arcs.now.items
+    (none_from p c.args.l.0 c.args.nodes.now c.requires.nodes c.args.matching c.args.from
+    c.at_stop-arrivals.result.now from none)
 
 pub push_matches-requires-clause-arrivals : goal.push_matches-requires-clause-arrivals
 push_matches-requires-clause-arrivals c =
-    let from : AreAt c.args.from c.args.nodes.now.arrivals.items c.at_stop-arrivals.result.now = rw (← c.deref.ensures.value) c.at_stop-arrivals.ensures.same in (
+    let from : AreAt c.args.from c.args.nodes.now.arrivals.items c.at_stop-arrivals.result.now =
+    rw (← c.deref.ensures.value) c.at_stop-arrivals.ensures.same in (
       c.at_stop-arrivals.ensures.rising,
-      arrivals_within c.args.instance.now c.args.l.0 c.args.nodes.now c.requires.nodes c.stops-to-end.ensures.instance c.args.from c.at_stop-arrivals.result.now from,
+      arrivals_within c.args.instance.now c.args.l.0 c.args.nodes.now c.requires.nodes
+          c.stops-to-end.ensures.instance c.args.from c.at_stop-arrivals.result.now from,
     )
 
 pub push_matches-requires-clause-departures : goal.push_matches-requires-clause-departures
@@ -30,7 +35,8 @@ push_matches-requires-clause-departures c =
     let to : AreAt (record { 0 = c.loop-to.to }) c.args.nodes.now.departures.items c.at_stop-departures.result.now =
     rw (← c.deref-in-Some.ensures.value) c.at_stop-departures.ensures.same in (
       c.at_stop-departures.ensures.rising,
-      departures_within c.args.instance.now c.args.l.0 c.args.nodes.now c.requires.nodes c.stops-to-end.ensures.instance (record { 0 = c.loop-to.to })
+      departures_within c.args.instance.now c.args.l.0 c.args.nodes.now c.requires.nodes
+          c.stops-to-end.ensures.instance (record { 0 = c.loop-to.to })
           c.at_stop-departures.result.now to,
     )
 
@@ -45,7 +51,8 @@ loop-to-preserved c =
     let old = c.args.arcs.now.items in
     let before = c.loop-to.arcs.items in
     let To = IsDeadheadTo p l c.args.matching nodes.events.items k in
-    let from : AreAt c.args.from nodes.arrivals.items c.at_stop-arrivals.result.now = rw (← c.deref.ensures.value) c.at_stop-arrivals.ensures.same in
+    let from : AreAt c.args.from nodes.arrivals.items c.at_stop-arrivals.result.now =
+    rw (← c.deref.ensures.value) c.at_stop-arrivals.ensures.same in
     elim c.if-ne.branch [
       | then-ne+in-Some+in_ok-push_matches b ↦
           let to : AreAt (record { 0 = s }) nodes.departures.items b.at_stop-departures.result.now =
@@ -56,22 +63,28 @@ loop-to-preserved c =
           let all = ap length c.deref.ensures.value in
           record {
             adds = rw arcs (upto-many To s old before _ c.loop-to.invariant.adds
-                (matches_are p l nodes are c.args.matching b.in-Some.way c.args.from (record { 0 = s }) apart (sym b.in-Some.ensures)
-                c.at_stop-arrivals.result.now b.at_stop-departures.result.now from to before _ b.in_ok-push_matches.ensures.adds));
-            few = rw arcs (omega (arith, c.loop-to.invariant.few, b.in_ok-push_matches.ensures.few, few, all, are.few_arrivals));
+                (matches_are p l nodes are c.args.matching b.in-Some.way c.args.from (record { 0 = s }) apart
+                (sym b.in-Some.ensures)
+                c.at_stop-arrivals.result.now b.at_stop-departures.result.now from to before _
+                b.in_ok-push_matches.ensures.adds));
+            few = rw arcs
+                (omega (arith, c.loop-to.invariant.few, b.in_ok-push_matches.ensures.few, few, all, are.few_arrivals));
           }
       | then-ne+in_default b ↦
           let same = ap (λ (v : Vec LayerArc Global). v.items) b.arcs-is in
           record {
             adds = rw same (upto-skip To s old before c.loop-to.invariant.adds
-                (none_without p l nodes are c.args.matching k s (λ w is. none-some w (sym b.in_default.is ∙ b.way.ensures ∙ is))));
+                (none_without p l nodes are c.args.matching k s
+                (λ w is. none-some w (sym b.in_default.is ∙ b.way.ensures ∙ is))));
             few = rw same (omega (arith, c.loop-to.invariant.few));
           }
       | else-ne b ↦
           let same = ap (λ (v : Vec LayerArc Global). v.items) b.arcs-is in
           let itself = eqb-true k s (not-false _ (sym c.ne.ensures ∙ b.if-ne.false)) in
           record {
-            adds = rw same (upto-skip To s old before c.loop-to.invariant.adds (none_itself p l nodes are c.args.matching k s itself));
+            adds = rw same
+                (upto-skip To s old before c.loop-to.invariant.adds
+                (none_itself p l nodes are c.args.matching k s itself));
             few = rw same (omega (arith, c.loop-to.invariant.few));
           }
     ]
@@ -79,7 +92,12 @@ loop-to-preserved c =
 pub returns-clause-adds : goal.returns-clause-adds
 returns-clause-adds c =
     let p = c.args.instance.now in
-    let all : c.loop-to.to ≡ p.stops = omega (arith, c.loop-to.auto.to-end, c.loop-to-test.false, c.stops-to-end.ensures.count) in
-    let P : ℕ → Type 0 = λ n. Adds (Upto (IsDeadheadTo p c.args.l.0 c.args.matching c.args.nodes.now.events.items c.args.from.0) n) c.args.arcs.now.items c.loop-to.arcs.items in
-    from_all p c.args.l.0 c.args.nodes.now c.requires.nodes c.stops-to-end.ensures.instance c.args.matching c.args.from.0 c.args.arcs.now.items c.loop-to.arcs.items
+    let all : c.loop-to.to ≡ p.stops =
+    omega (arith, c.loop-to.auto.to-end, c.loop-to-test.false, c.stops-to-end.ensures.count) in
+    let P : ℕ → Type 0 =
+    λ n. Adds
+    (Upto (IsDeadheadTo p c.args.l.0 c.args.matching c.args.nodes.now.events.items c.args.from.0) n)
+    c.args.arcs.now.items c.loop-to.arcs.items in
+    from_all p c.args.l.0 c.args.nodes.now c.requires.nodes c.stops-to-end.ensures.instance c.args.matching
+    c.args.from.0 c.args.arcs.now.items c.loop-to.arcs.items
     (subst P all c.loop-to.invariant.adds)

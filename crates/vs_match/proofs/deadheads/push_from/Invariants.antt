@@ -7,6 +7,8 @@ use Rattle.vs_match.proofs.deadheads.push_from.Given as goal
 -- the deadheads to the stops so far
 abbrev pub invariant-loop-to : goal.invariant-loop-to
 invariant-loop-to l = record {
-  adds : Adds (Upto (IsDeadheadTo l.instance l.l.0 l.matching l.nodes.events.items l.from.0) l.to) l.initial.arcs.items l.arcs.items;
+  adds : Adds
+      (Upto (IsDeadheadTo l.instance l.l.0 l.matching l.nodes.events.items l.from.0) l.to) l.initial.arcs.items
+      l.arcs.items;
   few : length l.arcs.items ≤ length l.initial.arcs.items + l.to * 2000;
 }

@@ -14,7 +14,9 @@ no_stay = record { stop = record { 0 = 0 }; minute = 0; node = 0 }
 
 pub loop-k-init : goal.loop-k-init
 loop-k-init c = record {
-  adds = upto-none (OfArrival c.args.instance.now c.args.l.0 c.args.matching c.args.way c.args.arrivals.now c.args.departures.now) c.args.arcs.now.items;
+  adds = upto-none
+      (OfArrival c.args.instance.now c.args.l.0 c.args.matching c.args.way c.args.arrivals.now
+      c.args.departures.now) c.args.arcs.now.items;
   few = omega arith;
   within = omega arith;
   early = λ j m d none. absurd (omega arith);
@@ -22,7 +24,8 @@ loop-k-init c = record {
 
 pub first_from-first-requires-clause-earlier : goal.first_from-first-requires-clause-earlier
 first_from-first-requires-clause-earlier c =
-    early_take c.args.instance.now c.args.l.0 c.args.matching c.args.way c.args.arrivals.now c.args.departures.now c.requires.arrivals.0 c.requires.departures.0
+    early_take c.args.instance.now c.args.l.0 c.args.matching c.args.way c.args.arrivals.now c.args.departures.now
+    c.requires.arrivals.0 c.requires.departures.0
     c.loop-k.k c.loop-k-test.true no_stay c.loop-k.first c.loop-k.invariant.within c.loop-k.invariant.early
 
 pub loop-k-preserved : goal.loop-k-preserved
@@ -46,24 +49,39 @@ loop-k-preserved c =
     elim c.if-first-departures.branch [
       | then-first-departures+then-is_kept+in_ok-push b ↦
           let until = get_or ys place no_stay in
-          let first = first_departure ys up' _ place no_stay b.if-first-departures.true earlier (c.first_from-first.ensures.first no_stay b.if-first-departures.true) in
+          let first =
+          first_departure ys up' _ place no_stay b.if-first-departures.true earlier
+          (c.first_from-first.ensures.first no_stay b.if-first-departures.true) in
           let kept = (b.is_kept.ensures no_stay).0 b.if-is_kept.true in
           let items : c.if-first-departures.arcs.items ≡ before ++ deadhead_of p l w (get_or xs k no_stay) until ∷ [] =
-          ap (λ (v : Vec LayerArc Global). v.items) b.arcs-is ∙ b.in_ok-push.ensures.items ∙ ap (λ (x : LayerArc). before ++ x ∷ []) b.deadhead_arc.ensures in
+          ap (λ (v : Vec LayerArc Global). v.items) b.arcs-is ∙ b.in_ok-push.ensures.items
+          ∙ ap (λ (x : LayerArc). before ++ x ∷ []) b.deadhead_arc.ensures in
           record {
-            adds = rw items (upto-one From k old before _ c.loop-k.invariant.adds (of_arrival p l c.args.matching w xs ys up up' k within no_stay until first kept)
+            adds = rw items
+                (upto-one From k old before _ c.loop-k.invariant.adds
+                (of_arrival p l c.args.matching w xs ys up up' k within no_stay until first kept)
                 (only_arrival p l c.args.matching w xs ys up up' k within no_stay until first));
-            few = rw items (omega (arith, c.loop-k.invariant.few, length-append before (deadhead_of p l w (get_or xs k no_stay) until ∷ [])));
+            few = rw items
+                (omega (
+                  arith,
+                  c.loop-k.invariant.few,
+                  length-append before (deadhead_of p l w (get_or xs k no_stay) until ∷ []),
+                ));
             within = bound;
             early = early;
           }
       | then-first-departures+else-is_kept b ↦
           let until = get_or ys place no_stay in
-          let first = first_departure ys up' _ place no_stay b.if-first-departures.true earlier (c.first_from-first.ensures.first no_stay b.if-first-departures.true) in
+          let first =
+          first_departure ys up' _ place no_stay b.if-first-departures.true earlier
+          (c.first_from-first.ensures.first no_stay b.if-first-departures.true) in
           let same = ap (λ (v : Vec LayerArc Global). v.items) b.arcs-is in
           record {
             adds = rw same (upto-skip From k old before c.loop-k.invariant.adds
-                (λ x of. false≢true (sym b.if-is_kept.false ∙ (b.is_kept.ensures no_stay).1 (kept_of p l c.args.matching w xs ys up up' k within no_stay until first x of))));
+                (λ x of. false≢true
+                (sym b.if-is_kept.false
+                ∙ (b.is_kept.ensures no_stay).1
+                (kept_of p l c.args.matching w xs ys up up' k within no_stay until first x of))));
             few = rw same (omega (arith, c.loop-k.invariant.few));
             within = bound;
             early = early;
@@ -72,7 +90,8 @@ loop-k-preserved c =
           let same = ap (λ (v : Vec LayerArc Global). v.items) b.arcs-is in
           record {
             adds = rw same (upto-skip From k old before c.loop-k.invariant.adds
-                (none_of_arrival p l c.args.matching w xs ys up up' k within no_stay place b.if-first-departures.false earlier));
+                (none_of_arrival p l c.args.matching w xs ys up up' k within no_stay place
+                b.if-first-departures.false earlier));
             few = rw same (omega (arith, c.loop-k.invariant.few));
             within = bound;
             early = early;
@@ -82,7 +101,9 @@ loop-k-preserved c =
 pub returns-clause-adds : goal.returns-clause-adds
 returns-clause-adds c =
     let all : c.loop-k.k ≡ length c.args.arrivals.now = omega (arith, c.loop-k.auto.k-end, c.loop-k-test.false) in
-    let From = OfArrival c.args.instance.now c.args.l.0 c.args.matching c.args.way c.args.arrivals.now c.args.departures.now in
+    let From =
+    OfArrival c.args.instance.now c.args.l.0 c.args.matching c.args.way c.args.arrivals.now c.args.departures.now in
     let P : ℕ → Type 0 = λ n. Adds (Upto From n) c.args.arcs.now.items c.loop-k.arcs.items in
-    are_matches c.args.instance.now c.args.l.0 c.args.matching c.args.way c.args.arrivals.now c.args.departures.now c.args.arcs.now.items c.loop-k.arcs.items
+    are_matches c.args.instance.now c.args.l.0 c.args.matching c.args.way c.args.arrivals.now c.args.departures.now
+    c.args.arcs.now.items c.loop-k.arcs.items
     (subst P all c.loop-k.invariant.adds)

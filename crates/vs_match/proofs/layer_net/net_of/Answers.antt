@@ -10,4 +10,5 @@ pub unreachable-requires : goal.unreachable-requires
 unreachable-requires c =
     let arcs = c.new.ensures in
     let fault = rw c.in-Err-Fault.field-0-is at c.in-Err-Fault.ensures.fault in
-    no_fault c.args.nodes _ c.in-Err-Fault._fault (subst (λ (as' : List Arc). AllRight c.args.nodes as') (sym c.in_ok-plain_arcs.ensures) c.requires.right) fault
+    no_fault c.args.nodes _ c.in-Err-Fault._fault
+    (subst (λ (as' : List Arc). AllRight c.args.nodes as') (sym c.in_ok-plain_arcs.ensures) c.requires.right) fault

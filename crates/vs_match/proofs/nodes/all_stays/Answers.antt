@@ -24,7 +24,9 @@ loop-k-preserved c =
     let s = stay_at events k (record { minute = 0; stop = record { 0 = 0 } }) in
     let items : c.push.new.self.items ≡ before ++ s ∷ [] = c.in_ok-push.ensures.items in
     record {
-      adds = rw items (upto-one (OfPlace events) k [] before s c.loop-k.invariant.adds (of_place events k _ c.loop-k-test.true) (λ x of. sym (of.1 _)));
+      adds = rw items
+          (upto-one (OfPlace events) k [] before s c.loop-k.invariant.adds (of_place events k _ c.loop-k-test.true)
+          (λ x of. sym (of.1 _)));
       few = ap length items ∙ length-append before (s ∷ []) ∙ ap (λ n. n + 1) c.loop-k.invariant.few;
     }
 
@@ -36,4 +38,5 @@ returns-clause-stays c =
     (subst P all c.loop-k.invariant.adds) c.put_in_order.ensures.same c.put_in_order.ensures.ordered
 
 pub returns-clause-few : goal.returns-clause-few
-returns-clause-few c = omega (arith, c.put_in_order.ensures.few, c.loop-k.invariant.few, c.loop-k.auto.k-end, c.requires.few)
+returns-clause-few c =
+    omega (arith, c.put_in_order.ensures.few, c.loop-k.invariant.few, c.loop-k.auto.k-end, c.requires.few)

@@ -39,25 +39,41 @@ loop-i-preserved c =
           ∙ ap (λ (e : Event). (before ++ e ∷ []) ++ w.event-then-has.result ∷ []) w.event.ensures
           ∙ ap (λ (e : Event). (before ++ departure p i ∷ []) ++ e ∷ []) w.event-then-has.ensures in
           record {
-            adds = rw items (upto-many (OfTrip p l) i [] before _ c.loop-i.invariant.adds (adds_both_events p l i before may));
-            few = rw items (omega (arith, c.loop-i.invariant.few, length-append (before ++ departure p i ∷ []) (arrival p i ∷ []), length-append before (departure p i ∷ [])));
+            adds = rw items
+                (upto-many (OfTrip p l) i [] before _ c.loop-i.invariant.adds (adds_both_events p l i before may));
+            few = rw items
+                (omega (
+                  arith,
+                  c.loop-i.invariant.few,
+                  length-append (before ++ departure p i ∷ []) (arrival p i ∷ []),
+                  length-append before (departure p i ∷ []),
+                ));
           }
       | else-has w ↦
           let same = ap (λ (v : Vec Event Global). v.items) w.events-is in
           record {
             adds = rw same (upto-skip (OfTrip p l) i [] before c.loop-i.invariant.adds
-                (λ e of. false≢true (w.if-has.ensures.1 (ap (λ (t : Trip). bit_at t.layers.0 l) c.trip.ensures ∙ of.0.1))));
+                (λ e of. false≢true
+                (w.if-has.ensures.1 (ap (λ (t : Trip). bit_at t.layers.0 l) c.trip.ensures ∙ of.0.1))));
             few = rw same (omega (arith, c.loop-i.invariant.few));
           }
     ]
 
 pub returns-clause-events : goal.returns-clause-events
 returns-clause-events c =
-    let all : c.loop-i.i ≡ length c.args.instance.now.trips = omega (arith, c.loop-i.auto.i-end, c.loop-i-test.false, c.trips-i-end.ensures.count) in
+    let all : c.loop-i.i ≡ length c.args.instance.now.trips =
+    omega (arith, c.loop-i.auto.i-end, c.loop-i-test.false, c.trips-i-end.ensures.count) in
     let P : ℕ → Type 0 = λ n. Adds (Upto (OfTrip c.args.instance.now c.args.l.0) n) [] c.loop-i.events.items in
     are_events c.args.instance.now c.args.l.0 c.loop-i.events.items c.put_in_order.new.items.items
     (subst P all c.loop-i.invariant.adds) c.put_in_order.ensures.same c.put_in_order.ensures.ordered
 
 pub returns-clause-few : goal.returns-clause-few
 returns-clause-few c =
-    omega (arith, c.put_in_order.ensures.few, c.loop-i.invariant.few, c.loop-i.auto.i-end, c.trips-i-end.ensures.count, c.trips-i-end.ensures.instance.few_trips)
+    omega (
+      arith,
+      c.put_in_order.ensures.few,
+      c.loop-i.invariant.few,
+      c.loop-i.auto.i-end,
+      c.trips-i-end.ensures.count,
+      c.trips-i-end.ensures.instance.few_trips,
+    )

@@ -13,7 +13,8 @@ unreachable-requires c =
     let e = c.args.event.now in
     let k = c.requires.known.0 in
     let place = c.in-Err.ensures.position (searchable_events events e c.requires.ordered) in
-    let own : event_cmp (get_or events k e) e ≡ Equal = ap (λ (x : Event). event_cmp x e) c.requires.known.2 ∙ event_cmp-itself e in
+    let own : event_cmp (get_or events k e) e ≡ Equal =
+    ap (λ (x : Event). event_cmp x e) c.requires.known.2 ∙ event_cmp-itself e in
     elim (cases_lt k c.in-Err._place) [
       | inl before ↦ let no : Less ≡ Equal = sym (place.0 k e (omega arith) before) ∙ own in cc
       | inr after ↦ let no : Greater ≡ Equal = sym (place.1 k e after c.requires.known.1) ∙ own in cc

@@ -10,7 +10,9 @@ returns c =
     let p = c.args.instance.now in
     let l = c.args.l.0 in
     let events = c.in_ok-events.ensures.events in
-    let all = subst (λ (es : List Event). AreStays es (Contains es) c.in_ok-all.all.items) c.deref.ensures.value c.in_ok-all.ensures.stays in
+    let all =
+    subst (λ (es : List Event). AreStays es (Contains es) c.in_ok-all.all.items) c.deref.ensures.value
+    c.in_ok-all.ensures.stays in
     record {
       events = events;
       few = c.in_ok-events.ensures.few;
@@ -20,8 +22,12 @@ returns c =
         ordered = all.ordered;
       };
       few_all = c.in_ok-all.ensures.few;
-      departures = subst (λ (es : List Event). AreStays es (DepartsAt p l) c.in_ok-departures.departures.items) c.deref-2.ensures.value c.in_ok-departures.ensures.stays;
+      departures =
+          subst (λ (es : List Event). AreStays es (DepartsAt p l) c.in_ok-departures.departures.items)
+          c.deref-2.ensures.value c.in_ok-departures.ensures.stays;
       few_departures = c.in_ok-departures.ensures.few;
-      arrivals = subst (λ (es : List Event). AreStays es (ArrivesAt p l) c.in_ok-arrivals.arrivals.items) c.deref-3.ensures.value c.in_ok-arrivals.ensures.stays;
+      arrivals =
+          subst (λ (es : List Event). AreStays es (ArrivesAt p l) c.in_ok-arrivals.arrivals.items)
+          c.deref-3.ensures.value c.in_ok-arrivals.ensures.stays;
       few_arrivals = c.in_ok-arrivals.ensures.few;
     }

@@ -51,8 +51,15 @@ loop-i-preserved c =
             omega (arith, c.loop-i-test.true, c.trips-i-end.ensures.count),
             ap (λ (t : Trip). bit_at t.layers.0 l) (sym c.trip.ensures) ∙ w.if-has.ensures.0 refl,
           ) in
-          let s : Stay = record { stop = w.event-event.result.stop; minute = w.event-event.result.minute; node = w.node_of.result } in
-          let items : c.if-has.stays.items ≡ before ++ s ∷ [] = ap (λ (v : Vec Stay Global). v.items) w.stays-is ∙ w.in_ok-push.ensures.items in
+          let s : Stay =
+          record {
+            stop = w.event-event.result.stop;
+            minute = w.event-event.result.minute;
+            node =
+                w.node_of.result;
+          } in
+          let items : c.if-has.stays.items ≡ before ++ s ∷ [] =
+          ap (λ (v : Vec Stay Global). v.items) w.stays-is ∙ w.in_ok-push.ensures.items in
           let of : From i s = (may, (sym w.event-event.ensures, w.node_of.ensures)) in
           record {
             adds = rw items (upto-one From i [] before s c.loop-i.invariant.adds of
@@ -63,7 +70,8 @@ loop-i-preserved c =
           let same = ap (λ (v : Vec Stay Global). v.items) w.stays-is in
           record {
             adds = rw same (upto-skip From i [] before c.loop-i.invariant.adds
-                (λ e of. false≢true (w.if-has.ensures.1 (ap (λ (t : Trip). bit_at t.layers.0 l) c.trip.ensures ∙ of.0.1))));
+                (λ e of. false≢true
+                (w.if-has.ensures.1 (ap (λ (t : Trip). bit_at t.layers.0 l) c.trip.ensures ∙ of.0.1))));
             few = rw same (omega (arith, c.loop-i.invariant.few));
           }
     ]
@@ -71,11 +79,21 @@ loop-i-preserved c =
 pub returns-clause-stays : goal.returns-clause-stays
 returns-clause-stays c =
     let p = c.args.instance.now in
-    let all : c.loop-i.i ≡ length p.trips = omega (arith, c.loop-i.auto.i-end, c.loop-i-test.false, c.trips-i-end.ensures.count) in
-    let P : ℕ → Type 0 = λ n. Adds (Upto (OfTripEnd c.args.end p c.args.l.0 c.args.events.now) n) [] c.loop-i.stays.items in
-    trip_stays c.args.end p c.args.l.0 c.args.events.now c.requires.events.ordered c.loop-i.stays.items c.put_in_order.new.items.items
+    let all : c.loop-i.i ≡ length p.trips =
+    omega (arith, c.loop-i.auto.i-end, c.loop-i-test.false, c.trips-i-end.ensures.count) in
+    let P : ℕ → Type 0 =
+    λ n. Adds (Upto (OfTripEnd c.args.end p c.args.l.0 c.args.events.now) n) [] c.loop-i.stays.items in
+    trip_stays c.args.end p c.args.l.0 c.args.events.now c.requires.events.ordered c.loop-i.stays.items
+    c.put_in_order.new.items.items
     (subst P all c.loop-i.invariant.adds) c.put_in_order.ensures.same c.put_in_order.ensures.ordered
 
 pub returns-clause-few : goal.returns-clause-few
 returns-clause-few c =
-    omega (arith, c.put_in_order.ensures.few, c.loop-i.invariant.few, c.loop-i.auto.i-end, c.trips-i-end.ensures.count, c.trips-i-end.ensures.instance.few_trips)
+    omega (
+      arith,
+      c.put_in_order.ensures.few,
+      c.loop-i.invariant.few,
+      c.loop-i.auto.i-end,
+      c.trips-i-end.ensures.count,
+      c.trips-i-end.ensures.instance.few_trips,
+    )

@@ -28,9 +28,15 @@ way-requires c =
     let s = get_or c.args.nodes.now.arrivals.items k no_stay in
     let within : k < length c.args.nodes.now.arrivals.items = omega (arith, c.loop-arrival-test.true, ap length list) in
     let at = at_place c.args.nodes.now.arrivals.items k no_stay within in
-    let stop = (arrives_within p c.layers.ensures.instance c.args.l.0 (event_of s) (c.requires.nodes.arrivals.only s (k, at.0, at.1)).1).1 in
+    let stop =
+    (arrives_within p c.layers.ensures.instance c.args.l.0 (event_of s)
+    (c.requires.nodes.arrivals.only s (k, at.0, at.1)).1).1 in
     let read = ap (λ (xs : List Stay). (get_or xs k no_stay).stop.0) list in
-    record { from = omega (arith, stop, read); to = omega (arith, depot, ap (λ (x : Layer). x.depot.0) c.layer.ensures) }
+    record {
+      from = omega (arith, stop, read);
+      to =
+          omega (arith, depot, ap (λ (x : Layer). x.depot.0) c.layer.ensures);
+    }
 
 pub loop-arrival-preserved : goal.loop-arrival-preserved
 loop-arrival-preserved c =
@@ -54,8 +60,10 @@ loop-arrival-preserved c =
       | in-Some+in_ok-push w ↦
           let count : c.len.result ≡ length events = omega (arith, c.len.ensures, c.args.nodes.now.events.ok.0) in
           let x = pull_in_of p l (last_node events) w.in-Some.way s in
-          let items : c.match-way.arcs.items ≡ before ++ x ∷ [] = ap (λ (v : Vec LayerArc Global). v.items) w.arcs-is ∙ w.in_ok-push.ensures.items
-          ∙ ap (λ (y : LayerArc). before ++ y ∷ []) (w.pull_in_arc.ensures ∙ ap (λ (n : ℕ). pull_in_of p l (n + 1) w.in-Some.way s) count) in
+          let items : c.match-way.arcs.items ≡ before ++ x ∷ [] =
+          ap (λ (v : Vec LayerArc Global). v.items) w.arcs-is ∙ w.in_ok-push.ensures.items
+          ∙ ap (λ (y : LayerArc). before ++ y ∷ [])
+          (w.pull_in_arc.ensures ∙ ap (λ (n : ℕ). pull_in_of p l (n + 1) w.in-Some.way s) count) in
           let of : From k x = record {
             stay = s;
             by = w.in-Some.way;
@@ -64,7 +72,9 @@ loop-arrival-preserved c =
             is = refl;
           } in
           record {
-            adds = rw items (upto-one From k old before x c.loop-arrival.invariant.adds of (λ y of'. only_in p l events stays k x y of of'));
+            adds = rw items
+                (upto-one From k old before x c.loop-arrival.invariant.adds of
+                (λ y of'. only_in p l events stays k x y of of'));
             few = rw items (omega (arith, c.loop-arrival.invariant.few, length-append before (x ∷ [])));
           }
       | in_default w ↦
@@ -73,7 +83,9 @@ loop-arrival-preserved c =
             adds = rw same (upto-skip From k old before c.loop-arrival.invariant.adds
                 (λ x of.
                 let stay = same_at stays k of.stay s of.at at in
-                none-some of.by (sym w.in_default.is ∙ found ∙ sym (ap (λ (y : Stay). way p y.stop.0 (layer_of p l).depot.0) stay) ∙ of.way_is)));
+                none-some of.by
+                (sym w.in_default.is ∙ found
+                ∙ sym (ap (λ (y : Stay). way p y.stop.0 (layer_of p l).depot.0) stay) ∙ of.way_is)));
             few = rw same (omega (arith, c.loop-arrival.invariant.few));
           }
     ]
@@ -83,7 +95,16 @@ returns-clause-adds c =
     let p = c.args.instance.now in
     let stays = c.args.nodes.now.arrivals.items in
     let all : c.loop-arrival.arrival-index ≡ length stays =
-    omega (arith, c.loop-arrival.auto.arrival-index-end, c.loop-arrival-test.false, ap length c.deref-arrival-items.ensures.value) in
-    let P : ℕ → Type 0 = λ n. Adds (Upto (OfArrived p c.args.l.0 c.args.nodes.now.events.items stays) n) c.args.arcs.now.items c.loop-arrival.arcs.items in
-    pull_ins_are p c.args.l.0 c.args.nodes.now.events.items stays c.requires.nodes.arrivals c.args.arcs.now.items c.loop-arrival.arcs.items
+    omega (
+      arith,
+      c.loop-arrival.auto.arrival-index-end,
+      c.loop-arrival-test.false,
+      ap length c.deref-arrival-items.ensures.value,
+    ) in
+    let P : ℕ → Type 0 =
+    λ n. Adds
+    (Upto (OfArrived p c.args.l.0 c.args.nodes.now.events.items stays) n) c.args.arcs.now.items
+    c.loop-arrival.arcs.items in
+    pull_ins_are p c.args.l.0 c.args.nodes.now.events.items stays c.requires.nodes.arrivals c.args.arcs.now.items
+    c.loop-arrival.arcs.items
     (subst P all c.loop-arrival.invariant.adds)

@@ -7,6 +7,8 @@ use Rattle.vs_match.proofs.pulls.push_pull_ins.Given as goal
 -- the pull-ins from the arrivals so far
 abbrev pub invariant-loop-arrival : goal.invariant-loop-arrival
 invariant-loop-arrival l = record {
-  adds : Adds (Upto (OfArrived l.instance l.l.0 l.nodes.events.items l.nodes.arrivals.items) l.arrival-index) l.initial.arcs.items l.arcs.items;
+  adds : Adds
+      (Upto (OfArrived l.instance l.l.0 l.nodes.events.items l.nodes.arrivals.items) l.arrival-index)
+      l.initial.arcs.items l.arcs.items;
   few : length l.arcs.items ≤ length l.initial.arcs.items + l.arrival-index;
 }

@@ -25,11 +25,18 @@ way-requires c =
     let depot = (c.layers.ensures.instance.layers c.args.l.0 no_layer c.requires.layer).depot in
     let k = c.loop-departure.departure-index in
     let s = get_or c.args.nodes.now.departures.items k no_stay in
-    let within : k < length c.args.nodes.now.departures.items = omega (arith, c.loop-departure-test.true, ap length list) in
+    let within : k < length c.args.nodes.now.departures.items =
+    omega (arith, c.loop-departure-test.true, ap length list) in
     let at = at_place c.args.nodes.now.departures.items k no_stay within in
-    let stop = (departs_within p c.layers.ensures.instance c.args.l.0 (event_of s) (c.requires.nodes.departures.only s (k, at.0, at.1)).1).1 in
+    let stop =
+    (departs_within p c.layers.ensures.instance c.args.l.0 (event_of s)
+    (c.requires.nodes.departures.only s (k, at.0, at.1)).1).1 in
     let read = ap (λ (xs : List Stay). (get_or xs k no_stay).stop.0) list in
-    record { from = omega (arith, depot, ap (λ (x : Layer). x.depot.0) c.layer.ensures); to = omega (arith, stop, read) }
+    record {
+      from = omega (arith, depot, ap (λ (x : Layer). x.depot.0) c.layer.ensures);
+      to =
+          omega (arith, stop, read);
+    }
 
 pub loop-departure-preserved : goal.loop-departure-preserved
 loop-departure-preserved c =
@@ -51,7 +58,8 @@ loop-departure-preserved c =
     elim c.match-way.branch [
       | in-Some+then-way-departure+in_ok-push w ↦
           let x = pull_out_of p l w.in-Some.way s in
-          let items : c.match-way.arcs.items ≡ before ++ x ∷ [] = ap (λ (v : Vec LayerArc Global). v.items) w.arcs-is ∙ w.in_ok-push.ensures.items
+          let items : c.match-way.arcs.items ≡ before ++ x ∷ [] =
+          ap (λ (v : Vec LayerArc Global). v.items) w.arcs-is ∙ w.in_ok-push.ensures.items
           ∙ ap (λ (y : LayerArc). before ++ y ∷ []) w.pull_out_arc.ensures in
           let of : From k x = record {
             stay = s;
@@ -62,7 +70,9 @@ loop-departure-preserved c =
             is = refl;
           } in
           record {
-            adds = rw items (upto-one From k old before x c.loop-departure.invariant.adds of (λ y of'. only_out p l stays k x y of of'));
+            adds = rw items
+                (upto-one From k old before x c.loop-departure.invariant.adds of
+                (λ y of'. only_out p l stays k x y of of'));
             few = rw items (omega (arith, c.loop-departure.invariant.few, length-append before (x ∷ [])));
           }
       | in-Some+else-way-departure w ↦
@@ -71,8 +81,16 @@ loop-departure-preserved c =
             adds = rw same (upto-skip From k old before c.loop-departure.invariant.adds
                 (λ x of.
                 let stay = same_at stays k of.stay s of.at at in
-                let by = some-same of.by w.in-Some.way (sym of.way_is ∙ ap (λ (y : Stay). way p (layer_of p l).depot.0 y.stop.0) stay ∙ sym found ∙ w.in-Some.is) in
-                omega (arith, of.in_time, w.if-way-departure.false, ap (λ (y : Stay). y.minute) stay, ap (λ (y : Way). y.minutes) by)));
+                let by = some-same of.by w.in-Some.way
+                (sym of.way_is ∙ ap (λ (y : Stay). way p (layer_of p l).depot.0 y.stop.0) stay ∙ sym found
+                ∙ w.in-Some.is) in
+                omega (
+                  arith,
+                  of.in_time,
+                  w.if-way-departure.false,
+                  ap (λ (y : Stay). y.minute) stay,
+                  ap (λ (y : Way). y.minutes) by,
+                )));
             few = rw same (omega (arith, c.loop-departure.invariant.few));
           }
       | in_default w ↦
@@ -81,7 +99,9 @@ loop-departure-preserved c =
             adds = rw same (upto-skip From k old before c.loop-departure.invariant.adds
                 (λ x of.
                 let stay = same_at stays k of.stay s of.at at in
-                none-some of.by (sym w.in_default.is ∙ found ∙ sym (ap (λ (y : Stay). way p (layer_of p l).depot.0 y.stop.0) stay) ∙ of.way_is)));
+                none-some of.by
+                (sym w.in_default.is ∙ found
+                ∙ sym (ap (λ (y : Stay). way p (layer_of p l).depot.0 y.stop.0) stay) ∙ of.way_is)));
             few = rw same (omega (arith, c.loop-departure.invariant.few));
           }
     ]
@@ -91,7 +111,14 @@ returns-clause-adds c =
     let p = c.args.instance.now in
     let stays = c.args.nodes.now.departures.items in
     let all : c.loop-departure.departure-index ≡ length stays =
-    omega (arith, c.loop-departure.auto.departure-index-end, c.loop-departure-test.false, ap length c.deref-departure-items.ensures.value) in
-    let P : ℕ → Type 0 = λ n. Adds (Upto (OfDeparture p c.args.l.0 stays) n) c.args.arcs.now.items c.loop-departure.arcs.items in
-    pull_outs_are p c.args.l.0 c.args.nodes.now.events.items stays c.requires.nodes.departures c.args.arcs.now.items c.loop-departure.arcs.items
+    omega (
+      arith,
+      c.loop-departure.auto.departure-index-end,
+      c.loop-departure-test.false,
+      ap length c.deref-departure-items.ensures.value,
+    ) in
+    let P : ℕ → Type 0 =
+    λ n. Adds (Upto (OfDeparture p c.args.l.0 stays) n) c.args.arcs.now.items c.loop-departure.arcs.items in
+    pull_outs_are p c.args.l.0 c.args.nodes.now.events.items stays c.requires.nodes.departures c.args.arcs.now.items
+    c.loop-departure.arcs.items
     (subst P all c.loop-departure.invariant.adds)

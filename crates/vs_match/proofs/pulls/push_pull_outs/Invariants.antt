@@ -7,6 +7,8 @@ use Rattle.vs_match.proofs.pulls.push_pull_outs.Given as goal
 -- the pull-outs to the departures so far
 abbrev pub invariant-loop-departure : goal.invariant-loop-departure
 invariant-loop-departure l = record {
-  adds : Adds (Upto (OfDeparture l.instance l.l.0 l.nodes.departures.items) l.departure-index) l.initial.arcs.items l.arcs.items;
+  adds : Adds
+      (Upto (OfDeparture l.instance l.l.0 l.nodes.departures.items) l.departure-index) l.initial.arcs.items
+      l.arcs.items;
   few : length l.arcs.items ≤ length l.initial.arcs.items + l.departure-index;
 }

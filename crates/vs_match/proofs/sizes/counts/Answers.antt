@@ -8,7 +8,12 @@ use Rattle.vs_match.proofs.sizes.counts.Goals as goal
 pub loop-k-init : goal.loop-k-init
 loop-k-init c =
     let nodes : c.nodes.result - 2 ≡ length c.args.net.now.events =
-    omega (arith, c.nodes.ensures.count, ap (λ (g : Graph). g.nodes) c.net.ensures.graph, c.net.ensures.labelled.each_node) in
+    omega (
+      arith,
+      c.nodes.ensures.count,
+      ap (λ (g : Graph). g.nodes) c.net.ensures.graph,
+      c.net.ensures.labelled.each_node,
+    ) in
     ap (λ (n : ℕ). counts_from n []) nodes
 
 pub returns : goal.returns
@@ -23,4 +28,6 @@ returns c =
       ap (λ (g : Graph). length g.arcs) c.net-2.ensures.graph,
       c.net-2.ensures.labelled.each_arc,
     ) in
-    c.loop-k.invariant ∙ ap (λ (ks : List ArcKind). counts_from (length n.events) ks) (ap (λ (k : ℕ). take k n.kinds) all ∙ take_all (length n.kinds) n.kinds (omega arith))
+    c.loop-k.invariant
+    ∙ ap (λ (ks : List ArcKind). counts_from (length n.events) ks)
+    (ap (λ (k : ℕ). take k n.kinds) all ∙ take_all (length n.kinds) n.kinds (omega arith))

@@ -33,4 +33,10 @@ pub loop-i-preserved : goal.loop-i-preserved
 loop-i-preserved c =
     let p = c.args.instance.now in
     let l = c.args.l.0 in
-    omega (arith, c.loop-i.invariant, c.from-total.ensures, c.count_from.ensures, sum_by-next (λ i. count_by (is_connection p l i) (numbers p)) c.loop-i.i)
+    omega (
+      arith,
+      c.loop-i.invariant,
+      c.from-total.ensures,
+      c.count_from.ensures,
+      sum_by-next (λ i. count_by (is_connection p l i) (numbers p)) c.loop-i.i,
+    )

@@ -6,4 +6,5 @@ use Rattle.vs_match.proofs.sizes.full_count.Given as goal
 
 -- the trips so far are counted
 abbrev pub invariant-loop-i : goal.invariant-loop-i
-invariant-loop-i l = l.total ≡ sum_by (λ i. count_by (is_connection l.instance l.l.0 i) (numbers l.instance)) (range_with_len 0 l.i)
+invariant-loop-i l =
+    l.total ≡ sum_by (λ i. count_by (is_connection l.instance l.l.0 i) (numbers l.instance)) (range_with_len 0 l.i)

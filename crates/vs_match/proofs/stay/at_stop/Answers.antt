@@ -16,9 +16,12 @@ slice_bounds-result-count c =
     let start = c.partition_point-start.result in
     let end = c.partition_point-end.result in
     let rise = stops_rise stays c.requires in
-    let from = IsPartitionPoint-from_clause (λ (s : Stay). ltb s.stop.0 stop.0) stays start c.partition_point-start.ensures.partitioned
+    let from =
+    IsPartitionPoint-from_clause
+    (λ (s : Stay). ltb s.stop.0 stop.0) stays start c.partition_point-start.ensures.partitioned
     (IsPartitionedBy-ltb (λ (s : Stay). s.stop.0) stays stop.0 rise) (λ a r q k. search rules) in
-    let to = IsPartitionPoint-from_clause (λ (s : Stay). leb s.stop.0 stop.0) stays end c.partition_point-end.ensures.partitioned
+    let to = IsPartitionPoint-from_clause
+    (λ (s : Stay). leb s.stop.0 stop.0) stays end c.partition_point-end.ensures.partitioned
     (IsPartitionedBy-leb (λ (s : Stay). s.stop.0) stays stop.0 rise) (λ a r q k. search rules) in
     let bound = c.partition_point-start.ensures.bound in
     let bound' = c.partition_point-end.ensures.bound in
@@ -31,9 +34,12 @@ slice_bounds-result-start c =
     let start = c.partition_point-start.result in
     let end = c.partition_point-end.result in
     let rise = stops_rise stays c.requires in
-    let from = IsPartitionPoint-from_clause (λ (s : Stay). ltb s.stop.0 stop.0) stays start c.partition_point-start.ensures.partitioned
+    let from =
+    IsPartitionPoint-from_clause
+    (λ (s : Stay). ltb s.stop.0 stop.0) stays start c.partition_point-start.ensures.partitioned
     (IsPartitionedBy-ltb (λ (s : Stay). s.stop.0) stays stop.0 rise) (λ a r q k. search rules) in
-    let to = IsPartitionPoint-from_clause (λ (s : Stay). leb s.stop.0 stop.0) stays end c.partition_point-end.ensures.partitioned
+    let to = IsPartitionPoint-from_clause
+    (λ (s : Stay). leb s.stop.0 stop.0) stays end c.partition_point-end.ensures.partitioned
     (IsPartitionedBy-leb (λ (s : Stay). s.stop.0) stays stop.0 rise) (λ a r q k. search rules) in
     let bound = c.partition_point-start.ensures.bound in
     let bound' = c.partition_point-end.ensures.bound in
@@ -46,9 +52,12 @@ returns-clause-same c =
     let start = c.partition_point-start.result in
     let end = c.partition_point-end.result in
     let rise = stops_rise stays c.requires in
-    let from = IsPartitionPoint-from_clause (λ (s : Stay). ltb s.stop.0 stop.0) stays start c.partition_point-start.ensures.partitioned
+    let from =
+    IsPartitionPoint-from_clause
+    (λ (s : Stay). ltb s.stop.0 stop.0) stays start c.partition_point-start.ensures.partitioned
     (IsPartitionedBy-ltb (λ (s : Stay). s.stop.0) stays stop.0 rise) (λ a r q k. search rules) in
-    let to = IsPartitionPoint-from_clause (λ (s : Stay). leb s.stop.0 stop.0) stays end c.partition_point-end.ensures.partitioned
+    let to = IsPartitionPoint-from_clause
+    (λ (s : Stay). leb s.stop.0 stop.0) stays end c.partition_point-end.ensures.partitioned
     (IsPartitionedBy-leb (λ (s : Stay). s.stop.0) stays stop.0 rise) (λ a r q k. search rules) in
     let bound = c.partition_point-start.ensures.bound in
     let bound' = c.partition_point-end.ensures.bound in
@@ -61,9 +70,12 @@ returns-clause-few c =
     let start = c.partition_point-start.result in
     let end = c.partition_point-end.result in
     let rise = stops_rise stays c.requires in
-    let from = IsPartitionPoint-from_clause (λ (s : Stay). ltb s.stop.0 stop.0) stays start c.partition_point-start.ensures.partitioned
+    let from =
+    IsPartitionPoint-from_clause
+    (λ (s : Stay). ltb s.stop.0 stop.0) stays start c.partition_point-start.ensures.partitioned
     (IsPartitionedBy-ltb (λ (s : Stay). s.stop.0) stays stop.0 rise) (λ a r q k. search rules) in
-    let to = IsPartitionPoint-from_clause (λ (s : Stay). leb s.stop.0 stop.0) stays end c.partition_point-end.ensures.partitioned
+    let to = IsPartitionPoint-from_clause
+    (λ (s : Stay). leb s.stop.0 stop.0) stays end c.partition_point-end.ensures.partitioned
     (IsPartitionedBy-leb (λ (s : Stay). s.stop.0) stays stop.0 rise) (λ a r q k. search rules) in
     let bound = c.partition_point-start.ensures.bound in
     let bound' = c.partition_point-end.ensures.bound in
@@ -76,9 +88,12 @@ returns-clause-rising c =
     let start = c.partition_point-start.result in
     let end = c.partition_point-end.result in
     let rise = stops_rise stays c.requires in
-    let from = IsPartitionPoint-from_clause (λ (s : Stay). ltb s.stop.0 stop.0) stays start c.partition_point-start.ensures.partitioned
+    let from =
+    IsPartitionPoint-from_clause
+    (λ (s : Stay). ltb s.stop.0 stop.0) stays start c.partition_point-start.ensures.partitioned
     (IsPartitionedBy-ltb (λ (s : Stay). s.stop.0) stays stop.0 rise) (λ a r q k. search rules) in
-    let to = IsPartitionPoint-from_clause (λ (s : Stay). leb s.stop.0 stop.0) stays end c.partition_point-end.ensures.partitioned
+    let to = IsPartitionPoint-from_clause
+    (λ (s : Stay). leb s.stop.0 stop.0) stays end c.partition_point-end.ensures.partitioned
     (IsPartitionedBy-leb (λ (s : Stay). s.stop.0) stays stop.0 rise) (λ a r q k. search rules) in
     let bound = c.partition_point-start.ensures.bound in
     let bound' = c.partition_point-end.ensures.bound in

@@ -11,5 +11,7 @@ not_empty set l fits has empty =
     omega (arith, among.1, ap length empty)
 
 pub returns-clause-layers : goal.returns-clause-layers
-returns-clause-layers c =
-    (not_empty c.only.result 0 (search rules) ((c.only.ensures 0).1 refl), λ l has. omega (arith, (c.only.ensures l).0 has))
+returns-clause-layers c = (
+  not_empty c.only.result 0 (search rules) ((c.only.ensures 0).1 refl),
+  λ l has. omega (arith, (c.only.ensures l).0 has),
+)

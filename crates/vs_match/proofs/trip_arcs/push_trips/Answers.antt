@@ -20,7 +20,8 @@ loop-i-preserved c =
     let From = OfTripNo p l events in
     elim c.if-has.branch [
       | then-has+in_ok-push w ↦
-          let items : c.if-has.arcs.items ≡ before ++ w.trip_arc.result ∷ [] = ap (λ (v : Vec LayerArc Global). v.items) w.arcs-is ∙ w.in_ok-push.ensures.items in
+          let items : c.if-has.arcs.items ≡ before ++ w.trip_arc.result ∷ [] =
+          ap (λ (v : Vec LayerArc Global). v.items) w.arcs-is ∙ w.in_ok-push.ensures.items in
           let of : From i w.trip_arc.result = (w.trip_arc.ensures.kind, w.trip_arc.ensures.arc) in
           record {
             adds = rw items (upto-one From i old before w.trip_arc.result c.loop-i.invariant.adds of
@@ -31,7 +32,8 @@ loop-i-preserved c =
           let same = ap (λ (v : Vec LayerArc Global). v.items) w.arcs-is in
           record {
             adds = rw same (upto-skip From i old before c.loop-i.invariant.adds
-                (λ x of. false≢true (w.if-has.ensures.1 (ap (λ (t : Trip). bit_at t.layers.0 l) c.trip.ensures ∙ of.1.may_run.1))));
+                (λ x of. false≢true
+                (w.if-has.ensures.1 (ap (λ (t : Trip). bit_at t.layers.0 l) c.trip.ensures ∙ of.1.may_run.1))));
             few = rw same (omega (arith, c.loop-i.invariant.few));
           }
     ]
@@ -39,6 +41,10 @@ loop-i-preserved c =
 pub returns-clause-adds : goal.returns-clause-adds
 returns-clause-adds c =
     let p = c.args.instance.now in
-    let all : c.loop-i.i ≡ length p.trips = omega (arith, c.loop-i.auto.i-end, c.loop-i-test.false, c.trips-i-end.ensures.count) in
-    let P : ℕ → Type 0 = λ n. Adds (Upto (OfTripNo p c.args.l.0 c.args.nodes.now.events.items) n) c.args.arcs.now.items c.loop-i.arcs.items in
-    trips_are p c.args.l.0 c.args.nodes.now.events.items c.args.arcs.now.items c.loop-i.arcs.items (subst P all c.loop-i.invariant.adds)
+    let all : c.loop-i.i ≡ length p.trips =
+    omega (arith, c.loop-i.auto.i-end, c.loop-i-test.false, c.trips-i-end.ensures.count) in
+    let P : ℕ → Type 0 =
+    λ n. Adds
+    (Upto (OfTripNo p c.args.l.0 c.args.nodes.now.events.items) n) c.args.arcs.now.items c.loop-i.arcs.items in
+    trips_are p c.args.l.0 c.args.nodes.now.events.items c.args.arcs.now.items c.loop-i.arcs.items
+    (subst P all c.loop-i.invariant.adds)

@@ -8,7 +8,9 @@ use Rattle.vs_match.proofs.trip_arcs.trip_arc.Goals as goal
 pub node_of-requires-clause-known : goal.node_of-requires-clause-known
 node_of-requires-clause-known c =
     let p = c.args.instance.now in
-    let known = event_known Departure p c.args.l.0 c.args.i.0 c.args.nodes.now.events.items c.requires.nodes.events c.requires.may_run in
+    let known =
+    event_known Departure p c.args.l.0 c.args.i.0 c.args.nodes.now.events.items c.requires.nodes.events
+    c.requires.may_run in
     let P : List Event → Type 0 = λ es. Contains es c.event.result in
     let Q : Event → Type 0 = λ e. Contains c.args.nodes.now.events.items e in
     subst P (sym c.deref.ensures.value) (subst Q (sym c.event.ensures) known)
@@ -16,7 +18,9 @@ node_of-requires-clause-known c =
 pub node_of-requires-2-clause-known : goal.node_of-requires-2-clause-known
 node_of-requires-2-clause-known c =
     let p = c.args.instance.now in
-    let known = event_known Arrival p c.args.l.0 c.args.i.0 c.args.nodes.now.events.items c.requires.nodes.events c.requires.may_run in
+    let known =
+    event_known Arrival p c.args.l.0 c.args.i.0 c.args.nodes.now.events.items c.requires.nodes.events
+    c.requires.may_run in
     let P : List Event → Type 0 = λ es. Contains es c.event-2.result in
     let Q : Event → Type 0 = λ e. Contains c.args.nodes.now.events.items e in
     subst P (sym c.deref-2.ensures.value) (subst Q (sym c.event-2.ensures) known)

@@ -23,7 +23,9 @@ waiting_arc-requires-clause-in_time c =
     let at : AtPlace stays (c.loop-k.k - 1) since = (omega (arith, within), sym c.index.ensures) in
     let at' : AtPlace stays c.loop-k.k until = (within, sym c.index-in-loop-k.ensures) in
     let same = same_stop _ _ (eqb-true since.stop.0 until.stop.0 (sym c.eq.ensures ∙ c.if-eq.true)) in
-    let later = at_stop_later c.args.instance.now c.args.l.0 c.args.nodes.now.events.items c.requires.nodes.events stays c.requires.nodes.all
+    let later =
+    at_stop_later c.args.instance.now c.args.l.0 c.args.nodes.now.events.items c.requires.nodes.events stays
+    c.requires.nodes.all
     (c.loop-k.k - 1) c.loop-k.k since until at at' same (omega (arith, c.loop-k.auto.k)) in
     let event = (c.requires.nodes.all.only until (c.loop-k.k, within, at'.1)).1 in
     (omega (arith, later), event_within c.args.instance.now c.layers.ensures.instance c.args.l.0 (event_of until) event)
@@ -33,7 +35,8 @@ loop-k-init c =
     let old = c.args.arcs.now.items in
     let From = OfNeighbours c.args.instance.now c.args.l.0 c.args.nodes.now.all.items in
     record {
-      adds = upto-skip From 0 old old (upto-none From old) (none_before_first c.args.instance.now c.args.l.0 c.args.nodes.now.all.items);
+      adds = upto-skip From 0 old old (upto-none From old)
+          (none_before_first c.args.instance.now c.args.l.0 c.args.nodes.now.all.items);
       few = omega arith;
       within = omega arith;
     }
@@ -57,7 +60,8 @@ loop-k-preserved c =
       | then-eq+in_ok-push w ↦
           let same = same_stop _ _ (eqb-true since.stop.0 until.stop.0 (sym c.eq.ensures ∙ w.if-eq.true)) in
           let x = waiting_of p l since until in
-          let items : c.if-eq.arcs.items ≡ before ++ x ∷ [] = ap (λ (v : Vec LayerArc Global). v.items) w.arcs-is ∙ w.in_ok-push.ensures.items
+          let items : c.if-eq.arcs.items ≡ before ++ x ∷ [] =
+          ap (λ (v : Vec LayerArc Global). v.items) w.arcs-is ∙ w.in_ok-push.ensures.items
           ∙ ap (λ (y : LayerArc). before ++ y ∷ []) w.waiting_arc.ensures in
           let of : From k x = record {
             since = since;
@@ -70,7 +74,8 @@ loop-k-preserved c =
             is = refl;
           } in
           record {
-            adds = rw items (upto-one From k old before x c.loop-k.invariant.adds of (λ y of'. only_waiting p l all k x y of of'));
+            adds = rw items
+                (upto-one From k old before x c.loop-k.invariant.adds of (λ y of'. only_waiting p l all k x y of of'));
             few = rw items (omega (arith, c.loop-k.invariant.few, length-append before (x ∷ [])));
             within = omega (arith, within);
           }
@@ -83,7 +88,9 @@ loop-k-preserved c =
                 let firsts : of.first ≡ k - 1 = omega (arith, of.follows) in
                 let one = same_at all (k - 1) since of.since at (subst P firsts of.at) in
                 let two = same_at all k until of.until at' of.at_next in
-                let stops = ap (λ (s : Stay). s.stop.0) one ∙ ap (λ (s : StopNo). s.0) of.same ∙ sym (ap (λ (s : Stay). s.stop.0) two) in
+                let stops =
+                ap (λ (s : Stay). s.stop.0) one ∙ ap (λ (s : StopNo). s.0) of.same
+                ∙ sym (ap (λ (s : Stay). s.stop.0) two) in
                 false≢true (sym w.if-eq.false ∙ c.eq.ensures ∙ eq-eqb since.stop.0 until.stop.0 stops)));
             few = rw same (omega (arith, c.loop-k.invariant.few));
             within = omega (arith, within);
@@ -95,8 +102,10 @@ returns-clause-adds c =
     let p = c.args.instance.now in
     let nodes = c.requires.nodes in
     let old = c.args.arcs.now.items in
-    waiting_is p c.args.l.0 c.args.nodes.now.events.items nodes.events c.args.nodes.now.all.items nodes.all old c.loop-k.arcs.items
-    (waiting_past p c.args.l.0 c.args.nodes.now.all.items c.loop-k.k old c.loop-k.arcs.items (omega (arith, c.loop-k-test.false, c.len-k-end.ensures))
+    waiting_is p c.args.l.0 c.args.nodes.now.events.items nodes.events c.args.nodes.now.all.items nodes.all old
+    c.loop-k.arcs.items
+    (waiting_past p c.args.l.0 c.args.nodes.now.all.items c.loop-k.k old c.loop-k.arcs.items
+    (omega (arith, c.loop-k-test.false, c.len-k-end.ensures))
     c.loop-k.invariant.adds)
 
 pub returns-clause-few : goal.returns-clause-few

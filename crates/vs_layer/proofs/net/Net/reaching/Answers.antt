@@ -7,7 +7,13 @@ use Rattle.vs_layer.proofs.net.Net.reaching.Goals as goal
 pub group-requires : goal.group-requires
 group-requires c =
     let i = c.self.inside in
-    omega (arith, c.requires, ap (λ (g : Graph). g.nodes) c.self.view_is, ap length c.self.invariant.reaches, length-star_of To i.nodes i.arcs.items)
+    omega (
+      arith,
+      c.requires,
+      ap (λ (g : Graph). g.nodes) c.self.view_is,
+      ap length c.self.invariant.reaches,
+      length-star_of To i.nodes i.arcs.items,
+    )
 
 pub returns : goal.returns
 returns c =

@@ -15,12 +15,19 @@ kind x = x.kind
 
 pub trip_index-requires-clause-few_arcs : goal.trip_index-requires-clause-few_arcs
 trip_index-requires-clause-few_arcs c =
-    omega (arith, c.requires.few_arcs, ap length c.deref.ensures.value, ap length c.in_ok-kinds.ensures, length-map c.args.arcs.now kind)
+    omega (
+      arith,
+      c.requires.few_arcs,
+      ap length c.deref.ensures.value,
+      ap length c.in_ok-kinds.ensures,
+      length-map c.args.arcs.now kind,
+    )
 
 pub trip_index-requires-clause-of_trips : goal.trip_index-requires-clause-of_trips
 trip_index-requires-clause-of_trips c =
     let P : List ArcKind → Type 0 = λ ks. All (IsBelow c.args.trips) ks in
-    subst P (sym (c.deref.ensures.value ∙ c.in_ok-kinds.ensures)) (All-map (IsBelow c.args.trips) kind c.args.arcs.now c.requires.of_trips)
+    subst P (sym (c.deref.ensures.value ∙ c.in_ok-kinds.ensures))
+    (All-map (IsBelow c.args.trips) kind c.args.arcs.now c.requires.of_trips)
 
 pub invariant_of-result : goal.invariant_of-result
 invariant_of-result c =
