@@ -1,8 +1,10 @@
 -- What a set leaves of another, and that a part and what it leaves share out the whole.
-use Rattle.std.proofs.Common.{◌≡◌, ℕ, ◌<◌, ◌↔◌, ◌⊎◌, Bool, cond, not, ap, ◌∙◌, arith, inl, inr}
+use Rattle.std.proofs.Common.{◌≡◌, ℕ, zero, suc, ◌-◌, ◌^◌, ◌<◌, ◌↔◌, ◌⊎◌, Bool, cond, eqb, not, refl, sym, ap, ◌∙◌, arith, inl, inr, bit_and, min, w16}
 use Rattle.std.specs.Prelude.{◌&&◌}
 use Rattle.std.specs.Int.{bit_at}
 use Rattle.std.proofs.lemmas.Bool.{cases_eq, eq-eqb, ne_eqb}
+use Rattle.std.proofs.lemmas.Nat.{and_le_l}
+use Rattle.std.proofs.lemmas.Nat.Bits.{bit_at-lt, bit_at_and, bit_at_not, same_from_bits_below}
 use Rattle.vs_types.specs.LayerSet.{Has}
 use Rattle.vs_types.specs.declared.layer_set.LayerSet.{LayerSet}
 use Rattle.vs_types.proofs.Members.{Has-below}
@@ -14,7 +16,8 @@ module _ (whole part : LayerSet) (l : ℕ) (layer : l < 16) where
   abbrev stays : Bool
   stays = has whole l && not (has part l)
 
-  bit-rest : bit_at (rest_of whole part).0 l ≡ cond stays 1 0
+  -- a bit of the rest
+  pub bit-rest : bit_at (rest_of whole part).0 l ≡ cond stays 1 0
   bit-rest = bit_at-sum (λ k. has whole k && not (has part k)) l layer
 
   -- the rest's layers are those of the whole that aren't the part's
@@ -66,3 +69,26 @@ shares_out whole part below proper = record {
   );
   once = λ l in_part in_rest. ((Has-rest whole part l (rest-below whole part l in_rest)).0 in_rest).1 in_part;
 }
+
+-- `whole & !part` is what the part leaves of the whole
+pub rest-is_and : (whole part : LayerSet) → whole.0 < 2 ^ 16 → part.0 < 2 ^ 16
+    → record { 0 = bit_and whole.0 (65535 - part.0) } ≡ rest_of whole part
+rest-is_and whole part whole_fits part_fits =
+    ap (λ (n : ℕ). record { 0 = n })
+    (same_from_bits_below 16 _ _ (omega (arith, whole_fits, and_le_l whole.0 (65535 - part.0)))
+    (sum-below (λ k. has whole k && not (has part k))) bits)
+  where
+    bits : (i : ℕ) → i < 16 → bit_at (bit_and whole.0 (65535 - part.0)) i ≡ bit_at (rest_of whole part).0 i
+    bits i within =
+        let both : bit_at (bit_and whole.0 (65535 - part.0)) i ≡ min (bit_at whole.0 i) (1 - bit_at part.0 i) =
+        bit_at_and whole.0 (65535 - part.0) i
+        ∙ ap (min (bit_at whole.0 i)) (bit_at_not w16 part.0 i part_fits within) in
+        both ∙ by_bits (bit_at whole.0 i) (bit_at part.0 i) (bit_at-lt whole.0 i) (bit_at-lt part.0 i)
+        ∙ sym (bit-rest whole part i within)
+      where
+        by_bits : (a b : ℕ) → a < 2 → b < 2 → min a (1 - b) ≡ cond (eqb a 1 && not (eqb b 1)) 1 0
+        by_bits zero b a_bit b_bit = omega arith
+        by_bits (suc zero) zero a_bit b_bit = refl
+        by_bits (suc zero) (suc zero) a_bit b_bit = refl
+        by_bits (suc zero) (suc (suc b)) a_bit b_bit = absurd (omega (arith, b_bit))
+        by_bits (suc (suc a)) b a_bit b_bit = absurd (omega (arith, a_bit))

@@ -3,6 +3,8 @@
 
 mod laws;
 mod next;
+mod rest;
 
 pub use laws::{leaves_are_restrictions, leaves_share_out_plans};
 pub use next::Next;
+pub use rest::rest_of;
