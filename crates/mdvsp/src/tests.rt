@@ -488,58 +488,66 @@ fn refuses_other_forms(rt: HostRuntime) -> Result<(), Fail> {
     Ok(())
 }
 
+/// What a timetable is, its text, how planning it ends, and what is written.
+const PLANS: [(&str, &[&str], Status, &[&str]); 6] = [
+    (
+        "two trips",
+        &[STOPS, LAYER, TRIPS],
+        Status::StillOpen,
+        &[ZERO_HEAD, BLOCK, ZERO_TABLE, END],
+    ),
+    (
+        "what follows isn't read",
+        &[STOPS, LAYER, TRIPS, "result,\"\r\nstop"],
+        Status::StillOpen,
+        &[ZERO_HEAD, BLOCK, ZERO_TABLE, END],
+    ),
+    (
+        "quoted fields, and lines that end otherwise",
+        &[QUOTED_STOPS, QUOTED_LAYER, QUOTED_TRIPS],
+        Status::StillOpen,
+        &[ZERO_HEAD, BLOCK, ZERO_TABLE, END],
+    ),
+    (
+        "until 47:59",
+        &[STOPS, LAYER, LONG_TRIPS],
+        Status::StillOpen,
+        &[
+            "result,1,open\ncost,4469\nbound,2429\nnodes,0\n",
+            "block,L1,t1\nblock,L1,t2\n",
+            ZERO_TABLE,
+            END,
+        ],
+    ),
+    (
+        "one vehicle short",
+        &[STOPS, ONE_VEHICLE, LATE_TRIPS],
+        Status::StillOpen,
+        &[
+            "result,1,open\ncost,none\nbound,61\nnodes,0\n",
+            ZERO_TABLE,
+            END,
+        ],
+    ),
+    (
+        "no trips",
+        &[STOPS, LAYER],
+        Status::Done,
+        &[
+            "result,1,optimal\ncost,0\nbound,0\nnodes,0\n",
+            "table,1,cost\nfleet,L1,0\n",
+            END,
+        ],
+    ),
+];
+
+const ZERO_HEAD: &str = "result,1,open\ncost,1080\nbound,60\nnodes,0\n";
+
 #[test]
 fn plans_without_a_search(rt: HostRuntime) -> Result<(), Fail> {
-    let zero_head = "result,1,open\ncost,1080\nbound,60\nnodes,0\n";
-    let late_head = "result,1,open\ncost,none\nbound,61\nnodes,0\n";
-    let words = ["solve", "--nodes", "0"];
-    let long_head = "result,1,open\ncost,4469\nbound,2429\nnodes,0\n";
-    let cases: [(&str, [&str; 4], Status, [&str; 4]); 6] = [
-        (
-            "two trips",
-            [STOPS, LAYER, TRIPS, ""],
-            Status::StillOpen,
-            [zero_head, BLOCK, ZERO_TABLE, END],
-        ),
-        (
-            "what follows isn't read",
-            [STOPS, LAYER, TRIPS, "result,\"\r\nstop"],
-            Status::StillOpen,
-            [zero_head, BLOCK, ZERO_TABLE, END],
-        ),
-        (
-            "quoted fields, and lines that end otherwise",
-            [QUOTED_STOPS, QUOTED_LAYER, QUOTED_TRIPS, ""],
-            Status::StillOpen,
-            [zero_head, BLOCK, ZERO_TABLE, END],
-        ),
-        (
-            "until 47:59",
-            [STOPS, LAYER, LONG_TRIPS, ""],
-            Status::StillOpen,
-            [long_head, "block,L1,t1\nblock,L1,t2\n", ZERO_TABLE, END],
-        ),
-        (
-            "one vehicle short",
-            [STOPS, ONE_VEHICLE, LATE_TRIPS, ""],
-            Status::StillOpen,
-            [late_head, "", ZERO_TABLE, END],
-        ),
-        (
-            "no trips",
-            [STOPS, LAYER, "", ""],
-            Status::Done,
-            [
-                "result,1,optimal\ncost,0\nbound,0\nnodes,0\n",
-                "table,1,cost\n",
-                "fleet,L1,0\n",
-                END,
-            ],
-        ),
-    ];
-    for (case, input, status, written) in cases {
-        let (ended, text) = outcome(rt.alloc(), &words, &input)?;
-        let wanted = joined(rt.alloc(), &written)?;
+    for (case, input, status, written) in PLANS {
+        let (ended, text) = outcome(rt.alloc(), &["solve", "--nodes", "0"], input)?;
+        let wanted = joined(rt.alloc(), written)?;
         assert_eq!(rt; ended, status, "{case}");
         assert_eq!(rt; text.as_slice(), wanted.as_slice(), "{case}");
     }
