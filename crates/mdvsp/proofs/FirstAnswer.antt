@@ -11,15 +11,16 @@ use Rattle.vs_instance.specs.Plan.{LayerBlock, IsPlan, plan_cost}
 use Rattle.vs_instance.specs.Restriction.{permitted_sets}
 use Rattle.vs_prices.specs.declared.bound.Bound.{Bound}
 use Rattle.vs_prices.specs.declared.bound.Bound.TheVariants.{AtLeast, NoPlan}
-use Rattle.vs_check.specs.declared.document.Document.{Document}
-use Rattle.vs_check.specs.declared.shape.Shape.TheVariants.{Leaf}
+use Rattle.vs_cert.specs.declared.document.Document.{Document}
+use Rattle.vs_cert.specs.declared.shape.Shape.TheVariants.{Leaf}
 use Rattle.vs_prices.specs.declared.table.Table.{Table}
 use Rattle.vs_plan.specs.Blocks.{blocks_of}
 use Rattle.vs_plan.specs.Blocks.{IsOfInstance}
-use Rattle.vs_check.specs.HoldingDocument.{HasLeaf, HoldingDocument, claim_found}
+use Rattle.vs_check.specs.HoldingDocument.{HasLeaf, HoldingDocument}
+use Rattle.vs_tree.specs.Claims.{claim_found}
 use Rattle.vs_prices.specs.Table.{Fits, HoldingTable}
 use Rattle.vs_prices.specs.Worth.{IsWorth, Reaches}
-use Rattle.mdvsp.specs.DocumentText.{HasText, IsBetween, IsBlankElsewhere, IsShapeOf, IsTreeOf}
+use Rattle.vs_cert.specs.DocumentText.{HasText, IsBetween, IsBlankElsewhere, IsShapeOf, IsTreeOf}
 use Rattle.mdvsp.specs.PricedPlan.{IsPricedPlan}
 use Rattle.mdvsp.specs.Owed.{IsZeroTable}
 use Rattle.mdvsp.specs.SolveAnswer.{AreNamedInOrder, AreWorths, IsBoundOf, LeafPlace, SolveAnswer, leaves, leaves_from, splits}

@@ -12,14 +12,15 @@ use Rattle.vs_instance.specs.Restriction.{permitted_sets, set_of}
 use Rattle.vs_instance.specs.HoldingTable.{HoldsInLayer, price_of, scaled}
 use Rattle.vs_prices.specs.declared.bound.Bound.{Bound}
 use Rattle.vs_prices.specs.declared.bound.Bound.TheVariants.{AtLeast, NoPlan}
-use Rattle.vs_check.specs.declared.document.Document.{Document}
+use Rattle.vs_cert.specs.declared.document.Document.{Document}
 use Rattle.vs_prices.specs.declared.table.Table.{Table}
 use Rattle.vs_plan.specs.Blocks.{blocks_of}
-use Rattle.vs_check.specs.HoldingDocument.{HasLeaf, HasPlan, HoldingDocument, ReachesBound, claim_found}
+use Rattle.vs_check.specs.HoldingDocument.{HasLeaf, HasPlan, HoldingDocument, ReachesBound}
+use Rattle.vs_tree.specs.Claims.{claim_found}
 use Rattle.vs_prices.specs.Table.{Fits, HoldingTable, IsPrice, prices_in}
 use Rattle.vs_prices.specs.Worth.{IsRoundedUp, IsWorth, Reaches, least}
 use Rattle.vs_instance.specs.Lagrangian.{total}
-use Rattle.mdvsp.specs.Alike.{AreAlike, TableText, text_of_table}
+use Rattle.vs_cert.specs.Alike.{AreAlike, TableText, text_of_table}
 
 -- a table fits, holds and has a worth by its kind and its prices
 same_fits : (p : Problem) (t u : Table) → text_of_table t ≡ text_of_table u → Fits p t → Fits p u

@@ -7,9 +7,9 @@ use Rattle.std.proofs.lemmas.List.Quantifiers.{all_pairs_push}
 use Rattle.vs_instance.specs.Problem.{Problem}
 use Rattle.vs_instance.specs.Plan.{IsPlan, LayerBlock, all_trips, plan_cost}
 use Rattle.vs_prices.specs.declared.bound.Bound.TheVariants.{AtLeast, NoPlan}
-use Rattle.vs_check.specs.declared.document.Document.{Document}
-use Rattle.vs_check.specs.declared.shape.Shape.{Shape}
-use Rattle.vs_check.specs.declared.shape.Shape.TheVariants.{Leaf}
+use Rattle.vs_cert.specs.declared.document.Document.{Document}
+use Rattle.vs_cert.specs.declared.shape.Shape.{Shape}
+use Rattle.vs_cert.specs.declared.shape.Shape.TheVariants.{Leaf}
 use Rattle.vs_prices.specs.declared.table.Table.{Table}
 use Rattle.vs_plan.specs.Blocks.{blocks_of}
 use Rattle.vs_check.specs.HoldingDocument.{ReachesBound}
@@ -20,8 +20,8 @@ use Rattle.vs_reader.specs.NameRules.{AreNames}
 use Rattle.vs_reader.specs.InstanceText.{IsNew, Declared, nothing_yet, Adds, AddAll, instance_records}
 use Rattle.vs_reader.specs.Texts.{HasRows, StandsFor, EndsInLine}
 use Rattle.vs_reader.proofs.LineLemmas.{stands_behind}
-use Rattle.mdvsp.specs.DocumentText.{AreShapeRows, DocumentText, IsShapeOf, document_rows, shape_row}
-use Rattle.mdvsp.specs.FirstForm.{IsFirstDocument}
+use Rattle.vs_cert.specs.DocumentText.{AreShapeRows, DocumentText, IsShapeOf, document_rows, shape_row}
+use Rattle.vs_cert.specs.FirstForm.{IsFirstDocument}
 use Rattle.mdvsp.specs.Owed.{OwesDocument, OwesYes, HasZeroTable, yes_row}
 use Rattle.mdvsp.specs.SolveAnswer.{SolveAnswer}
 use Rattle.mdvsp.proofs.LawPlain.{HaveNames, plain_document}

@@ -12,18 +12,18 @@ use Rattle.std.proofs.lemmas.Str.Parse.{digit_at}
 use Rattle.vs_instance.specs.Problem.{Problem}
 use Rattle.vs_instance.specs.Plan.{LayerBlock}
 use Rattle.vs_instance.specs.HoldingTable.{price_of}
-use Rattle.vs_check.specs.declared.claim.Claim.{Claim}
-use Rattle.vs_check.specs.declared.claim.Claim.TheVariants.{Optimal, Infeasible, StillOpen}
-use Rattle.vs_check.specs.declared.document.Document.{Document}
-use Rattle.vs_check.specs.declared.shape.Shape.{Shape}
-use Rattle.vs_check.specs.declared.shape.Shape.TheVariants.{Leaf}
+use Rattle.vs_tree.specs.declared.claim.Claim.{Claim}
+use Rattle.vs_tree.specs.declared.claim.Claim.TheVariants.{Optimal, Infeasible, StillOpen}
+use Rattle.vs_cert.specs.declared.document.Document.{Document}
+use Rattle.vs_cert.specs.declared.shape.Shape.{Shape}
+use Rattle.vs_cert.specs.declared.shape.Shape.TheVariants.{Leaf}
 use Rattle.vs_prices.specs.declared.table.Table.{Table}
 use Rattle.vs_plan.specs.Blocks.{blocks_of}
 use Rattle.vs_prices.specs.Table.{Fits, IsPrice, prices_in}
 use Rattle.vs_reader.specs.Rows.{Field, Row, IsPlain, IsPlainRow}
 use Rattle.vs_reader.specs.Names.{IsName, IsNameByte, NameLists}
 use Rattle.vs_reader.specs.NameRules.{AreNames}
-use Rattle.mdvsp.specs.DocumentText.{HasText, IsBetween, block_row, claim_field, document_rows, head_rows, layer_rows, number_field, permitted_trips, price_row, shape_row, table_rows}
+use Rattle.vs_cert.specs.DocumentText.{HasText, IsBetween, block_row, claim_field, document_rows, head_rows, layer_rows, number_field, permitted_trips, price_row, shape_row, table_rows}
 use Rattle.vs_reader.specs.Names.{name_of}
 
 abbrev IsPlainField : Field → Type 0

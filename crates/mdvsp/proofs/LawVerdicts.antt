@@ -1,7 +1,7 @@
 -- No input has two verdicts.
 use Rattle.std.proofs.Common.{◌≡◌, ℕ, ◌⊎◌, inl, inr, List, refl, sym, ◌∙◌, subst}
 use Rattle.vs_instance.specs.Problem.{Problem}
-use Rattle.vs_check.specs.declared.document.Document.{Document}
+use Rattle.vs_cert.specs.declared.document.Document.{Document}
 use Rattle.vs_plan.specs.Blocks.{blocks_of}
 use Rattle.vs_check.specs.HoldingDocument.{HoldingDocument}
 use Rattle.vs_reader.specs.Rows.{Row}
@@ -10,10 +10,10 @@ use Rattle.vs_reader.specs.Texts.{StandsFor}
 use Rattle.vs_reader.proofs.TextLemmas.{one_reading, refused_none, stands_counts}
 use Rattle.mdvsp.specs.declared.status.Status.{Status}
 use Rattle.mdvsp.specs.declared.status.Status.TheVariants as status
-use Rattle.mdvsp.specs.Alike.{AreAlike}
-use Rattle.mdvsp.specs.FirstForm.{FirstDocumentText, CheckText}
+use Rattle.vs_cert.specs.Alike.{AreAlike}
+use Rattle.vs_cert.specs.FirstForm.{FirstDocumentText, CheckText}
 use Rattle.mdvsp.specs.Owed.{CheckOwes, OwesNo, OwesRefusal, OwesOtherForm, OwesYes}
-use Rattle.mdvsp.proofs.DocumentWhole.{alike, parts_of}
+use Rattle.vs_cert.proofs.DocumentWhole.{alike, parts_of}
 use Rattle.mdvsp.proofs.LawAlike.{holds_alike}
 use Rattle.mdvsp.proofs.LawDocuments.{instance_names}
 

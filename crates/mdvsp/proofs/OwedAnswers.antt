@@ -2,9 +2,9 @@
 use Rattle.std.proofs.Common.{◌≡◌, ◌∙◌, ℕ, List, [], ◌∷◌, Result, Ok, Err, Option, Some, None, inl, inr, refl, sym, subst, IfOk}
 use Rattle.vs_types.specs.declared.memory.Memory.{Memory}
 use Rattle.vs_instance.specs.Problem.{Problem}
-use Rattle.vs_check.specs.declared.claim.Claim.{Claim}
-use Rattle.vs_check.specs.declared.claim.Claim.TheVariants.{Optimal, Infeasible, StillOpen}
-use Rattle.vs_check.specs.declared.document.Document.{Document}
+use Rattle.vs_tree.specs.declared.claim.Claim.{Claim}
+use Rattle.vs_tree.specs.declared.claim.Claim.TheVariants.{Optimal, Infeasible, StillOpen}
+use Rattle.vs_cert.specs.declared.document.Document.{Document}
 use Rattle.vs_check.specs.HoldingDocument.{HoldingDocument}
 use Rattle.vs_reader.specs.declared.refused.Refused.{Refused}
 use Rattle.vs_reader.specs.Names.{NameLists}
@@ -16,8 +16,8 @@ use Rattle.mdvsp.specs.declared.status.Status.TheVariants as status
 use Rattle.mdvsp.specs.declared.words.Command.{Command}
 use Rattle.mdvsp.specs.declared.words.Command.TheVariants.{Check, Solve}
 use Rattle.mdvsp.specs.Answered.{IsOwedFor, IsDocumentOf}
-use Rattle.mdvsp.specs.DocumentText.{document_rows}
-use Rattle.mdvsp.specs.FirstForm.{FirstDocumentText, CheckText, SolveText}
+use Rattle.vs_cert.specs.DocumentText.{document_rows}
+use Rattle.vs_cert.specs.FirstForm.{FirstDocumentText, CheckText, SolveText}
 use Rattle.mdvsp.specs.Owed.{CheckOwes, SolveOwes, OwesDocument, status_of, yes_row}
 use Rattle.mdvsp.specs.RefusalRows.{refusal_row, other_form_row}
 use Rattle.mdvsp.specs.FlawRows.{no_row}

@@ -20,7 +20,7 @@ use Rattle.vs_prices.specs.declared.table.Table.{Table}
 use Rattle.vs_prices.specs.Table.{Fits, HoldingTable, IsPrice, prices_in}
 use Rattle.vs_prices.specs.Worth.{IsRoundedUp, IsWorth, fleet_price, least, least_price, table_value, trip_price}
 use Rattle.vs_instance.specs.Lagrangian.{total}
-use Rattle.mdvsp.specs.DocumentText.{IsBlankElsewhere}
+use Rattle.vs_cert.specs.DocumentText.{IsBlankElsewhere}
 use Rattle.mdvsp.specs.Owed.{IsZeroTable}
 
 abbrev IsZero : ℤ → Type 0

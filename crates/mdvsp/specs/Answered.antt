@@ -9,8 +9,8 @@ use Rattle.mdvsp.specs.declared.status.Status.TheVariants.{WriteFault, NoMemory}
 use Rattle.mdvsp.specs.declared.words.Command.{Command}
 use Rattle.mdvsp.specs.Outcome.{Told}
 use Rattle.vs_instance.specs.Problem.{Problem}
-use Rattle.vs_check.specs.declared.document.Document.{Document}
-use Rattle.mdvsp.specs.DocumentText.{document_rows}
+use Rattle.vs_cert.specs.declared.document.Document.{Document}
+use Rattle.vs_cert.specs.DocumentText.{document_rows}
 use Rattle.vs_reader.specs.Names.{NameLists}
 use Rattle.mdvsp.specs.SolveAnswer.{SolveAnswer}
 use Rattle.mdvsp.specs.Owed.{Owes, HasGreedyPlan, HasZeroTable, status_of}

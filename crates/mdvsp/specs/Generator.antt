@@ -8,22 +8,18 @@ use Rattle.vs_types.specs.LayerSet.{members}
 use Rattle.mdvsp.specs.declared.making.Draws.{Draws}
 use Rattle.mdvsp.specs.declared.making.TheConstants.{STOPS, DEPOTS}
 use Rattle.vs_reader.specs.Rows.{Field, Row}
-use Rattle.mdvsp.specs.Times.{time_field}
+use Rattle.vs_cert.specs.Fields.{numbered, time_field}
 
 -- Stops stand in three rows of four, numbered from 0. How far two of them are apart: the difference in x and that in y
 -- together.
 abbrev pub distance : ℕ → ℕ → ℕ
 distance k s = abs_diff (k % 4) (s % 4) + abs_diff (k / 4) (s / 4)
 
--- the name of a letter and a number counted from 1
-abbrev pub name : Field → ℕ → Field
-name letter k = letter ++ decimal (k + 1)
-
 abbrev pub stop_name : ℕ → Field
-stop_name k = name (codes "S") k
+stop_name k = numbered (codes "S") k
 
 abbrev pub layer_name : ℕ → Field
-layer_name l = name (codes "L") l
+layer_name l = numbered (codes "L") l
 
 -- `stop`, NAME
 abbrev pub stop_row : ℕ → Row
@@ -78,7 +74,7 @@ layer_names set = map layer_name (members set)
 -- `trip`, NAME, FROM, START, TO, END, METRES, and the LAYERs: 3000 metres for each step of the grid
 abbrev pub trip_row : ℕ → Draws → Row
 trip_row i d =
-    codes "trip" ∷ name (codes "T") i ∷ stop_name d.from ∷ time_field d.start ∷ stop_name d.to ∷ time_field (end_of d)
+    codes "trip" ∷ numbered (codes "T") i ∷ stop_name d.from ∷ time_field d.start ∷ stop_name d.to ∷ time_field (end_of d)
     ∷ decimal (3000 * distance d.from d.to) ∷ layer_names d.layers
 
 -- Trip i draws the five numbers behind the first 5 i.

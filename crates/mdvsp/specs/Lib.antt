@@ -1,11 +1,5 @@
-pub mod Times
 pub mod Generator
-pub mod DocumentText
 pub mod FlawRows
-pub mod DocumentParts
-pub mod Alike
-pub mod WrittenParts
-pub mod FirstForm
 pub mod RefusalRows
 pub mod Status
 pub mod Words

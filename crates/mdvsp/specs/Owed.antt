@@ -1,9 +1,9 @@
 -- What a call has to answer, and what it has to write.
 use Rattle.std.specs.Prelude.{◌≡◌, ℕ, false, List, [], ◌∷◌, codes, MatchOption, Some, ◌⊎◌}
 use Rattle.vs_instance.specs.Problem.{Problem}
-use Rattle.vs_check.specs.declared.claim.Claim.{Claim}
-use Rattle.vs_check.specs.declared.claim.Claim.TheVariants.{Optimal, Infeasible, StillOpen}
-use Rattle.vs_check.specs.declared.document.Document.{Document}
+use Rattle.vs_tree.specs.declared.claim.Claim.{Claim}
+use Rattle.vs_tree.specs.declared.claim.Claim.TheVariants.{Optimal, Infeasible, StillOpen}
+use Rattle.vs_cert.specs.declared.document.Document.{Document}
 use Rattle.vs_prices.specs.declared.table.Table.{Table}
 use Rattle.vs_prices.specs.Table.{AreZeros, Fits}
 use Rattle.vs_plan.specs.Blocks.{blocks_of}
@@ -15,10 +15,10 @@ use Rattle.mdvsp.specs.declared.status.Status.{Status}
 use Rattle.mdvsp.specs.declared.status.Status.TheVariants as status
 use Rattle.vs_reader.specs.Rows.{Row}
 use Rattle.vs_reader.specs.Names.{NameLists}
-use Rattle.mdvsp.specs.DocumentText.{claim_field, number_field, document_rows}
+use Rattle.vs_cert.specs.DocumentText.{claim_field, number_field, document_rows}
 use Rattle.vs_reader.specs.Texts.{StandsFor, IsRefused}
 use Rattle.vs_reader.specs.declared.refused.Refused.{Refused}
-use Rattle.mdvsp.specs.FirstForm.{FirstDocumentText, CheckText, SolveText}
+use Rattle.vs_cert.specs.FirstForm.{FirstDocumentText, CheckText, SolveText}
 use Rattle.mdvsp.specs.RefusalRows.{refusal_row, other_form_row}
 use Rattle.mdvsp.specs.FlawRows.{no_row}
 use Rattle.vs_plan.specs.Greedy.{GreedyGives, GreedyGetsStuck}

@@ -6,14 +6,14 @@ use Rattle.vs_instance.specs.Lagrangian.{IsStartingValue}
 use Rattle.vs_instance.specs.Restriction.{set_of, permitted_sets}
 use Rattle.vs_prices.specs.declared.bound.Bound.{Bound}
 use Rattle.vs_prices.specs.declared.bound.Bound.TheVariants.{AtLeast, NoPlan}
-use Rattle.vs_check.specs.declared.claim.Claim.TheVariants.{StillOpen}
-use Rattle.vs_check.specs.declared.document.Document.{Document}
-use Rattle.vs_check.specs.declared.shape.Shape.{Shape}
-use Rattle.vs_check.specs.declared.shape.Shape.TheVariants.{Split, Leaf}
+use Rattle.vs_tree.specs.declared.claim.Claim.TheVariants.{StillOpen}
+use Rattle.vs_cert.specs.declared.document.Document.{Document}
+use Rattle.vs_cert.specs.declared.shape.Shape.{Shape}
+use Rattle.vs_cert.specs.declared.shape.Shape.TheVariants.{Split, Leaf}
 use Rattle.vs_prices.specs.declared.table.Table.{Table}
 use Rattle.vs_check.specs.HoldingDocument.{HoldingDocument}
 use Rattle.vs_prices.specs.Worth.{IsWorth, IsRoundedUp}
-use Rattle.mdvsp.specs.DocumentText.{HasText}
+use Rattle.vs_cert.specs.DocumentText.{HasText}
 
 -- a leaf: which layers each trip may be run in there, and the number of its table
 pub record LeafPlace : Type 0 where

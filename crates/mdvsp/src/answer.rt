@@ -7,13 +7,13 @@ ghost use Rattle.mdvsp.specs.RefusalRows.{refusal_row, other_form_row};
 ghost use Rattle.vs_reader.specs.Rows.{lines};
 ghost use Rattle.mdvsp.specs.Words.{words_row};
 
+use crate::flaws::flaw_fields;
 use crate::refusal::write_why;
 use crate::status::Status;
-use crate::text::Text;
 use crate::words::BadWord;
-use crate::writing::{bound_field, claim_field, cost_field, flaw_fields};
 use std::alloc::Global;
-use vs_check::{Document, Flaw};
+use vs_cert::{Document, Text, bound_field, claim_field, cost_field};
+use vs_check::Flaw;
 use vs_io::{Sink, emit};
 use vs_reader::{Names, Refused};
 use vs_types::Memory;

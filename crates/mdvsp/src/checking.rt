@@ -3,10 +3,9 @@ ghost use Rattle.mdvsp.specs.Answered.{IsOwedFor};
 ghost use Rattle.mdvsp.specs.Outcome.{input_limit};
 
 use crate::answer::Answer;
-use crate::document::read_document;
-use crate::form_error::FormError;
 use crate::words::Command;
 use std::alloc::Global;
+use vs_cert::{FormError, read_document};
 use vs_check::{Verdict, check};
 use vs_reader::{ReadError, read};
 use vs_types::Memory;

@@ -3,11 +3,11 @@
 
 ghost use Rattle.std.specs.Prelude.{◌≡◌, ◌-◌, ◌%◌, ◌<◌, ◌≤◌, [], ◌∷◌, ◌++◌, codes, map, flat_map, IfOk, OnOk};
 ghost use Rattle.std.specs.List.{range_with_len};
-ghost use Rattle.mdvsp.specs.Generator.{deadhead_row, deadheads_from, depot_of, distance, draws, drawn_row, layer_name, layer_names, layer_row, name, make_rows, next_number, number_at, other_stop, stop_name, stop_row, trip_row};
+ghost use Rattle.mdvsp.specs.Generator.{deadhead_row, deadheads_from, depot_of, distance, draws, drawn_row, layer_name, layer_names, layer_row, make_rows, next_number, number_at, other_stop, stop_name, stop_row, trip_row};
 ghost use Rattle.vs_reader.specs.Rows.{fields, line, lines};
-ghost use Rattle.mdvsp.specs.Times.{time_field};
+ghost use Rattle.vs_cert.specs.Fields.{numbered, time_field};
 
-use crate::text::Text;
+use vs_cert::Text;
 use std::alloc::Global;
 use std::marker::Model;
 use vs_instance::{MAX_LAYERS, MAX_TRIPS};
@@ -137,7 +137,7 @@ fn write_stop(text: &mut Text, k: u32) -> Result<(), Memory>
     ensures { OnOk result (text.new ≡ text.old ++ line (stop_row k)) }
 {
     text.begin_row("stop")?;
-    text.name("S", k)?;
+    text.numbered("S", k)?;
     text.end_row()
 }
 
@@ -172,8 +172,8 @@ fn write_deadhead(text: &mut Text, k: u32, s: u32) -> Result<(), Memory>
 {
     let steps = distance(k, s);
     text.begin_row("deadhead")?;
-    text.name("S", k)?;
-    text.name("S", s)?;
+    text.numbered("S", k)?;
+    text.numbered("S", s)?;
     text.number(6 * steps)?;
     text.number(2_500 * steps)?;
     text.end_row()
@@ -209,8 +209,8 @@ fn begin_layer(text: &mut Text, l: u32) -> Result<(), Memory>
         ++ fields (codes "layer" ∷ layer_name l ∷ stop_name (depot_of l) ∷ [])) }
 {
     text.begin_row("layer")?;
-    text.name("L", l)?;
-    text.name("S", depot_of(l))
+    text.numbered("L", l)?;
+    text.numbered("S", depot_of(l))
 }
 
 /// The stop at which a layer has its depot.
@@ -250,7 +250,7 @@ fn write_trip(text: &mut Text, i: u32, drawn: Draws) -> Result<(), Memory>
 {
     let steps = distance(drawn.from, drawn.to);
     begin_trip(text, i, drawn.from, drawn.start)?;
-    text.name("S", drawn.to)?;
+    text.numbered("S", drawn.to)?;
     text.time(drawn.start + (6 * steps + drawn.extra))?;
     text.number(3_000 * steps)?;
     write_layer_names(text, drawn.layers)?;
@@ -261,11 +261,11 @@ fn write_trip(text: &mut Text, i: u32, drawn: Draws) -> Result<(), Memory>
 fn begin_trip(text: &mut Text, i: u32, from: u32, start: u32) -> Result<(), Memory>
     requires { start < 6000 }
     ensures { OnOk result (text.new ≡ text.old
-        ++ fields (codes "trip" ∷ name (codes "T") i ∷ stop_name from ∷ time_field start ∷ [])) }
+        ++ fields (codes "trip" ∷ numbered (codes "T") i ∷ stop_name from ∷ time_field start ∷ [])) }
 {
     text.begin_row("trip")?;
-    text.name("T", i)?;
-    text.name("S", from)?;
+    text.numbered("T", i)?;
+    text.numbered("S", from)?;
     text.time(start)
 }
 
@@ -276,7 +276,7 @@ fn write_layer_names(text: &mut Text, layers: LayerSet) -> Result<(), Memory>
 {
     for l in 0..MAX_LAYERS {
         if layers.has(LayerNo(l)) {
-            text.name("L", l)?;
+            text.numbered("L", l)?;
         }
     }
     Ok(())

@@ -5,10 +5,11 @@ ghost use Rattle.mdvsp.specs.SolveAnswer.{IsBoundOf, SolveAnswer};
 ghost use Rattle.vs_plan.specs.Blocks.{blocks_of};
 
 use std::alloc::Global;
-use vs_check::{Document, Shape, claim_found};
+use vs_cert::{Document, Shape};
 use vs_instance::{Instance, MAX_TRIPS};
 use vs_plan::{Plan, greedy};
 use vs_prices::{Bound, Table, permitted_sets, worth};
+use vs_tree::claim_found;
 use vs_types::Memory;
 
 /// The greedy rule's plan and its cost. No blocks and no cost where that rule gets stuck.

@@ -3,7 +3,7 @@ ghost use Rattle.std.specs.Prelude.{◌≡◌, ◌∷◌, ◌++◌, codes, decim
 ghost use Rattle.vs_reader.specs.Rows.{more_fields};
 ghost use Rattle.mdvsp.specs.RefusalRows.{misfit_details, misfit_name, range_name, stop_fields, why_details, why_name, why_number};
 
-use crate::text::Text;
+use vs_cert::Text;
 use vs_instance::{Field, Misfit};
 use vs_reader::Why;
 use vs_types::{Memory, StopNo};

@@ -8,10 +8,10 @@ use crate::answer::Answer;
 use crate::planning::first_answer;
 use crate::status::Status;
 use crate::words::Command;
-use crate::writing::write_document;
 use std::alloc::Global;
-use vs_check::Claim;
+use vs_cert::write_document;
 use vs_reader::{Input, ReadError, read};
+use vs_tree::Claim;
 use vs_types::Memory;
 
 /// What `solve --nodes 0` answers for the bytes of an instance, whatever follows its records.

@@ -18,9 +18,10 @@ use Rattle.vs_prices.specs.declared.bound.Bound.{Bound}
 use Rattle.vs_prices.specs.declared.bound.Bound.TheVariants.{AtLeast, NoPlan}
 use Rattle.vs_prices.specs.declared.table.Table.{Table}
 use Rattle.vs_prices.proofs.Duality.{bounds_plans}
-use Rattle.vs_check.specs.declared.claim.Claim.TheVariants.{Optimal, Infeasible, StillOpen}
-use Rattle.vs_check.specs.declared.document.Document.{Document}
-use Rattle.vs_check.specs.HoldingDocument.{HoldingDocument, claim_found}
+use Rattle.vs_tree.specs.declared.claim.Claim.TheVariants.{Optimal, Infeasible, StillOpen}
+use Rattle.vs_cert.specs.declared.document.Document.{Document}
+use Rattle.vs_check.specs.HoldingDocument.{HoldingDocument}
+use Rattle.vs_tree.specs.Claims.{claim_found}
 use Rattle.vs_check.specs.Laws.{HoldingDocumentsProveTheirClaims}
 
 -- what a printed bound says of a plan's cost

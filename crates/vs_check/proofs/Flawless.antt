@@ -22,11 +22,12 @@ use Rattle.vs_prices.specs.declared.broken_at.BrokenAt.{BrokenAt}
 use Rattle.vs_prices.specs.declared.table.Table.{Table}
 use Rattle.vs_prices.proofs.NoBreaks.{holds_nowhere_broken, nowhere_broken}
 use Rattle.vs_prices.proofs.Worths.{worth_is, worth_of-IsWorth}
-use Rattle.vs_check.specs.declared.document.Document.{Document}
-use Rattle.vs_check.specs.declared.shape.Shape.TheVariants.{Leaf}
+use Rattle.vs_cert.specs.declared.document.Document.{Document}
+use Rattle.vs_cert.specs.declared.shape.Shape.TheVariants.{Leaf}
 use Rattle.vs_check.specs.Flaws.{broken_flaws, cost_flaws, flaws_of, named_flaws, plan_flaws, shape_flaws, table_flaws, tables_flaws}
-use Rattle.vs_check.specs.Form.{IsReadFor}
-use Rattle.vs_check.specs.HoldingDocument.{HasLeaf, HoldingDocument, ReachesBound, claim_found}
+use Rattle.vs_cert.specs.Form.{IsReadFor}
+use Rattle.vs_check.specs.HoldingDocument.{HasLeaf, HoldingDocument, ReachesBound}
+use Rattle.vs_tree.specs.Claims.{claim_found}
 use Rattle.vs_check.proofs.LeafFlaws.{none_from_reaches, reaches_from_none}
 use Rattle.vs_check.proofs.PlanFlaws.{claims_same, right_cost, same_claims}
 

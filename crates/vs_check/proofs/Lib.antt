@@ -3,4 +3,3 @@ pub mod LeafFlaws
 pub mod Flawless
 pub mod Claims
 pub mod NamedFlaws
-pub mod Examples

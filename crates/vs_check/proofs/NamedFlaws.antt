@@ -25,12 +25,12 @@ use Rattle.vs_prices.specs.declared.broken_at.BrokenAt.{BrokenAt}
 use Rattle.vs_prices.specs.declared.broken_at.BrokenAt.TheVariants as broken
 use Rattle.vs_prices.specs.declared.table.Table.{Table}
 use Rattle.vs_prices.proofs.RealBreaks.{all_broken}
-use Rattle.vs_check.specs.declared.document.Document.{Document}
+use Rattle.vs_cert.specs.declared.document.Document.{Document}
 use Rattle.vs_check.specs.declared.flaw.Flaw.{Flaw}
 use Rattle.vs_check.specs.declared.flaw.Flaw.TheVariants.{Plan, CostDiffers, TableBroken, BadSplit, LeafTooWeak, ClaimDiffers}
-use Rattle.vs_check.specs.declared.shape.Shape.{Shape}
-use Rattle.vs_check.specs.declared.shape.Shape.TheVariants.{Leaf, Split}
-use Rattle.vs_check.specs.HoldingDocument.{claim_found}
+use Rattle.vs_cert.specs.declared.shape.Shape.{Shape}
+use Rattle.vs_cert.specs.declared.shape.Shape.TheVariants.{Leaf, Split}
+use Rattle.vs_tree.specs.Claims.{claim_found}
 use Rattle.vs_check.specs.Flaws.{IsBreakWithin, IsFaultWithin, IsFlawWithin, IsVerdictWithin, broken_flaws, cost_flaws, flaws_of, leaf_flaws, named_flaws, plan_flaws, same_claim, shape_flaws, table_flaws, verdict_of}
 
 break_of : (p : Problem) (table : Table) (at : BrokenAt) → IsBroken p table at

@@ -1,25 +1,17 @@
 -- When a document proves what it claims.
-use Rattle.std.specs.Prelude.{◌≡◌, ℕ, ◌≤◌, List, [], ◌∷◌, All, ℤ, pos, ◌≤ℤ◌, if◌then◌else◌, Option, Some, None, MatchOption, IfSome, IfNone, slice_get}
-use Rattle.std.specs.Ordering.{int_eq}
+use Rattle.std.specs.Prelude.{◌≡◌, ℕ, ◌≤◌, List, [], ◌∷◌, All, ℤ, pos, ◌≤ℤ◌, Option, Some, None, MatchOption, IfSome, IfNone, slice_get}
 use Rattle.vs_instance.specs.Problem.{Problem}
 use Rattle.vs_instance.specs.Plan.{IsPlan, LayerBlock, plan_cost}
 use Rattle.vs_instance.specs.Restriction.{permitted_sets}
 use Rattle.vs_prices.specs.declared.bound.Bound.{Bound}
-use Rattle.vs_check.specs.declared.claim.Claim.{Claim}
-use Rattle.vs_check.specs.declared.claim.Claim.TheVariants.{Optimal, Infeasible, StillOpen}
-use Rattle.vs_check.specs.declared.document.Document.{Document}
-use Rattle.vs_check.specs.declared.shape.Shape.TheVariants.{Leaf}
+use Rattle.vs_tree.specs.declared.claim.Claim.TheVariants.{Optimal, Infeasible}
+use Rattle.vs_tree.specs.Claims.{claim_found}
+use Rattle.vs_cert.specs.declared.document.Document.{Document}
+use Rattle.vs_cert.specs.declared.shape.Shape.TheVariants.{Leaf}
 use Rattle.vs_prices.specs.declared.table.Table.{Table}
 use Rattle.vs_plan.specs.Blocks.{blocks_of}
 use Rattle.vs_prices.specs.Table.{Fits, HoldingTable}
 use Rattle.vs_prices.specs.Worth.{IsWorth, Reaches}
-
--- what a cost and a bound claim together
-abbrev pub claim_found : Option ℤ → Option ℤ → Claim
-claim_found (Some cost) (Some bound) = if int_eq cost bound then Optimal else StillOpen
-claim_found None None = Infeasible
-claim_found (Some cost) None = StillOpen
-claim_found None (Some bound) = StillOpen
 
 -- the blocks are a plan of the printed cost, and where none is printed there are none
 abbrev pub HasPlan : Problem → Document → Type 0

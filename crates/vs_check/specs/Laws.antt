@@ -1,7 +1,7 @@
 -- What documents prove of every instance.
 use Rattle.vs_instance.specs.Problem.{Problem}
 use Rattle.vs_instance.specs.Instance.{IsInstance}
-use Rattle.vs_check.specs.declared.document.Document.{Document}
+use Rattle.vs_cert.specs.declared.document.Document.{Document}
 use Rattle.vs_check.specs.HoldingDocument.{HoldingDocument, ProvesItsClaim}
 
 -- a document that holds for an instance proves what it claims

@@ -1,4 +1,3 @@
-pub mod Form
 pub mod HoldingDocument
 pub mod Flaws
 pub mod Laws

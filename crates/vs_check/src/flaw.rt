@@ -1,6 +1,6 @@
-use crate::claim::Claim;
 use vs_plan::PlanFault;
 use vs_prices::BrokenAt;
+use vs_tree::Claim;
 
 /// Why a document doesn't hold. Tables and positions in the shape count from 0.
 #[derive(Clone, Copy, Debug, PartialEq, Eq)]

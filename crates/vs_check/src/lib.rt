@@ -2,18 +2,12 @@
 //! trips.
 #![tactic(auto)]
 
-mod claim;
-mod document;
 mod flaw;
 mod laws;
-mod shape;
 mod verdict;
 
-pub use claim::{Claim, claim_found};
-pub use document::Document;
 pub use flaw::Flaw;
 pub use laws::holding_documents_prove_their_claims;
-pub use shape::Shape;
 pub use verdict::{Verdict, check};
 
 #[cfg(test)]

@@ -4,12 +4,14 @@ ghost use Rattle.vs_plan.specs.Blocks.{CanBeJudged, blocks_of};
 ghost use Rattle.vs_prices.specs.Table.{Fits, IsPrice};
 ghost use Rattle.vs_types.specs.LayerSet.{Has, members};
 
-use crate::{Claim, Document, Flaw, Shape, Verdict, check};
+use crate::{Flaw, Verdict, check};
 use std::alloc::Global;
 use std::test::Fail;
+use vs_cert::{Document, Shape};
 use vs_instance::{Deadhead, Instance, Layer, Parts, Trip};
 use vs_plan::{Block, Plan, PlanFault};
 use vs_prices::{BrokenAt, MAX_PRICE, Table};
+use vs_tree::Claim;
 use vs_types::{LayerNo, LayerSet, StopNo, TripNo};
 
 const DEPOT: StopNo = StopNo(0);

@@ -1,20 +1,20 @@
 ghost use Rattle.std.specs.Prelude.{◌≡◌, ◌<◌, ◌^◌, ◌↔◌, length, All, IfOk};
 ghost use Rattle.vs_check.specs.Flaws.{claim_flaws, leaf_flaws, plan_flaws, shape_flaws};
 ghost use Rattle.vs_check.specs.Flaws.{IsVerdictWithin, flaws_of, tables_flaws, verdict_of};
-ghost use Rattle.vs_check.specs.Form.{IsReadFor};
-ghost use Rattle.vs_check.specs.HoldingDocument.{HoldingDocument, ProvesItsClaim, claim_found};
+ghost use Rattle.vs_cert.specs.Form.{IsReadFor};
+ghost use Rattle.vs_check.specs.HoldingDocument.{HoldingDocument, ProvesItsClaim};
+ghost use Rattle.vs_tree.specs.Claims.{claim_found};
 ghost use Rattle.vs_instance.specs.Firsts.{first};
 ghost use Rattle.vs_plan.specs.Blocks.{CanBeJudged, blocks_of};
 ghost use Rattle.vs_prices.specs.Table.{Fits};
 
-use crate::claim::claim_found;
-use crate::document::Document;
 use crate::flaw::Flaw;
-use crate::shape::Shape;
 use std::alloc::Global;
+use vs_cert::{Document, Shape};
 use vs_instance::{Instance, MAX_TRIPS};
 use vs_plan::{PlanError, judge};
 use vs_prices::{Bound, Table, broken, permitted_sets, worth};
+use vs_tree::claim_found;
 use vs_types::Memory;
 
 /// Whether a document holds, and else its first flaw.

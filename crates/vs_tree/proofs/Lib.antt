@@ -3,3 +3,4 @@ pub mod Rests
 pub mod RunIn
 pub mod Restrictions
 pub mod Sharing
+pub mod ClaimExamples

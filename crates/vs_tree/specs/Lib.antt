@@ -1,3 +1,4 @@
 pub mod Rest
 pub mod Tree
 pub mod Laws
+pub mod Claims

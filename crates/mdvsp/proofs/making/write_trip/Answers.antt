@@ -3,10 +3,10 @@ use Rattle.std.specs.Prelude.{codes, decimal}
 use Rattle.std.proofs.lemmas.List.{append_assoc}
 use Rattle.std.proofs.lemmas.Result.{IfOk-equal}
 use Rattle.vs_reader.specs.Rows.{Field}
-use Rattle.mdvsp.specs.Times.{time_field}
-use Rattle.mdvsp.specs.Generator.{distance, end_of, layer_names, name, stop_name}
+use Rattle.vs_cert.specs.Fields.{numbered, time_field}
+use Rattle.mdvsp.specs.Generator.{distance, end_of, layer_names, stop_name}
 use Rattle.vs_reader.specs.Rows.{more_fields}
-use Rattle.mdvsp.proofs.WrittenRows.{join-cons, one_more_field, some_more_fields, ended_row}
+use Rattle.vs_cert.proofs.WrittenRows.{join-cons, one_more_field, some_more_fields, ended_row}
 use Rattle.mdvsp.proofs.making.write_trip.Goals as goal
 
 pub returns : goal.returns
@@ -14,7 +14,7 @@ returns c =
     let d = c.args.drawn in
     let kind : Field = codes "trip" in
     let begun : List ℕ = c.args.text.now ++ kind in
-    let left : List Field = name (codes "T") c.args.i ∷ stop_name d.from ∷ time_field d.start ∷ [] in
+    let left : List Field = numbered (codes "T") c.args.i ∷ stop_name d.from ∷ time_field d.start ∷ [] in
     let metres : ℕ = 3000 * distance d.from d.to in
     let first : c.begin_trip.new.text ≡ begun ++ more_fields left =
     c.in_ok-begin_trip.ensures ∙ ap (λ bytes. c.args.text.now ++ bytes) (join-cons kind left)

@@ -7,8 +7,8 @@ use Rattle.vs_instance.specs.Restriction.{permitted_sets}
 use Rattle.vs_prices.specs.declared.bound.Bound.{Bound}
 use Rattle.vs_prices.specs.Worth.{IsWorth}
 use Rattle.vs_prices.proofs.Worths.{worth_is}
-use Rattle.vs_check.specs.declared.shape.Shape.{Shape}
-use Rattle.vs_check.specs.declared.shape.Shape.TheVariants.{Leaf}
+use Rattle.vs_cert.specs.declared.shape.Shape.{Shape}
+use Rattle.vs_cert.specs.declared.shape.Shape.TheVariants.{Leaf}
 use Rattle.vs_check.specs.Flaws.{leaf_flaws}
 use Rattle.vs_check.proofs.Flawless.{one_leaf}
 use Rattle.vs_check.proofs.verdict.shape_flaw.Goals as goal

@@ -1,0 +1,11 @@
+pub mod DocumentNumbers
+pub mod DocumentNames
+pub mod DocumentPlan
+pub mod DocumentErrors
+pub mod DocumentRows
+pub mod DocumentPrices
+pub mod DocumentLayers
+pub mod DocumentSame
+pub mod DocumentWhole
+pub mod LinesAppend
+pub mod WrittenRows

@@ -1,0 +1,16 @@
+//! The document of a plan: what it has, how it is read and how it is written.
+#![tactic(auto)]
+
+mod document;
+mod form_error;
+mod reading;
+mod shape;
+mod text;
+mod writing;
+
+pub use document::Document;
+pub use form_error::FormError;
+pub use reading::read_document;
+pub use shape::Shape;
+pub use text::Text;
+pub use writing::{bound_field, claim_field, cost_field, write_document};
