@@ -7,9 +7,9 @@ ghost use Rattle.mdvsp.specs.Generator.{deadhead_row, deadheads_from, depot_of, 
 ghost use Rattle.vs_reader.specs.Rows.{fields, line, lines};
 ghost use Rattle.vs_cert.specs.Fields.{numbered, time_field};
 
-use vs_cert::Text;
 use std::alloc::Global;
 use std::marker::Model;
+use vs_cert::Text;
 use vs_instance::{MAX_LAYERS, MAX_TRIPS};
 use vs_types::{LayerNo, LayerSet, Memory};
 

@@ -5,8 +5,8 @@ ghost use Rattle.vs_types.specs.LayerSet.{Has};
 use crate::planning::first_answer;
 use std::alloc::{AllocError, Global};
 use std::test::Fail;
-use vs_tree::Claim;
 use vs_instance::{Deadhead, Instance, Layer, Parts, Trip};
+use vs_tree::Claim;
 use vs_types::{LayerNo, LayerSet, StopNo, TripNo};
 
 fn deadhead(from: u32, to: u32, minutes: u64) -> Deadhead
