@@ -12,6 +12,8 @@ use Rattle.vs_cert.specs.declared.shape.Shape.{Shape}
 use Rattle.vs_cert.specs.declared.shape.Shape.TheVariants.{Leaf}
 use Rattle.vs_prices.specs.declared.table.Table.{Table}
 use Rattle.vs_plan.specs.Blocks.{blocks_of}
+use Rattle.vs_tree.specs.Tree.{Leaf as OneLeaf}
+use Rattle.vs_cert.specs.Shapes.{IsShapeOf as IsShapeOfTree}
 use Rattle.vs_cert.specs.Form.{IsReadFor}
 use Rattle.vs_plan.specs.Blocks.{IsOfInstance}
 use Rattle.vs_prices.specs.Table.{Fits}
@@ -276,7 +278,12 @@ read_for p names rows d text first = record {
   no_blocks = none_then d.cost (blocks_of d.plan ≡ []) text.has_text.no_blocks;
   tables = text.has_text.fits;
   few_tables = omega (arith, ap length first.one_table);
-  leaf = (0, first.one_leaf, omega (arith, ap length first.one_table));
+  tree = record { tree = OneLeaf 0; rows_are = first.one_leaf };
+  shapes =
+      subst (All (IsShapeOfTree p (length d.tables.items))) (sym first.one_leaf)
+      (All-cons (IsShapeOfTree p (length d.tables.items)) (Leaf 0) [] (omega (arith, ap length first.one_table))
+      (All-nil (IsShapeOfTree p (length d.tables.items))));
+  few_rows = omega (arith, ap length first.one_leaf);
 }
 
 -- ---- from the document to the parts

@@ -1,4 +1,9 @@
 pub mod Fields
+pub mod Shapes
+pub mod DocumentRows
+pub mod NewDocumentText
+pub mod Places
+pub mod DocumentRefusals
 pub mod DocumentText
 pub mod DocumentParts
 pub mod Alike

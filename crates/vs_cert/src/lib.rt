@@ -3,7 +3,9 @@
 
 mod document;
 mod form_error;
+mod limits;
 mod reading;
+mod refused;
 mod shape;
 mod text;
 mod writing;
@@ -11,6 +13,7 @@ mod writing;
 pub use document::Document;
 pub use form_error::FormError;
 pub use reading::read_document;
+pub use refused::{DocError, DocWhy};
 pub use shape::Shape;
 pub use text::Text;
 pub use writing::{bound_field, claim_field, cost_field, write_document};
