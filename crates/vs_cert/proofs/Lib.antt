@@ -9,3 +9,4 @@ pub mod DocumentSame
 pub mod DocumentWhole
 pub mod LinesAppend
 pub mod WrittenRows
+pub mod WrittenParts

@@ -137,17 +137,29 @@ layer_rows p table l = FleetRow l (vehicle_price table l)
 abbrev pub table_rows : Problem → ℕ × Table → List DocumentRow
 table_rows p e = TableRow e.0 e.1.ray ∷ flat_map (layer_rows p e.1) (range_with_len 0 (length p.layers))
 
+-- those of all tables, numbered from 1
+abbrev pub tables_rows : Problem → List Table → List DocumentRow
+tables_rows p tables = flat_map (table_rows p) (enumerate_from 1 tables)
+
 -- the row of a split or a leaf, which names its table by the number from 1 on
 abbrev pub shape_row : Shape → DocumentRow
 shape_row (Leaf table) = LeafRow (table + 1)
 shape_row (Split trip left) = SplitRow trip left
 
+-- what a document claims, its cost, its bound and its nodes
+abbrev pub head_rows : Document → List DocumentRow
+head_rows d = ClaimRow d.claim ∷ CostRow d.cost ∷ BoundRow d.bound ∷ NodesRow d.nodes ∷ []
+
 -- the head of a document, its blocks, its tables numbered from 1, its tree, and `end`
 abbrev pub rows_of_document : Problem → Document → List DocumentRow
-rows_of_document p d = ClaimRow d.claim ∷ CostRow d.cost ∷ BoundRow d.bound ∷ NodesRow d.nodes
-    ∷ map BlockRow (blocks_of d.plan) ++ flat_map (table_rows p) (enumerate_from 1 d.tables.items)
+rows_of_document p d = head_rows d
+    ++ map BlockRow (blocks_of d.plan) ++ tables_rows p d.tables.items
     ++ map shape_row d.shape.items ++ EndRow ∷ []
 
--- the rows of a document as they are written
+-- the rows as they are written
+abbrev pub written_rows : NameLists → List DocumentRow → List Row
+written_rows names said = map (written_row names) said
+
+-- those of a document
 abbrev pub document_rows : Problem → NameLists → Document → List Row
-document_rows p names d = map (written_row names) (rows_of_document p d)
+document_rows p names d = written_rows names (rows_of_document p d)

@@ -2,6 +2,7 @@ pub mod Fields
 pub mod Shapes
 pub mod DocumentRows
 pub mod NewDocumentText
+pub mod Writing
 pub mod Places
 pub mod DocumentRefusals
 pub mod DocumentText

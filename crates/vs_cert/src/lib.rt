@@ -16,4 +16,4 @@ pub use reading::read_document;
 pub use refused::{DocError, DocWhy};
 pub use shape::Shape;
 pub use text::Text;
-pub use writing::{bound_field, claim_field, cost_field, write_document};
+pub use writing::{bound_field, claim_field, cost_field, text_of};

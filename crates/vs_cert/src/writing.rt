@@ -7,4 +7,4 @@ mod shapes;
 mod tables;
 
 pub use amounts::{bound_field, claim_field, cost_field};
-pub use document::write_document;
+pub use document::text_of;

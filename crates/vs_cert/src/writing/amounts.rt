@@ -1,5 +1,5 @@
 ghost use Rattle.std.specs.Prelude.{◌≡◌, ◌∷◌, ◌++◌, OnOk};
-ghost use Rattle.vs_cert.specs.DocumentText.{claim_field, number_field};
+ghost use Rattle.vs_cert.specs.DocumentRows.{claim_field, number_field};
 
 use crate::text::Text;
 use vs_tree::Claim;

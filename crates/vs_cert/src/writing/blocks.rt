@@ -1,8 +1,7 @@
 ghost use Rattle.std.specs.Prelude.{◌≡◌, ◌<◌, ◌++◌, length, map, All, OnOk};
 ghost use Rattle.vs_plan.specs.Blocks.{blocks_of};
-ghost use Rattle.vs_reader.specs.Rows.{line, lines};
-ghost use Rattle.vs_cert.specs.DocumentText.{block_row};
-ghost use Rattle.vs_cert.specs.WrittenParts.{IsNamedBlock};
+ghost use Rattle.vs_cert.specs.DocumentRows.{BlockRow, IsNamedBlock};
+ghost use Rattle.vs_cert.specs.Writing.{AddsRow, AddsRows};
 
 use crate::text::Text;
 use vs_plan::{Block, Plan};
@@ -12,7 +11,7 @@ use vs_types::Memory;
 /// Writes a row for each block.
 pub fn write_blocks(text: &mut Text, names: &Names, plan: &Plan) -> Result<(), Memory>
     requires { All (IsNamedBlock names.now) (blocks_of plan.now) }
-    ensures { OnOk result (text.new ≡ text.old ++ lines (map (block_row names.now) (blocks_of plan.now))) }
+    ensures { OnOk result (AddsRows names.now (map BlockRow (blocks_of plan.now)) text.old text.new) }
 {
     for block in &plan.blocks {
         write_block(text, names, block)?;
@@ -23,7 +22,7 @@ pub fn write_blocks(text: &mut Text, names: &Names, plan: &Plan) -> Result<(), M
 /// Writes a block: its layer and its trips.
 fn write_block(text: &mut Text, names: &Names, block: &Block) -> Result<(), Memory>
     requires { IsNamedBlock names.now (block.now.layer, block.now.trips.items) }
-    ensures { OnOk result (text.new ≡ text.old ++ line (block_row names.now (block.now.layer, block.now.trips.items))) }
+    ensures { OnOk result (AddsRow names.now (BlockRow (block.now.layer, block.now.trips.items)) text.old text.new) }
 {
     text.begin_row("block")?;
     text.field(names.layer(block.layer))?;

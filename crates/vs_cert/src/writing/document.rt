@@ -1,6 +1,9 @@
-ghost use Rattle.std.specs.Prelude.{◌≡◌, ◌∷◌, ◌++◌, [], length, codes, decimal, IfOk, OnOk};
+ghost use Rattle.std.specs.Prelude.{◌≡◌, ◌++◌, [], ◌∷◌, codes, decimal, IfOk, OnOk};
+ghost use Rattle.vs_reader.specs.Names.{HaveCounts};
 ghost use Rattle.vs_reader.specs.Rows.{line, lines};
-ghost use Rattle.vs_cert.specs.DocumentText.{HasText, claim_field, number_field, head_rows, document_rows};
+ghost use Rattle.vs_cert.specs.DocumentRows.{claim_field, document_rows, head_rows, number_field};
+ghost use Rattle.vs_cert.specs.NewDocumentText.{HasText};
+ghost use Rattle.vs_cert.specs.Writing.{AddsRows};
 
 use crate::document::Document;
 use crate::text::Text;
@@ -14,20 +17,21 @@ use vs_reader::Names;
 use vs_tree::Claim;
 use vs_types::Memory;
 
-/// The bytes of a document's text, with the names of the instance that it is of.
-pub fn write_document(
+/// The text of a document, with the names of the instance that it is of: its rows in order, the layers
+/// of each split in number order. Prices for trips that a layer may not run aren't written.
+pub fn text_of(
     alloc: Global,
     instance: &Instance,
     names: &Names,
     document: &Document,
 ) -> Result<Vec<u8>, Memory>
     requires text { HasText instance.now document.now }
-    requires layers { length names.now.layers ≡ length instance.now.layers }
-    requires trips { length names.now.trips ≡ length instance.now.trips }
-    ensures { IfOk result (λ bytes. bytes.items ≡ lines (document_rows instance.now names.now document.now)) }
+    requires names { HaveCounts instance.now names.now }
+    ensures { IfOk result (λ bytes.
+        bytes.items ≡ lines (document_rows instance.now names.now document.now)) }
 {
     let mut text = Text::new(alloc);
-    write_head(&mut text, document)?;
+    write_head(&mut text, names, document)?;
     write_blocks(&mut text, names, &document.plan)?;
     write_tables(&mut text, instance, names, &document.tables)?;
     write_shapes(&mut text, names, &document.shape)?;
@@ -37,8 +41,8 @@ pub fn write_document(
 }
 
 /// Writes what the document claims, its cost, its bound and its nodes.
-fn write_head(text: &mut Text, document: &Document) -> Result<(), Memory>
-    ensures { OnOk result (text.new ≡ text.old ++ lines (head_rows document.now)) }
+fn write_head(text: &mut Text, names: &Names, document: &Document) -> Result<(), Memory>
+    ensures { OnOk result (AddsRows names.now (head_rows document.now) text.old text.new) }
 {
     write_claim(text, document.claim)?;
     write_cost(text, document.cost)?;

@@ -1,8 +1,8 @@
 ghost use Rattle.std.specs.Prelude.{◌≡◌, ◌∷◌, [], ◌<◌, ◌++◌, length, codes, OnOk};
 ghost use Rattle.std.specs.Fmt.{signed_decimal};
 ghost use Rattle.vs_prices.specs.Table.{Fits};
-ghost use Rattle.vs_reader.specs.Rows.{line, lines};
-ghost use Rattle.vs_cert.specs.DocumentText.{layer_rows};
+ghost use Rattle.vs_cert.specs.DocumentRows.{FleetRow, PriceRow, layer_rows};
+ghost use Rattle.vs_cert.specs.Writing.{AddsRow, AddsRows};
 ghost use Rattle.vs_reader.specs.Names.{name_of};
 
 use crate::text::Text;
@@ -23,7 +23,7 @@ pub fn write_layer(
     requires fits { Fits instance.now table.now }
     requires layers { length names.now.layers ≡ length instance.now.layers }
     requires trips { length names.now.trips ≡ length instance.now.trips }
-    ensures { OnOk result (text.new ≡ text.old ++ lines (layer_rows instance.now names.now table.now l.0)) }
+    ensures { OnOk result (AddsRows names.now (layer_rows instance.now table.now l.0) text.old text.new) }
 {
     write_fleet(text, names, l, table.fleet[l.0 as usize])?;
     let trips = instance.trips();
@@ -46,7 +46,7 @@ pub fn write_layer(
 /// Writes the price of a vehicle of a layer.
 fn write_fleet(text: &mut Text, names: &Names, l: LayerNo, fleet: i64) -> Result<(), Memory>
     requires { l.0 < length names.now.layers }
-    ensures { OnOk result (text.new ≡ text.old ++ line (codes "fleet" ∷ name_of names.now.layers l.0 ∷ signed_decimal fleet ∷ [])) }
+    ensures { OnOk result (AddsRow names.now (FleetRow l.0 fleet) text.old text.new) }
 {
     text.begin_row("fleet")?;
     text.field(names.layer(l))?;
@@ -65,8 +65,7 @@ fn write_price(
 ) -> Result<(), Memory>
     requires layer { l.0 < length names.now.layers }
     requires trip { i.0 < length names.now.trips }
-    ensures { OnOk result (text.new ≡ text.old ++ line (codes "price" ∷ name_of names.now.layers l.0 ∷ name_of names.now.trips i.0
-        ∷ signed_decimal into ∷ signed_decimal from ∷ [])) }
+    ensures { OnOk result (AddsRow names.now (PriceRow l.0 i.0 into from) text.old text.new) }
 {
     text.begin_row("price")?;
     text.field(names.layer(l))?;

@@ -1,7 +1,8 @@
-ghost use Rattle.std.specs.Prelude.{◌≡◌, ◌+◌, ◌<◌, ◌∷◌, [], ◌++◌, length, map, All, codes, decimal, OnOk};
-ghost use Rattle.vs_reader.specs.Rows.{line, lines};
-ghost use Rattle.vs_cert.specs.DocumentText.{shape_row};
-ghost use Rattle.vs_cert.specs.WrittenParts.{IsNamedShape, split_row, AreNamedLayers};
+ghost use Rattle.std.specs.Prelude.{◌≡◌, ℕ, ◌+◌, ◌<◌, ◌∷◌, [], ◌++◌, length, map, All, codes, decimal, OnOk};
+ghost use Rattle.vs_types.specs.LayerSet.{Has};
+ghost use Rattle.vs_reader.specs.Rows.{line};
+ghost use Rattle.vs_cert.specs.DocumentRows.{HasForm, SplitRow, shape_row};
+ghost use Rattle.vs_cert.specs.Writing.{AddsRow, AddsRows};
 
 use crate::shape::Shape;
 use crate::text::Text;
@@ -13,8 +14,8 @@ const LAYERS: u32 = 16;
 
 /// Writes a row for each split and each leaf.
 pub fn write_shapes(text: &mut Text, names: &Names, shapes: &Vec<Shape>) -> Result<(), Memory>
-    requires { All (IsNamedShape names.now) shapes.now.items }
-    ensures { OnOk result (text.new ≡ text.old ++ lines (map (shape_row names.now) shapes.now.items)) }
+    requires { All (λ s. HasForm names.now (shape_row s)) shapes.now.items }
+    ensures { OnOk result (AddsRows names.now (map shape_row shapes.now.items) text.old text.new) }
 {
     for shape in shapes {
         write_shape(text, names, *shape)?;
@@ -24,8 +25,8 @@ pub fn write_shapes(text: &mut Text, names: &Names, shapes: &Vec<Shape>) -> Resu
 
 /// Writes a split or a leaf.
 fn write_shape(text: &mut Text, names: &Names, shape: Shape) -> Result<(), Memory>
-    requires { IsNamedShape names.now shape }
-    ensures { OnOk result (text.new ≡ text.old ++ line (shape_row names.now shape)) }
+    requires { HasForm names.now (shape_row shape) }
+    ensures { OnOk result (AddsRow names.now (shape_row shape) text.old text.new) }
 {
     match shape {
         Shape::Split { trip, left } => write_split(text, names, trip, left),
@@ -36,8 +37,8 @@ fn write_shape(text: &mut Text, names: &Names, shape: Shape) -> Result<(), Memor
 /// Writes a split: its trip, and the layers on its left in number order.
 fn write_split(text: &mut Text, names: &Names, trip: TripNo, left: LayerSet) -> Result<(), Memory>
     requires trip { trip.0 < length names.now.trips }
-    requires layers { AreNamedLayers names.now left }
-    ensures { OnOk result (text.new ≡ text.old ++ line (split_row names.now trip left)) }
+    requires layers { (l : ℕ) → Has left l → l < length names.now.layers }
+    ensures { OnOk result (AddsRow names.now (SplitRow trip left) text.old text.new) }
 {
     text.begin_row("split")?;
     text.field(names.trip(trip))?;

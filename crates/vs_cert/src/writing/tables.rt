@@ -1,8 +1,8 @@
-ghost use Rattle.std.specs.Prelude.{◌≡◌, ◌∷◌, [], ◌<◌, ◌++◌, length, flat_map, All, OnOk, if◌then◌else◌, codes, decimal};
-ghost use Rattle.std.specs.List.{enumerate_from};
+ghost use Rattle.std.specs.Prelude.{◌≡◌, ◌∷◌, [], ◌<◌, ◌++◌, length, All, OnOk, codes, decimal};
+ghost use Rattle.vs_reader.specs.Rows.{line};
 ghost use Rattle.vs_prices.specs.Table.{Fits};
-ghost use Rattle.vs_reader.specs.Rows.{line, lines};
-ghost use Rattle.vs_cert.specs.DocumentText.{table_rows};
+ghost use Rattle.vs_cert.specs.DocumentRows.{kind_field, table_rows, tables_rows};
+ghost use Rattle.vs_cert.specs.Writing.{AddsRow, AddsRows};
 
 use crate::text::Text;
 use crate::writing::prices::write_layer;
@@ -21,7 +21,7 @@ pub fn write_tables(
     requires fit { All (Fits instance.now) tables.now.items }
     requires layers { length names.now.layers ≡ length instance.now.layers }
     requires trips { length names.now.trips ≡ length instance.now.trips }
-    ensures { OnOk result (text.new ≡ text.old ++ lines (flat_map (table_rows instance.now names.now) (enumerate_from 1 tables.now.items))) }
+    ensures { OnOk result (AddsRows names.now (tables_rows instance.now tables.now.items) text.old text.new) }
 {
     for (k, table) in tables.iter().enumerate() {
         write_table(text, instance, names, k + 1, table)?;
@@ -40,7 +40,7 @@ fn write_table(
     requires fits { Fits instance.now table.now }
     requires layers { length names.now.layers ≡ length instance.now.layers }
     requires trips { length names.now.trips ≡ length instance.now.trips }
-    ensures { OnOk result (text.new ≡ text.old ++ lines (table_rows instance.now names.now (number, table.now))) }
+    ensures { OnOk result (AddsRows names.now (table_rows instance.now (number, table.now)) text.old text.new) }
 {
     write_kind(text, number, table.ray)?;
     for l in 0..instance.layers() {
@@ -51,7 +51,7 @@ fn write_table(
 
 /// Writes a table's number and its kind.
 fn write_kind(text: &mut Text, number: usize, ray: bool) -> Result<(), Memory>
-    ensures { OnOk result (text.new ≡ text.old ++ line (codes "table" ∷ decimal number ∷ (if ray then codes "ray" else codes "cost") ∷ [])) }
+    ensures { OnOk result (text.new ≡ text.old ++ line (codes "table" ∷ decimal number ∷ kind_field ray ∷ [])) }
 {
     text.begin_row("table")?;
     text.number(number)?;

@@ -5,9 +5,9 @@ use Rattle.std.proofs.lemmas.List.Folds.{flat_map-map}
 use Rattle.vs_instance.specs.Plan.{LayerBlock}
 use Rattle.vs_plan.specs.declared.block.Block.{Block}
 use Rattle.vs_reader.specs.Rows.{line}
-use Rattle.vs_cert.specs.DocumentText.{block_row}
-use Rattle.vs_cert.specs.WrittenParts.{IsNamedBlock}
-use Rattle.vs_cert.proofs.WrittenRows.{lines-map, wrote_all}
+use Rattle.vs_cert.specs.DocumentRows.{BlockRow, IsNamedBlock, written_row}
+use Rattle.vs_cert.proofs.WrittenParts.{written-map}
+use Rattle.vs_cert.proofs.WrittenRows.{wrote_all}
 use Rattle.vs_cert.proofs.writing.blocks.write_blocks.Goals as goal
 
 -- a block as a layer and its trips
@@ -26,8 +26,8 @@ write_block-requires c =
 pub returns : goal.returns
 returns c =
     let blocks = c.args.plan.now.blocks in let names = c.args.names.now in
-    let row : LayerBlock → List ℕ = λ b. line (block_row names b) in
+    let row : LayerBlock → List ℕ = λ b. line (written_row names (BlockRow b)) in
     wrote_all (λ (b : Block). row (view b)) c.args.text.now c.loop-block.text blocks.items c.loop-block.block-index
     (omega (arith, blocks.ok.0)) c.loop-block.invariant
     ∙ ap (λ rest. c.args.text.now ++ rest)
-    (sym (lines-map (block_row names) (map view blocks.items) ∙ flat_map-map row view blocks.items))
+    (sym (written-map names BlockRow (map view blocks.items) ∙ flat_map-map row view blocks.items))

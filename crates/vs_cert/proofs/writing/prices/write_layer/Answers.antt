@@ -10,11 +10,12 @@ use mir.Val.{SFits, to_z, of_z}
 use mir.Syntax.{w64}
 use Rattle.vs_instance.specs.Ways.{trip_of}
 use Rattle.vs_instance.specs.HoldingTable.{price_of}
-use Rattle.vs_prices.specs.Table.{prices_in}
+use Rattle.vs_prices.specs.Table.{prices_in, into_price, from_price}
 use Rattle.vs_reader.specs.Rows.{Row, line}
-use Rattle.vs_cert.specs.DocumentText.{price_row}
+use Rattle.vs_cert.specs.DocumentRows.{DocumentRow, PriceRow, written_row}
 use Rattle.vs_reader.specs.Names.{name_of}
-use Rattle.vs_cert.proofs.WrittenRows.{lines-map, flat_map-filter, numbered_more, numbered_all, price_read}
+use Rattle.vs_cert.proofs.WrittenParts.{written-map}
+use Rattle.vs_cert.proofs.WrittenRows.{flat_map-filter, numbered_more, numbered_all, price_read}
 use Rattle.vs_cert.proofs.writing.prices.write_layer.Goals as goal
 use Rattle.vs_cert.proofs.writing.prices.write_layer.Goals.{then-has+in_ok-write_price, else-has}
 
@@ -23,7 +24,7 @@ loop-i-preserved c =
     let p = c.args.instance.now in let names = c.args.names.now in let table = c.args.table.now in let l = c.args.l.0 in
     let i = c.loop-i.i in let text = c.loop-i.text in
     let n = length p.trips in
-    let bytes : ℕ → List ℕ = λ k. line (price_row p names table l k) in
+    let bytes : ℕ → List ℕ = λ k. line (written_row names (PriceRow l k (into_price p table l k) (from_price p table l k))) in
     let written : ℕ → List ℕ = λ k. cond (eqb (bit_at (trip_of p k).layers.0 l) 1) (bytes k) [] in
     let bit : bit_at c.trip.result.now.layers.0 l ≡ bit_at (trip_of p i).layers.0 l =
     ap (λ t. bit_at t.layers.0 l) c.trip.ensures in
@@ -68,21 +69,22 @@ returns c =
     let p = c.args.instance.now in let names = c.args.names.now in let table = c.args.table.now in let l = c.args.l.0 in
     let n = length p.trips in
     let has : ℕ → Bool = λ k. eqb (bit_at (trip_of p k).layers.0 l) 1 in
-    let bytes : ℕ → List ℕ = λ k. line (price_row p names table l k) in
+    let bytes : ℕ → List ℕ = λ k. line (written_row names (PriceRow l k (into_price p table l k) (from_price p table l k))) in
     let trips = filter has (range_with_len 0 n) in
+    let price : ℕ → DocumentRow = λ k. PriceRow l k (into_price p table l k) (from_price p table l k) in
     let fleet : Row = codes "fleet" ∷ name_of names.layers l ∷ signed_decimal (price_of table.fleet.items l) ∷ [] in
     let fits : SFits w64 c.index.result.now = search rules in
     let within : l < length table.fleet.items = omega (arith, c.requires.fits.fleet_size, c.requires.layer) in
-    let price : to_z w64 (of_z w64 c.index.result.now) ≡ price_of table.fleet.items l =
+    let fleet_is : to_z w64 (of_z w64 c.index.result.now) ≡ price_of table.fleet.items l =
     to_z-of_z w64 c.index.result.now fits ∙ c.index.ensures
     ∙ get_or_default table.fleet.items l c.index.result.now (pos 0) within in
     let first : c.write_fleet.new.text ≡ c.args.text.now ++ line fleet =
     c.in_ok-write_fleet.ensures
     ∙ ap (λ (z : ℤ). c.args.text.now ++ line (codes "fleet" ∷ name_of names.layers l ∷ signed_decimal z ∷ []))
-    price in
+    fleet_is in
     numbered_all (λ k. cond (has k) (bytes k) []) c.write_fleet.new.text c.loop-i.text n c.loop-i.i
     (omega (arith, c.trips-trips.ensures.count)) c.loop-i.invariant
     ∙ ap (λ rest. c.write_fleet.new.text ++ rest) (flat_map-filter has bytes (range_with_len 0 n))
     ∙ ap (λ text. text ++ flat_map bytes trips) first
     ∙ append_assoc c.args.text.now (line fleet) (flat_map bytes trips)
-    ∙ ap (λ rest. c.args.text.now ++ (line fleet ++ rest)) (sym (lines-map (price_row p names table l) trips))
+    ∙ ap (λ rest. c.args.text.now ++ (line fleet ++ rest)) (sym (written-map names price trips))

@@ -1,15 +1,16 @@
 use Rattle.std.proofs.Common.{◌++◌, sym, ap, ◌∙◌, arith}
 use Rattle.vs_cert.specs.declared.shape.Shape.{Shape}
 use Rattle.vs_reader.specs.Rows.{line}
-use Rattle.vs_cert.specs.DocumentText.{shape_row}
-use Rattle.vs_cert.proofs.WrittenRows.{lines-map, wrote_all}
+use Rattle.vs_cert.specs.DocumentRows.{shape_row, written_row}
+use Rattle.vs_cert.proofs.WrittenParts.{written-map}
+use Rattle.vs_cert.proofs.WrittenRows.{wrote_all}
 use Rattle.vs_cert.proofs.writing.shapes.write_shapes.Goals as goal
 
 pub returns : goal.returns
 returns c =
     let shapes = c.args.shapes.now in let names = c.args.names.now in
     wrote_all
-    (λ (s : Shape). line (shape_row names s)) c.args.text.now c.loop-shape.text shapes.items
+    (λ (s : Shape). line (written_row names (shape_row s))) c.args.text.now c.loop-shape.text shapes.items
     c.loop-shape.shape-index
     (omega (arith, shapes.ok.0)) c.loop-shape.invariant
-    ∙ ap (λ rest. c.args.text.now ++ rest) (sym (lines-map (shape_row names) shapes.items))
+    ∙ ap (λ rest. c.args.text.now ++ rest) (sym (written-map names shape_row shapes.items))

@@ -4,15 +4,16 @@ use Rattle.std.proofs.Math.Nat.{add_comm}
 use Rattle.std.proofs.lemmas.List.FromFn.{get_or-enumerate_from, length-enumerate_from}
 use Rattle.vs_prices.specs.declared.table.Table.{Table}
 use Rattle.vs_reader.specs.Rows.{lines}
-use Rattle.vs_cert.specs.DocumentText.{table_rows}
-use Rattle.vs_cert.proofs.WrittenRows.{lines-flat_map, wrote_more, wrote_all}
+use Rattle.vs_cert.specs.DocumentRows.{table_rows, written_rows}
+use Rattle.vs_cert.proofs.WrittenParts.{written-flat_map}
+use Rattle.vs_cert.proofs.WrittenRows.{wrote_more, wrote_all}
 use Rattle.vs_cert.proofs.writing.tables.write_tables.Goals as goal
 
 pub loop-k-preserved : goal.loop-k-preserved
 loop-k-preserved c =
     let p = c.args.instance.now in let names = c.args.names.now in let tables = c.args.tables.now in
     let k = c.loop-k.k in
-    let bytes : ℕ × Table → List ℕ = λ e. lines (table_rows p names e) in
+    let bytes : ℕ × Table → List ℕ = λ e. lines (written_rows names (table_rows p e)) in
     let within : k < length tables.items = omega (arith, tables.ok.0) in
     let table = c.table-item.result in
     let same : get_or tables.items k table ≡ table =
@@ -29,6 +30,6 @@ pub returns : goal.returns
 returns c =
     let p = c.args.instance.now in let names = c.args.names.now in let tables = c.args.tables.now in
     let numbered = enumerate_from 1 tables.items in
-    wrote_all (λ (e : ℕ × Table). lines (table_rows p names e)) c.args.text.now c.loop-k.text numbered c.loop-k.k
+    wrote_all (λ (e : ℕ × Table). lines (written_rows names (table_rows p e))) c.args.text.now c.loop-k.text numbered c.loop-k.k
     (omega (arith, tables.ok.0, length-enumerate_from 1 tables.items)) c.loop-k.invariant
-    ∙ ap (λ rest. c.args.text.now ++ rest) (sym (lines-flat_map (table_rows p names) numbered))
+    ∙ ap (λ rest. c.args.text.now ++ rest) (sym (written-flat_map names (table_rows p) numbered))
