@@ -10,3 +10,5 @@ pub mod DocumentWhole
 pub mod LinesAppend
 pub mod WrittenRows
 pub mod WrittenParts
+pub mod WrittenForms
+pub mod PriceRanges

@@ -11,3 +11,4 @@ pub mod Alike
 pub mod WrittenParts
 pub mod FirstForm
 pub mod Form
+pub mod Laws

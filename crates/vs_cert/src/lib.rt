@@ -3,6 +3,7 @@
 
 mod document;
 mod form_error;
+mod laws;
 mod limits;
 mod reading;
 mod refused;
@@ -12,6 +13,7 @@ mod writing;
 
 pub use document::Document;
 pub use form_error::FormError;
+pub use laws::written_rows_stand_for_their_document;
 pub use reading::read_document;
 pub use refused::{DocError, DocWhy};
 pub use shape::Shape;
