@@ -7,7 +7,7 @@ use Rattle.std.proofs.lemmas.List.{get_or_default, get_or-take, get_or-drop}
 use Rattle.vs_types.specs.declared.numbers.StopNo.{StopNo}
 use Rattle.vs_match.specs.declared.stay.Stay.{Stay}
 use Rattle.vs_match.specs.Stays.{IsStayBefore, IsRising}
-use Rattle.vs_match.proofs.WaitingChains.{same_stop}
+use Rattle.vs_match.proofs.walks.WaitingChains.{same_stop}
 
 module _ (stays : List Stay) (ordered : AllPairs IsStayBefore stays) where
   pub stops_rise : IsNonDecreasingBy (λ (s : Stay). s.stop.0) stays

@@ -5,7 +5,7 @@ use Rattle.std.proofs.lemmas.Bool.{cases_order}
 use Rattle.std.proofs.lemmas.Option.{slice_get_within, get_or_from_slice_get, slice_get-get_or, none-some}
 use Rattle.vs_match.specs.declared.event.Event.{Event}
 use Rattle.vs_match.specs.Events.{HasPlace, place_at, IsBefore}
-use Rattle.vs_match.proofs.ClosedWays.{some-same}
+use Rattle.vs_match.proofs.walks.ClosedWays.{some-same}
 
 -- which of the events a node is
 pub record IsPlaced (events : List Event) (v : ℕ) (e : Event) : Type 0 where

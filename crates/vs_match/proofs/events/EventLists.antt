@@ -7,8 +7,8 @@ use Rattle.vs_instance.specs.Problem.{Problem}
 use Rattle.vs_match.specs.declared.event.Event.{Event}
 use Rattle.vs_match.specs.Events.{departure, arrival, MayRun, IsEvent, IsBefore, AreEvents}
 use Rattle.vs_match.specs.Adds.{Adds}
-use Rattle.vs_match.proofs.Adding.{Upto, adds-one, adds-both, adds-as, contains-none}
-use Rattle.vs_match.proofs.Orders.{event_cmp, event_before, event_of_both}
+use Rattle.vs_match.proofs.events.Adding.{Upto, adds-one, adds-both, adds-as, contains-none}
+use Rattle.vs_match.proofs.order.Orders.{event_cmp, event_before, event_of_both}
 
 -- the two events of trip i, where layer l may run it
 abbrev pub OfTrip : Problem → ℕ → ℕ → Event → Type 0

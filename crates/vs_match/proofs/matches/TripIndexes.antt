@@ -9,7 +9,7 @@ use Rattle.vs_match.specs.declared.arc_kind.ArcKind.{ArcKind}
 use Rattle.vs_match.specs.declared.arc_kind.ArcKind.TheVariants.{Trip, Waiting, Deadhead, PullOut, PullIn, Return}
 use Rattle.vs_match.specs.LayerGraph.{kind_at, IsArcOfTrip}
 use Rattle.vs_match.specs.TripIndex.{IsTripAt, IsTripIndex}
-use Rattle.vs_match.proofs.ClosedWays.{some-same}
+use Rattle.vs_match.proofs.walks.ClosedWays.{some-same}
 
 -- what the index says of the first n arcs
 pub record IsIndexUpto (kinds : List ArcKind) (n : ℕ) (index : List (Option ℕ)) : Type 0 where

@@ -27,11 +27,11 @@ use Rattle.vs_match.specs.Adds.{Adds, arc_in}
 use Rattle.vs_match.specs.Parts.{IsDeadhead, IsDeadheadFrom, IsDeadheadTo}
 use Rattle.vs_match.specs.Sweep.{IsFirstFrom, IsKept, IsMatched}
 use Rattle.vs_match.specs.ArcsOf.{deadhead_of}
-use Rattle.vs_match.proofs.Adding.{Upto, adds-as}
-use Rattle.vs_match.proofs.ClosedWays.{some-same, way-own, way-apart}
-use Rattle.vs_match.proofs.Places.{has_node}
-use Rattle.vs_match.proofs.WalkBounds.{first_of_match}
-use Rattle.vs_match.proofs.WaitingChains.{same_stop}
+use Rattle.vs_match.proofs.events.Adding.{Upto, adds-as}
+use Rattle.vs_match.proofs.walks.ClosedWays.{some-same, way-own, way-apart}
+use Rattle.vs_match.proofs.events.Places.{has_node}
+use Rattle.vs_match.proofs.walks.WalkBounds.{first_of_match}
+use Rattle.vs_match.proofs.walks.WaitingChains.{same_stop}
 
 -- these are the nodes at a stop, of those
 abbrev pub AreAt : StopNo → List Stay → List Stay → Type 0

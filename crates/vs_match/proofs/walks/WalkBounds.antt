@@ -21,8 +21,8 @@ use Rattle.vs_match.specs.Matches.{IsMatch, IsFirstMatch}
 use Rattle.vs_match.specs.NetArcs.{IsArcOf}
 use Rattle.vs_match.specs.LayerGraph.{LayerGraph, IsNetOf, kind_of}
 use Rattle.vs_match.specs.WalkLaw.{IsMove, IsWalk}
-use Rattle.vs_match.proofs.ClosedWays.{way-own, way-through, IsThrough}
-use Rattle.vs_match.proofs.Places.{same_event}
+use Rattle.vs_match.proofs.walks.ClosedWays.{way-own, way-through, IsThrough}
+use Rattle.vs_match.proofs.events.Places.{same_event}
 
 -- a match by either rule is a first match
 pub first_of_match : (p : Problem) (l : ℕ) (matching : Matching) (w : Way) (a b : Event)

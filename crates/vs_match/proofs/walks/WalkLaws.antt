@@ -20,11 +20,11 @@ use Rattle.vs_match.specs.Events.{departure, arrival, MayRun, HasPlace, last_nod
 use Rattle.vs_match.specs.NetArcs.{IsArcOf, at_scale}
 use Rattle.vs_match.specs.LayerGraph.{LayerGraph, IsNetOf, kind_of}
 use Rattle.vs_match.specs.WalkLaw.{IsMove, IsWalk, IsWayOut, IsWayIn, HasWalkLaw}
-use Rattle.vs_match.proofs.ClosedWays.{some-same, way-own, way-through}
-use Rattle.vs_match.proofs.Places.{has_node}
-use Rattle.vs_match.proofs.WalkBounds.{IsBound, walk_bound, rated-≤, first_of_match}
-use Rattle.vs_match.proofs.WaitingChains.{IsWalkOf, same_stop, walk_then, arc_walk, wait, path_cost-append}
-use Rattle.vs_match.proofs.Matched.{IsMatchBetween, match_between}
+use Rattle.vs_match.proofs.walks.ClosedWays.{some-same, way-own, way-through}
+use Rattle.vs_match.proofs.events.Places.{has_node}
+use Rattle.vs_match.proofs.walks.WalkBounds.{IsBound, walk_bound, rated-≤, first_of_match}
+use Rattle.vs_match.proofs.walks.WaitingChains.{IsWalkOf, same_stop, walk_then, arc_walk, wait, path_cost-append}
+use Rattle.vs_match.proofs.walks.Matched.{IsMatchBetween, match_between}
 
 -- no list costs less than one that costs so much, where each costs a whole number that is no less
 least-from : (g : Graph) (Such : List ℕ → Type 0) (c : ℕ) (arcs : List ℕ) → Such arcs → path_cost g arcs ≡ pos c

@@ -10,8 +10,8 @@ use Rattle.vs_match.specs.Events.{departure, arrival, IsBefore}
 use Rattle.vs_match.specs.NetArcs.{IsTripArc}
 use Rattle.vs_match.specs.Adds.{Adds, arc_in}
 use Rattle.vs_match.specs.Parts.{IsTrip}
-use Rattle.vs_match.proofs.Adding.{Upto, adds-as}
-use Rattle.vs_match.proofs.Places.{same_node}
+use Rattle.vs_match.proofs.events.Adding.{Upto, adds-as}
+use Rattle.vs_match.proofs.events.Places.{same_node}
 
 -- trip i's arc
 abbrev pub OfTripNo : Problem → ℕ → List Event → ℕ → LayerArc → Type 0

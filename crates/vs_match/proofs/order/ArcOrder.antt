@@ -23,11 +23,11 @@ use Rattle.vs_match.specs.contracts.arc_kind.ArcKindOrd.TheImpl as order
 use Rattle.vs_match.specs.NetArcs.{IsArcOf, IsArcBefore, IsKindBefore, rank, trip_number, at_scale}
 use Rattle.vs_match.specs.Events.{HasPlace}
 use Rattle.vs_match.specs.Adds.{arc_in}
-use Rattle.vs_match.proofs.ClosedWays.{some-same}
-use Rattle.vs_match.proofs.KindOrder.{kind_eq-is, kind_cmp-is, kind_of_rank}
-use Rattle.vs_match.proofs.Orders.{compared, less-then}
-use Rattle.vs_match.proofs.Places.{same_event}
-use Rattle.vs_match.proofs.WalkBounds.{first_of_match}
+use Rattle.vs_match.proofs.walks.ClosedWays.{some-same}
+use Rattle.vs_match.proofs.order.KindOrder.{kind_eq-is, kind_cmp-is, kind_of_rank}
+use Rattle.vs_match.proofs.order.Orders.{compared, less-then}
+use Rattle.vs_match.proofs.events.Places.{same_event}
+use Rattle.vs_match.proofs.walks.WalkBounds.{first_of_match}
 
 -- arcs of a layer with the same ends and kind have the same cost and room
 pub same_cost : (p : Problem) (l : ℕ) (matching : Matching) (events : List Event) (kind : ArcKind) (a b : Arc)

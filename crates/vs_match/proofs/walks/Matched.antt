@@ -14,8 +14,8 @@ use Rattle.vs_match.specs.declared.matching.Matching.{Matching}
 use Rattle.vs_match.specs.declared.matching.Matching.TheVariants.{First, Latest}
 use Rattle.vs_match.specs.Events.{departure, arrival, MayRun, DepartsAt, ArrivesAt}
 use Rattle.vs_match.specs.Matches.{IsMatch, IsFirstMatch, IsLatestFirstMatch}
-use Rattle.vs_match.proofs.LeastTrips.{IsLeast, least_of, decide_both, decide_le, decide_may_run}
-use Rattle.vs_match.proofs.WaitingChains.{same_stop}
+use Rattle.vs_match.proofs.events.LeastTrips.{IsLeast, least_of, decide_both, decide_le, decide_may_run}
+use Rattle.vs_match.proofs.walks.WaitingChains.{same_stop}
 
 -- trip j departs at this stop from this minute on
 abbrev LeavesFrom : Problem → ℕ → ℕ → ℕ → ℕ → Type 0

@@ -14,7 +14,7 @@ use Rattle.vs_match.specs.Sweep.{IsKept, IsFirstFrom, IsMatched}
 use Rattle.vs_match.specs.ArcsOf.{deadhead_of}
 use Rattle.vs_match.specs.declared.layer_arc.LayerArc.{LayerArc}
 use Rattle.vs_match.specs.Adds.{Adds}
-use Rattle.vs_match.proofs.Adding.{Upto, adds-as}
+use Rattle.vs_match.proofs.events.Adding.{Upto, adds-as}
 
 -- minutes at places that come no later are no later
 pub minutes-≤ : (stays : List Stay) → IsRising stays → (j k : ℕ) (d : Stay) → j ≤ k → k < length stays

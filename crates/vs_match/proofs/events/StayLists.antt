@@ -15,9 +15,9 @@ use Rattle.vs_match.specs.Events.{MayRun, HasPlace, IsBefore, AreEvents}
 use Rattle.vs_match.specs.TripEnds.{event_at, HappensAt}
 use Rattle.vs_match.specs.Stays.{event_of, IsStayBefore, AreStays}
 use Rattle.vs_match.specs.Adds.{Adds}
-use Rattle.vs_match.proofs.Adding.{Upto, contains-none}
-use Rattle.vs_match.proofs.Orders.{less, equal, less-then, equal-then}
-use Rattle.vs_match.proofs.Places.{placed, place-at, same_node}
+use Rattle.vs_match.proofs.events.Adding.{Upto, contains-none}
+use Rattle.vs_match.proofs.order.Orders.{less, equal, less-then, equal-then}
+use Rattle.vs_match.proofs.events.Places.{placed, place-at, same_node}
 
 abbrev pub stay_cmp : Stay → Stay → Ordering
 stay_cmp a b =

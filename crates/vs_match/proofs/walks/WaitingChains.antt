@@ -18,7 +18,7 @@ use Rattle.vs_match.specs.Events.{HasPlace, IsBefore, IsEvent}
 use Rattle.vs_match.specs.NetArcs.{IsArcOf, at_scale}
 use Rattle.vs_match.specs.LayerGraph.{LayerGraph, IsNetOf, kind_of}
 use Rattle.vs_match.specs.WalkLaw.{IsMove, IsWalk}
-use Rattle.vs_match.proofs.Places.{placed, place-at}
+use Rattle.vs_match.proofs.events.Places.{placed, place-at}
 
 -- a list of arcs after another
 pub leads-append : (g : Graph) (May : ℕ → Type 0) (ks js : List ℕ) (u v w : ℕ) → Leads g May u ks v

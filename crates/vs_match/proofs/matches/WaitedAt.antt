@@ -12,10 +12,10 @@ use Rattle.vs_match.specs.ArcsOf.{waiting_of}
 use Rattle.vs_match.specs.Stays.{event_of, IsStayBefore, AreStays}
 use Rattle.vs_match.specs.Adds.{Adds}
 use Rattle.vs_match.specs.Parts.{IsWaiting}
-use Rattle.vs_match.proofs.Adding.{Upto, adds-as}
-use Rattle.vs_match.proofs.Places.{has_node, placed}
-use Rattle.vs_match.proofs.PulledOut.{AtPlace, same_at, at_place}
-use Rattle.vs_match.proofs.WaitingChains.{same_stop}
+use Rattle.vs_match.proofs.events.Adding.{Upto, adds-as}
+use Rattle.vs_match.proofs.events.Places.{has_node, placed}
+use Rattle.vs_match.proofs.matches.PulledOut.{AtPlace, same_at, at_place}
+use Rattle.vs_match.proofs.walks.WaitingChains.{same_stop}
 use Rattle.vs_match.specs.Events.{AreEvents}
 
 -- the waiting up to node k, where the node before it is at its stop

@@ -27,11 +27,11 @@ use Rattle.vs_match.specs.ArcsOf.{return_of}
 use Rattle.vs_match.specs.LayerGraph.{LayerGraph, IsNetOf, kind_at}
 use Rattle.vs_match.specs.Parts.{IsTrip, IsWaiting, IsDeadhead, IsPullOut, IsPullIn, IsReturn}
 use Rattle.vs_match.specs.TripIndex.{IsBelow}
-use Rattle.vs_match.proofs.Adding.{adds-both, adds-one, contains-none}
-use Rattle.vs_match.proofs.ArcOrder.{arc_cmp, arc_before}
-use Rattle.vs_match.proofs.Places.{placed, nodes_in_order}
-use Rattle.vs_match.proofs.ClosedWays.{way-apart}
-use Rattle.vs_match.proofs.WalkBounds.{first_of_match}
+use Rattle.vs_match.proofs.events.Adding.{adds-both, adds-one, contains-none}
+use Rattle.vs_match.proofs.order.ArcOrder.{arc_cmp, arc_before}
+use Rattle.vs_match.proofs.events.Places.{placed, nodes_in_order}
+use Rattle.vs_match.proofs.walks.ClosedWays.{way-apart}
+use Rattle.vs_match.proofs.walks.WalkBounds.{first_of_match}
 
 module _ (p : Problem) (l : ℕ) (matching : Matching) (events : List Event) where
   -- an arc of any kind

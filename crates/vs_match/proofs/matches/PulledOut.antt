@@ -13,8 +13,8 @@ use Rattle.vs_match.specs.ArcsOf.{pull_out_of, pull_in_of}
 use Rattle.vs_match.specs.Stays.{event_of, AreStays}
 use Rattle.vs_match.specs.Adds.{Adds}
 use Rattle.vs_match.specs.Parts.{IsPullOut, IsPullIn}
-use Rattle.vs_match.proofs.Adding.{Upto, adds-as}
-use Rattle.vs_match.proofs.ClosedWays.{some-same}
+use Rattle.vs_match.proofs.events.Adding.{Upto, adds-as}
+use Rattle.vs_match.proofs.walks.ClosedWays.{some-same}
 
 -- the node at a place
 abbrev pub AtPlace : List Stay → ℕ → Stay → Type 0
