@@ -8,7 +8,7 @@ use Rattle.vs_types.specs.LayerSet.{members, layer_numbers}
 use Rattle.mdvsp.specs.Generator.{layer_name}
 use Rattle.vs_cert.proofs.WrittenRows.{more_fields-map, flat_map-filter, numbered_more, numbered_all}
 use Rattle.mdvsp.proofs.making.write_layer_names.Goals as goal
-use Rattle.mdvsp.proofs.making.write_layer_names.Goals.{then-has+in_ok-name, else-has}
+use Rattle.mdvsp.proofs.making.write_layer_names.Goals.{then-has+in_ok-numbered, else-has}
 
 numbers_are : layer_numbers ≡ range_with_len 0 16
 unfolding layer_numbers
@@ -20,8 +20,8 @@ loop-l-preserved c =
     let written : ℕ → List ℕ = λ l. cond (eqb (bit_at bits l) 1) (44 ∷ layer_name l) [] in
     let after : c.if-has.text ≡ text ++ written k =
     elim c.if-has.branch [
-      | then-has+in_ok-name w ↦
-          w.text-is ∙ w.in_ok-name.ensures
+      | then-has+in_ok-numbered w ↦
+          w.text-is ∙ w.in_ok-numbered.ensures
           ∙ sym (ap (λ t. text ++ cond t (44 ∷ layer_name k) [])
           (eq-eqb (bit_at bits k) 1 (c.has.ensures.0 w.if-has.true)))
       | else-has w ↦

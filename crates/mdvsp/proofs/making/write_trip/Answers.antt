@@ -22,10 +22,10 @@ returns c =
     let until_stop : List Field = left ++ stop_name d.to ∷ [] in
     let until_end : List Field = until_stop ++ time_field (end_of d) ∷ [] in
     let until_metres : List Field = until_end ++ decimal metres ∷ [] in
-    let reached = one_more_field begun _ _ left (stop_name d.to) first c.in_ok-name.ensures in
-    let ended : c.time.new.self ≡ c.name.new.self ++ (44 ∷ time_field (end_of d)) =
+    let reached = one_more_field begun _ _ left (stop_name d.to) first c.in_ok-numbered.ensures in
+    let ended : c.time.new.self ≡ c.numbered.new.self ++ (44 ∷ time_field (end_of d)) =
     c.in_ok-time.ensures
-    ∙ ap (λ n. c.name.new.self ++ (44 ∷ time_field (d.start + (6 * n + d.extra)))) c.distance-steps.ensures.steps in
+    ∙ ap (λ n. c.numbered.new.self ++ (44 ∷ time_field (d.start + (6 * n + d.extra)))) c.distance-steps.ensures.steps in
     let timed = one_more_field begun _ _ until_stop (time_field (end_of d)) reached ended in
     let driven : c.number.new.self ≡ c.time.new.self ++ (44 ∷ decimal metres) =
     c.in_ok-number.ensures ∙ ap (λ n. c.time.new.self ++ (44 ∷ decimal (3000 * n))) c.distance-steps.ensures.steps in
