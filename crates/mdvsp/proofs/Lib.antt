@@ -1,6 +1,8 @@
 pub mod OwedAnswers
+pub mod BlocksOwed
 pub mod RunEnds
 pub mod CommandWords
+pub mod RowsInParts
 pub mod NetworkRows
 pub mod TripCounts
 pub mod WordLaws

@@ -29,7 +29,7 @@ use Rattle.vs_check.specs.declared.verdict.Verdict.TheVariants.{No}
 use Rattle.vs_check.proofs.Claims.{prove_their_claims}
 
 -- rows that are owed with a status, as an answer has them
-owed_so : (command : Command) (bytes : List ℕ) (answer : Answer) (wanted : Status) (rows : List Row)
+pub owed_so : (command : Command) (bytes : List ℕ) (answer : Answer) (wanted : Status) (rows : List Row)
     → Owes command bytes wanted rows → answer.status ≡ wanted → answer.text.items ≡ lines rows
     → IsOwedFor command bytes answer
 owed_so command bytes answer wanted rows owed is text = record {

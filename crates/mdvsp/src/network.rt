@@ -1,7 +1,7 @@
-ghost use Rattle.std.specs.Prelude.{◌≡◌, ◌<◌, ◌≤◌, ◌++◌, length, IfOk, OnOk};
+ghost use Rattle.std.specs.Prelude.{◌≡◌, ◌<◌, ◌≤◌, [], ◌∷◌, ◌++◌, codes, length, IfOk, OnOk};
 ghost use Rattle.vs_match.specs.declared.matching.Matching.TheVariants as Matching;
 ghost use Rattle.vs_reader.specs.Names.{HaveCounts};
-ghost use Rattle.vs_reader.specs.Rows.{line, more_fields};
+ghost use Rattle.vs_reader.specs.Rows.{fields, line, more_fields};
 ghost use Rattle.mdvsp.specs.Answered.{HasSizes, IsOwedFor};
 ghost use Rattle.mdvsp.specs.Network.{WritesLayer, WritesNet, count_fields, size_row};
 ghost use Rattle.mdvsp.specs.Outcome.{input_limit};
@@ -100,12 +100,19 @@ fn write_sizes(
 ) -> Result<(), Memory>
     ensures { OnOk result (text.new ≡ text.old ++ line (size_row layer.now net.now counts full)) }
 {
-    text.begin_row("network")?;
-    text.field(layer)?;
-    text.field(net)?;
+    begin_sizes(text, layer, net)?;
     write_counts(text, counts)?;
     text.number(full)?;
     text.end_row()
+}
+
+/// Begins the row of a net with its layer and its name.
+fn begin_sizes(text: &mut Text, layer: &str, net: &str) -> Result<(), Memory>
+    ensures { OnOk result (text.new ≡ text.old ++ fields (codes "network" ∷ layer.now ∷ net.now ∷ [])) }
+{
+    text.begin_row("network")?;
+    text.field(layer)?;
+    text.field(net)
 }
 
 /// Adds the counts of a net to a row.
