@@ -1,5 +1,5 @@
 -- What `blocks` answers is owed.
-use Rattle.std.proofs.Common.{◌≡◌, ℕ, Bool, true, false, List, [], ◌∷◌, length, Result, Ok, Err, Option, Some, None, IfOk, IfSome, IsSome, ℤ, refl, sym, ap, ◌∙◌, subst}
+use Rattle.std.proofs.Common.{◌≡◌, ℕ, true, false, List, [], ◌∷◌, length, Result, Ok, Err, Option, Some, None, IfOk, IfSome, IsSome, ℤ, refl, sym, ap, subst}
 use Rattle.std.specs.Prelude.{is_some}
 use Rattle.vs_types.specs.declared.memory.Memory.{Memory}
 use Rattle.vs_instance.specs.Firsts.{first}
@@ -14,13 +14,13 @@ use Rattle.vs_check.proofs.NamedFlaws.{verdict_named}
 use Rattle.vs_cert.specs.FirstForm.{CheckText}
 use Rattle.vs_cert.specs.declared.document.Document.{Document}
 use Rattle.vs_reader.specs.Names.{NameLists, HaveCounts}
-use Rattle.vs_reader.specs.Rows.{Row, lines}
+use Rattle.vs_reader.specs.Rows.{lines}
 use Rattle.mdvsp.specs.declared.answer.Answer.{Answer}
 use Rattle.mdvsp.specs.declared.command.Command.TheVariants.{Blocks}
 use Rattle.mdvsp.specs.declared.status.Status.TheVariants as status
 use Rattle.mdvsp.specs.Answered.{IsOwedFor}
 use Rattle.mdvsp.specs.FlawRows.{no_row}
-use Rattle.mdvsp.specs.Timetable.{rows_beside, timetable, timetable_of}
+use Rattle.mdvsp.specs.Timetable.{rows_beside, timetable}
 use Rattle.mdvsp.proofs.OwedAnswers.{owed_so}
 
 -- a cost that is printed, and one that isn't

@@ -1,6 +1,5 @@
 -- Words that ask for commands, word by word.
-use Rattle.std.proofs.Common.{Bool, true, String, string_bytes, codes, ◌≡◌, ℕ, ◌+◌, ◌-◌, ◌<◌, ◌≤◌, List, [], ◌∷◌, ◌++◌, length, take, get_or, map, sum, refl, ap, sym, ◌∙◌, subst, arith}
-use Rattle.std.specs.Prelude.{All}
+use Rattle.std.proofs.Common.{Bool, true, String, string_bytes, codes, ◌≡◌, ℕ, ◌<◌, List, [], ◌∷◌, ◌++◌, length, get_or, sum, refl, ap, sym, ◌∙◌, subst, arith}
 use Rattle.std.specs.Char.{IsAsciiDigit}
 use Rattle.std.specs.Str.{bytes_eq}
 use Rattle.std.specs.declared.alloc.Global.{Global}
@@ -9,7 +8,7 @@ use Rattle.std.proofs.lemmas.List.{length-map, get_or-map}
 use Rattle.std.proofs.lemmas.List.Elements.{All-nil, All-cons}
 use Rattle.mdvsp.specs.declared.command.Command.{Command}
 use Rattle.mdvsp.specs.declared.command.Command.TheVariants.{Check, Solve, Network, Blocks, Make}
-use Rattle.mdvsp.specs.Words.{Word, AreAccepted, AreBadAt, AreFurther, AskFor, Begin, IsAlone, IsTripCount, IsWordAt, command_name, words_of}
+use Rattle.mdvsp.specs.Words.{Word, AreAccepted, AreBadAt, AreFurther, AskFor, Begin, IsTripCount, IsWordAt, command_name, words_of}
 
 -- words that ask for a command have its name first
 pub record BeginsAs (name : Word) (further : List Word) : Type 0 where
@@ -190,8 +189,11 @@ make_bad_third (a ∷ b ∷ c ∷ words) count n first second is many = record {
   within = omega arith;
   before = (
     [],
-    (Make n, asks a (b ∷ []) (Make n) first.word_is
-        (b, refl, subst (λ (x : Word). IsTripCount x n) (sym second.word_is) is)),
+    (
+      Make n,
+      asks a (b ∷ []) (Make n) first.word_is
+          (b, refl, subst (λ (x : Word). IsTripCount x n) (sym second.word_is) is),
+    ),
   );
   bad = λ within begin.
       let x = begun_as a (b ∷ c ∷ []) begin in

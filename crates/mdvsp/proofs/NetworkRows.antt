@@ -1,6 +1,5 @@
 -- Rows that are written layer by layer.
 use Rattle.std.proofs.Common.{◌≡◌, ℕ, ◌+◌, List, [], ◌∷◌, ◌++◌, length, Result, Ok, Err, OnOk, refl, sym, ap, ◌∙◌, subst, add-one, append_assoc, append-nil}
-use Rattle.std.specs.Prelude.{codes}
 use Rattle.vs_instance.specs.Problem.{Problem}
 use Rattle.vs_match.specs.declared.matching.Matching.{Matching}
 use Rattle.vs_match.specs.declared.matching.Matching.TheVariants.{First, Latest}

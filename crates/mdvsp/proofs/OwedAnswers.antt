@@ -1,5 +1,5 @@
 -- Answers that are owed.
-use Rattle.std.proofs.Common.{◌≡◌, ◌∙◌, ℕ, List, [], ◌∷◌, Result, Ok, Err, Option, Some, None, inl, inr, refl, sym, subst, IfOk}
+use Rattle.std.proofs.Common.{◌≡◌, ℕ, List, [], ◌∷◌, Result, Ok, Err, Option, Some, None, inl, inr, refl, sym, subst, IfOk}
 use Rattle.vs_types.specs.declared.memory.Memory.{Memory}
 use Rattle.vs_instance.specs.Problem.{Problem}
 use Rattle.vs_tree.specs.declared.claim.Claim.{Claim}
@@ -14,11 +14,11 @@ use Rattle.mdvsp.specs.declared.answer.Answer.{Answer}
 use Rattle.mdvsp.specs.declared.status.Status.{Status}
 use Rattle.mdvsp.specs.declared.status.Status.TheVariants as status
 use Rattle.mdvsp.specs.declared.command.Command.{Command}
-use Rattle.mdvsp.specs.declared.command.Command.TheVariants.{Check, Solve, Network, Blocks, Make}
+use Rattle.mdvsp.specs.declared.command.Command.TheVariants.{Check, Solve, Network, Blocks}
 use Rattle.mdvsp.specs.Answered.{HasSizes, IsDocumentOf, IsNoCase, IsOwedFor, RefusesCase, case_error}
 use Rattle.vs_cert.specs.DocumentText.{document_rows}
 use Rattle.vs_cert.specs.FirstForm.{FirstDocumentText, CheckText, SolveText}
-use Rattle.mdvsp.specs.Owed.{Owes, CheckOwes, SolveOwes, OwesDocument, OwesNoCase, OwesRefusal, status_of, yes_row}
+use Rattle.mdvsp.specs.Owed.{Owes, SolveOwes, OwesDocument, OwesRefusal, status_of, yes_row}
 use Rattle.mdvsp.specs.RefusalRows.{refusal_row, other_form_row}
 use Rattle.mdvsp.specs.FlawRows.{no_row}
 use Rattle.vs_instance.specs.Firsts.{first}

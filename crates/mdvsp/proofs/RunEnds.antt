@@ -1,15 +1,15 @@
 -- How runs end, by what was answered and what was written.
-use Rattle.std.proofs.Common.{◌≡◌, ℕ, ◌≤◌, inl, inr, ⊎_elim, List, [], ◌∷◌, ◌++◌, length, Some, None, Result, Ok, Err, ap, refl, sym, ◌∙◌, subst, arith, IfOk, append-nil}
+use Rattle.std.proofs.Common.{◌≡◌, ℕ, inl, inr, ⊎_elim, List, [], ◌∷◌, ◌++◌, Some, None, Result, Ok, Err, ap, refl, sym, ◌∙◌, subst, arith, IfOk, append-nil}
 use Rattle.std.specs.Option.{option_map}
 use Rattle.vs_types.specs.declared.memory.Memory.{Memory}
 use Rattle.vs_io.specs.Bytes.{Takes, TakesAll, Appends, AppendsPrefix}
 use Rattle.mdvsp.specs.declared.answer.Answer.{Answer}
 use Rattle.mdvsp.specs.declared.status.Status.{Status}
-use Rattle.mdvsp.specs.declared.status.Status.TheVariants.{Done, SaysNo, BadWords, BadInput, ReadFault, WriteFault, NoMemory, TooLong, Infeasible, StillOpen}
+use Rattle.mdvsp.specs.declared.status.Status.TheVariants.{Done, SaysNo, BadWords, BadInput, Infeasible, StillOpen}
 use Rattle.mdvsp.specs.declared.command.Command.{Command}
 use Rattle.mdvsp.specs.declared.command.Command.TheVariants.{Check, Solve, Network, Blocks, Make}
 use Rattle.mdvsp.specs.Answered.{IsOwedFor, IsSaid}
-use Rattle.mdvsp.specs.Outcome.{Run, Told, Answered, Ends, HasRead, IsOwed, IsTold, TookFew, input_limit}
+use Rattle.mdvsp.specs.Outcome.{Run, Told, Answered, Ends, HasRead, IsOwed, IsTold, TookFew}
 use Rattle.mdvsp.specs.Owed.{Owes}
 use Rattle.vs_reader.specs.Rows.{Row, lines}
 use Rattle.mdvsp.specs.Words.{AreBadAt, AskFor, words_row}

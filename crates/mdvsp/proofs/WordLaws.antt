@@ -4,7 +4,7 @@ use Rattle.std.specs.Str.Parse.{digits_value}
 use Rattle.std.proofs.lemmas.List.{append-nil, take-append-drop, take-take}
 use Rattle.mdvsp.specs.declared.command.Command.{Command}
 use Rattle.mdvsp.specs.declared.command.Command.TheVariants.{Check, Solve, Network, Blocks, Make}
-use Rattle.mdvsp.specs.Words.{Word, AreAccepted, AreBadAt, AreFurther, AskFor, Begin, IsTripCount, command_name}
+use Rattle.mdvsp.specs.Words.{Word, AreAccepted, AreBadAt, AreFurther, AskFor, Begin, command_name}
 
 -- one list of further words is one command's
 one_further : (c d : Command) (words : List Word) → command_name c ≡ command_name d → AreFurther c words
@@ -28,9 +28,11 @@ one_command words c d a b =
 
 -- what begins words that begin a command's, begins them too
 begins_shorter : (words : List Word) (n : ℕ) → Begin words → Begin (take n words)
-begins_shorter words n begin =
-    (drop n words ++ begin.0, subst AreAccepted (sym (sym (append_assoc (take n words) (drop n words) begin.0)
-    ∙ ap (λ (w : List Word). w ++ begin.0) (take-append-drop n words))) begin.1)
+begins_shorter words n begin = (
+  drop n words ++ begin.0,
+  subst AreAccepted (sym (sym (append_assoc (take n words) (drop n words) begin.0)
+      ∙ ap (λ (w : List Word). w ++ begin.0) (take-append-drop n words))) begin.1,
+)
 
 begins_itself : (words : List Word) → AreAccepted words → Begin words
 begins_itself words accepted = ([], subst AreAccepted (sym (append-nil words)) accepted)

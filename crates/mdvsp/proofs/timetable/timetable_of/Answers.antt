@@ -1,4 +1,4 @@
-use Rattle.std.proofs.Common.{◌≡◌, ℕ, ◌+◌, ◌<◌, List, [], ◌++◌, length, get_or, zero-add, sym, ap, ◌∙◌, subst, arith}
+use Rattle.std.proofs.Common.{◌≡◌, ℕ, ◌<◌, List, ◌++◌, length, get_or, zero-add, sym, ap, ◌∙◌, subst, arith}
 use Rattle.std.specs.Prelude.{flat_map}
 use Rattle.std.specs.List.{enumerate_from}
 use Rattle.std.proofs.lemmas.List.{get_or-map, length-map}
@@ -43,8 +43,7 @@ pub returns : goal.returns
 returns c =
     let p = c.args.instance.now in let names = c.args.names.now in
     let numbered = enumerate_from 0 (pairs_of c.args.blocks.now) in
-    let bytes : ℕ × LayerBlock → List ℕ = λ e. lines (vehicle_rows p names e.0 e.1) in
-    (
+    let bytes : ℕ × LayerBlock → List ℕ = λ e. lines (vehicle_rows p names e.0 e.1) in (
       c.of.ensures.status,
       c.of.ensures.text
           ∙ wrote_all bytes c.new-text.result c.loop-k.text numbered c.loop-k.k

@@ -1,4 +1,4 @@
-use Rattle.std.proofs.Common.{◌≡◌, ◌∙◌, length, sym, arith, subst}
+use Rattle.std.proofs.Common.{◌∙◌, sym, arith, subst}
 use Rattle.std.proofs.lemmas.Bool.{ltb-true, ltb-false}
 use Rattle.mdvsp.specs.Words.{IsTripCount, Word}
 use Rattle.mdvsp.proofs.CommandWords.{length-words, make_bad_second, make_bad_third, word_read}
