@@ -87,8 +87,8 @@ impl Answer {
         Ok(Answer::of(Status::SaysNo, text))
     }
 
-    /// This status and this text.
-    fn of(status: Status, text: Text) -> Answer
+    /// The rows of a text, with this status.
+    pub fn of(status: Status, text: Text) -> Answer
         ensures status { result.status ≡ status }
         ensures text { result.text.items ≡ text }
     {

@@ -5,9 +5,9 @@ ghost use Rattle.mdvsp.specs.Outcome.{input_limit};
 ghost use Rattle.mdvsp.specs.Owed.{status_of};
 
 use crate::answer::Answer;
+use crate::command::Command;
 use crate::planning::first_answer;
 use crate::status::Status;
-use crate::words::Command;
 use std::alloc::Global;
 use vs_cert::write_document;
 use vs_reader::{Input, ReadError, read};
