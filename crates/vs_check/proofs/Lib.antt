@@ -1,5 +1,7 @@
 pub mod PlanFlaws
 pub mod LeafFlaws
-pub mod Flawless
-pub mod Claims
-pub mod NamedFlaws
+pub mod WalkSteps
+pub mod RowFlaws
+pub mod ProperParts
+pub mod TreeRows
+pub mod Parts

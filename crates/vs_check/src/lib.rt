@@ -5,6 +5,7 @@
 mod flaw;
 mod laws;
 mod verdict;
+mod walk;
 
 pub use flaw::Flaw;
 pub use laws::holding_documents_prove_their_claims;
