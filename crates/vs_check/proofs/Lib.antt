@@ -5,3 +5,7 @@ pub mod RowFlaws
 pub mod ProperParts
 pub mod TreeRows
 pub mod Parts
+pub mod StrongTrees
+pub mod Flawless
+pub mod Claims
+pub mod NamedFlaws
