@@ -9,3 +9,5 @@ pub mod StrongTrees
 pub mod Flawless
 pub mod Claims
 pub mod NamedFlaws
+pub mod AgreeingTables
+pub mod AlikeDocuments
