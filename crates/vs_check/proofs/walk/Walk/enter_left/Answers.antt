@@ -11,6 +11,10 @@ use Rattle.vs_check.specs.Walk.{sets_along}
 use Rattle.vs_check.proofs.WalkSteps.{ahead_on_left, back, on}
 use Rattle.vs_check.proofs.walk.Walk.enter_left.Goals as goal
 
+pushed_both : (old once twice : List Change) (x y : Change) → once ≡ old ++ x ∷ [] → twice ≡ once ++ y ∷ []
+    → twice ≡ (old ++ x ∷ []) ++ y ∷ []
+pushed_both old once twice x y first second = second ∙ ap (λ (cs : List Change). cs ++ y ∷ []) first
+
 pub invariant_of-self-2 : goal.invariant_of-self-2
 invariant_of-self-2 c =
     let sets = c.args.self.now.sets.items in
@@ -22,9 +26,9 @@ invariant_of-self-2 c =
     let is_trip : trip.0 < length (set sets trip.0 left) = omega (arith, length-set sets trip.0 left, c.requires) in
     let before : All named ahead =
     λ k d within. omega (arith, length-set sets trip.0 left, c.args.self.now.named k d within) in
-    let pushed =
-    c.in_ok-push-2.ensures.items ∙ ap (λ (cs : List Change). cs ++ on trip c.rest_of.result ∷ [])
-    c.in_ok-push.ensures.items in
+    let pushed : c.push-2.new.self.items ≡ (ahead ++ back trip whole ∷ []) ++ on trip c.rest_of.result ∷ [] =
+    pushed_both ahead c.push.new.self.items c.push-2.new.self.items (back trip whole) (on trip c.rest_of.result)
+    c.in_ok-push.ensures.items c.in_ok-push-2.ensures.items in
     record {
       named = subst (All named) (sym pushed) (All-push named (ahead ++ back trip whole ∷ []) (on trip c.rest_of.result)
           (All-push named ahead (back trip whole) before is_trip) is_trip);
@@ -38,8 +42,9 @@ returns c =
     let whole = c.index-whole.result.now in
     let ahead = c.args.self.now.ahead.items in
     let right = c.rest_of.result in
-    let pushed =
-    c.in_ok-push-2.ensures.items ∙ ap (λ (cs : List Change). cs ++ on trip right ∷ []) c.in_ok-push.ensures.items in
+    let pushed : c.push-2.new.self.items ≡ (ahead ++ back trip whole ∷ []) ++ on trip right ∷ [] =
+    pushed_both ahead c.push.new.self.items c.push-2.new.self.items (back trip whole) (on trip c.rest_of.result)
+    c.in_ok-push.ensures.items c.in_ok-push-2.ensures.items in
     let set_is : whole ≡ set_of sets trip.0 =
     get_or_read sets trip.0 whole c.requires c.index-whole.ensures (record { 0 = 0 }) in
     let right_is : right ≡ right_of sets trip left =
