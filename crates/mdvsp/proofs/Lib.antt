@@ -11,6 +11,5 @@ pub mod FirstAnswer
 pub mod Sequences
 pub mod LawPlain
 pub mod LawDocuments
-pub mod LawAlike
 pub mod LawVerdicts
 pub mod LawBounds

@@ -24,7 +24,7 @@ use Rattle.vs_cert.specs.declared.reading.head.Head.{Head}
 use Rattle.vs_cert.specs.DocumentText.{DocumentText, HasText, IsTreeOf, IsShapeOf, IsBetween, IsBlankElsewhere, AreShapeRows, head_rows, block_row, table_rows, number_field}
 use Rattle.vs_cert.specs.DocumentParts.{block_at, kind_of, claim_row, cost_row, number_row, IsHeadAt, IsCost, IsNamedBlock, IsPlanAt, IsWhole, ReadsTable, AreParts, HasParts, leaf_line, end_line}
 use Rattle.vs_cert.specs.FirstForm.{IsFirstDocument}
-use Rattle.vs_cert.specs.Alike.{AreAlike, TableText, text_of_table}
+use Rattle.vs_cert.specs.Alike.{AreSame as AreAlike, TableText, text_of_table}
 use Rattle.vs_cert.proofs.DocumentRows.{first_of_drop, rest_of_drop, drop_row, row_within}
 use Rattle.vs_cert.proofs.DocumentLayers.{rows_from, same_fronts, table_line, table_rows_are, rows_size}
 use Rattle.vs_cert.proofs.DocumentSame.{same_plans, same_heads, same_tables, AreSameTables}

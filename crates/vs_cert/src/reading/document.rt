@@ -8,7 +8,7 @@ ghost use Rattle.vs_cert.specs.declared.reading.head.Head.{Head as HeadOf};
 ghost use Rattle.vs_reader.specs.NameRules.{AreNames};
 ghost use Rattle.vs_cert.specs.DocumentParts.{AreParts, HasParts, leaf_line, end_line, row_at};
 ghost use Rattle.vs_cert.specs.FirstForm.{FirstDocumentText};
-ghost use Rattle.vs_cert.specs.Alike.{AreAlike};
+ghost use Rattle.vs_cert.specs.Alike.{AreSame as AreAlike};
 
 use crate::document::Document;
 use crate::form_error::FormError;

@@ -1,6 +1,6 @@
 use Rattle.std.proofs.Common.{◌≡◌, All, length}
 use Rattle.vs_prices.specs.Table.{IsPrice}
-use Rattle.vs_check.proofs.tests.prices.Given as goal
+use Rattle.vs_check.proofs.tests.instances.prices.Given as goal
 
 abbrev pub invariant-loop-n : goal.invariant-loop-n
 invariant-loop-n l = record {
