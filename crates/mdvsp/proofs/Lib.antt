@@ -9,7 +9,6 @@ pub mod WordLaws
 pub mod ZeroTable
 pub mod FirstAnswer
 pub mod Sequences
-pub mod LawPlain
 pub mod LawDocuments
 pub mod LawVerdicts
 pub mod LawBounds

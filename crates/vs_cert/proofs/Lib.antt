@@ -12,3 +12,4 @@ pub mod WrittenRows
 pub mod WrittenParts
 pub mod WrittenForms
 pub mod PriceRanges
+pub mod WrittenPlain
