@@ -7,6 +7,7 @@ pub mod PricedPlan
 pub mod SolveAnswer
 pub mod Network
 pub mod Timetable
+pub mod Cases
 pub mod Owed
 pub mod Laws
 pub mod Outcome

@@ -15,11 +15,12 @@ use Rattle.mdvsp.specs.declared.status.Status.{Status}
 use Rattle.mdvsp.specs.declared.status.Status.TheVariants as status
 use Rattle.vs_reader.specs.Rows.{Row}
 use Rattle.vs_reader.specs.Names.{NameLists}
-use Rattle.vs_cert.specs.DocumentText.{claim_field, number_field, document_rows}
-use Rattle.vs_reader.specs.Texts.{StandsFor, IsRefused}
+use Rattle.vs_cert.specs.DocumentRows.{claim_field, number_field, document_rows}
+use Rattle.vs_cert.specs.declared.refused.DocWhy.{DocWhy}
+use Rattle.vs_reader.specs.Texts.{IsRefused}
 use Rattle.vs_reader.specs.declared.refused.Refused.{Refused}
-use Rattle.vs_cert.specs.FirstForm.{FirstDocumentText, CheckText, SolveText}
-use Rattle.mdvsp.specs.RefusalRows.{refusal_row, other_form_row}
+use Rattle.mdvsp.specs.Cases.{CheckText, LacksDocument, SolveText}
+use Rattle.mdvsp.specs.RefusalRows.{refusal_row, document_refusal_row}
 use Rattle.mdvsp.specs.FlawRows.{no_row}
 use Rattle.vs_plan.specs.Greedy.{GreedyGives, GreedyGetsStuck}
 use Rattle.mdvsp.specs.SolveAnswer.{SolveAnswer}
@@ -64,19 +65,16 @@ pub record OwesRefusal (bytes : List ℕ) (rows : List Row) : Type 0 where
   pub is_refused : IsRefused bytes refused
   pub rows_are : rows ≡ refusal_row refused ∷ []
 
--- and an instance text behind which no document of the first form stands, one of its own
-pub record OwesOtherForm (bytes : List ℕ) (rows : List Row) : Type 0 where
-  pub problem : Problem
-  pub names : NameLists
-  pub before : ℕ
-  pub rest : List Row
-  pub instance : StandsFor bytes problem names before rest
-  pub no_document : (d : Document) → ¬ (FirstDocumentText problem names rest d)
-  pub rows_are : rows ≡ other_form_row ∷ []
+-- and an instance text behind which no document stands, that of what follows its records
+pub record OwesDocumentRefusal (bytes : List ℕ) (rows : List Row) : Type 0 where
+  pub at : ℕ
+  pub why : DocWhy
+  pub lacks : LacksDocument bytes at why
+  pub rows_are : rows ≡ document_refusal_row at why ∷ []
 
 -- a text that is no instance with a document behind it is refused for its instance first
 abbrev pub OwesNoCase : List ℕ → List Row → Type 0
-OwesNoCase bytes rows = OwesRefusal bytes rows ⊎ OwesOtherForm bytes rows
+OwesNoCase bytes rows = OwesRefusal bytes rows ⊎ OwesDocumentRefusal bytes rows
 
 -- `network` is owed the sizes of the nets of each layer
 pub record OwesNetwork (bytes : List ℕ) (rows : List Row) : Type 0 where

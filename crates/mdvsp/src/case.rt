@@ -1,12 +1,12 @@
 ghost use Rattle.std.specs.Prelude.{◌≡◌, ◌≤◌, length, IfErr, IfOk};
-ghost use Rattle.vs_cert.specs.FirstForm.{CheckText};
+ghost use Rattle.mdvsp.specs.Cases.{CheckText};
 ghost use Rattle.mdvsp.specs.Answered.{RefusesCase, case_error};
 ghost use Rattle.mdvsp.specs.Outcome.{input_limit};
 
 use crate::answer::Answer;
 use std::alloc::Global;
-use vs_cert::{Document, FormError, read_document};
-use vs_reader::{Input, ReadError, read};
+use vs_cert::{DocError, Document};
+use vs_reader::{Input, ReadError};
 use vs_types::Memory;
 
 /// An instance with its names, and the document that stands behind it.
@@ -32,17 +32,19 @@ pub fn read_case(alloc: Global, bytes: &[u8]) -> Result<Case, CaseError>
         CheckText bytes.now case.input.instance case.input.names case.document) }
     ensures refused { IfErr result (RefusesCase bytes.now) }
 {
-    let input = match read(alloc, bytes) {
+    let input = match vs_reader::read(alloc, bytes) {
         Ok(input) => input,
         Err(ReadError::Refused(refused)) => {
             return Err(refusal(Answer::refused(alloc, refused)));
         }
         Err(ReadError::Memory) => return Err(CaseError::Memory),
     };
-    match read_document(alloc, &input.rest, &input.instance, &input.names) {
+    match vs_cert::read(alloc, &input) {
         Ok(document) => Ok(Case { input, document }),
-        Err(FormError::NotThisForm) => Err(refusal(Answer::other_form(alloc))),
-        Err(FormError::Memory) => Err(CaseError::Memory),
+        Err(DocError::Refused { row, why }) => {
+            Err(refusal(Answer::refused_document(alloc, row, why)))
+        }
+        Err(DocError::Memory) => Err(CaseError::Memory),
     }
 }
 

@@ -13,3 +13,4 @@ pub mod WrittenParts
 pub mod WrittenForms
 pub mod PriceRanges
 pub mod WrittenPlain
+pub mod Suiting

@@ -20,7 +20,7 @@ use Rattle.vs_tree.specs.Tree.{Tree, Leaf, Split, right_of, with_set}
 use Rattle.vs_tree.specs.declared.claim.Claim.{Claim}
 use Rattle.vs_tree.proofs.Restrictions.{left-restricts, right-restricts}
 use Rattle.vs_cert.specs.Alike.{AreAlike}
-use Rattle.vs_cert.specs.Form.{IsReadFor}
+use Rattle.vs_cert.specs.Form.{Suits}
 use Rattle.vs_cert.specs.NewDocumentText.{Agree}
 use Rattle.vs_cert.specs.Shapes.{IsShapeOf, preorder}
 use Rattle.vs_cert.specs.declared.document.Document.{Document}
@@ -104,7 +104,7 @@ module _ (p : Problem) where
           (is_proper_part left (set_of sets trip.0)) refl
 
 module _ (p : Problem) (d e : Document) (instance : IsInstance p) (alike : AreAlike p d e) where
-  same_shape : IsReadFor p d → shape_flaws p d ≡ shape_flaws p e
+  same_shape : Suits p d → shape_flaws p d ≡ shape_flaws p e
   same_shape read =
       let tree = read.tree.tree in
       let rows = read.tree.rows_are in
@@ -116,7 +116,7 @@ module _ (p : Problem) (d e : Document) (instance : IsInstance p) (alike : AreAl
       ∙ ap (λ (b : Option ℤ). tree_flaws p e.tables.items b 0 (permitted_sets p) tree) alike.bound
       ∙ sym (flaws_of_tree p e tree (sym alike.shape ∙ rows))
 
-  same_flaws : IsReadFor p d → flaws_of p d ≡ flaws_of p e
+  same_flaws : Suits p d → flaws_of p d ≡ flaws_of p e
   same_flaws read =
       let plan : plan_flaws p (blocks_of d.plan) d.cost ≡ plan_flaws p (blocks_of e.plan) e.cost =
       ap (λ (bs : List LayerBlock). plan_flaws p bs d.cost) alike.blocks

@@ -11,7 +11,7 @@ use Rattle.vs_instance.specs.Restriction.{permitted_sets}
 use Rattle.vs_instance.proofs.Empty.{None, both_none, none-append, false_from_none, none_from_false, each_none, none_each}
 use Rattle.vs_instance.proofs.Firsts.{none_from_first}
 use Rattle.vs_instance.proofs.PermittedSets.{permitted_sets-IsRestriction}
-use Rattle.vs_plan.specs.Blocks.{CanBeJudged, blocks_of}
+use Rattle.vs_plan.specs.Blocks.{IsOfInstance, blocks_of}
 use Rattle.vs_plan.specs.PlanFaults.{faults_of}
 use Rattle.vs_plan.specs.declared.plan_fault.PlanFault.{PlanFault}
 use Rattle.vs_plan.proofs.Faultless.{faultless, plan_from_faultless}
@@ -22,7 +22,7 @@ use Rattle.vs_prices.specs.declared.table.Table.{Table}
 use Rattle.vs_prices.proofs.NoBreaks.{holds_nowhere_broken, nowhere_broken}
 use Rattle.vs_cert.specs.declared.document.Document.{Document}
 use Rattle.vs_check.specs.Flaws.{broken_flaws, cost_flaws, flaws_of, plan_flaws, shape_flaws, table_flaws, tables_flaws}
-use Rattle.vs_cert.specs.Form.{IsReadFor}
+use Rattle.vs_cert.specs.Form.{Suits}
 use Rattle.vs_cert.specs.Shapes.{IsShapeOf}
 use Rattle.vs_check.specs.HoldingDocument.{HasTree, HoldingDocument}
 use Rattle.vs_tree.specs.Claims.{claim_found}
@@ -38,7 +38,7 @@ module _ (p : Problem) (blocks : List LayerBlock) where
   abbrev IsPlanAt : Option ℤ → Type 0
   IsPlanAt cost = MatchOption cost (blocks ≡ []) (λ c. IsPlan p blocks × (c ≡ pos (plan_cost p blocks)))
 
-  plan_from_none : CanBeJudged p blocks → (cost : Option ℤ) → IfNone cost (blocks ≡ [])
+  plan_from_none : All (IsOfInstance p) blocks → (cost : Option ℤ) → IfNone cost (blocks ≡ [])
       → None (plan_flaws p blocks cost) → IsPlanAt cost
   plan_from_none judged nothing empty none = empty
   plan_from_none judged (Some cost) empty none = by_first (first (faults_of p blocks)) refl none
@@ -46,7 +46,7 @@ module _ (p : Problem) (blocks : List LayerBlock) where
       by_first : (f : Option PlanFault) → first (faults_of p blocks) ≡ f → None (cost_flaws p blocks cost f)
           → IsPlan p blocks × (cost ≡ pos (plan_cost p blocks))
       by_first nothing is none = (
-        plan_from_faultless p blocks judged.of_instance (faultless p blocks is),
+        plan_from_faultless p blocks judged (faultless p blocks is),
         (Decides-int_eq cost (pos (plan_cost p blocks))).0 (not_true _ (false_from_none _ _ none)),
       )
       by_first (Some fault) is none = cc
@@ -72,7 +72,7 @@ module _ (p : Problem) (tables : List Table) where
       ap (λ (bs : List BrokenAt). broken_flaws j (first bs)) (nowhere_broken p (get_or tables t d) (holds t d inside)))
 
 module _ (p : Problem) (instance : IsInstance p) (d : Document) where
-  tree_from_none : IsReadFor p d → None (shape_flaws p d) → HasTree p d
+  tree_from_none : Suits p d → None (shape_flaws p d) → HasTree p d
   tree_from_none read none =
       let tree = read.tree.tree in
       let rows = read.tree.rows_are in
@@ -91,7 +91,7 @@ module _ (p : Problem) (instance : IsInstance p) (d : Document) where
       ∙ none_from_strong p d.tables.items d.bound instance 0 (permitted_sets p) has.tree
       (permitted_sets-IsRestriction p instance) has.strong
 
-  pub holds_from_none : IsReadFor p d → None (flaws_of p d) → HoldingDocument p d
+  pub holds_from_none : Suits p d → None (flaws_of p d) → HoldingDocument p d
   holds_from_none read none =
       let three = both_none _ _ none in
       let two = both_none _ _ three.0 in

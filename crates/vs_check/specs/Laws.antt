@@ -3,7 +3,7 @@ use Rattle.std.specs.Prelude.{◌≡◌, ◌↔◌}
 use Rattle.vs_instance.specs.Problem.{Problem}
 use Rattle.vs_instance.specs.Instance.{IsInstance}
 use Rattle.vs_cert.specs.Alike.{AreAlike}
-use Rattle.vs_cert.specs.Form.{IsReadFor}
+use Rattle.vs_cert.specs.Form.{Suits}
 use Rattle.vs_cert.specs.declared.document.Document.{Document}
 use Rattle.vs_check.specs.Flaws.{flaws_of}
 use Rattle.vs_check.specs.HoldingDocument.{HoldingDocument, ProvesItsClaim}
@@ -18,7 +18,7 @@ pub record AreJudgedAlike (p : Problem) (d e : Document) : Type 0 where
   pub flaws : flaws_of p d ≡ flaws_of p e
   pub holds : HoldingDocument p d ↔ HoldingDocument p e
 
--- documents that are alike are judged alike, where both can be read for the instance
+-- documents that are alike are judged alike, where both suit the instance
 abbrev pub AlikeDocumentsAreJudgedAlike : Type 0
-AlikeDocumentsAreJudgedAlike = (p : Problem) (d e : Document) → IsInstance p → IsReadFor p d → IsReadFor p e
+AlikeDocumentsAreJudgedAlike = (p : Problem) (d e : Document) → IsInstance p → Suits p d → Suits p e
     → AreAlike p d e → AreJudgedAlike p d e
