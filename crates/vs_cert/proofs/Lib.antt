@@ -9,3 +9,9 @@ pub mod PriceRanges
 pub mod SplitLayers
 pub mod RowKinds
 pub mod RefusedRows
+pub mod ErrorsPass
+pub mod BoundBesideCost
+pub mod SaysOnce
+pub mod TreeReading
+pub mod SamePlaces
+pub mod BlockReading

@@ -1,5 +1,5 @@
 -- How far the rows of a document have been read.
-use Rattle.std.specs.Prelude.{ℕ, ◌+◌, Bool, ◌<◌, ◌≤◌, ◌-◌, ◌==◌, ◌++◌, List, [], ◌∷◌, length, map, drop, filter, flat_map, ◌≡◌, All, ℤ, pos, Option, None, IfSome, IfNone}
+use Rattle.std.specs.Prelude.{ℕ, suc, ◌+◌, Bool, ◌<◌, ◌≤◌, ◌-◌, ◌==◌, ◌++◌, List, [], ◌∷◌, length, map, drop, filter, flat_map, ◌≡◌, All, ℤ, pos, Option, None, IfSome, IfNone}
 use Rattle.std.specs.Int.{bit_at}
 use Rattle.std.specs.List.{range_with_len}
 use Rattle.vs_instance.specs.Problem.{Problem}
@@ -141,13 +141,13 @@ pub record ReadsTables (input : Input) (at to : ℕ) (tables : List Table) : Typ
 
 -- the row is a part of a tree behind so many tables: a split brings two parts, and a leaf none
 abbrev pub parts_behind : ℕ → Shape → ℕ
-parts_behind parts (shape.Split trip left) = parts + 2
+parts_behind parts (shape.Split trip left) = suc (suc parts)
 parts_behind parts (shape.Leaf table) = parts
 
 pub record ReadsPart (input : Input) (at tables : ℕ) (part : Shape) : Type 0 where
   pub is_part : IsShapeOf input.instance tables part
   pub say : SayTo input at (shape_row part ∷ []) (at + 1)
-  pub lead : (parts : ℕ) → LeadTo input at (InTree tables (parts + 1)) (at + 1) (InTree tables (parts_behind parts part))
+  pub lead : (parts : ℕ) → LeadTo input at (InTree tables (suc parts)) (at + 1) (InTree tables (parts_behind parts part))
 
 -- the row is `end`, and the last one
 pub record IsLast (input : Input) (at : ℕ) : Type 0 where

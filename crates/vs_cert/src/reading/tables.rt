@@ -1,13 +1,13 @@
-ghost use Rattle.std.specs.Prelude.{◌+◌, ◌≤◌, ◌<◌, [], length, IfOk, IfErr};
+ghost use Rattle.std.specs.Prelude.{◌≡◌, ◌≤◌, ◌<◌, [], length, codes, IfOk, IfErr};
 ghost use Rattle.vs_cert.specs.declared.limits.TheConstants.{MAX_NUMBER};
+ghost use Rattle.vs_reader.specs.Rows.{field_of, row_of};
 ghost use Rattle.vs_cert.specs.Places.{InTable};
 ghost use Rattle.vs_cert.specs.Reading.{IsEmptyTable, IsInput, IsRefusedAt, ReadsTable, ReadsTables, ReadsKind};
 
 use crate::reading::fields::is_of_kind;
-use crate::reading::names::Likely;
+use crate::reading::forms;
 use crate::reading::prices::read_layer;
 use crate::reading::refusal::refusal;
-use crate::reading::said::{Said, said_at};
 use crate::refused::{DocError, DocWhy};
 use std::alloc::Global;
 use vs_prices::Table;
@@ -43,12 +43,13 @@ fn read_table(
     before: usize,
 ) -> Result<(Table, usize), DocError>
     requires input { IsInput input.now }
-    requires row { at ≤ length input.now.rest }
+    requires row { at < length input.now.rest }
+    requires kind { field_of (row_of input.now.rest at) 0 ≡ codes "table" }
     requires before { before ≤ MAX_NUMBER }
     ensures found { IfOk result (λ r. ReadsTable input.now at before r.1 r.0) }
     ensures refused { IfErr result (IsRefusedAt input.now at (InTable before [])) }
 {
-    let ray = read_kind(alloc, input, at, before)?;
+    let ray = read_kind(input, at, before)?;
     let mut table = empty_table(alloc, input, ray)?;
     let mut next = at + 1;
     for l in 0..input.instance.layers() {
@@ -58,27 +59,21 @@ fn read_table(
 }
 
 /// Whether the table that begins at a row, behind so many others, is a ray.
-fn read_kind(
-    alloc: Global,
-    input: &Input,
-    row: usize,
-    before: usize,
-) -> Result<bool, DocError>
+fn read_kind(input: &Input, row: usize, before: usize) -> Result<bool, DocError>
     requires input { IsInput input.now }
-    requires row { row ≤ length input.now.rest }
+    requires row { row < length input.now.rest }
+    requires kind { field_of (row_of input.now.rest row) 0 ≡ codes "table" }
     requires before { before ≤ MAX_NUMBER }
     ensures found { IfOk result (ReadsKind input.now row before) }
     ensures refused { IfErr result (IsRefusedAt input.now row (InTable before [])) }
 {
-    match said_at(alloc, input, row, Likely::first())? {
-        Said::Table { number, ray } => {
-            if number as usize != before + 1 {
-                return Err(refusal(input, row, DocWhy::TableNumber));
-            }
-            Ok(ray)
-        }
-        _ => Err(refusal(input, row, DocWhy::OutOfOrder)),
+    let Some((number, ray)) = forms::table(&input.rest, row) else {
+        return Err(refusal(input, row, DocWhy::BadRow));
+    };
+    if number as usize != before + 1 {
+        return Err(refusal(input, row, DocWhy::TableNumber));
     }
+    Ok(ray)
 }
 
 /// A table without prices, and with room for those of all layers and trips.

@@ -1,4 +1,4 @@
-ghost use Rattle.std.specs.Prelude.{◌≡◌, ◌+◌, ◌≤◌, ◌<◌, ℕ, length, IfOk, IfErr};
+ghost use Rattle.std.specs.Prelude.{◌≡◌, ◌+◌, ◌≤◌, ◌<◌, ℕ, suc, length, IfOk, IfErr};
 ghost use Rattle.vs_cert.specs.declared.limits.TheConstants.{MAX_NUMBER};
 ghost use Rattle.vs_cert.specs.Places.{InTree};
 ghost use Rattle.vs_cert.specs.Reading.{IsInput, IsLast, IsRefusedAt, ReadsPart, ReadsTree};
@@ -55,7 +55,7 @@ fn read_part(
     requires row { row ≤ length input.now.rest }
     requires tables { tables ≤ MAX_NUMBER }
     ensures found { IfOk result (ReadsPart input.now row tables) }
-    ensures refused { IfErr result (λ e. (parts : ℕ) → IsRefusedAt input.now row (InTree tables (parts + 1)) e) }
+    ensures refused { IfErr result (λ e. (parts : ℕ) → IsRefusedAt input.now row (InTree tables (suc parts)) e) }
 {
     match said_at(alloc, input, row, Likely::first())? {
         Said::Split { trip, left } => Ok(Shape::Split { trip, left }),
