@@ -1,7 +1,9 @@
 -- Blocks that are read row by row.
-use Rattle.std.proofs.Common.{◌≡◌, ℕ, ◌+◌, ◌<◌, ◌≤◌, List, [], ◌∷◌, ◌++◌, length, map, refl, sym, ap, ◌∙◌, subst, arith, All, Some, None, Option, ℤ, IsSome, codes}
+use Rattle.std.proofs.Common.{◌≡◌, ℕ, ◌+◌, ◌<◌, ◌≤◌, List, [], ◌∷◌, ◌++◌, length, map, refl, sym, ap, ◌∙◌, subst, arith, All, Some, None, Option, ℤ, IsSome, codes, false, true}
 use Rattle.std.specs.Prelude.{IfNone}
-use Rattle.std.proofs.lemmas.List.{map_push}
+use Rattle.std.specs.Option.{is_some}
+use Rattle.std.proofs.lemmas.Bool.{false≢true}
+use Rattle.std.proofs.lemmas.List.{get_or_past, map_push}
 use Rattle.std.proofs.lemmas.List.Elements.{All-push, All-nil, All-weaker}
 use Rattle.vs_types.specs.declared.numbers.TripNo.{TripNo}
 use Rattle.vs_instance.specs.Plan.{LayerBlock}
@@ -62,6 +64,9 @@ module _ (input : Input) (at : ℕ) (cost : Option ℤ) where
   no_blocks blocks None none = none refl
   no_blocks blocks (Some n) none = tt
 
+  pub has_cost : (blocks : List LayerBlock) → is_some cost ≡ true → cost ≡ None → blocks ≡ []
+  has_cost blocks some none = absurd (false≢true (sym (ap is_some none) ∙ some))
+
   pub blocks_done : (row : ℕ) (blocks : List LayerBlock) → BlocksSoFar input at cost row blocks
       → (cost ≡ None → blocks ≡ []) → (IsSome cost → ¬ (BeginsAs (codes "block") (row_of input.rest row)))
       → ReadsBlocks input at cost row blocks
@@ -74,3 +79,18 @@ module _ (input : Input) (at : ℕ) (cost : Option ℤ) where
           (blocks_end input row cost ends);
     };
   }
+
+  -- where there is no cost there are no blocks
+  pub blocks_without_cost : is_some cost ≡ false → at ≤ length input.rest → ReadsBlocks input at cost at []
+  blocks_without_cost none within =
+      blocks_done at [] (blocks_none within) (λ e. refl) (λ some. absurd (false≢true (sym none ∙ some)))
+
+  -- nor behind the last row
+  pub blocks_to_the_end : (row len : ℕ) (blocks : List LayerBlock) → BlocksSoFar input at cost row blocks
+      → is_some cost ≡ true → len ≤ row → len ≡ length input.rest → ReadsBlocks input at cost len blocks
+  blocks_to_the_end row len blocks s some low is =
+      let at_len : row ≡ len = omega (arith, s.reads.say.within) in
+      let past : row_of input.rest len ≡ [] = get_or_past input.rest len [] (omega arith) in
+      let P : ℕ → Type 0 = λ n. BlocksSoFar input at cost n blocks in
+      blocks_done len blocks (subst P at_len s) (has_cost blocks some)
+      (λ _ begins. absurd (omega (arith, begins.many, ap length past)))

@@ -3,4 +3,4 @@ use Rattle.vs_cert.proofs.BlockReading.{BlocksSoFar}
 use Rattle.vs_cert.proofs.reading.blocks.read_blocks.Given as goal
 
 abbrev pub invariant-loop-row : goal.invariant-loop-row
-invariant-loop-row l = BlocksSoFar l.input l.at l.cost l.row (pairs_of l.blocks.items)
+invariant-loop-row l = BlocksSoFar l.input l.at l.fn.cost l.row (pairs_of l.blocks.items)
