@@ -1,13 +1,12 @@
 -- Documents that say the same.
-use Rattle.std.specs.Prelude.{◌≡◌, Bool, List, map, ℤ}
+use Rattle.std.specs.Prelude.{◌≡◌}
 use Rattle.std.specs.List.{AllZip}
 use Rattle.vs_instance.specs.Problem.{Problem}
 use Rattle.vs_plan.specs.Blocks.{blocks_of}
-use Rattle.vs_prices.specs.declared.table.Table.{Table}
 use Rattle.vs_cert.specs.declared.document.Document.{Document}
 use Rattle.vs_cert.specs.NewDocumentText.{Agree}
 
--- they have the same claim, numbers, blocks and tree, and their tables agree, each with the one of its number
+-- they have the same claim, numbers, blocks and tree, and tables that agree one by one
 pub record AreAlike (p : Problem) (d e : Document) : Type 0 where
   pub claim : d.claim ≡ e.claim
   pub cost : d.cost ≡ e.cost
@@ -15,25 +14,4 @@ pub record AreAlike (p : Problem) (d e : Document) : Type 0 where
   pub nodes : d.nodes ≡ e.nodes
   pub blocks : blocks_of d.plan ≡ blocks_of e.plan
   pub tables : AllZip (Agree p) d.tables.items e.tables.items
-  pub shape : d.shape.items ≡ e.shape.items
-
--- the kind of a table and its prices
-pub record TableText : Type 0 where
-  pub ray : Bool
-  pub into : List ℤ
-  pub from : List ℤ
-  pub fleet : List ℤ
-
-abbrev pub text_of_table : Table → TableText
-text_of_table table =
-    record { ray = table.ray; into = table.into.items; from = table.from.items; fleet = table.fleet.items }
-
--- they have the same claim, numbers, blocks, tables and tree
-pub record AreSame (d e : Document) : Type 0 where
-  pub claim : d.claim ≡ e.claim
-  pub cost : d.cost ≡ e.cost
-  pub bound : d.bound ≡ e.bound
-  pub nodes : d.nodes ≡ e.nodes
-  pub blocks : blocks_of d.plan ≡ blocks_of e.plan
-  pub tables : map text_of_table d.tables.items ≡ map text_of_table e.tables.items
   pub shape : d.shape.items ≡ e.shape.items

@@ -58,3 +58,8 @@ AreRefused p names before (row ∷ rows) at why = AreRefusedFrom p names (before
 abbrev pub IsRefusal : Problem → NameLists → ℕ → List Row → DocError → Type 0
 IsRefusal p names before rows (error.Refused at why) = AreRefused p names before rows at why
 IsRefusal p names before rows error.Memory = Unit {0}
+
+-- the error tells a row that is refused
+abbrev pub IsRefusedError : DocError → Type 0
+IsRefusedError (error.Refused at why) = Unit {0}
+IsRefusedError error.Memory = ⊥

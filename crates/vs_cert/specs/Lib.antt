@@ -5,10 +5,8 @@ pub mod NewDocumentText
 pub mod Writing
 pub mod Places
 pub mod DocumentRefusals
-pub mod DocumentText
-pub mod DocumentParts
 pub mod Alike
-pub mod WrittenParts
-pub mod FirstForm
 pub mod Form
 pub mod Laws
+pub mod RowForms
+pub mod Reading

@@ -2,7 +2,6 @@
 #![tactic(auto)]
 
 mod document;
-mod form_error;
 mod laws;
 mod limits;
 mod reading;
@@ -12,9 +11,8 @@ mod text;
 mod writing;
 
 pub use document::Document;
-pub use form_error::FormError;
 pub use laws::written_rows_stand_for_their_document;
-pub use reading::read_document;
+pub use reading::read;
 pub use refused::{DocError, DocWhy};
 pub use shape::Shape;
 pub use text::Text;

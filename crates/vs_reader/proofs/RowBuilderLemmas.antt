@@ -5,7 +5,7 @@ use Rattle.std.specs.List.Sorted.{IsNonDecreasing}
 use Rattle.std.proofs.lemmas.List.{length-append, length_push, drop_at, take_more, take-append-drop}
 use Rattle.std.proofs.lemmas.List.Elements.{All-push, All-weaker}
 use Rattle.vs_reader.specs.declared.rows.RowBuilder.{RowBuilder}
-use Rattle.vs_reader.specs.Rows.{Field, Row, field_of}
+use Rattle.vs_reader.specs.Rows.{Field, Row, all_fields, field_of}
 use Rattle.vs_reader.specs.RowEnds.{parts_from, end_of, row_weight, weight_of}
 use Rattle.vs_reader.specs.RowBuilding.{built, size_of, IsWhole}
 use Rattle.vs_reader.proofs.ListParts.{parts_from-push, parts_from-append, end_of-push, in_order-push, range_to_end, length-parts_from}
@@ -19,6 +19,16 @@ row_weight-append (f ∷ row) more = omega (arith, row_weight-append row more)
 pub weight_of-append : (rows more : List Row) → weight_of (rows ++ more) ≡ weight_of rows + weight_of more
 weight_of-append [] more = omega arith
 weight_of-append (row ∷ rows) more = omega (arith, weight_of-append rows more)
+
+pub length-row_weight : (row : Row) → length row ≤ row_weight row
+length-row_weight [] = omega arith
+length-row_weight (field ∷ row) = omega (arith, length-row_weight row)
+
+-- each field counts in the weight of the rows
+pub few_fields : (rows : List Row) → length (all_fields rows) ≤ weight_of rows
+few_fields [] = omega arith
+few_fields (row ∷ rows) =
+    omega (arith, few_fields rows, length-row_weight row, length-append row (all_fields rows))
 
 -- the fields of a row up to one, and with it
 pub row_weight-take : (row : Row) (k : ℕ) → k < length row

@@ -1,5 +1,5 @@
 -- A text as rows of fields, and rows as lines.
-use Rattle.std.specs.Prelude.{◌≢◌, ℕ, List, [], ◌∷◌, ◌++◌, flat_map, All, slice_index_or}
+use Rattle.std.specs.Prelude.{◌≢◌, ℕ, ◌<◌, ◌^◌, length, List, [], ◌∷◌, ◌++◌, flat_map, All, slice_index_or}
 use Rattle.std.specs.List.{join_with_byte}
 
 -- bytes that stand together, as a name or a number, and the fields of one row
@@ -16,6 +16,16 @@ field_of row k = slice_index_or row k []
 -- row k
 abbrev pub row_of : List Row → ℕ → Row
 row_of rows k = slice_index_or rows k []
+
+-- the fields of all rows
+abbrev pub all_fields : List Row → List Field
+all_fields rows = flat_map (λ row. row) rows
+
+-- 32 bits count the records before some rows, these rows, and their fields
+pub record AreCounted (before : ℕ) (rows : List Row) : Type 0 where
+  pub few_before : before < 2 ^ 32
+  pub few_rows : length rows < 2 ^ 32
+  pub few_fields : length (all_fields rows) < 2 ^ 32
 
 -- the fields with commas between them
 abbrev pub fields : Row → List ℕ

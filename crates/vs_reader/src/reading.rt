@@ -2,7 +2,7 @@ ghost use Rattle.std.specs.Prelude.{◌≡◌, ◌≤◌, ◌<◌, ◌^◌, ℕ,
 ghost use Rattle.csv.specs.Records.{fields_of};
 ghost use Rattle.vs_instance.specs.Problem.{Problem};
 ghost use Rattle.vs_reader.specs.declared.limits.TheConstants.{MAX_BYTES};
-ghost use Rattle.vs_reader.specs.Rows.{Row};
+ghost use Rattle.vs_reader.specs.Rows.{Row, AreCounted, all_fields};
 ghost use Rattle.vs_reader.specs.Names.{NameLists};
 ghost use Rattle.vs_reader.specs.Kinds.{HasHeader};
 ghost use Rattle.vs_reader.specs.InstanceText.{AddAll, Makes, nothing_yet};
@@ -48,6 +48,7 @@ pub fn read(alloc: Global, bytes: &[u8]) -> Result<Input, ReadError>
     ensures none { IfErr result (λ e. IsRefusedError e
         → (p : Problem) (names : NameLists) (before : ℕ) (rest : List Row)
         → ¬ (StandsFor bytes.now p names before rest)) }
+    ensures counted { IfOk result (λ input. AreCounted input.before input.rest) }
 {
     let mut records = TextRecords::new(alloc, bytes);
     if !read_header(&mut records)? {
@@ -115,7 +116,9 @@ fn refused_at(number: u32, error: RecordError) -> ReadError
 /// The rows from the current record on, where there are any.
 fn read_rest(alloc: Global, records: &mut TextRecords, any: bool) -> Result<Rows, Memory>
     requires { IsTrue any → IsOpen records.old }
-    ensures { IfOk result (λ rest. (rows : List Row) → GivesNext records.old rows any → rest ≡ rows) }
+    ensures rows { IfOk result (λ rest. (rows : List Row) → GivesNext records.old rows any → rest ≡ rows) }
+    ensures few_rows { IfOk result (λ rest. length rest < 2 ^ 32) }
+    ensures few_fields { IfOk result (λ rest. length (all_fields rest) < 2 ^ 32) }
 {
     let mut rest = RowBuilder::new(alloc);
     if !any {

@@ -1,48 +1,40 @@
-ghost use Rattle.std.specs.Prelude.{◌≡◌, ◌+◌, ◌^◌, ◌<◌, ◌≤◌, ◌↔◌, [], ◌∷◌, length, codes, IsTrue, IfSome, IfNone, ℕ, ℤ, pos, Option};
-ghost use Rattle.vs_tree.specs.declared.claim.Claim.{Claim as ClaimOf};
-ghost use Rattle.vs_cert.specs.declared.reading.head.Head.{Head as HeadOf};
-ghost use Rattle.vs_cert.specs.DocumentText.{claim_field};
-ghost use Rattle.vs_cert.specs.DocumentParts.{row_at, claim_row, cost_row, number_row, IsCost, IsHeadAt};
+ghost use Rattle.std.specs.Prelude.{◌≡◌, ◌≤◌, [], ◌∷◌, ℤ, pos, Option, None, length, IfOk, IfErr, IfSome, IfNone};
+ghost use Rattle.vs_cert.specs.declared.limits.TheConstants.{MAX_COST, MAX_BOUND, MAX_NODES};
+ghost use Rattle.vs_cert.specs.DocumentRows.{ClaimRow, CostRow, BoundRow, NodesRow, IsBetween, IsWithin};
+ghost use Rattle.vs_cert.specs.Places.{AtClaim, AtCost, AtBound, AtNodes, AtBlocks};
+ghost use Rattle.vs_cert.specs.Reading.{IsInput, IsRefusedAt, ReadsTo, ReadsHead};
 
-use crate::reading::fields::{is_of_kind, is_text, number};
-use vs_reader::Rows;
+use crate::reading::names::Likely;
+use crate::reading::refusal::refusal;
+use crate::reading::said::{Said, said_at};
+use crate::refused::{DocError, DocWhy};
+use std::alloc::Global;
+use vs_reader::Input;
 use vs_tree::Claim;
 
-/// The most that a cost may be, a bound in either direction, and a count of nodes.
-const MOST_COST: i128 = 100_000_000_000_000_000;
-
-const MOST_BOUND: i128 = 100_000_000_000_000_000_000;
-
-const MOST_NODES: i128 = 1_000_000_000_000_000_000;
-
-/// The first four rows of a document whose bound is a number.
+/// The first four rows of a document.
 #[derive(Clone, Copy, Debug, PartialEq, Eq)]
 pub struct Head {
     pub claim: Claim,
     /// 0 to 10^17 cost units. None where there is no plan.
     pub cost: Option<i64>,
-    /// Within -10^20 and 10^20 cost units.
-    pub bound: i128,
+    /// Within -10^20 and 10^20 cost units. None where no plan exists.
+    pub bound: Option<i128>,
     /// 0 to 10^18.
     pub nodes: u64,
 }
 
-/// The head that stands from a row on.
-pub fn read_head(rows: &Rows, at: usize) -> Option<Head>
-    requires { at ≤ length rows.now }
-    ensures found { IfSome result (IsHeadAt rows.now at) }
-    ensures within { IfSome result (λ _. at + 4 ≤ length rows.now) }
-    ensures few { length rows.now < 2 ^ 64 }
-    ensures none { IfNone result ((head : HeadOf) → ¬ (IsHeadAt rows.now at head)) }
+/// Reads the first four rows.
+pub fn read_head(alloc: Global, input: &Input) -> Result<Head, DocError>
+    requires { IsInput input.now }
+    ensures found { IfOk result (ReadsHead input.now) }
+    ensures refused { IfErr result (IsRefusedAt input.now 0 AtClaim) }
 {
-    if rows.len() - at < 4 {
-        return None;
-    }
-    let claim = claim(rows, at)?;
-    let cost = cost(rows, at + 1)?;
-    let bound = number(rows, at + 2, "bound", -MOST_BOUND, MOST_BOUND)?;
-    let nodes = nodes(rows, at + 3)?;
-    Some(Head {
+    let claim = read_claim(alloc, input)?;
+    let cost = read_cost(alloc, input)?;
+    let bound = read_bound(alloc, input, cost)?;
+    let nodes = read_nodes(alloc, input)?;
+    Ok(Head {
         claim,
         cost,
         bound,
@@ -50,61 +42,62 @@ pub fn read_head(rows: &Rows, at: usize) -> Option<Head>
     })
 }
 
-/// The claim of a row `result`, `1` and a claim.
-fn claim(rows: &Rows, row: usize) -> Option<Claim>
-    ensures found { IfSome result (λ claim. row_at rows.now row ≡ claim_row claim) }
-    ensures none { IfNone result ((claim : ClaimOf) → ¬ (row_at rows.now row ≡ claim_row claim)) }
+/// The claim of the first row.
+fn read_claim(alloc: Global, input: &Input) -> Result<Claim, DocError>
+    requires { IsInput input.now }
+    ensures found { IfOk result (λ claim. ReadsTo input.now 0 AtClaim (ClaimRow claim ∷ []) 1 AtCost) }
+    ensures refused { IfErr result (IsRefusedAt input.now 0 AtClaim) }
 {
-    if !is_of_kind(rows, row, "result", 3) {
-        return None;
+    match said_at(alloc, input, 0, Likely::first())? {
+        Said::Claim(claim) => Ok(claim),
+        _ => Err(refusal(input, 0, DocWhy::OutOfOrder)),
     }
-    if !is_text(rows.field(row, 1), "1") {
-        return None;
-    }
-    claim_of(rows.field(row, 2))
 }
 
-/// The claim of this name.
-fn claim_of(field: &[u8]) -> Option<Claim>
-    ensures found { IfSome result (λ claim. field.now ≡ claim_field claim) }
-    ensures none { IfNone result ((claim : ClaimOf) → ¬ (field.now ≡ claim_field claim)) }
+/// The cost of the second row.
+fn read_cost(alloc: Global, input: &Input) -> Result<Option<i64>, DocError>
+    requires input { IsInput input.now }
+    requires row { 1 ≤ length input.now.rest }
+    ensures found { IfOk result (λ cost. ReadsTo input.now 1 AtCost (CostRow cost ∷ []) 2 (AtBound cost)) }
+    ensures range { IfOk result (λ cost. IfSome cost (IsBetween (pos 0) MAX_COST)) }
+    ensures refused { IfErr result (IsRefusedAt input.now 1 AtCost) }
 {
-    if is_text(field, "optimal") {
-        return Some(Claim::Optimal);
+    match said_at(alloc, input, 1, Likely::first())? {
+        Said::Cost(cost) => Ok(cost),
+        _ => Err(refusal(input, 1, DocWhy::OutOfOrder)),
     }
-    if is_text(field, "infeasible") {
-        return Some(Claim::Infeasible);
-    }
-    if is_text(field, "open") {
-        return Some(Claim::StillOpen);
-    }
-    None
 }
 
-/// The cost of a row `cost` and a number or `none`.
-fn cost(rows: &Rows, row: usize) -> Option<Option<i64>>
-    ensures found { IfSome result (λ cost. (row_at rows.now row ≡ cost_row cost) × IsCost cost) }
-    ensures none { IfNone result ((cost : Option ℤ) → IsCost cost → ¬ (row_at rows.now row ≡ cost_row cost)) }
+/// The bound of the third row. Beside a cost there has to be one.
+fn read_bound(alloc: Global, input: &Input, cost: Option<i64>) -> Result<Option<i128>, DocError>
+    requires input { IsInput input.now }
+    requires row { 2 ≤ length input.now.rest }
+    ensures found { IfOk result (λ bound. ReadsTo input.now 2 (AtBound cost) (BoundRow bound ∷ []) 3 (AtNodes cost)) }
+    ensures range { IfOk result (λ bound. IfSome bound (IsWithin MAX_BOUND)) }
+    ensures no_cost { IfOk result (λ bound. IfNone bound (cost ≡ None)) }
+    ensures refused { IfErr result (IsRefusedAt input.now 2 (AtBound cost)) }
 {
-    if is_no_cost(rows, row) {
-        return Some(None);
+    match said_at(alloc, input, 2, Likely::first())? {
+        Said::Bound(bound) => {
+            if bound.is_none() && cost.is_some() {
+                return Err(refusal(input, 2, DocWhy::BadRow));
+            }
+            Ok(bound)
+        }
+        _ => Err(refusal(input, 2, DocWhy::OutOfOrder)),
     }
-    let cost = number(rows, row, "cost", 0, MOST_COST)?;
-    Some(Some(cost as i64))
 }
 
-/// Whether a row is `cost`, `none`.
-fn is_no_cost(rows: &Rows, row: usize) -> bool
-    ensures { IsTrue result ↔ (row_at rows.now row ≡ codes "cost" ∷ codes "none" ∷ []) }
+/// The count of nodes of the fourth row.
+fn read_nodes(alloc: Global, input: &Input) -> Result<u64, DocError>
+    requires input { IsInput input.now }
+    requires row { 3 ≤ length input.now.rest }
+    ensures found { IfOk result (λ n. (cost : Option ℤ) → ReadsTo input.now 3 (AtNodes cost) (NodesRow n ∷ []) 4 (AtBlocks cost)) }
+    ensures range { IfOk result (λ n. n ≤ MAX_NODES) }
+    ensures refused { IfErr result (λ e. (cost : Option ℤ) → IsRefusedAt input.now 3 (AtNodes cost) e) }
 {
-    is_of_kind(rows, row, "cost", 2) && is_text(rows.field(row, 1), "none")
-}
-
-/// The count of nodes of a row `nodes` and a number.
-fn nodes(rows: &Rows, row: usize) -> Option<u64>
-    ensures found { IfSome result (λ n. (row_at rows.now row ≡ number_row (codes "nodes") (pos n)) × (n ≤ 1000000000000000000)) }
-    ensures none { IfNone result ((n : ℕ) → n ≤ 1000000000000000000 → ¬ (row_at rows.now row ≡ number_row (codes "nodes") (pos n))) }
-{
-    let nodes = number(rows, row, "nodes", 0, MOST_NODES)?;
-    Some(nodes as u64)
+    match said_at(alloc, input, 3, Likely::first())? {
+        Said::Nodes(nodes) => Ok(nodes),
+        _ => Err(refusal(input, 3, DocWhy::OutOfOrder)),
+    }
 }

@@ -1,6 +1,6 @@
 ghost use Rattle.std.specs.Prelude.{◌≡◌, ℕ, ◌≤◌, ◌<◌, ℤ, pos, negsuc, ◌≤ℤ◌, decimal, IfSome, IfNone};
 ghost use Rattle.std.specs.Fmt.{signed_decimal};
-ghost use Rattle.vs_cert.specs.DocumentText.{IsBetween};
+ghost use Rattle.vs_cert.specs.DocumentRows.{IsBetween};
 
 /// The largest number of a document: 10^20.
 const LARGEST: u128 = 100_000_000_000_000_000_000;

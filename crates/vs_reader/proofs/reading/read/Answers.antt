@@ -147,7 +147,7 @@ returns-clause-found c =
     c.in_ok-declarations.declarations.draft d.declares d.numbers
     d.left d.rows_are c.in_ok-instance.instance c.in_ok-instance.names c.from-before.result c.in_ok-rest.rest
     c.in_ok-instance.ensures.found.0 c.in_ok-instance.ensures.found.1
-    (c.from-before.ensures ∙ d.before) (c.in_ok-rest.ensures d.left d.left_are)
+    (c.from-before.ensures ∙ d.before) (c.in_ok-rest.ensures.rows d.left d.left_are)
 
 pub returns-clause-only : goal.returns-clause-only
 returns-clause-only c =
@@ -160,7 +160,7 @@ returns-clause-only c =
     c.in_ok-declarations.declarations.draft d.declares d.numbers
     d.left d.rows_are c.in_ok-instance.instance c.in_ok-instance.names c.from-before.result c.in_ok-rest.rest
     c.in_ok-instance.ensures.found.0 c.in_ok-instance.ensures.found.1
-    (c.from-before.ensures ∙ d.before) (c.in_ok-rest.ensures d.left d.left_are)
+    (c.from-before.ensures ∙ d.before) (c.in_ok-rest.ensures.rows d.left d.left_are)
 
 pub returns-in_err-rest-clause-refused : goal.returns-in_err-rest-clause-refused
 returns-in_err-rest-clause-refused c =
