@@ -1,6 +1,6 @@
 -- A document of the greedy rule's plan and the zero table answers a search that finishes no case.
-use Rattle.std.proofs.Common.{◌≡◌, List, [], ◌∷◌, length, inl, inr, refl, sym, ap, subst, arith, Option, Some, None, ℤ, pos, negsuc}
-use Rattle.std.specs.Prelude.{IfSome, MatchOption, slice_get}
+use Rattle.std.proofs.Common.{◌≡◌, List, [], ◌∷◌, length, inl, inr, refl, sym, ap, subst, arith, Option, Some, None, ℤ, pos}
+use Rattle.std.specs.Prelude.{IfNone, IfSome, MatchOption, slice_get}
 use Rattle.std.specs.List.{All}
 use Rattle.std.proofs.lemmas.Int.{ints}
 use Rattle.std.proofs.lemmas.List.Elements.{All-cons, All-nil, All-weaker}
@@ -20,21 +20,24 @@ use Rattle.vs_check.specs.HoldingDocument.{HoldingDocument, IsStrongLeaf}
 use Rattle.vs_tree.specs.Claims.{claim_found}
 use Rattle.vs_prices.specs.Table.{Fits, HoldingTable}
 use Rattle.vs_prices.specs.Worth.{IsWorth, Reaches}
-use Rattle.vs_cert.specs.DocumentText.{HasText, IsBetween, IsBlankElsewhere, IsShapeOf, IsTreeOf}
+use Rattle.vs_cert.specs.declared.limits.TheConstants.{MAX_BOUND, MAX_COST}
+use Rattle.vs_cert.specs.DocumentRows.{IsBetween, IsWithin}
+use Rattle.vs_cert.specs.NewDocumentText.{HasText}
+use Rattle.vs_cert.specs.Shapes.{IsShapeOf}
 use Rattle.mdvsp.specs.PricedPlan.{IsPricedPlan}
 use Rattle.mdvsp.specs.Owed.{IsZeroTable}
 use Rattle.vs_tree.specs.Tree.{LeafPlace}
 use Rattle.vs_tree.specs.Tree as tree
 use Rattle.mdvsp.specs.SolveAnswer.{IsBoundOf, SolveAnswer}
-use Rattle.mdvsp.proofs.ZeroTable.{zero-IsBlankElsewhere, zero-worth}
+use Rattle.mdvsp.proofs.ZeroTable.{zero-worth}
 
 -- a number within the limits of printed bounds
 abbrev Printed : ℤ → Type 0
-Printed n = IsBetween (negsuc 99999999999999999999) (pos 100000000000000000000) n
+Printed n = IsWithin MAX_BOUND n
 
 -- costs and worths within their limits
 abbrev CostFits : Option ℤ → Type 0
-CostFits cost = IfSome cost (IsBetween (pos 0) (pos 100000000000000000))
+CostFits cost = IfSome cost (IsBetween (pos 0) MAX_COST)
 
 abbrev WorthFits : Bound → Type 0
 WorthFits (AtLeast n) = IsBetween (pos 0) (pos 40000000000000) n
@@ -56,10 +59,10 @@ none_without_bound None worth is = refl
 none_without_bound (Some k) (AtLeast w) is = absurd (is k (inr refl))
 none_without_bound (Some k) NoPlan is = absurd (is k refl)
 
-bound_with_cost : (cost : Option ℤ) (worth : Bound) (bound : Option ℤ) → IsBoundOf cost (worth ∷ []) bound
-    → bound ≡ None → cost ≡ None
-bound_with_cost cost worth None is none = none_without_bound cost worth is
-bound_with_cost cost worth (Some n) is none = cc
+no_cost : (cost : Option ℤ) (worth : Bound) (bound : Option ℤ) → IsBoundOf cost (worth ∷ []) bound
+    → IfNone bound (cost ≡ None)
+no_cost cost worth None is = none_without_bound cost worth is
+no_cost cost worth (Some n) is = search
 
 -- the worth reaches the bound
 worth_reaches : (cost : Option ℤ) (worth : Bound) (bound : Option ℤ) → IsBoundOf cost (worth ∷ []) bound
@@ -86,9 +89,9 @@ module _ (p : Problem) (blocks : List LayerBlock) where
             is_block.of_instance;
       }) blocks is.plan.each_block
 
-  priced_none : (cost : Option ℤ) → IsPricedPlan p blocks cost → cost ≡ None → blocks ≡ []
-  priced_none None is none = is.1
-  priced_none (Some k) is none = cc
+  priced_none : (cost : Option ℤ) → IsPricedPlan p blocks cost → IfNone cost (blocks ≡ [])
+  priced_none None is = is.1
+  priced_none (Some k) is = search
 
   priced_plan : (cost : Option ℤ) → IsPricedPlan p blocks cost
       → MatchOption cost (blocks ≡ []) (λ cost. IsPlan p blocks × (cost ≡ pos (plan_cost p blocks)))
@@ -121,15 +124,14 @@ module _ (p : Problem) (instance : IsInstance p) (d : Document) (table : Table) 
     cost = priced_fits p (blocks_of d.plan) d.cost priced;
     bound = bound_fits d.cost worth d.bound (priced_fits p (blocks_of d.plan) d.cost priced)
         (worth_fits p table instance is_zero worth is_worth) bound_is;
-    bound_with_cost = bound_with_cost d.cost worth d.bound bound_is;
+    no_cost = no_cost d.cost worth d.bound bound_is;
     nodes = omega arith;
     blocks = priced_blocks p (blocks_of d.plan) d.cost priced;
     no_blocks = priced_none p (blocks_of d.plan) d.cost priced;
     few_tables = omega (arith, one_table);
     fits = all_tables (Fits p) is_zero.fits;
-    blank = all_tables (IsBlankElsewhere p) (zero-IsBlankElsewhere p table is_zero);
-    tree = subst (IsTreeOf 1) (sym shape_is) tt;
-    shape = subst (All (IsShapeOf p (length d.tables.items))) (sym shape_is)
+    tree = record { tree = tree.Leaf 0; rows_are = shape_is };
+    shapes = subst (All (IsShapeOf p (length d.tables.items))) (sym shape_is)
         (All-cons (IsShapeOf p (length d.tables.items)) (Leaf 0) [] (omega (arith, one_table))
         (All-nil (IsShapeOf p (length d.tables.items))));
   }

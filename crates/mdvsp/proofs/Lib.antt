@@ -10,5 +10,5 @@ pub mod ZeroTable
 pub mod FirstAnswer
 pub mod Sequences
 pub mod LawDocuments
-pub mod LawVerdicts
+pub mod OneCase
 pub mod LawBounds

@@ -16,10 +16,12 @@ use Rattle.mdvsp.specs.declared.status.Status.TheVariants as status
 use Rattle.mdvsp.specs.declared.command.Command.{Command}
 use Rattle.mdvsp.specs.declared.command.Command.TheVariants.{Check, Solve, Network, Blocks}
 use Rattle.mdvsp.specs.Answered.{HasSizes, IsDocumentOf, IsNoCase, IsOwedFor, RefusesCase, case_error}
-use Rattle.vs_cert.specs.DocumentText.{document_rows}
-use Rattle.vs_cert.specs.FirstForm.{FirstDocumentText, CheckText, SolveText}
+use Rattle.vs_cert.specs.DocumentRefusals.{AreRefused}
+use Rattle.vs_cert.specs.DocumentRows.{document_rows}
+use Rattle.vs_cert.specs.declared.refused.DocWhy.{DocWhy}
+use Rattle.mdvsp.specs.Cases.{CheckText, SolveText}
 use Rattle.mdvsp.specs.Owed.{Owes, SolveOwes, OwesDocument, OwesRefusal, status_of, yes_row}
-use Rattle.mdvsp.specs.RefusalRows.{refusal_row, other_form_row}
+use Rattle.mdvsp.specs.RefusalRows.{document_refusal_row, refusal_row}
 use Rattle.mdvsp.specs.FlawRows.{no_row}
 use Rattle.vs_instance.specs.Firsts.{first}
 use Rattle.vs_check.specs.Flaws.{flaws_of, verdict_of}
@@ -69,19 +71,22 @@ refused_case bytes refused a is says = record {
   text_is = says.1;
 }
 
-other_form_case : (bytes : List ℕ) (p : Problem) (names : NameLists) (before : ℕ) (rest : List Row) (a : Answer)
-    → StandsFor bytes p names before rest
-    → ((d : Document) → ¬ (FirstDocumentText p names rest d))
-    → TellsRow status.BadInput other_form_row a → IsNoCase bytes a
-other_form_case bytes p names before rest a stands none says = record {
-  rows = other_form_row ∷ [];
+refused_document_case : (bytes : List ℕ) (p : Problem) (names : NameLists) (before : ℕ) (rest : List Row) (at : ℕ)
+    (why : DocWhy) (a : Answer) → StandsFor bytes p names before rest → AreRefused p names before rest at why
+    → TellsRow status.BadInput (document_refusal_row at why) a → IsNoCase bytes a
+refused_document_case bytes p names before rest at why a stands refused says = record {
+  rows = document_refusal_row at why ∷ [];
   owed = inr (record {
-    problem = p;
-    names = names;
-    before = before;
-    rest = rest;
-    instance = stands;
-    no_document = none;
+    at = at;
+    why = why;
+    lacks = record {
+      problem = p;
+      names = names;
+      before = before;
+      rest = rest;
+      instance = stands;
+      refused = refused;
+    };
     rows_are = refl;
   });
   status_is = says.0;
@@ -93,13 +98,13 @@ pub refusal_case : (bytes : List ℕ) (refused : Refused) (r : Result Answer Mem
 refusal_case bytes refused (Ok a) is says = refused_case bytes refused a is says
 refusal_case bytes refused (Err m) is says = tt
 
-pub no_document_case : (bytes : List ℕ) (p : Problem) (names : NameLists) (before : ℕ) (rest : List Row)
-    (r : Result Answer Memory) → StandsFor bytes p names before rest
-    → ((d : Document) → ¬ (FirstDocumentText p names rest d))
-    → IfOk r (TellsRow status.BadInput other_form_row) → RefusesCase bytes (case_error r)
-no_document_case bytes p names before rest (Ok a) stands none says =
-    other_form_case bytes p names before rest a stands none says
-no_document_case bytes p names before rest (Err m) stands none says = tt
+pub no_document_case : (bytes : List ℕ) (p : Problem) (names : NameLists) (before : ℕ) (rest : List Row) (at : ℕ)
+    (why : DocWhy) (r : Result Answer Memory) → StandsFor bytes p names before rest
+    → AreRefused p names before rest at why
+    → IfOk r (TellsRow status.BadInput (document_refusal_row at why)) → RefusesCase bytes (case_error r)
+no_document_case bytes p names before rest at why (Ok a) stands refused says =
+    refused_document_case bytes p names before rest at why a stands refused says
+no_document_case bytes p names before rest at why (Err m) stands refused says = tt
 
 pub check_no_case : (bytes : List ℕ) (a : Answer) → IsNoCase bytes a → IsOwedFor Check bytes a
 check_no_case bytes a none = owed_so Check bytes a status.BadInput none.rows none.owed none.status_is none.text_is

@@ -20,7 +20,6 @@ use Rattle.vs_prices.specs.declared.table.Table.{Table}
 use Rattle.vs_prices.specs.Table.{Fits, HoldingTable, IsPrice, prices_in}
 use Rattle.vs_prices.specs.Worth.{IsRoundedUp, IsWorth, fleet_price, least, least_price, table_value, trip_price}
 use Rattle.vs_instance.specs.Lagrangian.{total}
-use Rattle.vs_cert.specs.DocumentText.{IsBlankElsewhere}
 use Rattle.mdvsp.specs.Owed.{IsZeroTable}
 
 abbrev IsZero : ℤ → Type 0
@@ -117,9 +116,6 @@ module _ (p : Problem) (table : Table) (is : IsZeroTable p table) where
 
   fleet-zero : (l : ℕ) → price_of table.fleet.items l ≡ pos 0
   fleet-zero l = price-zero table.fleet.items l is.zeros.fleet
-
-  pub zero-IsBlankElsewhere : IsBlankElsewhere p table
-  zero-IsBlankElsewhere l i of_layer of_trip not = (into-zero l i, from-zero l i)
 
   module _ (instance : IsInstance p) where
     trip_price-within : (i l : ℕ) → Within 20000000000000 (trip_price p table i l)

@@ -1,4 +1,7 @@
 ghost use Rattle.std.specs.Prelude.{◌≡◌, ◌≤◌, length, IfErr, IfOk};
+ghost use Rattle.vs_reader.specs.Texts.{StandsFor};
+ghost use Rattle.vs_cert.specs.Form.{IsReadFor};
+ghost use Rattle.vs_cert.specs.Reading.{IsInput};
 ghost use Rattle.mdvsp.specs.Cases.{CheckText};
 ghost use Rattle.mdvsp.specs.Answered.{RefusesCase, case_error};
 ghost use Rattle.mdvsp.specs.Outcome.{input_limit};
@@ -30,21 +33,31 @@ pub fn read_case(alloc: Global, bytes: &[u8]) -> Result<Case, CaseError>
     requires { length bytes.now ≤ input_limit }
     ensures found { IfOk result (λ case.
         CheckText bytes.now case.input.instance case.input.names case.document) }
+    ensures read_for { IfOk result (λ case. IsReadFor case.input.instance case.document) }
     ensures refused { IfErr result (RefusesCase bytes.now) }
 {
-    let input = match vs_reader::read(alloc, bytes) {
-        Ok(input) => input,
-        Err(ReadError::Refused(refused)) => {
-            return Err(refusal(Answer::refused(alloc, refused)));
-        }
-        Err(ReadError::Memory) => return Err(CaseError::Memory),
-    };
+    let input = read_instance(alloc, bytes)?;
     match vs_cert::read(alloc, &input) {
         Ok(document) => Ok(Case { input, document }),
         Err(DocError::Refused { row, why }) => {
             Err(refusal(Answer::refused_document(alloc, row, why)))
         }
         Err(DocError::Memory) => Err(CaseError::Memory),
+    }
+}
+
+/// The instance that a text stands for, with what follows its records.
+fn read_instance(alloc: Global, bytes: &[u8]) -> Result<Input, CaseError>
+    requires { length bytes.now ≤ input_limit }
+    ensures found { IfOk result (λ input.
+        StandsFor bytes.now input.instance input.names input.before input.rest) }
+    ensures input { IfOk result IsInput }
+    ensures refused { IfErr result (RefusesCase bytes.now) }
+{
+    match vs_reader::read(alloc, bytes) {
+        Ok(input) => Ok(input),
+        Err(ReadError::Refused(refused)) => Err(refusal(Answer::refused(alloc, refused))),
+        Err(ReadError::Memory) => Err(CaseError::Memory),
     }
 }
 

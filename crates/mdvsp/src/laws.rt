@@ -18,11 +18,6 @@ pub fn solved_documents_hold()
         → CheckOwes (read ++ lines rows) Done (yes_row owed.document ∷ []) }
 {}
 
-/// No input has two verdicts: `check` is owed `yes`, `no` or a refusal, and only one of these.
-pub fn one_verdict()
-    ensures { (bytes : List ℕ) (a b : Status) (r s : List Row) → CheckOwes bytes a r → CheckOwes bytes b s → a ≡ b }
-{}
-
 /// Without a search a run is done exactly where there is a greedy plan and it costs no more than the table
 /// of zeros is worth. Else it is open.
 pub fn done_where_shown()

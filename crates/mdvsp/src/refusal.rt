@@ -1,9 +1,10 @@
 //! What a refusal of the input is called, and its details.
-ghost use Rattle.std.specs.Prelude.{◌≡◌, ◌∷◌, ◌++◌, codes, decimal, OnOk};
+ghost use Rattle.std.specs.Prelude.{◌≡◌, [], ◌∷◌, ◌++◌, codes, decimal, OnOk};
 ghost use Rattle.vs_reader.specs.Rows.{more_fields};
+ghost use Rattle.mdvsp.specs.RefusalRows.{document_name, document_number};
 ghost use Rattle.mdvsp.specs.RefusalRows.{misfit_details, misfit_name, range_name, stop_fields, why_details, why_name, why_number};
 
-use vs_cert::Text;
+use vs_cert::{DocWhy, Text};
 use vs_instance::{Field, Misfit};
 use vs_reader::Why;
 use vs_types::{Memory, StopNo};
@@ -105,5 +106,44 @@ fn range_name(field: Field) -> &'static str
         Field::PerMetre => "per_metre",
         Field::Minutes => "minutes",
         Field::Metres => "metres",
+    }
+}
+
+/// Writes the number of a refusal of what follows the instance, and its name.
+pub fn write_document_why(text: &mut Text, why: DocWhy) -> Result<(), Memory>
+    ensures { OnOk result (text.new ≡ text.old
+        ++ more_fields (decimal (document_number why) ∷ document_name why ∷ [])) }
+{
+    text.number(document_number(why))?;
+    text.field(document_name(why))
+}
+
+/// The number of a refusal of what follows the instance.
+fn document_number(why: DocWhy) -> u32
+    ensures { result ≡ document_number why }
+{
+    match why {
+        DocWhy::NoResult => 20,
+        DocWhy::BadRow => 21,
+        DocWhy::OutOfOrder => 22,
+        DocWhy::TableNumber => 23,
+        DocWhy::EndsEarly => 24,
+        DocWhy::RowsAfterEnd => 25,
+        DocWhy::PriceRange => 26,
+    }
+}
+
+/// The name of a refusal of what follows the instance.
+fn document_name(why: DocWhy) -> &'static str
+    ensures { result.now ≡ document_name why }
+{
+    match why {
+        DocWhy::NoResult => "NoResult",
+        DocWhy::BadRow => "BadRow",
+        DocWhy::OutOfOrder => "OutOfOrder",
+        DocWhy::TableNumber => "TableNumber",
+        DocWhy::EndsEarly => "EndsEarly",
+        DocWhy::RowsAfterEnd => "RowsAfterEnd",
+        DocWhy::PriceRange => "PriceRange",
     }
 }

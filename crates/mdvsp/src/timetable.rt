@@ -2,7 +2,7 @@ ghost use Rattle.std.specs.Prelude.{◌≡◌, ℕ, List, ◌+◌, ◌<◌, ◌�
 ghost use Rattle.vs_instance.specs.Blocks.{IsBlock};
 ghost use Rattle.vs_instance.specs.Plan.{IsPlan};
 ghost use Rattle.vs_plan.specs.Blocks.{CanBeJudged, blocks_of, pair_of, pairs_of};
-ghost use Rattle.vs_cert.specs.FirstForm.{CheckText};
+ghost use Rattle.mdvsp.specs.Cases.{CheckText};
 ghost use Rattle.vs_cert.specs.Fields.{time_field};
 ghost use Rattle.vs_reader.specs.Names.{HaveCounts, name_of};
 ghost use Rattle.vs_reader.specs.Rows.{fields, line, lines};

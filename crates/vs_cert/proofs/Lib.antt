@@ -1,6 +1,3 @@
-pub mod Numbers
-pub mod Names
-pub mod RowsFrom
 pub mod LinesAppend
 pub mod WrittenRows
 pub mod WrittenParts
@@ -8,12 +5,3 @@ pub mod WrittenForms
 pub mod PriceRanges
 pub mod WrittenPlain
 pub mod Suiting
-pub mod SplitLayers
-pub mod RowKinds
-pub mod RefusedRows
-pub mod ErrorsPass
-pub mod BoundBesideCost
-pub mod SaysOnce
-pub mod TreeReading
-pub mod SamePlaces
-pub mod BlockReading

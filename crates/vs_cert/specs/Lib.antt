@@ -8,5 +8,4 @@ pub mod DocumentRefusals
 pub mod Alike
 pub mod Form
 pub mod Laws
-pub mod RowForms
 pub mod Reading
