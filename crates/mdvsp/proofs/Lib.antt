@@ -12,5 +12,8 @@ pub mod Sequences
 pub mod LawPlain
 pub mod LawDocuments
 pub mod LawAlike
+pub mod OneOrder
+pub mod OneNet
+pub mod OneRefusal
 pub mod LawVerdicts
 pub mod LawBounds
