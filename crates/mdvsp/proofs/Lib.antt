@@ -15,5 +15,7 @@ pub mod LawAlike
 pub mod OneOrder
 pub mod OneNet
 pub mod OneRefusal
-pub mod LawVerdicts
+pub mod AlikeFlaws
+pub mod OneDocument
+pub mod OneAnswer
 pub mod LawBounds
