@@ -1,14 +1,14 @@
 #!/usr/bin/env bash
-# Writes an instance of the largest size: 500 stops with all deadheads, 16 layers and 2,000 trips, each permitted in
-# every layer.
-exec awk 'BEGIN {
+# Writes an instance of the largest size: 500 stops with all deadheads, 2,000 trips, and so many layers (16 where no
+# number is given), in each of which every trip is permitted.
+exec awk -v layers="${1:-16}" 'BEGIN {
   print "instance,1"
   for (s = 0; s < 500; s++) print "stop,S" s
   for (k = 0; k < 500; k++) for (s = 0; s < 500; s++) if (k != s) {
     d = (k > s ? k - s : s - k); print "deadhead,S" k ",S" s "," d "," d * 500
   }
-  for (l = 0; l < 16; l++) print "layer,L" l ",S" l * 30 ",2000,50000,10,1"
-  for (l = 0; l < 16; l++) names = names ",L" l
+  for (l = 0; l < layers; l++) print "layer,L" l ",S" l * 30 ",2000,50000,10,1"
+  for (l = 0; l < layers; l++) names = names ",L" l
   seed = 7
   for (i = 0; i < 2000; i++) {
     seed = (seed * 48271) % 2147483647; from = seed % 500

@@ -1,6 +1,6 @@
 #!/usr/bin/env bash
-# Times `network` on the generator's instance of 2,000 trips, and on one of the largest size
-# (bench/largest_instance.sh). It prints seconds and asserts nothing. Build bin/mdvsp first.
+# Times `network` on the generator's instance of 2,000 trips, and on instances of the largest size with one layer and
+# with sixteen (bench/largest_instance.sh). It prints seconds and asserts nothing. Build bin/mdvsp first.
 set -u
 cd "$(dirname "$0")/.." || exit 1
 work=$(mktemp -d)
@@ -11,6 +11,8 @@ time bin/mdvsp make 2000 > "$work/made"
 echo "network on $(wc -l < "$work/made") records of make 2000:"
 time bin/mdvsp network < "$work/made"
 
-bench/largest_instance.sh > "$work/largest"
-echo "network on $(wc -l < "$work/largest") records of the largest size:"
-time bin/mdvsp network < "$work/largest"
+for layers in 1 16; do
+  bench/largest_instance.sh "$layers" > "$work/largest"
+  echo "network on $(wc -l < "$work/largest") records of the largest size, layers: $layers"
+  time bin/mdvsp network < "$work/largest" | tail -2
+done

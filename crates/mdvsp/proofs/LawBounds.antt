@@ -16,7 +16,9 @@ use Rattle.vs_tree.specs.Claims.{claim_found}
 use Rattle.vs_prices.specs.Worth.{IsWorth}
 use Rattle.mdvsp.specs.declared.status.Status.{Status}
 use Rattle.mdvsp.specs.declared.status.Status.TheVariants as status
-use Rattle.mdvsp.specs.Owed.{status_of}
+use Rattle.mdvsp.specs.Laws.{IsDoneWhereShown}
+use Rattle.mdvsp.specs.Owed.{OwesDocument, status_of}
+use Rattle.vs_reader.specs.Rows.{Row}
 use Rattle.vs_tree.specs.Tree.{Tree, Leaf, Split, LeafPlace, leaves, splits}
 use Rattle.mdvsp.specs.SolveAnswer.{SolveAnswer, AreWorths, IsBoundOf}
 
@@ -48,7 +50,7 @@ pub one_leaf : (p : Problem) (d : Document) (s : SolveAnswer p 0 d) → (t : ℕ
 one_leaf p d s = one_case s.holds.tree.tree (omega (arith, s.each_split, s.within_budget))
 
 -- the one worth is that of the one table
-pub worth_is : (p : Problem) (d : Document) (table : Table) (s : SolveAnswer p 0 d) → d.tables.items ≡ table ∷ []
+worth_is : (p : Problem) (d : Document) (table : Table) (s : SolveAnswer p 0 d) → d.tables.items ≡ table ∷ []
     → table.ray ≡ false
     → (n : ℤ) × IsWorth p (permitted_sets p) table (AtLeast n) × (s.worths ≡ AtLeast n ∷ [])
 worth_is p d table s one cost =
@@ -64,7 +66,7 @@ worth_is p d table s one cost =
     (n.0, subst (IsWorth p (permitted_sets p) table) n.1 is, o.2 ∙ ap (λ (w : Bound). w ∷ []) n.1)
 
 -- what the claim says of the cost and the one worth
-pub record Tells (cost : Option ℤ) (n : ℤ) (claim : Claim) : Type 0 where
+record Tells (cost : Option ℤ) (n : ℤ) (claim : Claim) : Type 0 where
   pub optimal_only : claim ≡ Optimal → IsSomeAnd cost (λ c. c ≤ℤ n)
   pub optimal_there : IsSomeAnd cost (λ c. c ≤ℤ n) → claim ≡ Optimal
   pub or_open : (claim ≡ Optimal) ⊎ (claim ≡ StillOpen)
@@ -84,7 +86,7 @@ tested c b n false e among low high = record {
   or_open = inr refl;
 }
 
-pub bound_tells : (cost bound : Option ℤ) (n : ℤ) → IsBoundOf cost (AtLeast n ∷ []) bound
+bound_tells : (cost bound : Option ℤ) (n : ℤ) → IsBoundOf cost (AtLeast n ∷ []) bound
     → Tells cost n (claim_found cost bound)
 bound_tells None None n h = absurd (h n (inl refl))
 bound_tells None (Some b) n h = record { optimal_only = λ o. cc; optimal_there = λ o. absurd o; or_open = inr refl }
@@ -92,7 +94,7 @@ bound_tells (Some c) None n h = absurd (h c (inr refl))
 bound_tells (Some c) (Some b) n h = tested c b n (int_eq c b) refl h.0 (h.1 n (inl refl)) (h.1 c (inr refl))
 
 -- the status is that of the claim
-pub record TellsBy (cost : Option ℤ) (n : ℤ) (answer : Status) : Type 0 where
+record TellsBy (cost : Option ℤ) (n : ℤ) (answer : Status) : Type 0 where
   pub done_only : answer ≡ status.Done → IsSomeAnd cost (λ c. c ≤ℤ n)
   pub done_there : IsSomeAnd cost (λ c. c ≤ℤ n) → answer ≡ status.Done
   pub or_open : (answer ≡ status.Done) ⊎ (answer ≡ status.StillOpen)
@@ -102,10 +104,29 @@ optimal_from Optimal e = refl
 optimal_from Infeasible e = cc
 optimal_from StillOpen e = cc
 
-pub status_tells : (cost : Option ℤ) (n : ℤ) (claim : Claim) (answer : Status) → answer ≡ status_of claim
+status_tells : (cost : Option ℤ) (n : ℤ) (claim : Claim) (answer : Status) → answer ≡ status_of claim
     → Tells cost n claim → TellsBy cost n answer
 status_tells cost n claim answer e t = record {
   done_only = λ d. t.optimal_only (optimal_from claim (sym e ∙ d));
   done_there = λ le. e ∙ ap status_of (t.optimal_there le);
   or_open = ⊎_elim (λ o. inl (e ∙ ap status_of o)) (λ o. inr (e ∙ ap status_of o)) t.or_open;
 }
+
+-- a search without a budget is done where its plan costs no more than the zero table is worth
+pub done_where_shown : (bytes : List ℕ) (answer : Status) (rows : List Row) (owed : OwesDocument bytes answer rows)
+    → IsDoneWhereShown bytes answer rows owed
+done_where_shown bytes answer rows owed =
+    let d = owed.document in
+    let w = worth_is owed.problem d owed.table.0 owed.solves owed.table.1 owed.table.2.cost in
+    let bound = subst (λ (ws : List Bound). IsBoundOf d.cost ws d.bound) w.2 owed.solves.bound in
+    let t = status_tells d.cost w.0 _ answer owed.status_is
+    (subst (Tells d.cost w.0) (sym owed.solves.holds.claim) (bound_tells d.cost d.bound w.0 bound)) in
+    record {
+      table = owed.table.0;
+      zero = owed.table.2;
+      n = w.0;
+      worth = w.1;
+      done_only = t.done_only;
+      done_there = t.done_there;
+      or_open = t.or_open;
+    }

@@ -10,5 +10,10 @@ pub mod ZeroTable
 pub mod FirstAnswer
 pub mod Sequences
 pub mod LawDocuments
+pub mod OneOrder
+pub mod OneNet
+pub mod OneRefusal
 pub mod OneCase
+pub mod OneAnswer
+pub mod OneStatus
 pub mod LawBounds

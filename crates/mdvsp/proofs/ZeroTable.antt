@@ -5,7 +5,7 @@ use Rattle.std.specs.List.{All, range_with_len}
 use Rattle.std.proofs.lemmas.Bool.{cases_lt}
 use Rattle.std.proofs.lemmas.Int.{ints, clamps}
 use Rattle.std.proofs.lemmas.List.{length-replicate, get_or_past}
-use Rattle.std.proofs.lemmas.List.Elements.{All-replicate, All-get_or, All-take, All-drop}
+use Rattle.std.proofs.lemmas.List.Elements.{All-drop, All-get_or, All-head, All-replicate, All-tail, All-take}
 use Rattle.std.proofs.lemmas.Nat.{mul-le}
 use Rattle.vs_types.specs.declared.layer_set.LayerSet.{LayerSet}
 use Rattle.vs_types.specs.LayerSet.{members}
@@ -16,6 +16,7 @@ use Rattle.vs_instance.specs.Pieces.{out_piece, trip_piece, link_piece, in_piece
 use Rattle.vs_instance.specs.HoldingTable.{price_of, scaled}
 use Rattle.vs_instance.specs.Restriction.{set_of}
 use Rattle.vs_prices.specs.declared.bound.Bound.TheVariants.{AtLeast}
+use Rattle.vs_cert.specs.NewDocumentText.{Agree}
 use Rattle.vs_prices.specs.declared.table.Table.{Table}
 use Rattle.vs_prices.specs.Table.{Fits, HoldingTable, IsPrice, prices_in}
 use Rattle.vs_prices.specs.Worth.{IsRoundedUp, IsWorth, fleet_price, least, least_price, table_value, trip_price}
@@ -145,3 +146,24 @@ module _ (p : Problem) (table : Table) (is : IsZeroTable p table) where
         rounded_within (table_value p sets table) n (value_within sets)
         (subst (λ (ray : Bool). MatchBool ray ((table_value p sets table ≤ℤ pos 0) × (n ≡ pos 0))
         (IsRoundedUp (table_value p sets table) n)) is.cost worth)
+
+-- two lists of zeros of one length are the same
+zeros_are : (xs ys : List ℤ) → All IsZero xs → All IsZero ys → length xs ≡ length ys → xs ≡ ys
+zeros_are [] [] all also size = refl
+zeros_are [] (y ∷ ys) all also size = absurd (omega (arith, size))
+zeros_are (x ∷ xs) [] all also size = absurd (omega (arith, size))
+zeros_are (x ∷ xs) (y ∷ ys) all also size =
+    let same : xs ≡ ys =
+    zeros_are xs ys (All-tail IsZero x xs all) (All-tail IsZero y ys also) (omega (arith, size)) in
+    ap (λ (z : ℤ). z ∷ xs) (All-head IsZero x xs all ∙ sym (All-head IsZero y ys also))
+    ∙ ap (λ (zs : List ℤ). y ∷ zs) same
+
+-- and so two tables of zeros agree
+pub zero_tables_agree : (p : Problem) (t u : Table) → IsZeroTable p t → IsZeroTable p u → Agree p t u
+zero_tables_agree p t u is also = record {
+  ray = is.cost ∙ sym also.cost;
+  fleet = zeros_are t.fleet.items u.fleet.items is.zeros.fleet also.zeros.fleet
+      (is.fits.fleet_size ∙ sym also.fits.fleet_size);
+  into = λ l i _ _ _. into-zero p t is l i ∙ sym (into-zero p u also l i);
+  from = λ l i _ _ _. from-zero p t is l i ∙ sym (from-zero p u also l i);
+}

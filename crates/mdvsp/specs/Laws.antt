@@ -1,9 +1,11 @@
--- When the plan that `solve` writes is shown to be optimal.
+-- When the plan that `solve` writes is shown to be optimal, and which commands owe one thing.
 use Rattle.std.specs.Prelude.{◌≡◌, ◌⊎◌, ℕ, List, IsSomeAnd, ℤ, ◌≤ℤ◌}
 use Rattle.vs_instance.specs.Restriction.{permitted_sets}
 use Rattle.vs_prices.specs.declared.bound.Bound.TheVariants.{AtLeast}
 use Rattle.vs_prices.specs.declared.table.Table.{Table}
 use Rattle.vs_prices.specs.Worth.{IsWorth}
+use Rattle.mdvsp.specs.declared.command.Command.{Command}
+use Rattle.mdvsp.specs.declared.command.Command.TheVariants.{Solve}
 use Rattle.mdvsp.specs.declared.status.Status.{Status}
 use Rattle.mdvsp.specs.declared.status.Status.TheVariants as status
 use Rattle.mdvsp.specs.Owed.{OwesDocument, IsZeroTable}
@@ -20,3 +22,8 @@ pub record IsDoneWhereShown (bytes : List ℕ) (answer : Status) (rows : List Ro
   pub done_only : answer ≡ status.Done → IsSomeAnd owed.document.cost (λ cost. cost ≤ℤ n)
   pub done_there : IsSomeAnd owed.document.cost (λ cost. cost ≤ℤ n) → answer ≡ status.Done
   pub or_open : (answer ≡ status.Done) ⊎ (answer ≡ status.StillOpen)
+
+-- what the command owes is one thing; of `solve` the definition leaves open which of several plans is written
+abbrev pub IsDetermined : Command → Type 0
+IsDetermined Solve = ⊥
+IsDetermined _ = Unit {0}

@@ -5,8 +5,8 @@ ghost use Rattle.vs_reader.specs.Texts.{HasRows, EndsInLine};
 ghost use Rattle.mdvsp.specs.declared.command.Command.{Command};
 ghost use Rattle.mdvsp.specs.declared.status.Status.{Status};
 ghost use Rattle.mdvsp.specs.declared.status.Status.TheVariants.{Done};
-ghost use Rattle.mdvsp.specs.Laws.{IsDoneWhereShown};
-ghost use Rattle.mdvsp.specs.Owed.{OwesDocument, CheckOwes, yes_row};
+ghost use Rattle.mdvsp.specs.Laws.{IsDetermined, IsDoneWhereShown};
+ghost use Rattle.mdvsp.specs.Owed.{CheckOwes, Owes, OwesDocument, yes_row};
 ghost use Rattle.mdvsp.specs.Words.{Word, AreBadAt, AskFor};
 ghost use Rattle.vs_reader.specs.Rows.{Row, lines};
 
@@ -16,6 +16,19 @@ pub fn solved_documents_hold()
     ensures { (bytes read : List ℕ) (answer : Status) (rows : List Row) (owed : OwesDocument bytes answer rows)
         → HasRows read (take owed.text.before owed.text.instance.rows) → EndsInLine read
         → CheckOwes (read ++ lines rows) Done (yes_row owed.document ∷ []) }
+{}
+
+/// What a command other than `solve` is owed for the bytes that it read is one thing: one status, and one
+/// list of rows. So no input has two verdicts.
+pub fn one_answer()
+    ensures { (command : Command) (bytes : List ℕ) (a b : Status) (r s : List Row)
+        → IsDetermined command → Owes command bytes a r → Owes command bytes b s → (a ≡ b) × (r ≡ s) }
+{}
+
+/// What any command is owed has one status.
+pub fn one_status()
+    ensures { (command : Command) (bytes : List ℕ) (a b : Status) (r s : List Row)
+        → Owes command bytes a r → Owes command bytes b s → a ≡ b }
 {}
 
 /// Without a search a run is done exactly where there is a greedy plan and it costs no more than the table

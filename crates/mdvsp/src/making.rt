@@ -297,24 +297,3 @@ fn write_layer_names(text: &mut Text, layers: LayerSet) -> Result<(), Memory>
     }
     Ok(())
 }
-
-#[cfg(test)]
-mod tests {
-    use super::*;
-    use std::test::Fail;
-
-    const LAST_ROWS_OF_TWO: &str = "trip,T1,S10,09:11,S3,09:51,9000,L1,L3
-trip,T2,S10,18:08,S3,18:44,9000,L1,L3
-";
-
-    #[test]
-    fn makes_instances(rt: HostRuntime) -> Result<(), Fail> {
-        let two = make_text(rt.alloc(), 2)?;
-        assert_eq!(rt; two.ends_with(LAST_ROWS_OF_TWO.as_bytes()), true);
-        for (n, rows) in [(0, 149), (2, 151), (300, 449)] {
-            let text = make_text(rt.alloc(), n)?;
-            assert_eq!(rt; text.iter().filter(|byte| **byte == b'\n').count(), rows);
-        }
-        Ok(())
-    }
-}

@@ -444,7 +444,7 @@ fn owned(alloc: Global, words: &[&str]) -> Result<Vec<String>, AllocError> {
 fn outcome(alloc: Global, words: &[&str], input: &[&str]) -> Result<(Status, Vec<u8>), Fail> {
     let words = owned(alloc, words)?;
     let mut source = MemSource::new(joined(alloc, input)?, 4096, Vec::new(alloc));
-    let mut sink = MemSink::new(alloc, 4096, 4096, Vec::new(alloc)).map_err(|_| AllocError)?;
+    let mut sink = MemSink::new(alloc, 65_536, 4096, Vec::new(alloc)).map_err(|_| AllocError)?;
     let status = run(alloc, &words, &mut source, &mut sink);
     let written = sink.taken().to_vec(alloc)?;
     Ok((status, written))
@@ -463,7 +463,13 @@ fn judges_documents(rt: HostRuntime) -> Result<(), Fail> {
 #[test]
 fn refuses_what_is_no_instance(rt: HostRuntime) -> Result<(), Fail> {
     for (case, input, written) in NO_INSTANCES {
-        for words in [["check"].as_slice(), ["solve", "--nodes", "0"].as_slice()] {
+        let commands: [&[&str]; 4] = [
+            &["check"],
+            &["solve", "--nodes", "0"],
+            &["network"],
+            &["blocks"],
+        ];
+        for words in commands {
             let (ended, text) = outcome(rt.alloc(), words, input)?;
             assert_eq!(rt; ended, Status::BadInput, "{case}");
             assert_eq!(rt; text.as_slice(), written.as_bytes(), "{case}");
@@ -477,13 +483,15 @@ fn refuses_other_forms(rt: HostRuntime) -> Result<(), Fail> {
     for (case, behind) in OTHER_FORMS {
         let mut input = Vec::from_slice(rt.alloc(), &[STOPS, LAYER, TRIPS])?;
         input.extend_from_slice(behind)?;
-        let (ended, text) = outcome(rt.alloc(), &["check"], &input)?;
-        assert_eq!(rt; ended, Status::BadInput, "{case}");
-        assert_eq!(rt;
-            text.as_slice(),
-            b"refused,0,90,NotThisForm\n".as_slice(),
-            "{case}"
-        );
+        for command in ["check", "blocks"] {
+            let (ended, text) = outcome(rt.alloc(), &[command], &input)?;
+            assert_eq!(rt; ended, Status::BadInput, "{case}");
+            assert_eq!(rt;
+                text.as_slice(),
+                b"refused,0,90,NotThisForm\n".as_slice(),
+                "{case}"
+            );
+        }
     }
     Ok(())
 }
@@ -584,14 +592,21 @@ fn judges_what_it_plans(rt: HostRuntime) -> Result<(), Fail> {
 
 #[test]
 fn tells_wrong_words(rt: HostRuntime) -> Result<(), Fail> {
-    let cases: [(&[&str], &str); 7] = [
+    let cases: [(&[&str], &str); 14] = [
         (&[], "words,1\n"),
         (&["plan"], "words,1\n"),
         (&["check", "x"], "words,2\n"),
+        (&["network", "x"], "words,2\n"),
+        (&["blocks", "x"], "words,2\n"),
         (&["solve"], "words,2\n"),
         (&["solve", "--nodes"], "words,3\n"),
-        (&["solve", "--nodes", "1"], "words,3\n"),
+        (&["solve", "--nodes", "-1"], "words,3\n"),
         (&["solve", "--nodes", "0", "x"], "words,4\n"),
+        (&["make"], "words,2\n"),
+        (&["make", "+1"], "words,2\n"),
+        (&["make", "2001"], "words,2\n"),
+        (&["make", "0000001"], "words,2\n"),
+        (&["make", "1", "2"], "words,3\n"),
     ];
     for (words, written) in cases {
         let words = owned(rt.alloc(), words)?;
@@ -658,33 +673,4 @@ fn ends_where_a_stream_fails(rt: HostRuntime) -> Result<(), Fail> {
     Ok(())
 }
 
-/// The stops and the layer with six trips, of which the arrivals at P and the departures from Q are close together.
-const SIX_TRIPS: &str =
-    "trip,t1,D,7:30,P,8:00,0,L1\ntrip,t2,D,7:35,P,8:05,0,L1\ntrip,t3,D,7:40,P,8:10,0,L1\ntrip,t4,D,7:50,P,8:20,0,L1\ntrip,t5,Q,8:30,D,9:00,0,L1\ntrip,t6,Q,8:40,D,9:10,0,L1\n";
-
-#[test]
-fn tells_sizes_of_nets(rt: HostRuntime) -> Result<(), Fail> {
-    let cases: [(&str, &str, &str); 3] = [
-        (
-            "six trips",
-            SIX_TRIPS,
-            "network,L1,first,12,9,4,6,6,6,7\nnetwork,L1,latest,12,9,2,6,6,6,7\n",
-        ),
-        (
-            "two trips",
-            TRIPS,
-            "network,L1,first,3,1,0,2,2,2,1\nnetwork,L1,latest,3,1,0,2,2,2,1\n",
-        ),
-        (
-            "until 47:59",
-            LONG_TRIPS,
-            "network,L1,first,4,2,0,2,2,2,0\nnetwork,L1,latest,4,2,0,2,2,2,0\n",
-        ),
-    ];
-    for (case, trips, written) in cases {
-        let (ended, text) = outcome(rt.alloc(), &["network"], &[STOPS, LAYER, trips])?;
-        assert_eq!(rt; ended, Status::Done, "{case}");
-        assert_eq!(rt; text.as_slice(), written.as_bytes(), "{case}");
-    }
-    Ok(())
-}
+mod commands;

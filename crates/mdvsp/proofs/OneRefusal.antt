@@ -1,0 +1,99 @@
+-- A text is refused in one way.
+use Rattle.std.proofs.Common.{◌≡◌, ℕ, ◌+◌, ◌⊎◌, inl, inr, List, [], ◌∷◌, ◌++◌, length, Some, refl, sym, ap, ◌∙◌, subst}
+use Rattle.std.proofs.lemmas.Option.{same_Some}
+use Rattle.vs_instance.specs.declared.parts.Parts.{Parts}
+use Rattle.vs_instance.specs.declared.misfit.Misfit.{Misfit}
+use Rattle.vs_instance.specs.declared.deadhead.Deadhead.{Deadhead}
+use Rattle.vs_instance.specs.declared.layer.Layer.{Layer}
+use Rattle.vs_instance.specs.declared.trip.Trip.{Trip}
+use Rattle.vs_instance.specs.Misfits.{closure_misfits, deadheads_misfits, deadheads_of, first_misfit, layers_misfits, misfits_of, trips_misfits}
+use Rattle.vs_reader.specs.declared.refused.Refused.{Refused}
+use Rattle.vs_reader.specs.declared.refused.Why.{Why}
+use Rattle.vs_reader.specs.declared.refused.Why.TheVariants.{Misfit as misfit_why}
+use Rattle.vs_reader.specs.Rows.{Row}
+use Rattle.vs_reader.specs.Names.{NameLists}
+use Rattle.vs_reader.specs.InstanceText.{Declared, AddAll, nothing_yet, instance_records}
+use Rattle.vs_reader.specs.Rules.{Rule, AreKept, BreaksFirst, rules, with_row}
+use Rattle.vs_reader.specs.Refusals.{ArePartsOf, BreaksRule, HasMisfit, IsRefusal, misfit_row}
+use Rattle.vs_reader.specs.Texts.{IsRefused}
+use Rattle.vs_reader.proofs.DeclaredLemmas.{IsSound-nothing, one_AddAll}
+use Rattle.vs_reader.proofs.RefusedLemmas.{AreAllNames-nothing, breaks_refutes}
+use Rattle.vs_reader.proofs.TextLemmas.{one_rows}
+
+-- rules that are kept don't break, and break at one
+kept_breaks : (rs : List Rule) (why : Why) → AreKept rs → BreaksFirst rs why → ⊥
+kept_breaks [] why kept breaks = breaks
+kept_breaks (rule ∷ rs) why kept (inl (broken, is)) = broken kept.0
+kept_breaks (rule ∷ rs) why kept (inr (keeps, rest)) = kept_breaks rs why kept.1 rest
+
+one_break : (rs : List Rule) (a b : Why) → BreaksFirst rs a → BreaksFirst rs b → a ≡ b
+one_break [] a b breaks also = absurd breaks
+one_break (rule ∷ rs) a b (inl (broken, is)) (inl (too, so)) = is ∙ sym so
+one_break (rule ∷ rs) a b (inl (broken, is)) (inr (keeps, rest)) = absurd (broken keeps)
+one_break (rule ∷ rs) a b (inr (keeps, rest)) (inl (broken, is)) = absurd (broken keeps)
+one_break (rule ∷ rs) a b (inr (keeps, rest)) (inr (kept, more)) = one_break rs a b rest more
+
+same_refusal : (a b : Refused) → a.row ≡ b.row → a.why ≡ b.why → a ≡ b
+same_refusal a b row why =
+    ap (λ (r : ℕ). record { row = r; why = a.why }) row ∙ ap (λ (w : Why). record { row = b.row; why = w }) why
+
+one_rule : (n : ℕ) (names : NameLists) (rows : List Row) (a b : Refused) → BreaksRule n names rows a
+    → BreaksRule n names rows b → a ≡ b
+one_rule n names [] a b breaks also = absurd breaks
+one_rule n names (row ∷ rows) a b (inl (at, breaks)) (inl (there, also)) =
+    same_refusal a b (at ∙ sym there) (one_break (rules names row) a.why b.why breaks also)
+one_rule n names (row ∷ rows) a b (inl (at, breaks)) (inr (kept, rest)) =
+    absurd (kept_breaks (rules names row) a.why kept breaks)
+one_rule n names (row ∷ rows) a b (inr (kept, rest)) (inl (at, breaks)) =
+    absurd (kept_breaks (rules names row) b.why kept breaks)
+one_rule n names (row ∷ rows) a b (inr (kept, rest)) (inr (keeps, more)) =
+    one_rule (n + 1) (with_row names row) rows a b rest more
+
+-- the misfits of what is declared
+abbrev misfits_with : ℕ → List Deadhead → List Layer → List Trip → List Misfit
+misfits_with stops deadheads layers trips =
+    layers_misfits layers ++ deadheads_misfits deadheads ++ trips_misfits trips
+    ++ closure_misfits stops (deadheads_of deadheads)
+
+abbrev declared_misfits : Declared → List Misfit
+declared_misfits d = misfits_with (length d.names.stops) d.deadheads d.layers d.trips
+
+misfits_declared : (d : Declared) (parts : Parts) → ArePartsOf d parts → misfits_of parts ≡ declared_misfits d
+misfits_declared d parts are =
+    ap (λ (n : ℕ). misfits_with n parts.deadheads.items parts.layers.items parts.trips.items) are.stops
+    ∙ ap (λ (xs : List Deadhead). misfits_with (length d.names.stops) xs parts.layers.items parts.trips.items) are.deadheads
+    ∙ ap (λ (xs : List Layer). misfits_with (length d.names.stops) d.deadheads xs parts.trips.items) are.layers
+    ∙ ap (misfits_with (length d.names.stops) d.deadheads d.layers) are.trips
+
+first_declared : (records : List Row) (a : Refused) (h : HasMisfit records a)
+    → first_misfit (declared_misfits h.declared) ≡ Some h.misfit
+first_declared records a h =
+    sym (ap first_misfit (misfits_declared h.declared h.parts h.parts_are)) ∙ h.first
+
+one_misfit : (records : List Row) (a b : Refused) → HasMisfit records a → HasMisfit records b → a ≡ b
+one_misfit records a b x y =
+    let declared : x.declared ≡ y.declared =
+    one_AddAll nothing_yet x.declared y.declared records IsSound-nothing x.declares y.declares in
+    let found : Some x.misfit ≡ Some y.misfit =
+    sym (first_declared records a x) ∙ ap (λ (d : Declared). first_misfit (declared_misfits d)) declared
+    ∙ first_declared records b y in
+    let misfit : x.misfit ≡ y.misfit = same_Some x.misfit y.misfit found in
+    same_refusal a b (x.row_is ∙ ap (misfit_row records) misfit ∙ sym y.row_is)
+    (x.why_is ∙ ap misfit_why misfit ∙ sym y.why_is)
+
+one_refusal_of : (rows : List Row) (a b : Refused) → IsRefusal rows a → IsRefusal rows b → a ≡ b
+one_refusal_of rows a b (inl (lacks, row, why)) (inl (too, at, is)) = same_refusal a b (row ∙ sym at) (why ∙ sym is)
+one_refusal_of rows a b (inl (lacks, row, why)) (inr (has, rest)) = absurd (lacks has)
+one_refusal_of rows a b (inr (has, rest)) (inl (lacks, row, why)) = absurd (lacks has)
+one_refusal_of rows a b (inr (has, inl x)) (inr (too, inl y)) =
+    one_rule 2 nothing_yet.names (instance_records rows) a b x y
+one_refusal_of rows a b (inr (has, inl x)) (inr (too, inr y)) =
+    absurd (breaks_refutes 2 nothing_yet y.declared (instance_records rows) a AreAllNames-nothing x y.declares)
+one_refusal_of rows a b (inr (has, inr x)) (inr (too, inl y)) =
+    absurd (breaks_refutes 2 nothing_yet x.declared (instance_records rows) b AreAllNames-nothing y x.declares)
+one_refusal_of rows a b (inr (has, inr x)) (inr (too, inr y)) = one_misfit (instance_records rows) a b x y
+
+pub one_refusal : (bytes : List ℕ) (a b : Refused) → IsRefused bytes a → IsRefused bytes b → a ≡ b
+one_refusal bytes a b x y =
+    let rows : y.rows ≡ x.rows = one_rows bytes x.rows y.rows x.has_rows y.has_rows in
+    one_refusal_of x.rows a b x.refusal (subst (λ (rs : List Row). IsRefusal rs b) rows y.refusal)
