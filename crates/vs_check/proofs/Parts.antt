@@ -3,7 +3,6 @@ use Rattle.std.proofs.Common.{◌≡◌, ℕ, ◌+◌, ◌<◌, ◌≤◌, ◌�
 use Rattle.std.specs.List.{All, slice_get}
 use Rattle.std.proofs.lemmas.List.{append-nil, drop_all, drop_more}
 use Rattle.std.proofs.lemmas.List.Elements.{All-cons, All-get_or, All-head, All-nil, All-tail}
-use Rattle.std.proofs.lemmas.Option.{none-some}
 use Rattle.vs_types.specs.LayerSet.{Has}
 use Rattle.vs_types.specs.declared.layer_set.LayerSet.{LayerSet}
 use Rattle.vs_types.specs.declared.numbers.TripNo.{TripNo}
@@ -13,7 +12,7 @@ use Rattle.vs_instance.specs.Problem.{Problem}
 use Rattle.vs_instance.specs.Restriction.{IsRestriction, permitted_sets, set_of}
 use Rattle.vs_instance.proofs.Firsts.{first-skip, first-stop}
 use Rattle.vs_instance.proofs.PermittedSets.{permitted_sets-IsRestriction}
-use Rattle.vs_tree.specs.Tree.{Tree, Leaf, Split, IsProperPart, right_of, with_set}
+use Rattle.vs_tree.specs.Tree.{Tree, Leaf, Split, right_of, with_set}
 use Rattle.vs_tree.proofs.Restrictions.{left-restricts, right-restricts}
 use Rattle.vs_cert.specs.Shapes.{IsShapeOf, preorder}
 use Rattle.vs_cert.specs.declared.document.Document.{Document}
