@@ -52,7 +52,7 @@ module _ (p : Problem) (d : Document) where
   parts_flaws position (part ∷ parts) =
       part_flaws position part.0 part.1 ++ parts_flaws (position + length (preorder part.1)) parts
 
-  -- these rows are those of the parts still to come, of which the walk is at the first, and their first flaw is this one
+  -- these rows are those of the parts still to come, and their first flaw is this one; the walk is at the first of them
   pub record IsBefore (rows : List Shape) (position : ℕ) (walk : Walk) (flaw : Option Flaw) : Type 0 where
     pub parts : List Part
     pub rows_are : rows ≡ rows_of parts
@@ -192,8 +192,8 @@ module _ (p : Problem) (d : Document) where
   row_follows instance rows position default inside named old new all before found goes =
       some_parts instance position old new (drop (position + 1) rows) all (get_or rows position default)
       (All-get_or (IsShapeOf p (length d.tables.items)) rows position default inside named) before.parts
-      (sym (drop_more rows position default inside) ∙ before.rows_are) before.sets_are before.restrictions before.flaw_is
-      found goes
+      (sym (drop_more rows position default inside) ∙ before.rows_are) before.sets_are before.restrictions
+      before.flaw_is found goes
 
   -- where a row is still to come, the walk's sets are a restriction
   pub walk_restricts : (rows : List Shape) (position : ℕ) → position < length rows → (walk : Walk) (all : Option Flaw)

@@ -151,8 +151,8 @@ fn judges_a_ray(rt: HostRuntime) -> Result<(), Fail> {
     Ok(())
 }
 
-/// The verdict on a document in which the one trip costs 500, with this shape and three tables: worth
-/// 500 in both layers, in the first alone, and in the second alone.
+/// The verdict on a document in which the one trip costs 500, with this shape and three tables:
+/// worth 500 in both layers, in the first alone, and in the second alone.
 fn split_verdict(alloc: Global, instance: &Instance, shape: Vec<Shape>) -> Result<Verdict, Fail>
     requires sizes { (length instance.now.layers ≡ 2) × (length instance.now.trips ≡ 1) }
     requires few { length shape.items ≤ 3 }

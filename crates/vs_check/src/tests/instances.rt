@@ -122,7 +122,7 @@ pub fn two_trips(alloc: Global, fleet: u64, start: u32) -> Result<Instance, Fail
 }
 
 /// One trip, from P at 8:00 to Q, that may be run in either of two layers with one vehicle each: one
-/// at the depot, and one at P. A block of it costs 500 in both.
+/// at the depot, one at P. A block of it costs 500 in both.
 pub fn one_trip(alloc: Global) -> Result<Instance, Fail>
     ensures { IfOk result (λ i. (length i.layers ≡ 2) × (length i.trips ≡ 1)) }
 {
