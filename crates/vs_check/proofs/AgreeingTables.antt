@@ -1,5 +1,5 @@
 -- Tables that agree break in the same places and are worth the same.
-use Rattle.std.proofs.Common.{◌≡◌, ℕ, zero, suc, ◌+◌, ◌<◌, ◌≤◌, Bool, true, false, cond, eqb, List, [], ◌∷◌, ◌++◌, length, map, filter, refl, sym, ap, ◌∙◌, arith, Option, Some, None, ℤ, pos, ◌+ℤ◌, ◌-ℤ◌, ◌*ℤ◌}
+use Rattle.std.proofs.Common.{◌≡◌, ℕ, zero, suc, ◌+◌, ◌<◌, ◌≤◌, Bool, true, false, cond, eqb, List, [], ◌∷◌, ◌++◌, length, map, refl, ap, ◌∙◌, arith, Option, ℤ, pos, ◌+ℤ◌, ◌-ℤ◌, ◌*ℤ◌}
 use Rattle.std.specs.Prelude.{◌&&◌, int_lt}
 use Rattle.std.specs.Int.{bit_at}
 use Rattle.std.specs.List.{All, flat_map, range_with_len}
@@ -79,8 +79,8 @@ module _ (p : Problem) (t u : Table) (agree : Agree p t u) where
     same_moves i inside permitted =
         let out = same_excess (into_price p t l i) (into_price p u l i) (vehicle_price t l) (vehicle_price u l) t.ray
         u.ray (out_piece p l i) (agree.into l i layer inside permitted) (same_vehicle l) agree.ray in
-        let in_again = same_excess (pos 0) (pos 0) (from_price p t l i) (from_price p u l i) t.ray u.ray (in_piece p l i)
-        refl (agree.from l i layer inside permitted) agree.ray in
+        let in_again = same_excess (pos 0) (pos 0) (from_price p t l i) (from_price p u l i) t.ray u.ray
+        (in_piece p l i) refl (agree.from l i layer inside permitted) agree.ray in
         let links = same_lists (link_breaks p t l i) (link_breaks p u l i) 0 (length p.trips)
         (λ j from within. same_link i j inside (omega arith) permitted) in
         ap (λ (b : Bool). when b (PullOut (record { 0 = l }) (record { 0 = i })) ++ links_breaks p t l i

@@ -11,3 +11,4 @@ pub mod Claims
 pub mod NamedFlaws
 pub mod AgreeingTables
 pub mod AlikeDocuments
+pub mod FlawExamples

@@ -3,7 +3,6 @@ use Rattle.std.proofs.Common.{◌≡◌, ℕ, ◌+◌, ◌<◌, ◌≤◌, ◌�
 use Rattle.std.specs.List.{All, slice_get}
 use Rattle.std.proofs.lemmas.List.{append-nil, drop_all, drop_more}
 use Rattle.std.proofs.lemmas.List.Elements.{All-cons, All-get_or, All-head, All-nil, All-tail}
-use Rattle.std.proofs.lemmas.Option.{none-some}
 use Rattle.vs_types.specs.LayerSet.{Has}
 use Rattle.vs_types.specs.declared.layer_set.LayerSet.{LayerSet}
 use Rattle.vs_types.specs.declared.numbers.TripNo.{TripNo}
@@ -13,7 +12,7 @@ use Rattle.vs_instance.specs.Problem.{Problem}
 use Rattle.vs_instance.specs.Restriction.{IsRestriction, permitted_sets, set_of}
 use Rattle.vs_instance.proofs.Firsts.{first-skip, first-stop}
 use Rattle.vs_instance.proofs.PermittedSets.{permitted_sets-IsRestriction}
-use Rattle.vs_tree.specs.Tree.{Tree, Leaf, Split, IsProperPart, right_of, with_set}
+use Rattle.vs_tree.specs.Tree.{Tree, Leaf, Split, right_of, with_set}
 use Rattle.vs_tree.proofs.Restrictions.{left-restricts, right-restricts}
 use Rattle.vs_cert.specs.Shapes.{IsShapeOf, preorder}
 use Rattle.vs_cert.specs.declared.document.Document.{Document}
@@ -53,7 +52,7 @@ module _ (p : Problem) (d : Document) where
   parts_flaws position (part ∷ parts) =
       part_flaws position part.0 part.1 ++ parts_flaws (position + length (preorder part.1)) parts
 
-  -- these rows are those of the parts still to come, of which the walk is at the first, and their first flaw is this one
+  -- these rows are those of the parts still to come, and their first flaw is this one; the walk is at the first of them
   pub record IsBefore (rows : List Shape) (position : ℕ) (walk : Walk) (flaw : Option Flaw) : Type 0 where
     pub parts : List Part
     pub rows_are : rows ≡ rows_of parts
@@ -193,8 +192,8 @@ module _ (p : Problem) (d : Document) where
   row_follows instance rows position default inside named old new all before found goes =
       some_parts instance position old new (drop (position + 1) rows) all (get_or rows position default)
       (All-get_or (IsShapeOf p (length d.tables.items)) rows position default inside named) before.parts
-      (sym (drop_more rows position default inside) ∙ before.rows_are) before.sets_are before.restrictions before.flaw_is
-      found goes
+      (sym (drop_more rows position default inside) ∙ before.rows_are) before.sets_are before.restrictions
+      before.flaw_is found goes
 
   -- where a row is still to come, the walk's sets are a restriction
   pub walk_restricts : (rows : List Shape) (position : ℕ) → position < length rows → (walk : Walk) (all : Option Flaw)

@@ -3,7 +3,6 @@ use Rattle.std.proofs.Common.{◌≡◌, ℕ, ◌+◌, ◌<◌, Bool, true, fals
 use Rattle.std.specs.List.{All, slice_get}
 use Rattle.std.proofs.lemmas.List.Elements.{All-append, All-cons, All-head, All-nil, All-tail}
 use Rattle.std.proofs.lemmas.Option.{none-some, slice_get_cases}
-use Rattle.vs_types.specs.LayerSet.{Has}
 use Rattle.vs_types.specs.declared.layer_set.LayerSet.{LayerSet}
 use Rattle.vs_types.specs.declared.numbers.TripNo.{TripNo}
 use Rattle.vs_instance.specs.Instance.{IsInstance}
@@ -14,13 +13,13 @@ use Rattle.vs_prices.specs.Worth.{Reaches, worth_of}
 use Rattle.vs_prices.specs.declared.bound.Bound.{Bound}
 use Rattle.vs_prices.specs.declared.table.Table.{Table}
 use Rattle.vs_prices.proofs.Worths.{worth_is, worth_of-IsWorth}
-use Rattle.vs_tree.specs.Tree.{Tree, Leaf, Split, IsGoodTree, LeafPlace, leaves, right_of, with_set}
+use Rattle.vs_tree.specs.Tree.{Tree, Leaf, Split, LeafPlace, leaves, right_of, with_set}
 use Rattle.vs_tree.proofs.Restrictions.{left-restricts, restriction-layers, right-restricts}
 use Rattle.vs_cert.specs.Shapes.{IsShapeOf, preorder}
 use Rattle.vs_cert.specs.declared.shape.Shape.{Shape}
 use Rattle.vs_cert.specs.declared.shape.Shape.TheVariants as shape
 use Rattle.vs_check.specs.Flaws.{is_proper_part, named_flaws, tree_flaws}
-use Rattle.vs_check.specs.HoldingDocument.{IsStrongLeaf, IsStrongTree, ReachesBound}
+use Rattle.vs_check.specs.HoldingDocument.{IsStrongLeaf, IsStrongTree}
 use Rattle.vs_check.specs.declared.flaw.Flaw.{Flaw}
 use Rattle.vs_check.specs.declared.flaw.Flaw.TheVariants.{BadSplit}
 use Rattle.vs_check.proofs.LeafFlaws.{none_from_reaches, reaches_from_none}

@@ -11,7 +11,6 @@ use Rattle.vs_cert.specs.declared.document.Document.{Document}
 use Rattle.vs_cert.specs.declared.shape.Shape.{Shape}
 use Rattle.vs_check.specs.Flaws.{shape_flaws, tree_flaws}
 use Rattle.vs_check.specs.Trees.{joined, trees_of}
-use Rattle.vs_check.specs.declared.flaw.Flaw.{Flaw}
 
 -- what holds of each element of two lists in a row holds of each element of both
 pub All-both : {X : Type 0} (P : X → Type 0) (xs ys : List X) → All P (xs ++ ys) → All P xs × All P ys

@@ -1,5 +1,5 @@
 -- When a document proves what it claims.
-use Rattle.std.specs.Prelude.{◌≡◌, ℕ, ◌≤◌, List, [], All, ℤ, pos, ◌≤ℤ◌, Option, Some, MatchOption, IfSome, IfNone, slice_get}
+use Rattle.std.specs.Prelude.{◌≡◌, ◌≤◌, List, [], All, ℤ, pos, ◌≤ℤ◌, Option, Some, MatchOption, IfSome, IfNone, slice_get}
 use Rattle.vs_types.specs.declared.layer_set.LayerSet.{LayerSet}
 use Rattle.vs_instance.specs.Problem.{Problem}
 use Rattle.vs_instance.specs.Plan.{IsPlan, LayerBlock, plan_cost}

@@ -1,5 +1,5 @@
--- How a tree is gone over row by row: in which layers each trip may be run at the row at hand, and at the parts to come.
-use Rattle.std.specs.Prelude.{◌≡◌, ◌⊎◌, ℕ, ◌<◌, List, [], ◌∷◌, ◌++◌, length, reverse, All, MatchBool, Option, Some, None, slice_get}
+-- How a tree is gone over row by row: where each trip may be run at the row at hand, and at the parts to come.
+use Rattle.std.specs.Prelude.{◌≡◌, ◌⊎◌, ℕ, List, [], ◌∷◌, ◌++◌, reverse, MatchBool, Option, Some, None, slice_get}
 use Rattle.vs_types.specs.declared.layer_set.LayerSet.{LayerSet}
 use Rattle.vs_types.specs.declared.numbers.TripNo.{TripNo}
 use Rattle.vs_instance.specs.Firsts.{first, when}
@@ -38,7 +38,8 @@ IsBehindPart old new = (sets_ahead old ≡ []) ⊎ (sets_ahead old ≡ new.sets.
 -- the flaw of the row at a position, and where its flaw is none, what is at hand behind it
 abbrev pub GoesOver : Problem → Document → ℕ → Shape → Walk → Walk → Option Flaw → Type 0
 GoesOver p d position (Leaf table) old new flaw =
-    (flaw ≡ first (named_flaws p d.bound position old.sets.items (slice_get d.tables.items table))) × IsBehindPart old new
+    (flaw ≡ first (named_flaws p d.bound position old.sets.items (slice_get d.tables.items table)))
+    × IsBehindPart old new
 GoesOver p d position (Split trip left) old new flaw =
     MatchBool (is_proper_part left (set_of old.sets.items trip.0)) ((flaw ≡ None) × IsOnLeft trip left old new)
     (flaw ≡ Some (BadSplit position))

@@ -8,8 +8,8 @@ pub fn holding_documents_prove_their_claims()
     ensures { HoldingDocumentsProveTheirClaims }
 {}
 
-/// Two documents for an instance that differ only by tables that agree have the same flaws, and hold both
-/// or neither.
+/// Two documents for an instance that differ only by tables that agree have the same flaws, and hold
+/// both or neither.
 pub fn alike_documents_are_judged_alike()
     ensures { AlikeDocumentsAreJudgedAlike }
 {}

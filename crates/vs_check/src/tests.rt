@@ -75,7 +75,14 @@ fn answers_the_first_flaw(rt: HostRuntime) -> Result<(), Fail> {
         (Claim::Optimal, 1080, 60, 0, Verdict::No(open)),
     ];
     for (claim, cost, bound, from, verdict) in cases {
-        let table = table(alloc, &instance, false, &[0], [1_010_000, 0], [from, -10_000])?;
+        let table = table(
+            alloc,
+            &instance,
+            false,
+            &[0],
+            [1_010_000, 0],
+            [from, -10_000],
+        )?;
         assert_eq!(rt;
             judged(alloc, &instance, claim, cost, bound, table)?,
             verdict
@@ -144,8 +151,8 @@ fn judges_a_ray(rt: HostRuntime) -> Result<(), Fail> {
     Ok(())
 }
 
-/// The verdict on a document in which the one trip costs 500, with this shape and three tables: worth
-/// 500 in both layers, in the first alone, and in the second alone.
+/// The verdict on a document in which the one trip costs 500, with this shape and three tables:
+/// worth 500 in both layers, in the first alone, and in the second alone.
 fn split_verdict(alloc: Global, instance: &Instance, shape: Vec<Shape>) -> Result<Verdict, Fail>
     requires sizes { (length instance.now.layers ≡ 2) × (length instance.now.trips ≡ 1) }
     requires few { length shape.items ≤ 3 }
@@ -153,7 +160,14 @@ fn split_verdict(alloc: Global, instance: &Instance, shape: Vec<Shape>) -> Resul
     requires rows { All (IsShapeOf instance.now 3) shape.items }
 {
     let fleet = [0, 0];
-    let either = table(alloc, instance, false, &fleet, [460_000, 455_000], [-10_000, -15_000])?;
+    let either = table(
+        alloc,
+        instance,
+        false,
+        &fleet,
+        [460_000, 455_000],
+        [-10_000, -15_000],
+    )?;
     let first = table(alloc, instance, false, &fleet, [460_000, 0], [-10_000, 0])?;
     let second = table(alloc, instance, false, &fleet, [0, 455_000], [0, -15_000])?;
     let document = Document {
@@ -195,14 +209,21 @@ fn goes_over_deep_trees(rt: HostRuntime) -> Result<(), Fail> {
     let alloc = rt.alloc();
     let instance = many_trips(alloc)?;
     let cases = [
-        (2000, Verdict::Yes),
-        (2001, Verdict::No(Flaw::BadSplit(4000))),
+        (1000, Verdict::Yes),
+        (1001, Verdict::No(Flaw::BadSplit(2000))),
     ];
     for (splits, verdict) in cases {
         let tables = vec![in alloc; Table::zero(alloc, &instance)?]?;
         let shape = deep_shape(alloc, splits)?;
         assert_eq!(rt;
-            without_plan(alloc, &instance, Claim::StillOpen, Some(60_000), tables, shape)?,
+            without_plan(
+                alloc,
+                &instance,
+                Claim::StillOpen,
+                Some(30_000),
+                tables,
+                shape
+            )?,
             verdict
         );
     }

@@ -86,8 +86,8 @@ fn is_proper_part(part: LayerSet, whole: LayerSet) -> bool
     part.count() > 0 && rest_of(part, whole).count() == 0 && rest_of(whole, part).count() > 0
 }
 
-/// The flaw of a leaf at this position, which names this table, where each trip may be run in a layer of its
-/// set.
+/// The flaw of a leaf at this position, which names this table, where each trip may be run in a
+/// layer of its set.
 fn leaf_flaw(
     instance: &Instance,
     document: &Document,
@@ -105,7 +105,8 @@ fn leaf_flaw(
     weak_flaw(position, worth, document.bound)
 }
 
-/// The flaw of the row at this position of the shape. Where it has none, the walk goes on to the next row.
+/// The flaw of the row at this position of the shape. Where it has none, the walk goes on to the
+/// next row.
 fn row_flaw(
     instance: &Instance,
     document: &Document,

@@ -79,7 +79,7 @@ fn layer(depot: StopNo, fleet: u64, fixed: u64) -> Layer
 /// The instance of these layers and trips, over three stops of which the first is ten minutes from
 /// the other two.
 fn made(alloc: Global, layers: Vec<Layer>, trips: Vec<Trip>) -> Result<Instance, Fail>
-    requires few { (length layers.items ≤ 2) × (length trips.items ≤ 2000) }
+    requires few { (length layers.items ≤ 2) × (length trips.items ≤ 1000) }
     requires depots { All (λ l. l.depot.0 < 3) layers.items }
     requires stops { All (λ t. (t.from.0 < 3) × (t.to.0 < 3)) trips.items }
     requires times { All (λ t. (t.start < 2880) × (t.end < 2880)) trips.items }
@@ -122,7 +122,7 @@ pub fn two_trips(alloc: Global, fleet: u64, start: u32) -> Result<Instance, Fail
 }
 
 /// One trip, from P at 8:00 to Q, that may be run in either of two layers with one vehicle each: one
-/// at the depot, and one at P. A block of it costs 500 in both.
+/// at the depot, one at P. A block of it costs 500 in both.
 pub fn one_trip(alloc: Global) -> Result<Instance, Fail>
     ensures { IfOk result (λ i. (length i.layers ≡ 2) × (length i.trips ≡ 1)) }
 {
@@ -135,13 +135,13 @@ pub fn one_trip(alloc: Global) -> Result<Instance, Fail>
     )
 }
 
-/// Two thousand trips, one from each minute on, each of which may be run in either of two layers.
+/// A thousand trips, one from each minute on, each of which may be run in either of two layers.
 pub fn many_trips(alloc: Global) -> Result<Instance, Fail>
-    ensures { IfOk result (λ i. (length i.layers ≡ 2) × (length i.trips ≡ 2000)) }
+    ensures { IfOk result (λ i. (length i.layers ≡ 2) × (length i.trips ≡ 1000)) }
 {
     let mut trips = Vec::new(alloc);
     let set = both_layers();
-    for start in 0..2000 {
+    for start in 0..1000 {
         trips.push(trip(P, Q, start, set))?;
     }
     let layers = [layer(DEPOT, 2000, 0), layer(P, 2000, 0)];

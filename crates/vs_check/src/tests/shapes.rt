@@ -56,23 +56,27 @@ pub fn one_split(
         trip: TripNo(0),
         left,
     };
-    Ok(vec![in alloc; split, Shape::Leaf { table: lower }, Shape::Leaf { table: upper }]?)
+    Ok(vec![in alloc;
+        split,
+        Shape::Leaf { table: lower },
+        Shape::Leaf { table: upper },
+    ]?)
 }
 
-/// So many splits, each the right part of the one before: of two thousand trips one after the other,
+/// So many splits, each the right part of the one before: of a thousand trips one after the other,
 /// and then of these again. Each leaf is of the first table.
 pub fn deep_shape(alloc: Global, splits: u32) -> Result<Vec<Shape>, AllocError>
     requires { splits ≤ 4000 }
     ensures size { IfOk result (λ shape. length shape.items ≤ 10000) }
     ensures tree { IfOk result (λ shape. AreTree shape.items) }
     ensures rows { IfOk result (λ shape. (p : Problem) (tables : ℕ) → length p.layers ≡ 2
-        → length p.trips ≡ 2000 → 0 < tables → All (IsShapeOf p tables) shape.items) }
+        → length p.trips ≡ 1000 → 0 < tables → All (IsShapeOf p tables) shape.items) }
 {
     let left = first_layer();
     let mut rows = Vec::new(alloc);
     for k in 0..splits {
         rows.push(Shape::Split {
-            trip: TripNo(k % 2000),
+            trip: TripNo(k % 1000),
             left,
         })?;
         rows.push(Shape::Leaf { table: 0 })?;

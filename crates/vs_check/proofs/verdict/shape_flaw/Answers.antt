@@ -1,10 +1,9 @@
-use Rattle.std.proofs.Common.{◌≡◌, ◌+◌, ◌<◌, ◌≤◌, List, length, drop, refl, sym, ap, ◌∙◌, subst, arith, Option, Some, None}
+use Rattle.std.proofs.Common.{◌+◌, ◌<◌, ◌≤◌, List, length, drop, sym, ap, subst, arith}
 use Rattle.std.specs.List.{All}
 use Rattle.vs_instance.specs.Firsts.{first}
 use Rattle.vs_cert.specs.Shapes.{IsShapeOf}
 use Rattle.vs_cert.specs.declared.shape.Shape.{Shape}
 use Rattle.vs_check.specs.Flaws.{shape_flaws}
-use Rattle.vs_check.specs.declared.flaw.Flaw.{Flaw}
 use Rattle.vs_check.proofs.Parts.{Follows, IsBefore, none_left, root_before, row_follows, walk_restricts}
 use Rattle.vs_check.proofs.verdict.shape_flaw.Goals as goal
 

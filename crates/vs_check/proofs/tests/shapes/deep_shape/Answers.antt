@@ -1,4 +1,4 @@
-use Rattle.std.proofs.Common.{◌≡◌, ℕ, ◌%◌, ◌<◌, List, [], ◌∷◌, ◌++◌, length, sym, ap, ◌∙◌, subst, arith, append_assoc, length-append}
+use Rattle.std.proofs.Common.{◌≡◌, ◌%◌, List, [], ◌∷◌, ◌++◌, length, sym, ap, ◌∙◌, subst, arith, append_assoc, length-append}
 use Rattle.std.specs.List.{All}
 use Rattle.std.proofs.lemmas.List.Elements.{All-push}
 use Rattle.vs_types.specs.declared.layer_set.LayerSet.{LayerSet}
@@ -20,14 +20,19 @@ deeper rows trip left tree =
 pub loop-k-preserved : goal.loop-k-preserved
 loop-k-preserved c =
     let rows = c.loop-k.rows.items in
-    let trip : TripNo = record { 0 = c.loop-k.k % 2000 } in
+    let trip : TripNo = record { 0 = c.loop-k.k % 1000 } in
     let left = c.first_layer-left.result in
     let split = shape.Split trip left in
     let pushed : c.push-in-loop-k.new.self.items ≡ (rows ++ split ∷ []) ++ shape.Leaf 0 ∷ [] =
     c.in_ok-push-2.ensures.items ∙ ap (λ (rs : List Shape). rs ++ shape.Leaf 0 ∷ []) c.in_ok-push.ensures.items in
     record {
-      size = omega (arith, ap length pushed, length-append (rows ++ split ∷ []) (shape.Leaf 0 ∷ []),
-          length-append rows (split ∷ []), c.loop-k.invariant.size);
+      size = omega (
+        arith,
+        ap length pushed,
+        length-append (rows ++ split ∷ []) (shape.Leaf 0 ∷ []),
+        length-append rows (split ∷ []),
+        c.loop-k.invariant.size,
+      );
       tree = λ tree. subst (λ (rs : List Shape). AreTree (rs ++ preorder tree)) (sym pushed)
           (subst AreTree (deeper rows trip left tree) (c.loop-k.invariant.tree (Split trip left (Leaf 0) tree)));
       named = λ p tables layers trips some. subst (All (IsShapeOf p tables)) (sym pushed)

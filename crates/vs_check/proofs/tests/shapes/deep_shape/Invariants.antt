@@ -10,6 +10,6 @@ abbrev pub invariant-loop-k : goal.invariant-loop-k
 invariant-loop-k l = record {
   size : length l.rows.items ≡ l.k + l.k;
   tree : (tree : Tree) → AreTree (l.rows.items ++ preorder tree);
-  named : (p : Problem) (tables : ℕ) → length p.layers ≡ 2 → length p.trips ≡ 2000 → 0 < tables
+  named : (p : Problem) (tables : ℕ) → length p.layers ≡ 2 → length p.trips ≡ 1000 → 0 < tables
       → All (IsShapeOf p tables) l.rows.items;
 }
