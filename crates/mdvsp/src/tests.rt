@@ -56,10 +56,83 @@ const NO_TRIP_HEAD: &str = "result,1,optimal\ncost,0\nbound,0\nnodes,0\n";
 
 const NO_TRIP_TABLE: &str = "table,1,cost\nfleet,L1,0\n";
 
+/// Two layers, either of which may run the one trip at the same cost, and a document of it.
+const TWO_LAYERS: &str =
+    "layer,L1,D,1,450,1,0\nlayer,L2,P,1,455,1,0\ntrip,t1,P,8:00,Q,8:30,0,L1,L2\n";
+
+const SPLIT_HEAD: &str = "result,1,optimal\ncost,500\nbound,500\nnodes,3\nblock,L1,t1\n";
+
+const SPLIT_TABLE: &str =
+    "table,1,cost\nfleet,L1,0\nprice,L1,t1,460000,-10000\nfleet,L2,0\nprice,L2,t1,455000,-15000\n";
+
 /// What a document is like, the input, how the run ends, and what it writes.
 type Judged = (&'static str, &'static [&'static str], Status, &'static str);
 
-const DOCUMENTS: [Judged; 16] = [
+const DOCUMENTS: [Judged; 21] = [
+    (
+        "a table that no leaf names",
+        &[
+            STOPS,
+            LAYER,
+            TRIPS,
+            HEAD,
+            BLOCK,
+            TABLE,
+            "table,2,cost\nfleet,L1,0\nprice,L1,t1,0,0\nprice,L1,t2,0,0\nleaf,1\nend\n",
+        ],
+        Status::Done,
+        "yes,optimal,1080,1080\n",
+    ),
+    (
+        "a cost table that shows no bound",
+        &[
+            STOPS,
+            LAYER,
+            TRIPS,
+            "result,1,infeasible\ncost,none\nbound,none\nnodes,1\n",
+            TABLE,
+            END,
+        ],
+        Status::SaysNo,
+        "no,5,LeafTooWeak,1,1080,none\n",
+    ),
+    (
+        "a ray",
+        &[
+            STOPS,
+            ONE_VEHICLE,
+            LATE_TRIPS,
+            "result,1,infeasible\ncost,none\nbound,none\nnodes,1\n",
+            "table,1,ray\nfleet,L1,1\nprice,L1,t1,1,0\nprice,L1,t2,1,0\n",
+            END,
+        ],
+        Status::Done,
+        "yes,infeasible,none,none\n",
+    ),
+    (
+        "a split",
+        &[
+            STOPS,
+            TWO_LAYERS,
+            SPLIT_HEAD,
+            SPLIT_TABLE,
+            "split,t1,L1\nleaf,1\nleaf,1\nend\n",
+        ],
+        Status::Done,
+        "yes,optimal,500,500\n",
+    ),
+    (
+        "a split that leaves nothing",
+        &[
+            STOPS,
+            TWO_LAYERS,
+            SPLIT_HEAD,
+            SPLIT_TABLE,
+            "split,t1,L1,L2\nleaf,1\nleaf,1\nend\n",
+        ],
+        Status::SaysNo,
+        "no,4,BadSplit,1\n",
+    ),
     (
         "holds",
         &[STOPS, LAYER, TRIPS, HEAD, BLOCK, TABLE, END],
@@ -358,11 +431,12 @@ const NO_INSTANCES: [Refused; 25] = [
     ),
 ];
 
-/// What the records are like that stand behind an instance and aren't a document of the first form, and these.
-type OtherForm = (&'static str, &'static [&'static str]);
+/// What the records are like that stand behind an instance and are no document, these, and what is
+/// written.
+type NoDocument = (&'static str, &'static [&'static str], &'static str);
 
-const OTHER_FORMS: [OtherForm; 9] = [
-    ("no document", &[]),
+const NO_DOCUMENTS: [NoDocument; 17] = [
+    ("no document", &[], "refused,14,20,NoResult\n"),
     (
         "price for another trip",
         &[
@@ -371,55 +445,86 @@ const OTHER_FORMS: [OtherForm; 9] = [
             "table,1,cost\nfleet,L1,0\nprice,L1,t2,0,0\nprice,L1,t1,0,0\n",
             END,
         ],
+        "refused,21,22,OutOfOrder\n",
     ),
     (
         "price with a field more",
-        &[
-            HEAD,
-            BLOCK,
-            "table,1,cost\nfleet,L1,0\nprice,L1,t1,0,0,0\nprice,L1,t2,0,0\n",
-            END,
-        ],
+        &[HEAD, BLOCK, "table,1,cost\nfleet,L1,0\nprice,L1,t1,0,0,0\n"],
+        "refused,21,21,BadRow\n",
     ),
     (
         "fleet with a field less",
-        &[
-            HEAD,
-            BLOCK,
-            "table,1,cost\nfleet,L1\nprice,L1,t1,0,0\nprice,L1,t2,0,0\n",
-            END,
-        ],
+        &[HEAD, BLOCK, "table,1,cost\nfleet,L1\n"],
+        "refused,20,21,BadRow\n",
     ),
     (
-        "two tables",
-        &[
-            HEAD,
-            BLOCK,
-            TABLE,
-            "table,2,cost\nfleet,L1,0\nprice,L1,t1,0,0\nprice,L1,t2,0,0\nleaf,1\nend\n",
-        ],
-    ),
-    (
-        "no cost and no bound",
-        &[
-            "result,1,infeasible\ncost,none\nbound,none\nnodes,1\n",
-            TABLE,
-            END,
-        ],
-    ),
-    ("no end", &[HEAD, BLOCK, TABLE, "leaf,1\n"]),
-    (
-        "a record behind the end",
-        &[HEAD, BLOCK, TABLE, "leaf,1\nend\nend\n"],
+        "a price of 20 digits",
+        &[HEAD, BLOCK, "table,1,cost\nfleet,L1,10000000000000000000\n"],
+        "refused,20,21,BadRow\n",
     ),
     (
         "a price out of range",
         &[
             HEAD,
             BLOCK,
-            "table,1,cost\nfleet,L1,0\nprice,L1,t1,1000000000000000001,0\nprice,L1,t2,0,0\n",
-            END,
+            "table,1,cost\nfleet,L1,0\nprice,L1,t1,1000000000000000001,0\n",
         ],
+        "refused,21,26,PriceRange\n",
+    ),
+    (
+        "a cost without a bound",
+        &["result,1,open\ncost,1080\nbound,none\n"],
+        "refused,16,21,BadRow\n",
+    ),
+    (
+        "a bound in another place",
+        &[HEAD, "bound,none\n"],
+        "refused,18,22,OutOfOrder\n",
+    ),
+    (
+        "a block beside no cost",
+        &["result,1,open\ncost,none\nbound,60\nnodes,0\n", BLOCK],
+        "refused,18,22,OutOfOrder\n",
+    ),
+    (
+        "a table numbered from 2 on",
+        &[HEAD, BLOCK, "table,2,cost\n"],
+        "refused,19,23,TableNumber\n",
+    ),
+    (
+        "a negative number",
+        &[HEAD, BLOCK, "table,-1,cost\n"],
+        "refused,19,21,BadRow\n",
+    ),
+    (
+        "a leaf before any table",
+        &[HEAD, BLOCK, END],
+        "refused,19,23,TableNumber\n",
+    ),
+    (
+        "a tree too short",
+        &[HEAD, BLOCK, TABLE, "split,t1,L1\nleaf,1\nend\n"],
+        "refused,25,22,OutOfOrder\n",
+    ),
+    (
+        "a tree too long",
+        &[HEAD, BLOCK, TABLE, "leaf,1\nleaf,1\n"],
+        "refused,24,22,OutOfOrder\n",
+    ),
+    (
+        "a layer twice in a split",
+        &[HEAD, BLOCK, TABLE, "split,t1,L1,L1\n"],
+        "refused,23,21,BadRow\n",
+    ),
+    (
+        "no end",
+        &[HEAD, BLOCK, TABLE, "leaf,1\n"],
+        "refused,24,24,EndsEarly\n",
+    ),
+    (
+        "a record behind the end",
+        &[HEAD, BLOCK, TABLE, END, "end\n"],
+        "refused,25,25,RowsAfterEnd\n",
     ),
 ];
 
@@ -479,18 +584,14 @@ fn refuses_what_is_no_instance(rt: HostRuntime) -> Result<(), Fail> {
 }
 
 #[test]
-fn refuses_other_forms(rt: HostRuntime) -> Result<(), Fail> {
-    for (case, behind) in OTHER_FORMS {
+fn refuses_what_is_no_document(rt: HostRuntime) -> Result<(), Fail> {
+    for (case, behind, written) in NO_DOCUMENTS {
         let mut input = Vec::from_slice(rt.alloc(), &[STOPS, LAYER, TRIPS])?;
         input.extend_from_slice(behind)?;
         for command in ["check", "blocks"] {
             let (ended, text) = outcome(rt.alloc(), &[command], &input)?;
             assert_eq!(rt; ended, Status::BadInput, "{case}");
-            assert_eq!(rt;
-                text.as_slice(),
-                b"refused,0,90,NotThisForm\n".as_slice(),
-                "{case}"
-            );
+            assert_eq!(rt; text.as_slice(), written.as_bytes(), "{case}");
         }
     }
     Ok(())
