@@ -15,3 +15,7 @@ pub mod SaysOnce
 pub mod TreeReading
 pub mod SamePlaces
 pub mod BlockReading
+pub mod PriceReading
+pub mod PriceRows
+pub mod LayerReading
+pub mod TableReading

@@ -76,12 +76,16 @@ fn read_fleet(alloc: Global, input: &Input, row: usize, l: LayerNo) -> Result<i6
         layer: l,
         trip: TripNo(0),
     };
-    match said_at(alloc, input, row, likely)? {
-        Said::Fleet { layer, price } if layer == l => {
-            in_range(price).ok_or(refusal(input, row, DocWhy::PriceRange))
-        }
-        _ => Err(refusal(input, row, DocWhy::OutOfOrder)),
+    let Said::Fleet { layer, price } = said_at(alloc, input, row, likely)? else {
+        return Err(refusal(input, row, DocWhy::OutOfOrder));
+    };
+    if layer.0 != l.0 {
+        return Err(refusal(input, row, DocWhy::OutOfOrder));
     }
+    let Some(price) = in_range(price) else {
+        return Err(refusal(input, row, DocWhy::PriceRange));
+    };
+    Ok(price)
 }
 
 /// The prices for entering and for leaving a trip in a layer, in the row that has to tell them.
@@ -98,18 +102,23 @@ fn read_price(
     ensures refused { IfErr result (λ e. (n : ℕ) (later : List PriceOf)
         → IsRefusedAt input.now row (InTable n (Trip l.0 i.0 ∷ later)) e) }
 {
-    match said_at(alloc, input, row, Likely { layer: l, trip: i })? {
-        Said::Price {
-            layer,
-            trip,
-            into,
-            from,
-        } if layer == l && trip == i => match (in_range(into), in_range(from)) {
-            (Some(into), Some(from)) => Ok((into, from)),
-            _ => Err(refusal(input, row, DocWhy::PriceRange)),
-        },
-        _ => Err(refusal(input, row, DocWhy::OutOfOrder)),
+    let likely = Likely { layer: l, trip: i };
+    let Said::Price {
+        layer,
+        trip,
+        into,
+        from,
+    } = said_at(alloc, input, row, likely)?
+    else {
+        return Err(refusal(input, row, DocWhy::OutOfOrder));
+    };
+    if layer.0 != l.0 || trip.0 != i.0 {
+        return Err(refusal(input, row, DocWhy::OutOfOrder));
     }
+    let (Some(into), Some(from)) = (in_range(into), in_range(from)) else {
+        return Err(refusal(input, row, DocWhy::PriceRange));
+    };
+    Ok((into, from))
 }
 
 /// The number as a price. None where it is less or greater than any.
