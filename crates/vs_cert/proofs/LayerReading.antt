@@ -61,6 +61,7 @@ layer_read input at l to old middle new price lt r into from ray fleet s =
       };
       fleet_is = s.fleet_is ∙ fleet;
       fleet_price = r.is_price;
+      further = omega (arith, s.further);
       say = say_on input at (at + 1) to (FleetRow l price ∷ []) rows r.say s.say;
       lead = λ n.
           let later = prices_from input.instance (l + 1) in
@@ -245,9 +246,9 @@ layer_rows_are p t l into from fleet a b c =
     ∷ price_rows l (of_layer p t.into.items l) (price_of xs) (permitted_trips p l)) (sym b)
 
 pub layers_more : (input : Input) (at l row next : ℕ) (ray : Bool) (old new : Table) → LayersSoFar input at l row ray old
-    → l < length input.instance.layers → row ≤ next → ReadsLayer input row l next old new
+    → l < length input.instance.layers → ReadsLayer input row l next old new
     → LayersSoFar input at (l + 1) next ray new
-layers_more input at l row next ray old new s lt further r =
+layers_more input at l row next ray old new s lt r =
     let p = input.instance in
     let All_prices : List ℤ → Type 0 = λ xs. All IsPrice xs in
     let into_blank =
@@ -275,7 +276,7 @@ layers_more input at l row next ray old new s lt further r =
         ap (λ (xs : List ℤ). of_layer p xs k i) r.adds.from_is ∙ from_blank k i a b c,
       );
       ray_is = r.adds.ray_is ∙ s.ray_is;
-      further = omega (arith, s.further);
+      further = omega (arith, s.further, r.further);
       within = r.say.within;
       say = λ t more ext rest.
           let before = extends_more old new t r.into r.from (r.fleet ∷ []) r.adds.into_is r.adds.from_is r.fleet_is ext in
@@ -344,3 +345,9 @@ table_read input at l row n ray table kind s all =
             kind.reads.lead lead;
       };
     }
+
+-- the kind of the table is the one that it began with
+pub of_kind : (input : Input) (at l row : ℕ) (ray other : Bool) (table : Table) → ray ≡ other
+    → LayersSoFar input at l row ray table → LayersSoFar input at l row other table
+of_kind input at l row ray other table same s =
+    let P : Bool → Type 0 = λ b. LayersSoFar input at l row b table in subst P same s

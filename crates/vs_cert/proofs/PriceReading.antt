@@ -81,6 +81,7 @@ pub record PricesSoFar (input : Input) (at l i row : ℕ) (old new : Table) : Ty
   pub into_prices : All IsPrice into
   pub from_prices : All IsPrice from
   pub blank : (k : ℕ) → k < i → ¬ (Permitted input.instance l k) → (price_of into k ≡ pos 0) × (price_of from k ≡ pos 0)
+  pub further : at ≤ row
   pub within : row ≤ length input.rest
   -- what the rows from here on say is said behind what was read
   pub say : (f g : ℕ → ℤ) (more : List DocumentRow) → Gives i f into → Gives i g from
@@ -134,6 +135,7 @@ prices_none input at l table within = record {
   into_prices = All-nil IsPrice;
   from_prices = All-nil IsPrice;
   blank = λ k lt. absurd (omega arith);
+  further = omega arith;
   within = within;
   say = λ f g more _ _ rest. rest;
   lead = λ n later. record { refused = λ e is. is };
@@ -159,6 +161,7 @@ module _ (input : Input) (at l i row : ℕ) (old table new : Table) (s : PricesS
         from_prices = All-push IsPrice s.from (pos 0) s.from_prices zero_price;
         blank = blank_push input.instance l i s.into s.from (pos 0) (pos 0) s.into_size s.from_size s.blank
             (λ _. (refl, refl));
+        further = s.further;
         within = s.within;
         say = λ f g more gives_f gives_g rest.
             let P : List ℕ → Type 0 = λ trips. SayAll input.names (drop row input.rest) (price_rows l f g trips ++ more) in
@@ -189,6 +192,7 @@ module _ (input : Input) (at l i row : ℕ) (old table new : Table) (s : PricesS
         from_prices = All-push IsPrice s.from b s.from_prices r.from_price;
         blank = blank_push input.instance l i s.into s.from a b s.into_size s.from_size s.blank
             (λ may_not. absurd (may_not may));
+        further = omega (arith, s.further);
         within = r.say.within;
         say = λ f g more gives_f gives_g rest.
             let fs = gives_push i f s.into a s.into_size gives_f in
@@ -238,6 +242,7 @@ prices_end input at l i row old new s all =
         ray_is = s.ray_is;
       };
       fleet_is = s.fleet_is;
+      further = s.further;
       say = record {
         within = s.within;
         say = λ more rest.

@@ -83,6 +83,7 @@ pub record ReadsPrices (input : Input) (at l to : ℕ) (old new : Table) : Type 
   pub from : List ℤ
   pub adds : AddsPrices input.instance l old new into from
   pub fleet_is : new.fleet.items ≡ old.fleet.items
+  pub further : at ≤ to
   pub say : SayTo input at (price_rows l (price_of into) (price_of from) (permitted_trips input.instance l)) to
   pub lead : (n : ℕ) (later : List PriceOf)
       → LeadTo input at (InTable n (map (Trip l) (permitted_trips input.instance l) ++ later)) to (InTable n later)
@@ -95,6 +96,7 @@ pub record ReadsLayer (input : Input) (at l to : ℕ) (old new : Table) : Type 0
   pub adds : AddsPrices input.instance l old new into from
   pub fleet_is : new.fleet.items ≡ old.fleet.items ++ fleet ∷ []
   pub fleet_price : IsPrice fleet
+  pub further : at ≤ to
   pub say : SayTo input at (FleetRow l fleet ∷ price_rows l (price_of into) (price_of from) (permitted_trips input.instance l)) to
   pub lead : (n : ℕ) → LeadTo input at (InTable n (prices_from input.instance l)) to
       (InTable n (prices_from input.instance (l + 1)))
