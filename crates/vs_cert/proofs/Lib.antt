@@ -19,3 +19,5 @@ pub mod PriceReading
 pub mod PriceRows
 pub mod LayerReading
 pub mod TableReading
+pub mod AcceptedRows
+pub mod RefusedOnce

@@ -97,7 +97,7 @@ pub same_place : (input : Input) (at : ℕ) (place other : Place)
     → AreSameFor input.instance input.names place other (row_of input.rest at) → LeadTo input at place at other
 same_place input at place other same = record { refused = same_errors input at place other same }
 
-number_of_blocks : (cost : Option ℤ) (said : DocumentRow) → HasNumber (InTable 0 []) said → HasNumber (AtBlocks cost) said
+pub number_of_blocks : (cost : Option ℤ) (said : DocumentRow) → HasNumber (InTable 0 []) said → HasNumber (AtBlocks cost) said
 number_of_blocks cost (TableRow n ray) is = is
 number_of_blocks cost (LeafRow n) is = is
 number_of_blocks cost _ is = tt
@@ -138,7 +138,7 @@ blocks_end input at cost none = same_place input at (AtBlocks cost) (InTable 0 [
   other_number = blocks_of_number cost;
 })
 
-number_of_tables : (n : ℕ) (said : DocumentRow) → HasNumber (InTree n 1) said → HasNumber (InTable n []) said
+pub number_of_tables : (n : ℕ) (said : DocumentRow) → HasNumber (InTree n 1) said → HasNumber (InTable n []) said
 number_of_tables n (TableRow m ray) is = is
 number_of_tables n (LeafRow m) is = is
 number_of_tables n _ is = tt
