@@ -121,12 +121,11 @@ module _ (p : Problem) where
       (subst P place (leads_tables (n + 1) (m + 1) tables (All-tail (Fits p) table tables fits) (omega arith))))
 
   -- the rows of a document behind its head, from the left
-  pub rest_of_rows : Document → List DocumentRow
+  abbrev pub rest_of_rows : Document → List DocumentRow
   rest_of_rows d = map BlockRow (blocks_of d.plan) ++ (tables_rows p d.tables.items
       ++ (map shape_row d.shape.items ++ EndRow ∷ []))
 
-  rest_is : (d : Document) → rows_of_document p d ≡ head_rows d ++ rest_of_rows d
-  unfolding rest_of_rows
+  pub rest_is : (d : Document) → rows_of_document p d ≡ head_rows d ++ rest_of_rows d
   rest_is d =
       let blocks = map BlockRow (blocks_of d.plan) in
       let tables = tables_rows p d.tables.items in
@@ -141,7 +140,6 @@ module _ (p : Problem) where
 
   -- those of a document with a text lead from its claim to behind its end
   pub leads_document : (d : Document) → HasText p d → LeadsTo p AtClaim (rows_of_document p d) AtEnd
-  unfolding rest_of_rows
   leads_document d text =
       let n = length d.tables.items in
       let tables = tables_rows p d.tables.items in

@@ -21,3 +21,5 @@ pub mod LayerReading
 pub mod TableReading
 pub mod AcceptedRows
 pub mod RefusedOnce
+pub mod AlikeDocuments
+pub mod WholeDocument

@@ -6,8 +6,10 @@ use Rattle.vs_reader.specs.Names.{NameLists}
 use Rattle.vs_reader.specs.NameRules.{AreNames}
 use Rattle.vs_cert.specs.declared.document.Document.{Document}
 use Rattle.vs_cert.specs.declared.refused.DocWhy.{DocWhy}
+use Rattle.vs_cert.specs.declared.refused.DocError.{DocError}
+use Rattle.vs_cert.specs.declared.refused.DocError.TheVariants as error
 use Rattle.vs_cert.specs.DocumentRows.{DocumentRow, SayAll, Says, rows_of_document}
-use Rattle.vs_cert.specs.DocumentRefusals.{AreRefused, AreRefusedFrom, IsAccepted, IsRefusedRow, IsRefusedSaying, SaysAt}
+use Rattle.vs_cert.specs.DocumentRefusals.{AreRefused, AreRefusedFrom, IsAccepted, IsRefusal, IsRefusedError, IsRefusedRow, IsRefusedSaying, SaysAt}
 use Rattle.vs_cert.specs.NewDocumentText.{DocumentText}
 use Rattle.vs_cert.specs.Places.{Place, AtClaim, AtCost, AtBound, AtNodes, AtBlocks, InTable, InTree, AtEnd, HasNumber, HasPrices, SuitsCost, behind}
 use Rattle.vs_cert.proofs.AcceptedRows.{LeadsTo, leads_document}
@@ -155,3 +157,10 @@ module _ (p : Problem) (names : NameLists) (layers : AreNames names.layers) (tri
   document_not_refused before (row ∷ rows) d at why text refused =
       leads_not_refused (row ∷ rows) (rows_of_document p d) (before + 1) AtClaim at why text.rows_say
       (leads_document p d text.has_text) refused
+
+  -- rows that are refused stand for no document
+  pub refusal_leaves_none : (before : ℕ) (rows : List Row) (e : DocError) (d : Document) → IsRefusal p names before rows e
+      → IsRefusedError e → DocumentText p names rows d → ⊥
+  refusal_leaves_none before rows (error.Refused at why) d refused is text =
+      document_not_refused before rows d at why text refused
+  refusal_leaves_none before rows error.Memory d refused is text = is

@@ -30,6 +30,19 @@ pub fn read(alloc: Global, input: &Input) -> Result<Document, DocError>
     ensures none { IfErr result (λ e. IsRefusedError e
         → (d : DocumentOf) → ¬ (DocumentText input.now.instance input.now.names input.now.rest d)) }
 {
+    // Names are apart, and so a row says one thing.
+    let _names = (input.names.layers(), input.names.trips());
+    read_rows(alloc, input)
+}
+
+/// The document for which the rows stand; else the first row that is refused.
+fn read_rows(alloc: Global, input: &Input) -> Result<Document, DocError>
+    requires { IsInput input.now }
+    ensures found { IfOk result (DocumentText input.now.instance input.now.names input.now.rest) }
+    ensures blank { IfOk result (λ d. All (IsBlankElsewhere input.now.instance) d.tables.items) }
+    ensures read_for { IfOk result (IsReadFor input.now.instance) }
+    ensures refused { IfErr result (IsRefusal input.now.instance input.now.names input.now.before input.now.rest) }
+{
     if input.rest.len() == 0 {
         return Err(refusal(input, 0, DocWhy::NoResult));
     }
