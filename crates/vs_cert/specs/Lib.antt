@@ -8,4 +8,5 @@ pub mod DocumentRefusals
 pub mod Alike
 pub mod Form
 pub mod Laws
+pub mod RowForms
 pub mod Reading

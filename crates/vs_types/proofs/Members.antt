@@ -52,7 +52,8 @@ Contains-layer_numbers l within = (l, omega (arith, length-layer_numbers), get_o
 Contains-cons : (y : ℕ) (xs : List ℕ) (x : ℕ) → Contains xs x → Contains (y ∷ xs) x
 Contains-cons y xs x c = (suc c.0, omega (arith, c.1), c.2)
 
-Contains-filter : (p : ℕ → Bool) (xs : List ℕ) (x : ℕ) → Contains xs x → p x ≡ true → Contains (filter p xs) x
+-- what passes a test is kept by the filter
+pub Contains-filter : (p : ℕ → Bool) (xs : List ℕ) (x : ℕ) → Contains xs x → p x ≡ true → Contains (filter p xs) x
 Contains-filter p [] x c passes = absurd (omega (arith, c.1))
 Contains-filter p (y ∷ xs) x (zero, within, is) passes =
     rw (is, passes) (0, omega arith, refl)

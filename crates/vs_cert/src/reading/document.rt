@@ -7,8 +7,14 @@ ghost use Rattle.vs_cert.specs.Form.{IsReadFor};
 ghost use Rattle.vs_cert.specs.Reading.{IsInput};
 
 use crate::document::Document;
-use crate::refused::DocError;
+use crate::reading::blocks::read_blocks;
+use crate::reading::head::read_head;
+use crate::reading::refusal::refusal;
+use crate::reading::tables::read_tables;
+use crate::reading::tree::{read_end, read_tree};
+use crate::refused::{DocError, DocWhy};
 use std::alloc::Global;
+use vs_plan::Plan;
 use vs_reader::Input;
 
 /// The document for which the rows of the input's rest stand; else the first row that is refused, and why.
@@ -24,7 +30,34 @@ pub fn read(alloc: Global, input: &Input) -> Result<Document, DocError>
     ensures none { IfErr result (λ e. IsRefusedError e
         → (d : DocumentOf) → ¬ (DocumentText input.now.instance input.now.names input.now.rest d)) }
 {
-    let _input = input;
-    let _alloc = alloc;
-    Err(DocError::Memory)
+    // Names are apart, and so a row says one thing.
+    let _names = (input.names.layers(), input.names.trips());
+    read_rows(alloc, input)
+}
+
+/// The document for which the rows stand; else the first row that is refused.
+fn read_rows(alloc: Global, input: &Input) -> Result<Document, DocError>
+    requires { IsInput input.now }
+    ensures found { IfOk result (DocumentText input.now.instance input.now.names input.now.rest) }
+    ensures blank { IfOk result (λ d. All (IsBlankElsewhere input.now.instance) d.tables.items) }
+    ensures read_for { IfOk result (IsReadFor input.now.instance) }
+    ensures refused { IfErr result (IsRefusal input.now.instance input.now.names input.now.before input.now.rest) }
+{
+    if input.rest.len() == 0 {
+        return Err(refusal(input, 0, DocWhy::NoResult));
+    }
+    let head = read_head(alloc, input)?;
+    let (blocks, tables_from) = read_blocks(alloc, input, 4, head.cost)?;
+    let (tables, tree_from) = read_tables(alloc, input, tables_from)?;
+    let (shape, end) = read_tree(alloc, input, tree_from, tables.len())?;
+    read_end(alloc, input, end, tables.len())?;
+    Ok(Document {
+        claim: head.claim,
+        cost: head.cost,
+        bound: head.bound,
+        nodes: head.nodes,
+        plan: Plan { blocks },
+        tables,
+        shape,
+    })
 }
