@@ -18,10 +18,11 @@ use Rattle.vs_reader.proofs.TextLemmas.{one_reading, refused_none, stands_counts
 use Rattle.vs_tree.specs.declared.claim.Claim.{Claim}
 use Rattle.vs_cert.specs.Alike.{AreAlike}
 use Rattle.vs_cert.specs.DocumentRefusals.{AreRefused}
-use Rattle.vs_cert.specs.Laws.{DocumentsAreNotRefused, RowsAreRefusedOnce, DocumentsOfRowsAreAlike}
 use Rattle.vs_cert.specs.NewDocumentText.{DocumentText}
 use Rattle.vs_cert.specs.declared.document.Document.{Document}
 use Rattle.vs_cert.specs.declared.refused.DocWhy.{DocWhy}
+use Rattle.vs_cert.proofs.AlikeDocuments.{alike as alike_documents}
+use Rattle.vs_cert.proofs.RefusedOnce.{document_not_refused, refused_once}
 use Rattle.vs_cert.proofs.Suiting.{suits-text}
 use Rattle.vs_check.specs.Flaws.{flaws_of}
 use Rattle.vs_check.specs.HoldingDocument.{HoldingDocument}
@@ -45,8 +46,7 @@ pub record IsSameCase (p q : Problem) (names others : NameLists) (d e : Document
   pub alike : AreAlike p d e
   pub judged : AreJudgedAlike p d e
 
-module _ (one : DocumentsOfRowsAreAlike) (never : DocumentsAreNotRefused) (once : RowsAreRefusedOnce)
-    (bytes : List ℕ) where
+module _ (bytes : List ℕ) where
   pub same_case : (p q : Problem) (names others : NameLists) (d e : Document) → CheckText bytes p names d
       → CheckText bytes q others e → IsSameCase p q names others d e
   same_case p q names others d e text also =
@@ -58,7 +58,7 @@ module _ (one : DocumentsOfRowsAreAlike) (never : DocumentsAreNotRefused) (once 
       (subst (λ (x : List Row). DocumentText q others x e) same.3 also.document)) in
       let instance : IsInstance p = text.instance.text.makes.instance in
       let have = instance_names bytes p names text.before text.rest text.instance in
-      let alike = one p names text.rest d e have.layers have.trips text.document here in
+      let alike = alike_documents p names text.rest d e have.layers have.trips text.document here in
       record {
         same_problem = same.0;
         same_names = same.1;
@@ -77,7 +77,7 @@ module _ (one : DocumentsOfRowsAreAlike) (never : DocumentsAreNotRefused) (once 
       one_reading bytes p lacks.problem names lacks.names text.before lacks.before text.rest lacks.rest
       text.instance lacks.instance in
       let have = instance_names bytes p names text.before text.rest text.instance in
-      never p names text.before text.rest d refusal.at refusal.why have.layers have.trips text.document
+      document_not_refused p names have.layers have.trips text.before text.rest d refusal.at refusal.why text.document
       (subst (λ (x : Problem). AreRefused x names text.before text.rest refusal.at refusal.why) same.0
       (subst (λ (x : NameLists). AreRefused lacks.problem x text.before text.rest refusal.at refusal.why) same.1
       (subst (λ (x : ℕ). AreRefused lacks.problem lacks.names x text.rest refusal.at refusal.why) same.2
@@ -94,7 +94,7 @@ module _ (one : DocumentsOfRowsAreAlike) (never : DocumentsAreNotRefused) (once 
       here.instance there.instance in
       let have = instance_names bytes p names here.before here.rest here.instance in
       let is =
-      once p names here.before here.rest refusal.at other.at refusal.why other.why have.layers have.trips here.refused
+      refused_once p names have.layers have.trips here.before here.rest refusal.at other.at refusal.why other.why here.refused
       (subst (λ (x : Problem). AreRefused x names here.before here.rest other.at other.why) same.0
       (subst (λ (x : NameLists). AreRefused there.problem x here.before here.rest other.at other.why) same.1
       (subst (λ (x : ℕ). AreRefused there.problem there.names x here.rest other.at other.why) same.2
