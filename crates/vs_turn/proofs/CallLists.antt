@@ -1,0 +1,113 @@
+-- Entries, and the calls of a seat among them.
+use Rattle.std.proofs.Common.{◌≡◌, ℕ, zero, suc, ◌+◌, ◌<◌, ◌≤◌, ◌⊎◌, inl, inr, ⊎_elim, Bool, true, false, cond, List, [], ◌∷◌, ◌++◌, length, drop, refl, sym, ap, ◌∙◌, subst, arith, length-append, length-drop}
+use Rattle.vs_turn.specs.Calls.{maker, has_ticket, calls_from, calls_of, AreCalls, NoCalls, AreMadeBelow, numbered}
+use Rattle.vs_turn.proofs.TicketLists.{true_or_false, true_not_false}
+
+abbrev E : Type 0
+E = List ℕ
+
+pub append-nil : {A : Type 0} (xs : List A) → xs ++ [] ≡ xs
+append-nil [] = refl
+append-nil (x ∷ xs) = ap (λ l. x ∷ l) (append-nil xs)
+
+pub append-assoc : {A : Type 0} (xs ys zs : List A) → (xs ++ ys) ++ zs ≡ xs ++ (ys ++ zs)
+append-assoc [] ys zs = refl
+append-assoc (x ∷ xs) ys zs = ap (λ l. x ∷ l) (append-assoc xs ys zs)
+
+-- what a list goes on with is what is left after its beginning
+pub drop-begun : {A : Type 0} (n : ℕ) (xs ys : List A) → n ≤ length xs → drop n (xs ++ ys) ≡ drop n xs ++ ys
+drop-begun zero xs ys h = refl
+drop-begun (suc n) [] ys h = absurd (omega arith)
+drop-begun (suc n) (x ∷ xs) ys h = drop-begun n xs ys (omega arith)
+
+pub drop-all : {A : Type 0} (xs : List A) → drop (length xs) xs ≡ []
+drop-all [] = refl
+drop-all (x ∷ xs) = drop-all xs
+
+pub drop-whole : {A : Type 0} (xs ys : List A) → drop (length xs) (xs ++ ys) ≡ ys
+drop-whole [] ys = refl
+drop-whole (x ∷ xs) ys = drop-whole xs ys
+
+-- what stands behind calls_from: one entry more
+pub calls_from-yes : (at : ℕ) (ts : List ℕ) (e : E) (es : List E) → has_ticket ts (maker e) ≡ true → calls_from at ts (e ∷ es) ≡ (at, e) ∷ calls_from (suc at) ts es
+calls_from-yes at ts e es h = ap (λ (b : Bool). cond b ((at, e) ∷ calls_from (suc at) ts es) (calls_from (suc at) ts es)) h
+
+pub calls_from-no : (at : ℕ) (ts : List ℕ) (e : E) (es : List E) → has_ticket ts (maker e) ≡ false → calls_from at ts (e ∷ es) ≡ calls_from (suc at) ts es
+calls_from-no at ts e es h = ap (λ (b : Bool). cond b ((at, e) ∷ calls_from (suc at) ts es) (calls_from (suc at) ts es)) h
+
+-- calls among entries that go on
+pub calls_from-append : (at : ℕ) (ts : List ℕ) (xs ys : List E) → calls_from at ts (xs ++ ys) ≡ calls_from at ts xs ++ calls_from (at + length xs) ts ys
+calls_from-append at ts [] ys = ap (λ (n : ℕ). calls_from n ts ys) (omega arith)
+calls_from-append at ts (e ∷ es) ys =
+    let i = calls_from-append (suc at) ts es ys in
+    let n : suc at + length es ≡ at + suc (length es) = omega arith in
+    let i' : calls_from (suc at) ts (es ++ ys) ≡ calls_from (suc at) ts es ++ calls_from (at + suc (length es)) ts ys =
+        i ∙ ap (λ (k : ℕ). calls_from (suc at) ts es ++ calls_from k ts ys) n in
+    ⊎_elim
+      (λ y. calls_from-yes at ts e (es ++ ys) y ∙ (ap (λ l. (at, e) ∷ l) i' ∙ sym (ap (λ l. l ++ calls_from (at + suc (length es)) ts ys) (calls_from-yes at ts e es y))))
+      (λ n. calls_from-no at ts e (es ++ ys) n ∙ (i' ∙ sym (ap (λ l. l ++ calls_from (at + suc (length es)) ts ys) (calls_from-no at ts e es n))))
+      (true_or_false (has_ticket ts (maker e)))
+
+pub calls_of-append : (ts : List ℕ) (since : ℕ) (xs ys : List E) → since ≤ length xs → calls_of ts since (xs ++ ys) ≡ calls_of ts since xs ++ calls_from (length xs) ts ys
+calls_of-append ts since xs ys h =
+    let n : since + length (drop since xs) ≡ length xs = omega (arith, length-drop since xs) in
+    ap (calls_from since ts) (drop-begun since xs ys h)
+    ∙ (calls_from-append since ts (drop since xs) ys ∙ ap (λ (k : ℕ). calls_of ts since xs ++ calls_from k ts ys) n)
+
+pub no_calls : (at : ℕ) (ts : List ℕ) (es : List E) → NoCalls ts es → calls_from at ts es ≡ []
+no_calls at ts [] h = refl
+no_calls at ts (e ∷ es) h = calls_from-no at ts e es h.0 ∙ no_calls (suc at) ts es h.1
+
+-- where there is no call, none of the entries is one
+pub no_calls_back : (at : ℕ) (ts : List ℕ) (es : List E) → calls_from at ts es ≡ [] → NoCalls ts es
+no_calls_back at ts [] h = tt
+no_calls_back at ts (e ∷ es) h = ⊎_elim
+    (λ y. let bad : (at, e) ∷ calls_from (suc at) ts es ≡ [] = sym (calls_from-yes at ts e es y) ∙ h in absurd (let l : suc (length (calls_from (suc at) ts es)) ≡ 0 = ap length bad in omega arith))
+    (λ n. (n, no_calls_back (suc at) ts es (sym (calls_from-no at ts e es n) ∙ h)))
+    (true_or_false (has_ticket ts (maker e)))
+
+pub all_calls : (at : ℕ) (ts : List ℕ) (es : List E) → AreCalls ts es → calls_from at ts es ≡ numbered at es
+all_calls at ts [] h = refl
+all_calls at ts (e ∷ es) h = calls_from-yes at ts e es h.0 ∙ ap (λ l. (at, e) ∷ l) (all_calls (suc at) ts es h.1)
+
+pub NoCalls-append : (ts : List ℕ) (xs ys : List E) → NoCalls ts xs → NoCalls ts ys → NoCalls ts (xs ++ ys)
+NoCalls-append ts [] ys a b = b
+NoCalls-append ts (x ∷ xs) ys a b = (a.0, NoCalls-append ts xs ys a.1 b)
+
+pub NoCalls-front : (ts : List ℕ) (xs ys : List E) → NoCalls ts (xs ++ ys) → NoCalls ts xs
+NoCalls-front ts [] ys a = tt
+NoCalls-front ts (x ∷ xs) ys a = (a.0, NoCalls-front ts xs ys a.1)
+
+pub NoCalls-back : (ts : List ℕ) (xs ys : List E) → NoCalls ts (xs ++ ys) → NoCalls ts ys
+NoCalls-back ts [] ys a = a
+NoCalls-back ts (x ∷ xs) ys a = NoCalls-back ts xs ys a.1
+
+-- calls of one seat are none of a seat with other tickets
+pub calls_of_another : (ts us : List ℕ) (es : List E) → ((t : ℕ) → has_ticket ts t ≡ true → has_ticket us t ≡ false) → AreCalls ts es → NoCalls us es
+calls_of_another ts us [] apart h = tt
+calls_of_another ts us (e ∷ es) apart h = (apart (maker e) h.0, calls_of_another ts us es apart h.1)
+
+-- fewer tickets have no more calls
+pub fewer_calls : (ts us : List ℕ) (es : List E) → ((t : ℕ) → has_ticket us t ≡ true → has_ticket ts t ≡ true) → NoCalls ts es → NoCalls us es
+fewer_calls ts us [] part h = tt
+fewer_calls ts us (e ∷ es) part h = (
+    ⊎_elim (λ y. absurd (true_not_false (part (maker e) y) h.0)) (λ n. n) (true_or_false (has_ticket us (maker e))),
+    fewer_calls ts us es part h.1,
+  )
+
+pub made_below : (n : ℕ) (ts : List ℕ) (es : List E) → ((t : ℕ) → has_ticket ts t ≡ true → t < n) → AreCalls ts es → AreMadeBelow n es
+made_below n ts [] b h = tt
+made_below n ts (e ∷ es) b h = (b (maker e) h.0, made_below n ts es b h.1)
+
+pub AreMadeBelow-append : (n : ℕ) (xs ys : List E) → AreMadeBelow n xs → AreMadeBelow n ys → AreMadeBelow n (xs ++ ys)
+AreMadeBelow-append n [] ys a b = b
+AreMadeBelow-append n (x ∷ xs) ys a b = (a.0, AreMadeBelow-append n xs ys a.1 b)
+
+pub AreMadeBelow-back : (n : ℕ) (xs ys : List E) → AreMadeBelow n (xs ++ ys) → AreMadeBelow n ys
+AreMadeBelow-back n [] ys a = a
+AreMadeBelow-back n (x ∷ xs) ys a = AreMadeBelow-back n xs ys a.1
+
+-- where all makers are below n, a seat that has every ticket below n made all
+pub none_left : (n : ℕ) (ts : List ℕ) (es : List E) → ((t : ℕ) → t < n → has_ticket ts t ≡ true) → AreMadeBelow n es → NoCalls ts es → es ≡ []
+none_left n ts [] all made none = refl
+none_left n ts (e ∷ es) all made none = absurd (true_not_false (all (maker e) made.0) none.0)

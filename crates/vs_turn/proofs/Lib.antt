@@ -1,0 +1,4 @@
+pub mod TicketLists
+pub mod CallLists
+pub mod Rules
+pub mod Opening

@@ -1,0 +1,53 @@
+-- A turn that is made keeps the rule.
+use Rattle.std.proofs.Common.{◌≡◌, ℕ, zero, suc, ◌+◌, ◌<◌, ◌≤◌, ◌^◌, List, [], ◌∷◌, ◌++◌, length, refl, sym, ap, ◌∙◌, subst, arith}
+use mathlib.Core.Option.{Option as Home, none, some, some-injective, some-ne-none}
+use lib.ListN.{get_elem?}
+use Rattle.std.specs.Prelude.{Option, Some}
+use Rattle.atomic_table.specs.Table.{opening}
+use Rattle.vs_turn.specs.declared.view.View.{View}
+use Rattle.vs_turn.specs.Calls.{calls_from, AreMadeBelow}
+use Rattle.vs_turn.specs.Tickets.{tickets_from, all_tickets}
+use Rattle.vs_turn.specs.Rule.{Origin, Stands, Kept}
+use Rattle.vs_turn.specs.Steps.{first_view}
+use Rattle.vs_turn.proofs.TicketLists.{true_not_false, tickets_from-rise, tickets_from_below}
+use Rattle.vs_turn.proofs.CallLists.{append-nil, drop-all}
+
+module _ {S : Type 0} (opening_of : S → List ℕ) (entries_of : S → List (List ℕ)) where
+  abbrev pub origin : S → ℕ → Origin
+  origin x n = record { opening = opening_of x; since = length (entries_of x); seats = n }
+
+  first_stands : (x : S) (n : ℕ) → Stands (origin x n) (λ _. 0) (entries_of x) 0 0 (first_view (opening_of x) (entries_of x) n)
+  first_stands x n = let es = entries_of x in record {
+    rise = tickets_from-rise 0 n;
+    tickets = λ t h. (let b = tickets_from_below 0 n t h in omega arith, refl);
+    says = λ h. absurd (true_not_false h refl);
+    said = λ e. absurd (omega arith);
+    found = λ h. absurd (true_not_false h refl);
+    opening = refl;
+    since = refl;
+    begun = omega arith;
+    mine = ap (calls_from (length es) (all_tickets n)) (drop-all es);
+    rest = [];
+    begins = append-nil es;
+    unmade = tt;
+    olds = tt;
+  }
+
+  stands_at : (x : S) (n id : ℕ) (v : View) → get_elem? (first_view (opening_of x) (entries_of x) n ∷ []) id ≡ some v
+      → Stands (origin x n) (λ _. 0) (entries_of x) 0 id v
+  stands_at x n zero v e = subst (Stands (origin x n) (λ _. 0) (entries_of x) 0 0) (some-injective (first_view (opening_of x) (entries_of x) n) v e) (first_stands x n)
+  stands_at x n (suc id) v e = absurd (some-ne-none v (sym e))
+
+  -- the table at the start
+  pub opens : (x : S) (n : ℕ) → n < 2 ^ 32 → Kept opening_of entries_of (origin x n) (opening (0 ∷ []) (Some x ∷ []) (first_view (opening_of x) (entries_of x) n))
+  opens x n few = (refl, record {
+    log = entries_of x;
+    owner = λ _. 0;
+    few = few;
+    in_range = omega arith;
+    free = λ _. record { value = x; at = refl; opening_is = refl; entries_are = refl };
+    holder = 0;
+    taken = λ h. absurd (omega arith);
+    stands = λ id v at live. stands_at x n id v at;
+    made = subst (AreMadeBelow n) (sym (drop-all (entries_of x))) tt;
+  })

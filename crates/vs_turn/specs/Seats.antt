@@ -1,0 +1,89 @@
+-- What contracts see of a turn, of a seat, and of a seat that has the turn.
+use Rattle.std.specs.Prelude.{◌≡◌, ℕ, ◌<◌, ◌≤◌, true, false, List, [], ◌∷◌, ◌++◌, length, None, Option}
+use Rattle.atomic_table.specs.Seated.{TableId}
+use Rattle.vs_turn.specs.declared.view.View.{View}
+use Rattle.atomic_table.specs.Table.{Me}
+use Rattle.vs_turn.specs.Calls.{calls_of, merged_calls, longer}
+use Rattle.vs_turn.specs.Tickets.{all_tickets, merged_tickets, RiseFrom}
+
+-- a turn: its name, which no other turn has, and the value and the number of seats that it was made with, as far as they matter
+pub record TurnModel : Type 0 where
+  pub name : TableId
+  pub opening : List ℕ
+  pub since : ℕ
+  pub seats : ℕ
+
+-- a seat: the name of its turn, the opening of the value, how many entries that had when the turn was made,
+-- the seat's tickets, the entries that it has seen, and those of them that it made, with their positions
+pub record SeatModel : Type 0 where
+  pub turn : TableId
+  pub opening : List ℕ
+  pub since : ℕ
+  pub tickets : List ℕ
+  pub seen : List (List ℕ)
+  pub mine : List (ℕ × List ℕ)
+
+-- a seat that has the turn, with the entries that it found, and the value
+pub record HeldModel (S : Type 0) : Type 0 where
+  pub seat : SeatModel
+  pub found : List (List ℕ)
+  pub value : S
+
+-- a seat, by the name of its turn and what the table knows of it
+abbrev pub seat_of : TableId → View → SeatModel
+seat_of z v = record { turn = z; opening = v.opening; since = v.since; tickets = v.tickets; seen = v.seen; mine = v.mine }
+
+abbrev pub seat_at : TableId → List View → SeatModel
+seat_at z [] = record { turn = z; opening = []; since = 0; tickets = []; seen = []; mine = [] }
+seat_at z (v ∷ vs) = seat_of z v
+
+-- the table knows one view of a seat, which doesn't have the turn, and the seat carries its tickets
+pub record IsSeat (views : List View) (tickets : List ℕ) : Type 0 where
+  pub view : View
+  pub one : views ≡ view ∷ []
+  pub at_rest : view.has ≡ false
+  pub numbers : view.tickets ≡ tickets
+  pub some_ticket : 0 < length tickets
+  pub rise : RiseFrom 0 tickets
+
+-- the seat that a turn is made with
+abbrev pub first_seat : TableId → List ℕ → List (List ℕ) → ℕ → SeatModel
+first_seat z opening entries seats = record {
+  turn = z;
+  opening = opening;
+  since = length entries;
+  tickets = all_tickets seats;
+  seen = entries;
+  mine = [];
+}
+
+-- the turn was made with a value of this opening and these entries
+abbrev pub IsMadeWith : List ℕ → List (List ℕ) → ℕ → TurnModel → Type 0
+IsMadeWith opening entries seats t = (t.opening ≡ opening) × (t.since ≡ length entries) × (t.seats ≡ seats)
+
+-- the seat with these tickets instead of its own
+abbrev pub with_tickets : SeatModel → List ℕ → SeatModel
+with_tickets seat tickets = record seat { tickets = tickets }
+
+-- the seat once it has seen these entries, and made these calls more
+abbrev pub seen_with : SeatModel → List (List ℕ) → List (ℕ × List ℕ) → SeatModel
+seen_with seat entries calls = record seat { seen = entries; mine = seat.mine ++ calls }
+
+-- both seats in one
+abbrev pub both_seats : SeatModel → SeatModel → SeatModel
+both_seats a b = record a {
+  tickets = merged_tickets a.tickets b.tickets;
+  seen = longer a.seen b.seen;
+  mine = merged_calls a.mine b.mine;
+}
+
+-- the seat of a `Held` has the turn and the slot, from which the value is out, and knows what it found
+pub record IsHeld {S : Type 0} (turn table : TableId) (me : Me (Option S) View) (tickets : List ℕ) : Type 0 where
+  pub of_turn : table ≡ turn
+  pub slot : me.1 ≡ (0, None) ∷ []
+  pub has : me.0.has ≡ true
+  pub numbers : me.0.tickets ≡ tickets
+  pub some_ticket : 0 < length tickets
+  pub rise : RiseFrom 0 tickets
+  pub begun : me.0.since ≤ length me.0.found
+  pub mine : calls_of me.0.tickets me.0.since me.0.found ≡ me.0.mine

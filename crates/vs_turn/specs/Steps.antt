@@ -1,0 +1,82 @@
+-- What each atomic step makes of its seat's view, and what it tells.
+use Rattle.std.specs.Prelude.{◌≡◌, ◌≢◌, ℕ, ◌-◌, ◌^◌, ◌<◌, ◌≤◌, Bool, true, false, List, [], ◌∷◌, take, drop, length, Option, Some, None}
+use Rattle.atomic_table.specs.Table.{Me, Step}
+use mathlib.Core.List.{IsPrefix}
+use Rattle.vs_turn.specs.declared.view.View.{View}
+use Rattle.vs_turn.specs.Calls.{calls_of, NoCalls, merged_calls, longer}
+use Rattle.vs_turn.specs.Tickets.{all_tickets, merged_tickets, RiseFrom}
+use Rattle.vs_turn.specs.Rule.{AllBegin}
+
+-- the first seat: it has all tickets, has seen what the value brought along, and made none of it
+abbrev pub first_view : List ℕ → List (List ℕ) → ℕ → View
+first_view opening entries seats = record {
+  opening = opening;
+  since = length entries;
+  tickets = all_tickets seats;
+  seen = entries;
+  mine = [];
+  has = false;
+  found = [];
+  olds = [];
+}
+
+-- the seat has the turn, and found these entries
+abbrev pub holding : View → List (List ℕ) → View
+holding v entries = record v { has = true; found = entries }
+
+-- the seat has given up the turn, and has seen these entries
+abbrev pub released : View → List (List ℕ) → View
+released v entries = record v {
+  seen = entries;
+  mine = calls_of v.tickets v.since entries;
+  has = false;
+  found = [];
+  olds = [];
+}
+
+-- a split hands on the highest ticket
+abbrev pub keeping : View → View
+keeping v = record v { tickets = take (length v.tickets - 1) v.tickets }
+
+abbrev pub handed : View → View
+handed v = record v { tickets = drop (length v.tickets - 1) v.tickets }
+
+-- a join adds up tickets and calls, and keeps both lists that were seen beside the longer
+abbrev pub joined : View → View → View
+joined v w = record v {
+  tickets = merged_tickets v.tickets w.tickets;
+  seen = longer v.seen w.seen;
+  mine = merged_calls v.mine w.mine;
+  olds = v.seen ∷ w.seen ∷ [];
+}
+
+-- a view whose seat is gone
+abbrev pub spent : View
+spent = record { opening = []; since = 0; tickets = []; seen = []; mine = []; has = false; found = []; olds = [] }
+
+-- a look leaves the view as it was, and tells that its tickets rise, and that the lists which a join left begin what was seen
+abbrev pub Looked : {S : Type 0} → Step (Option S) → Me (Option S) View → ℕ → Me (Option S) View → Type 0
+Looked st me found after = (after ≡ me) × RiseFrom 0 me.0.tickets × AllBegin me.0.olds me.0.seen
+
+module _ {S : Type 0} (opening_of : S → List ℕ) (entries_of : S → List (List ℕ)) where
+  -- the value as a seat finds it: it has the seat's opening, its entries begin with what the seat has seen, and hold no call
+  -- of the seat but those that it knows
+  pub record Finds (v : View) (value : S) : Type 0 where
+    pub opening : opening_of value ≡ v.opening
+    pub begun : v.since ≤ length (entries_of value)
+    pub begins : IsPrefix v.seen (entries_of value)
+    pub unmade : NoCalls v.tickets (drop (length v.seen) (entries_of value))
+    pub mine : calls_of v.tickets v.since (entries_of value) ≡ v.mine
+
+  pub record Takes (me : Me (Option S) View) (after : Me (Option S) View) : Type 0 where
+    pub value : S
+    pub finds : Finds me.0 value
+    pub after_is : after ≡ (holding me.0 (entries_of value), (0, Some value) ∷ me.1)
+
+  -- the turn was free and is taken, with the slot; or the seat is as before
+  abbrev pub Took : Step (Option S) → Me (Option S) View → ℕ → Me (Option S) View → Type 0
+  Took st me found after = (found ≡ 0 → Takes me after) × (found ≢ 0 → (after ≡ me) × (found < 2 ^ 32))
+
+  -- the turn is given up with the value that the seat has put back
+  abbrev pub Freed : Step (Option S) → Me (Option S) View → ℕ → Me (Option S) View → Type 0
+  Freed st me stored after = (value : S) → me.1 ≡ (0, Some value) ∷ [] → after ≡ (released me.0 (entries_of value), [])
