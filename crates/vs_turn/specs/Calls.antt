@@ -60,3 +60,7 @@ merged_calls (c ∷ cs) ds = insert_call c (merged_calls cs ds)
 -- the longer of two lists of entries
 abbrev pub longer : List (List ℕ) → List (List ℕ) → List (List ℕ)
 longer xs ys = if nat_lt (length xs) (length ys) then ys else xs
+
+-- the entries after those that were found, as calls of the seat that made them
+abbrev pub new_calls : List (List ℕ) → List (List ℕ) → List (ℕ × List ℕ)
+new_calls found entries = numbered (length found) (drop (length found) entries)

@@ -1,9 +1,9 @@
-ghost use Rattle.std.specs.Prelude.{◌≡◌, length, drop};
-ghost use Rattle.std.specs.Borrow.{sem};
-ghost use Rattle.vs_turn.specs.Calls.{calls_of, GoOn, numbered};
+ghost use Rattle.std.specs.Prelude.{◌≡◌};
+ghost use Rattle.vs_turn.specs.Calls.{GoOn, new_calls};
 ghost use Rattle.vs_turn.specs.Seats.{seen_with};
 
 use crate::kept::Kept;
+use crate::rule::Free;
 use crate::seat::Seat;
 use crate::tickets::Tickets;
 use crate::turn::Turn;
@@ -26,4 +26,29 @@ impl<'a, S: Kept> Model for Held<'a, S> {
     ghost view = { λ h. record { seat = seat_of h.place.table_id h.place.me.0; found = h.place.me.0.found; value = h.value } };
 
     ghost invariant = { λ h. IsHeld h.turn.now.name h.place.table_id h.place.me h.tickets };
+}
+
+impl<'a, S: Kept> Held<'a, S> {
+    /// Puts the value back and gives up the turn. The seat has then seen all entries, and its own are among its calls.
+    pub fn release(self) -> Seat
+        requires opening { S.opening self.value ≡ self.seat.opening }
+        requires entries { GoOn self.seat.tickets self.found (S.entries self.value) }
+        ensures { result ≡ seen_with self.entry.seat (S.entries self.entry.value) (new_calls self.entry.found (S.entries self.entry.value)) }
+    {
+        let Held {
+            turn,
+            tickets,
+            mut place,
+            value,
+        } = self;
+        let shared = &turn.table.shared;
+        match shared.exchange(&mut place, 0, Some(value)) {
+            None => {}
+            Some(_value) => unreachable!(),
+        }
+        shared.store::<Free>(&mut place, 0, 0);
+        shared.wake_one(0);
+        let badge = place.into_badge();
+        Seat { tickets, badge }
+    }
 }

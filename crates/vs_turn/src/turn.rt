@@ -1,10 +1,13 @@
-ghost use Rattle.std.specs.Prelude.{◌≡◌, ◌≤◌, [], ◌∷◌, Some, length, drop, IfOk, IfErr, IfSome};
+ghost use Rattle.std.specs.Prelude.{◌≡◌, ◌+◌, ◌<◌, ◌≤◌, false, [], ◌∷◌, Some, None, length, drop, IfOk, IfErr};
 ghost use mathlib.Core.List.{IsPrefix};
 ghost use Rattle.vs_turn.specs.Calls.{calls_of, NoCalls};
 ghost use Rattle.vs_turn.specs.Seats.{first_seat, IsMadeWith};
+ghost use Rattle.vs_turn.specs.Steps.{Takes};
+ghost use Rattle.vs_turn.specs.Tickets.{lowest};
 
+use crate::held::Held;
 use crate::kept::Kept;
-use crate::rule::{Law, Start};
+use crate::rule::{Law, Start, Take};
 use crate::seat::Seat;
 use crate::tickets;
 use crate::view::View;
@@ -12,7 +15,11 @@ use atomic_table::{Refused, Table};
 use std::alloc::Global;
 use std::marker::Model;
 use std::snapshot::Snapshot;
+use std::sync::Wait;
 use vs_types::Memory;
+
+// A seat as the table has it.
+pub(crate) type Place<S> = atomic_table::Seat<Option<S>, View>;
 
 /// One value that seats share. A seat that holds it has it alone.
 pub struct Turn<S: Kept> {
@@ -88,6 +95,61 @@ impl<S: Kept> Turn<S> {
                 Ok((Turn { table }, Seat { tickets, badge }))
             }
             Err(Refused { slots }) => Err((value_of(slots), Memory)),
+        }
+    }
+
+    /// Waits until the seat has the turn, and takes the value out.
+    pub fn hold<R: Wait>(&self, rt: &R, seat: Seat) -> Held<'_, S>
+        requires { seat.turn ≡ self.now.name }
+        ensures seat { result.seat ≡ seat }
+        ensures opening { S.opening result.value ≡ seat.opening }
+        ensures begins { IsPrefix seat.seen (S.entries result.value) }
+        ensures unmade { NoCalls seat.tickets (drop (length seat.seen) (S.entries result.value)) }
+        ensures mine { calls_of seat.tickets seat.since (S.entries result.value) ≡ seat.mine }
+        ensures found { result.found ≡ S.entries result.value }
+    {
+        let Seat { tickets, badge } = seat;
+        let mut place = badge.into_seat();
+        self.take(rt, &mut place, tickets::mark(&tickets));
+        let value = self.take_out(&mut place);
+        Held {
+            turn: self,
+            tickets,
+            place,
+            value,
+        }
+    }
+
+    // Takes the turn, and the slot with it. It sleeps for as long as another seat has the turn.
+    fn take<R: Wait>(&self, rt: &R, place: &mut Place<S>, mark: u64)
+        requires table { place.old.table_id ≡ self.now.name }
+        requires rests { (place.old.me.0.has ≡ false) × (0 < length place.old.me.0.tickets) }
+        requires mark { mark ≡ 1 + lowest place.old.me.0.tickets }
+        ensures table { place.new.table_id ≡ place.old.table_id }
+        ensures taken { Takes S.opening S.entries place.old.me place.new.me }
+    {
+        let shared = &self.table.shared;
+        for _ in rt.forever() {
+            let found = shared.compare_exchange::<Take>(place, 0, 0, mark);
+            if found == 0 {
+                return;
+            }
+            shared.park(rt, 0, found as u32);
+        }
+        unreachable!()
+    }
+
+    // Takes the value out of the slot that the seat has.
+    fn take_out(&self, place: &mut Place<S>) -> S
+        requires table { place.old.table_id ≡ self.now.name }
+        requires slot { (x : S) × (place.old.me.1 ≡ (0, Some x) ∷ []) }
+        ensures table { place.new.table_id ≡ place.old.table_id }
+        ensures value { place.old.me.1 ≡ (0, Some result) ∷ [] }
+        ensures slot { place.new.me ≡ (place.old.me.0, (0, None) ∷ []) }
+    {
+        match self.table.shared.exchange(place, 0, None) {
+            Some(value) => value,
+            None => unreachable!(),
         }
     }
 }
