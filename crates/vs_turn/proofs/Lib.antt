@@ -4,3 +4,9 @@ pub mod Rules
 pub mod Opening
 pub mod Taking
 pub mod Freeing
+pub mod MergedTickets
+pub mod Splitting
+pub mod Closing
+pub mod MergedCalls
+pub mod AtRest
+pub mod Joining

@@ -98,7 +98,7 @@ rise_drop (suc n) k [] r = tt
 rise_drop (suc n) k (u ∷ us) r = let a : k ≤ u = r.0 in rise_lower (suc u) k (drop n us) (omega arith) (rise_drop n (suc u) us r.1)
 
 -- tickets that rise from k on and lie below m are at most m - k
-few_tickets : (k m : ℕ) (ts : List ℕ) → RiseFrom k ts → k ≤ m → ((t : ℕ) → has_ticket ts t ≡ true → t < m) → length ts + k ≤ m
+pub few_tickets : (k m : ℕ) (ts : List ℕ) → RiseFrom k ts → k ≤ m → ((t : ℕ) → has_ticket ts t ≡ true → t < m) → length ts + k ≤ m
 few_tickets k m [] r le h = omega arith
 few_tickets k m (t ∷ ts) r le h =
     let a : k ≤ t = r.0 in let b : t < m = h t (has_first t t ts refl) in

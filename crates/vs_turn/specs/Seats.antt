@@ -1,5 +1,5 @@
 -- What contracts see of a turn, of a seat, and of a seat that has the turn.
-use Rattle.std.specs.Prelude.{◌≡◌, ℕ, ◌<◌, ◌≤◌, true, false, List, [], ◌∷◌, ◌++◌, length, None, Option}
+use Rattle.std.specs.Prelude.{◌≡◌, ℕ, ◌<◌, ◌≤◌, ◌^◌, true, false, List, [], ◌∷◌, ◌++◌, length, None, Option}
 use Rattle.atomic_table.specs.Seated.{TableId}
 use Rattle.vs_turn.specs.declared.view.View.{View}
 use Rattle.atomic_table.specs.Table.{Me}
@@ -45,6 +45,7 @@ pub record IsSeat (views : List View) (tickets : List ℕ) : Type 0 where
   pub numbers : view.tickets ≡ tickets
   pub some_ticket : 0 < length tickets
   pub rise : RiseFrom 0 tickets
+  pub few : length tickets < 2 ^ 32
 
 -- the seat that a turn is made with
 abbrev pub first_seat : TableId → List ℕ → List (List ℕ) → ℕ → SeatModel
@@ -85,5 +86,6 @@ pub record IsHeld {S : Type 0} (turn table : TableId) (me : Me (Option S) View) 
   pub numbers : me.0.tickets ≡ tickets
   pub some_ticket : 0 < length tickets
   pub rise : RiseFrom 0 tickets
+  pub few : length tickets < 2 ^ 32
   pub begun : me.0.since ≤ length me.0.found
   pub mine : calls_of me.0.tickets me.0.since me.0.found ≡ me.0.mine

@@ -1,13 +1,13 @@
-ghost use Rattle.std.specs.Prelude.{◌≡◌, ◌+◌, ◌<◌, ◌≤◌, false, [], ◌∷◌, Some, None, length, drop, IfOk, IfErr};
+ghost use Rattle.std.specs.Prelude.{◌≡◌, ◌+◌, ◌-◌, ◌<◌, ◌≤◌, false, [], ◌∷◌, ◌++◌, Some, None, length, take, drop, IfOk, IfErr};
 ghost use mathlib.Core.List.{IsPrefix};
 ghost use Rattle.vs_turn.specs.Calls.{calls_of, NoCalls};
-ghost use Rattle.vs_turn.specs.Seats.{first_seat, IsMadeWith};
+ghost use Rattle.vs_turn.specs.Seats.{first_seat, with_tickets, both_seats, IsMadeWith};
 ghost use Rattle.vs_turn.specs.Steps.{Takes};
-ghost use Rattle.vs_turn.specs.Tickets.{lowest};
+ghost use Rattle.vs_turn.specs.Tickets.{RiseFrom, lowest};
 
 use crate::held::Held;
 use crate::kept::Kept;
-use crate::rule::{Law, Start, Take};
+use crate::rule::{AddUp, HandOn, Law, Look, Start, Take};
 use crate::seat::Seat;
 use crate::tickets;
 use crate::view::View;
@@ -117,6 +117,73 @@ impl<S: Kept> Turn<S> {
             tickets,
             place,
             value,
+        }
+    }
+
+    /// Two seats of one that has made no entry: the first keeps all tickets but the highest, which the second has.
+    pub fn split(&self, seat: Seat) -> (Seat, Seat)
+        requires turn { seat.turn ≡ self.now.name }
+        requires two { 2 ≤ length seat.tickets }
+        requires none_made { seat.mine ≡ [] }
+        ensures first { result.0 ≡ with_tickets seat (take (length seat.tickets - 1) seat.tickets) }
+        ensures second { result.1 ≡ with_tickets seat (drop (length seat.tickets - 1) seat.tickets) }
+        ensures all { result.0.tickets ++ result.1.tickets ≡ seat.tickets }
+        ensures rise { RiseFrom 0 seat.tickets }
+        ensures one { length result.1.tickets ≡ 1 }
+    {
+        let Seat { mut tickets, badge } = seat;
+        let mut place: Place<S> = badge.into_seat();
+        let highest = tickets::split_highest(&mut tickets);
+        let other = self.table.shared.split_seat::<HandOn>(&mut place);
+        let first = Seat {
+            tickets,
+            badge: place.into_badge(),
+        };
+        let second = Seat {
+            tickets: highest,
+            badge: other.into_badge(),
+        };
+        (first, second)
+    }
+
+    /// One seat of two, with the tickets and the calls of both. What one of them has seen begins what the other has.
+    pub fn join(&self, a: Seat, b: Seat) -> Seat
+        requires { (a.turn ≡ self.now.name) × (b.turn ≡ self.now.name) }
+        ensures seat { result ≡ both_seats a b }
+        ensures begins { IsPrefix a.seen result.seen × IsPrefix b.seen result.seen }
+        ensures count { length result.tickets ≡ length a.tickets + length b.tickets }
+    {
+        let Seat { tickets, badge } = a;
+        let Seat {
+            tickets: others,
+            badge: other,
+        } = b;
+        let shared = &self.table.shared;
+        let mut place: Place<S> = badge.into_seat();
+        shared.join_seat::<AddUp>(&mut place, other.into_seat());
+        shared.load::<Look>(&mut place, 0);
+        Seat {
+            tickets: tickets::merge(tickets, others),
+            badge: place.into_badge(),
+        }
+    }
+
+    /// The value, for the seat that has all tickets. Its entries are those that the seat has seen.
+    pub fn close(self, seat: Seat) -> S
+        requires turn { seat.turn ≡ self.name }
+        requires all { length seat.tickets ≡ self.seats }
+        ensures opening { S.opening result ≡ self.opening }
+        ensures seen { S.opening result ≡ seat.opening }
+        ensures entries { S.entries result ≡ seat.seen }
+    {
+        let Seat { tickets: _, badge } = seat;
+        let Turn { table } = self;
+        let mut closed = table.close_with(badge.into_seat());
+        let slot = closed.take(0);
+        closed.free();
+        match slot {
+            Some(value) => value,
+            None => unreachable!(),
         }
     }
 

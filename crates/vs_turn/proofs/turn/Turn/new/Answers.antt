@@ -25,5 +25,6 @@ invariant_of-result-in-Ok-new g c =
       at_rest = search rules;
       numbers = search rules;
       some_ticket = let l = ap length is ∙ length-tickets_from 0 n in omega arith;
+      few = let l = ap length is ∙ length-tickets_from 0 n in let few : n < 2 ^ 32 = search rules in omega arith;
       rise = subst (RiseFrom 0) (sym is) (tickets_from-rise 0 n);
     }

@@ -1,0 +1,48 @@
+use Rattle.std.proofs.Common.{rules, ◌≡◌, ◌-◌, ◌<◌, ◌≤◌, ℕ, List, [], ◌∷◌, length, drop, take, sym, ap, ◌∙◌, subst, arith, length-take}
+use Rattle.std.specs.Prelude.{Option}
+use Rattle.atomic_table.specs.Table.{Me}
+use Rattle.vs_turn.specs.declared.view.View.{View}
+use Rattle.vs_turn.specs.Seats.{SeatModel}
+use Rattle.vs_turn.specs.Steps.{keeping}
+use Rattle.vs_turn.specs.Tickets.{RiseFrom}
+use Rattle.vs_turn.proofs.AtRest.{at_rest, seen_seat}
+use Rattle.vs_turn.proofs.TicketLists.{rise_take}
+use Rattle.vs_turn.proofs.Splitting.{splits}
+use Rattle.vs_turn.proofs.turn.Turn.split.Goals as goal
+
+pub split_seat-other-requires : goal.split_seat-other-requires
+split_seat-other-requires g c =
+    let v = c.into_seat-place.result.me.0 in
+    let one = c.into_seat-place.ensures.2 in
+    let rest = at_rest _ _ v c.seat.invariant one in
+    let seat = seen_seat _ _ v _ one c.seat.view_is in
+    let two = ap (λ (s : SeatModel). length s.tickets) seat in
+    (
+      search rules,
+      search rules,
+      splits g.S.Kept.opening g.S.Kept.entries _ c.into_seat-place.result.id v (let r = c.requires.two in omega arith) rest.rests
+          (ap (λ (s : SeatModel). s.mine) seat ∙ c.requires.none_made),
+    )
+
+pub invariant_of-first : goal.invariant_of-first
+invariant_of-first g c =
+    let v = c.into_seat-place.result.me.0 in
+    let one = c.into_seat-place.ensures.2 in
+    let rest = at_rest _ _ v c.seat.invariant one in
+    let seat = seen_seat _ _ v _ one c.seat.view_is in
+    let two = ap (λ (s : SeatModel). length s.tickets) seat in
+    let two' = c.requires.two in
+    let old = c.seat.inside.tickets in
+    let kept = c.split_highest-highest.ensures.kept in
+    let count = ap length kept ∙ length-take (length old - 1) old in
+    let whole = ap length rest.numbers in
+    let few = c.seat.invariant.few in
+    record {
+      view = keeping v;
+      one = c.into_badge.ensures.2 ∙ ap (λ (m : Me (Option g.row.S.Denot) View). m.0 ∷ []) c.split_seat-other.ensures.2;
+      at_rest = rest.rests;
+      numbers = ap (λ ts. take (length ts - 1) ts) rest.numbers ∙ sym kept;
+      some_ticket = omega arith;
+      rise = subst (RiseFrom 0) (sym kept) (rise_take (length old - 1) 0 old c.seat.invariant.rise);
+      few = omega arith;
+    }
