@@ -1,7 +1,7 @@
 use Rattle.std.proofs.Common.{rules, ◌≡◌, ◌<◌, ℕ, length, sym, ap, ◌∙◌, arith}
 use mathlib.Core.Option.{some-injective}
 use Rattle.std.specs.Prelude.{Option, Some, None}
-use Rattle.core.specs.Mem.Slots.{slots_items}
+use Rattle.std.specs.Slots.{slots_items}
 use Rattle.vs_turn.specs.Rule.{Origin}
 use Rattle.vs_turn.specs.Seats.{SeatModel, TurnModel}
 use Rattle.vs_turn.proofs.AtRest.{at_rest, seen_seat}
