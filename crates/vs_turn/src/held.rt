@@ -1,4 +1,7 @@
-ghost use Rattle.std.specs.Prelude.{◌≡◌};
+ghost use Rattle.std.specs.Prelude.{◌≡◌, []};
+ghost use Rattle.std.specs.Borrow.{Lends, sem};
+ghost use mir.Syntax.{named};
+ghost use Rattle.vs_turn.specs.contracts.held.Held.{the_row};
 ghost use Rattle.vs_turn.specs.Calls.{GoOn, new_calls};
 ghost use Rattle.vs_turn.specs.Seats.{seen_with};
 
@@ -29,6 +32,14 @@ impl<'a, S: Kept> Model for Held<'a, S> {
 }
 
 impl<'a, S: Kept> Held<'a, S> {
+    /// The value, to read and to change. Its opening has to stay, and its entries may only grow by calls of the seat.
+    pub fn value(&mut self) -> &mut S
+        ensures* writes_back { sem 𝓛 (Lends (the_row (record { mir = named 0; lft = [] }) S.row S.Kept) S.row self.entry result (λ w. record self.old { value = w })) }
+        ensures value { result.now ≡ self.old.value }
+    {
+        &mut self.value
+    }
+
     /// Puts the value back and gives up the turn. The seat has then seen all entries, and its own are among its calls.
     pub fn release(self) -> Seat
         requires opening { S.opening self.value ≡ self.seat.opening }
