@@ -10,3 +10,4 @@ pub mod Closing
 pub mod MergedCalls
 pub mod AtRest
 pub mod Joining
+pub mod GoingOn
