@@ -96,3 +96,15 @@ NoCalls-merged ts us (e ∷ es) a b = (
 pub still_all_calls : (ts : List ℕ) (since : ℕ) (seen more : List (List ℕ)) → since ≤ length seen → NoCalls ts more → calls_of ts since (seen ++ more) ≡ calls_of ts since seen
 still_all_calls ts since seen more begun none = calls_of-append ts since seen more begun
     ∙ (ap (λ l. calls_of ts since seen ++ l) (no_calls (length seen) ts more none) ∙ append-nil (calls_of ts since seen))
+
+length-insert_call : (c : Call) (ds : List Call) → length (insert_call c ds) ≡ 1 + length ds
+length-insert_call c [] = refl
+length-insert_call c (d ∷ ds) = ⊎_elim
+    (λ y. ap (λ (b : Bool). length (cond b (c ∷ d ∷ ds) (d ∷ insert_call c ds))) y ∙ omega arith)
+    (λ n. ap (λ (b : Bool). length (cond b (c ∷ d ∷ ds) (d ∷ insert_call c ds))) n ∙ (let l = length-insert_call c ds in omega arith))
+    (true_or_false (nat_lt c.0 d.0))
+
+-- no call is lost or doubled
+pub length-merged_calls : (cs ds : List Call) → length (merged_calls cs ds) ≡ length cs + length ds
+length-merged_calls [] ds = omega arith
+length-merged_calls (c ∷ cs) ds = length-insert_call c (merged_calls cs ds) ∙ (let l = length-merged_calls cs ds in omega arith)

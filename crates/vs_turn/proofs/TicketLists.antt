@@ -4,7 +4,7 @@ use mathlib.Core.Logic.{dite}
 use native.Mathlib.Decide.{ℕ_discrete}
 use Rattle.std.specs.Prelude.{nat_lt}
 use Rattle.vs_turn.specs.Calls.{has_ticket}
-use Rattle.vs_turn.specs.Tickets.{tickets_from, lowest, RiseFrom, insert_ticket, merged_tickets}
+use Rattle.vs_turn.specs.Tickets.{tickets_from, all_tickets, lowest, RiseFrom, insert_ticket, merged_tickets}
 
 pub true_or_false : (b : Bool) → (b ≡ true) ⊎ (b ≡ false)
 true_or_false true = inl refl
@@ -24,9 +24,28 @@ tickets_from-snoc k (suc n) =
 pub all_tickets-snoc : (n : ℕ) → tickets_from 0 (n + 1) ≡ tickets_from 0 n ++ n ∷ []
 all_tickets-snoc n = let e : 0 + n ≡ n = omega arith in tickets_from-snoc 0 n ∙ ap (λ (x : ℕ). tickets_from 0 n ++ x ∷ []) e
 
+take-whole : {A : Type 0} (xs ys : List A) → take (length xs) (xs ++ ys) ≡ xs
+take-whole [] ys = refl
+take-whole (x ∷ xs) ys = ap (λ l. x ∷ l) (take-whole xs ys)
+
+drop-whole : {A : Type 0} (xs ys : List A) → drop (length xs) (xs ++ ys) ≡ ys
+drop-whole [] ys = refl
+drop-whole (x ∷ xs) ys = drop-whole xs ys
+
 pub length-tickets_from : (k n : ℕ) → length (tickets_from k n) ≡ n
 length-tickets_from k zero = refl
 length-tickets_from k (suc n) = ap suc (length-tickets_from (suc k) n)
+
+-- of all tickets the highest is handed on, and the others stay
+pub all_but_highest : (n : ℕ) → take (length (all_tickets (n + 1)) - 1) (all_tickets (n + 1)) ≡ all_tickets n
+all_but_highest n =
+    let l : length (all_tickets (n + 1)) - 1 ≡ length (all_tickets n) = let a = length-tickets_from 0 (n + 1) in let b = length-tickets_from 0 n in omega arith in
+    (λ i. take (l i) (all_tickets-snoc n i)) ∙ take-whole (all_tickets n) (n ∷ [])
+
+pub highest : (n : ℕ) → drop (length (all_tickets (n + 1)) - 1) (all_tickets (n + 1)) ≡ n ∷ []
+highest n =
+    let l : length (all_tickets (n + 1)) - 1 ≡ length (all_tickets n) = let a = length-tickets_from 0 (n + 1) in let b = length-tickets_from 0 n in omega arith in
+    (λ i. drop (l i) (all_tickets-snoc n i)) ∙ drop-whole (all_tickets n) (n ∷ [])
 
 pub tickets_from-rise : (k n : ℕ) → RiseFrom k (tickets_from k n)
 tickets_from-rise k zero = tt

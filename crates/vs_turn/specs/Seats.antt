@@ -62,6 +62,12 @@ first_seat z opening entries seats = record {
 abbrev pub IsMadeWith : List ℕ → List (List ℕ) → ℕ → TurnModel → Type 0
 IsMadeWith opening entries seats t = (t.opening ≡ opening) × (t.since ≡ length entries) × (t.seats ≡ seats)
 
+-- a seat of this turn with these tickets, which has made no entry
+pub record IsNew (turn : TableId) (tickets : List ℕ) (seat : SeatModel) : Type 0 where
+  pub of_turn : seat.turn ≡ turn
+  pub has : seat.tickets ≡ tickets
+  pub none_made : seat.mine ≡ []
+
 -- the seat with these tickets instead of its own
 abbrev pub with_tickets : SeatModel → List ℕ → SeatModel
 with_tickets seat tickets = record seat { tickets = tickets }

@@ -1,6 +1,7 @@
-ghost use Rattle.std.specs.Prelude.{◌≡◌, ℕ, ◌+◌, ◌*◌, ◌≤◌, true, [], length, if◌then◌else◌};
+ghost use Rattle.std.specs.Prelude.{◌≡◌, ◌+◌, ◌*◌, ◌≤◌, true, [], ◌∷◌, length, if◌then◌else◌};
 ghost use Rattle.std.specs.Thread.{IsSync};
 ghost use Rattle.vs_turn.specs.Calls.{has_ticket};
+ghost use Rattle.vs_turn.specs.Seats.{IsNew};
 ghost use Rattle.vs_turn.specs.Tickets.{all_tickets};
 
 mod tally;
@@ -42,4 +43,107 @@ fn add_often<R: Wait>(rt: &R, turn: &Turn<Tally>, mut seat: Seat, maker: u32) ->
         made += u64::from(added);
     }
     (seat, made)
+}
+
+// Splits off the highest ticket of all.
+fn split_off(turn: &Turn<Tally>, seat: Seat, maker: u32) -> (Seat, Seat)
+    requires turn { seat.turn ≡ turn.now.name }
+    requires some { 1 ≤ maker }
+    requires tickets { seat.tickets ≡ all_tickets (maker + 1) }
+    requires none_made { seat.mine ≡ [] }
+    ensures first { IsNew turn.now.name (all_tickets maker) result.0 }
+    ensures second { IsNew turn.now.name (maker ∷ []) result.1 }
+{
+    turn.split(seat)
+}
+
+// Each seat but the first is split off, and all of them add at once, each in a thread of its own.
+fn add_at_once<R: Threads + Wait + Sync>(
+    rt: &R,
+    turn: &Turn<Tally>,
+    seat: Seat,
+    seats: u32,
+) -> (Seat, u64)
+    requires some { 1 ≤ seats }
+    requires seat { IsNew turn.now.name (all_tickets seats) seat }
+    ensures seat { (result.0.turn ≡ turn.now.name) × (length result.0.tickets ≡ seats) }
+    ensures made { (length result.0.mine ≡ result.1) × (result.1 ≤ 1000 * seats) }
+{
+    let maker = seats - 1;
+    if maker == 0 {
+        return add_often(rt, turn, seat, maker);
+    }
+    let (others, last) = split_off(turn, seat, maker);
+    let (below, above) = join(
+        rt,
+        move || -> (Seat, u64)
+            requires { IsSync R.row × IsNew turn.now.name (all_tickets maker) others × (1 ≤ maker) }
+            ensures { (result.0.turn ≡ turn.entry.now.name) × (length result.0.tickets ≡ maker) × (length result.0.mine ≡ result.1) × (result.1 ≤ 1000 * maker) }
+        { add_at_once(rt, turn, others, maker) },
+        move || -> (Seat, u64)
+            requires { IsNew turn.now.name (maker ∷ []) last }
+            ensures { (result.0.turn ≡ turn.entry.now.name) × (result.0.tickets ≡ maker ∷ []) × (length result.0.mine ≡ result.1) × (result.1 ≤ 1000) }
+        { add_often(rt, turn, last, maker) },
+    );
+    (turn.join(above.0, below.0), below.1 + above.1)
+}
+
+// A tally to which so many seats add at once, and how many entries the last seat made.
+fn shared_by<R: Threads + Wait + Sync>(
+    rt: &R,
+    alloc: Global,
+    seats: u32,
+) -> Result<(Tally, u64), Memory>
+    requires { 1 ≤ seats }
+{
+    let (turn, seat) = match Turn::new(alloc, Tally::new(alloc, 7), seats) {
+        Ok(made) => made,
+        Err((_, memory)) => return Err(memory),
+    };
+    let (seat, mine) = add_at_once(rt, &turn, seat, seats);
+    Ok((turn.close(seat), mine))
+}
+
+// Holds the turn and changes nothing.
+fn look<R: Wait>(rt: &R, turn: &Turn<Tally>, seat: Seat) -> (Seat, usize)
+    requires { seat.turn ≡ turn.now.name }
+    ensures seat { (result.0.turn ≡ seat.turn) × (result.0.tickets ≡ seat.tickets) }
+    ensures mine { result.0.mine ≡ seat.mine }
+{
+    let mut held = turn.hold(rt, seat);
+    let entries = held.value().amounts.len();
+    (held.release(), entries)
+}
+
+#[test]
+fn two_seats_at_once(rt: HostRuntime) -> Result<(), Fail> {
+    let (tally, mine) = shared_by(&rt, rt.alloc(), 2)?;
+    assert_eq!(rt; mine, 2000);
+    assert_eq!(rt; (tally.count(0), tally.count(1)), (1000, 1000));
+    assert_eq!(rt; (tally.start, tally.amounts.len()), (7, 2000));
+    Ok(())
+}
+
+#[test]
+fn eight_seats_at_once(rt: HostRuntime) -> Result<(), Fail> {
+    let (tally, mine) = shared_by(&rt, rt.alloc(), 8)?;
+    assert_eq!(rt; mine, 8000);
+    for maker in 0..8 {
+        assert_eq!(rt; tally.count(maker), 1000, "of seat {maker}");
+    }
+    Ok(())
+}
+
+#[test]
+fn finds_its_own_entry(rt: HostRuntime) -> Result<(), Fail> {
+    let Ok((turn, seat)) = Turn::new(rt.alloc(), Tally::new(rt.alloc(), 7), 3) else {
+        panic!(rt; "memory");
+    };
+    let (seat, added) = add_once(&rt, &turn, seat, 2);
+    let (seat, entries) = look(&rt, &turn, seat);
+    let tally = turn.close(seat);
+    assert_eq!(rt; (added, entries), (true, 1));
+    assert_eq!(rt; tally.amounts.as_slice(), [(2, 1)].as_slice());
+    assert_eq!(rt; tally.start, 7);
+    Ok(())
 }

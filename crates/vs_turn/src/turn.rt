@@ -151,7 +151,8 @@ impl<S: Kept> Turn<S> {
         requires { (a.turn ≡ self.now.name) × (b.turn ≡ self.now.name) }
         ensures seat { result ≡ both_seats a b }
         ensures begins { IsPrefix a.seen result.seen × IsPrefix b.seen result.seen }
-        ensures count { length result.tickets ≡ length a.tickets + length b.tickets }
+        ensures tickets { length result.tickets ≡ length a.tickets + length b.tickets }
+        ensures calls { length result.mine ≡ length a.mine + length b.mine }
     {
         let Seat { tickets, badge } = a;
         let Seat {

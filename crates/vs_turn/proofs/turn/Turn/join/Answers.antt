@@ -7,6 +7,7 @@ use Rattle.vs_turn.specs.Steps.{joined}
 use Rattle.vs_turn.specs.Tickets.{RiseFrom, merged_tickets}
 use Rattle.vs_turn.proofs.AtRest.{at_rest, seen_seat}
 use Rattle.vs_turn.proofs.MergedTickets.{length-merged}
+use Rattle.vs_turn.proofs.MergedCalls.{length-merged_calls}
 use Rattle.vs_turn.proofs.Joining.{joins, looks}
 use Rattle.vs_turn.proofs.turn.Turn.join.Goals as goal
 
@@ -57,8 +58,8 @@ invariant_of-result g c =
       few = omega arith;
     }
 
-pub returns-clause-count : goal.returns-clause-count
-returns-clause-count g c =
+pub returns-clause-tickets : goal.returns-clause-tickets
+returns-clause-tickets g c =
     let v = c.into_seat-place.result.me.0 in
     let w = c.into_seat.result.me.0 in
     let first = seen_seat _ _ v _ c.into_seat-place.ensures.2 c.a.view_is in
@@ -66,3 +67,13 @@ returns-clause-count g c =
     let one = c.into_badge.ensures.2 ∙ ap (λ (m : Me (Option g.row.S.Denot) View). m.0 ∷ []) (c.load.ensures.2.0 ∙ c.join_seat.ensures.2) in
     ap (λ (views : List View). length (seat_at c.into_badge.result.table_id views).tickets) one
     ∙ (length-merged v.tickets w.tickets ∙ (λ i. length ((first i).tickets) + length ((second i).tickets)))
+
+pub returns-clause-calls : goal.returns-clause-calls
+returns-clause-calls g c =
+    let v = c.into_seat-place.result.me.0 in
+    let w = c.into_seat.result.me.0 in
+    let first = seen_seat _ _ v _ c.into_seat-place.ensures.2 c.a.view_is in
+    let second = seen_seat _ _ w _ c.into_seat.ensures.2 c.b.view_is in
+    let one = c.into_badge.ensures.2 ∙ ap (λ (m : Me (Option g.row.S.Denot) View). m.0 ∷ []) (c.load.ensures.2.0 ∙ c.join_seat.ensures.2) in
+    ap (λ (views : List View). length (seat_at c.into_badge.result.table_id views).mine) one
+    ∙ (length-merged_calls v.mine w.mine ∙ (λ i. length ((first i).mine) + length ((second i).mine)))
