@@ -6,7 +6,7 @@ use Rattle.vs_turn.specs.Seats.{SeatModel, IsSeat, seat_at, seat_of}
 
 -- a view that hasn't the turn, with these tickets
 pub record AtRest (v : View) (tickets : List ℕ) : Type 0 where
-  pub rests : v.has ≡ false
+  pub rests : v.has_turn ≡ false
   pub numbers : v.tickets ≡ tickets
   pub live : 0 < length v.tickets
 
@@ -19,7 +19,7 @@ at_rest views tickets v s e =
     let same : s.view ≡ v = ap (first_or v) (sym s.one ∙ e) in
     let numbers : v.tickets ≡ tickets = ap (λ (u : View). u.tickets) (sym same) ∙ s.numbers in
     record {
-      rests = ap (λ (u : View). u.has) (sym same) ∙ s.at_rest;
+      rests = ap (λ (u : View). u.has_turn) (sym same) ∙ s.at_rest;
       numbers = numbers;
       live = let l = ap length numbers in let some_ticket = s.some_ticket in omega arith;
     }

@@ -9,7 +9,7 @@ use Rattle.atomic_table.specs.Table.{State, Final, Seen}
 use Rattle.vs_turn.specs.declared.view.View.{View}
 use Rattle.vs_turn.specs.Calls.{has_ticket, AreMadeBelow}
 use Rattle.vs_turn.specs.Tickets.{lowest}
-use Rattle.vs_turn.specs.Rule.{Origin, Stands, Has, Rests, Ruled, Kept}
+use Rattle.vs_turn.specs.Rule.{Origin, Stands, Holder, Rests, Ruled, IsRuled}
 use Rattle.vs_turn.proofs.TicketLists.{true_not_false, has_lowest, full_tickets}
 use Rattle.vs_turn.proofs.CallLists.{append-nil, drop-begun, AreMadeBelow-back, none_left}
 use Rattle.vs_turn.proofs.Rules.{one_there, not_mine}
@@ -24,7 +24,7 @@ module _ {S : Type 0} (opening_of : S → List ℕ) (entries_of : S → List (Li
     pub entries : entries_of value ≡ v.seen
 
   module _ (word : ℕ) (homes : List (Home (Option S))) (views : List View) (r : Ruled opening_of entries_of o word homes views)
-      (id : ℕ) (v : View) (at : get_elem? views id ≡ some v) (live : 0 < length v.tickets) (rests : v.has ≡ false) (all : length v.tickets ≡ o.seats) where
+      (id : ℕ) (v : View) (at : get_elem? views id ≡ some v) (live : 0 < length v.tickets) (rests : v.has_turn ≡ false) (all : length v.tickets ≡ o.seats) where
     abbrev st : Stands o r.owner r.log word id v
     st = r.stands id v at live
 
@@ -38,7 +38,7 @@ module _ {S : Type 0} (opening_of : S → List ℕ) (entries_of : S → List (Li
         let b = r.stands r.holder h.view h.at h.live in
         let low : ℕ = lowest h.view.tickets in
         let mine = every_ticket low (b.tickets low (has_lowest h.view.tickets h.live)).0 in
-        absurd (not_mine opening_of entries_of o word homes views r id v at live rests low mine (b.says h.has)))
+        absurd (not_mine opening_of entries_of o word homes views r id v at live rests low mine (b.marked h.has_turn)))
 
     nothing_new : st.rest ≡ []
     nothing_new = none_left o.seats v.tickets st.rest every_ticket
@@ -58,8 +58,8 @@ module _ {S : Type 0} (opening_of : S → List ℕ) (entries_of : S → List (Li
       entries = x.entries_are ∙ seen_all;
     }
 
-  pub closes : (id : ℕ) (v : View) (words : List ℕ) (slots : List (Option S)) → 0 < length v.tickets → v.has ≡ false → length v.tickets ≡ o.seats
-      → Final (Seen (Kept opening_of entries_of o) id v) words slots → Ends v slots
+  pub closes : (id : ℕ) (v : View) (words : List ℕ) (slots : List (Option S)) → 0 < length v.tickets → v.has_turn ≡ false → length v.tickets ≡ o.seats
+      → Final (Seen (IsRuled opening_of entries_of o) id v) words slots → Ends v slots
   closes id v words slots live rests all f =
       let s = f.0 in
       ended (slice_index s.words 0) s.homes s.views f.1.0.1 id v f.1.1 live rests all slots f.4

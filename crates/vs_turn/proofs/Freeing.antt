@@ -9,7 +9,7 @@ use Rattle.atomic_table.specs.Seated.{TableId}
 use Rattle.vs_turn.specs.declared.view.View.{View}
 use Rattle.vs_turn.specs.Seats.{SeatModel, seat_of, seen_with}
 use Rattle.vs_turn.specs.Calls.{has_ticket, calls_from, calls_of, NoCalls, AreMadeBelow, GoOn, numbered, new_calls}
-use Rattle.vs_turn.specs.Rule.{Origin, Stands, Rests, Ruled, Kept}
+use Rattle.vs_turn.specs.Rule.{Origin, Stands, Rests, Ruled, IsRuled}
 use Rattle.vs_turn.specs.Steps.{released, Freed}
 use Rattle.vs_turn.proofs.TicketLists.{true_not_false}
 use Rattle.vs_turn.proofs.CallLists.{append-nil, append-assoc, drop-begun, drop-whole, calls_of-append, all_calls, NoCalls-append, calls_of_another, made_below, AreMadeBelow-append}
@@ -29,7 +29,7 @@ calls_added tickets since before after begun on =
 
 module _ {S : Type 0} (opening_of : S → List ℕ) (entries_of : S → List (List ℕ)) (o : Origin) where
   module _ (word : ℕ) (homes : List (Home (Option S))) (views : List View) (r : Ruled opening_of entries_of o word homes views)
-      (id : ℕ) (v : View) (at : get_elem? views id ≡ some v) (live : 0 < length v.tickets) (has : v.has ≡ true)
+      (id : ℕ) (v : View) (at : get_elem? views id ≡ some v) (live : 0 < length v.tickets) (has : v.has_turn ≡ true)
       (value : S) (same : opening_of value ≡ v.opening) (on : GoOn v.tickets v.found (entries_of value)) (wide : 0 < length homes) where
     abbrev st : Stands o r.owner r.log word id v
     st = r.stands id v at live
@@ -45,8 +45,8 @@ module _ {S : Type 0} (opening_of : S → List ℕ) (entries_of : S → List (Li
     free_one = record {
       rise = st.rise;
       tickets = st.tickets;
-      says = λ h. absurd (true_not_false h refl);
-      said = λ e. absurd (omega arith);
+      marked = λ h. absurd (true_not_false h refl);
+      only_marked = λ e. absurd (omega arith);
       found = λ h. absurd (true_not_false h refl);
       opening = st.opening;
       since = st.since;
@@ -65,8 +65,8 @@ module _ {S : Type 0} (opening_of : S → List ℕ) (entries_of : S → List (Li
         record {
           rise = su.rise;
           tickets = su.tickets;
-          says = λ h. absurd (true_not_false h not);
-          said = λ e. absurd (omega arith);
+          marked = λ h. absurd (true_not_false h not);
+          only_marked = λ e. absurd (omega arith);
           found = λ h. absurd (true_not_false h not);
           opening = su.opening;
           since = su.since;
@@ -102,8 +102,8 @@ module _ {S : Type 0} (opening_of : S → List ℕ) (entries_of : S → List (Li
   value_in d ((k, Some x) ∷ xs) = x
   value_in d ((k, None) ∷ xs) = d
 
-  pub frees : (slots id : ℕ) (v : View) (value : S) → 0 < slots → 0 < length v.tickets → v.has ≡ true → opening_of value ≡ v.opening → GoOn v.tickets v.found (entries_of value)
-      → Allows (Kept opening_of entries_of o) slots id (v, (0, Some value) ∷ []) 0 (λ _. 0)
+  pub frees : (slots id : ℕ) (v : View) (value : S) → 0 < slots → 0 < length v.tickets → v.has_turn ≡ true → opening_of value ≡ v.opening → GoOn v.tickets v.found (entries_of value)
+      → Allows (IsRuled opening_of entries_of o) slots id (v, (0, Some value) ∷ []) 0 (λ _. 0)
           (λ _. Freed opening_of entries_of (step slots 0 0 0 none) (v, (0, Some value) ∷ []) 0)
   frees slots id v value some_slot live has same on s k full at _ =
       let wide = k.0 in

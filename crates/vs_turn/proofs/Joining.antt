@@ -10,7 +10,7 @@ use Rattle.atomic_table.proofs.Lists.{at_set, set_else}
 use Rattle.vs_turn.specs.declared.view.View.{View}
 use Rattle.vs_turn.specs.Calls.{has_ticket, calls_of, NoCalls, merged_calls, longer}
 use Rattle.vs_turn.specs.Tickets.{lowest, merged_tickets}
-use Rattle.vs_turn.specs.Rule.{Origin, AllBegin, Stands, Has, Ruled, Kept}
+use Rattle.vs_turn.specs.Rule.{Origin, AllBegin, Stands, Holder, Ruled, IsRuled}
 use Rattle.vs_turn.specs.Steps.{joined, spent, Looked}
 use Rattle.vs_turn.proofs.TicketLists.{true_or_false, true_not_false, has_lowest, few_tickets}
 use Rattle.vs_turn.proofs.CallLists.{append-nil, NoCalls-front, NoCalls-back}
@@ -92,8 +92,8 @@ module _ (o : Origin) (owner : ℕ → ℕ) (log : List (List ℕ)) (word : ℕ)
 
 module _ {S : Type 0} (opening_of : S → List ℕ) (entries_of : S → List (List ℕ)) (o : Origin)
     (word : ℕ) (homes : List (Home (Option S))) (views : List View) (r : Ruled opening_of entries_of o word homes views)
-    (id : ℕ) (v : View) (at : get_elem? views id ≡ some v) (live : 0 < length v.tickets) (rests : v.has ≡ false)
-    (other : ℕ) (w : View) (there : get_elem? views other ≡ some w) (alive : 0 < length w.tickets) (idle : w.has ≡ false) (ne : other ≢ id) where
+    (id : ℕ) (v : View) (at : get_elem? views id ≡ some v) (live : 0 < length v.tickets) (rests : v.has_turn ≡ false)
+    (other : ℕ) (w : View) (there : get_elem? views other ≡ some w) (alive : 0 < length w.tickets) (idle : w.has_turn ≡ false) (ne : other ≢ id) where
   abbrev owner : ℕ → ℕ
   owner t = cond (has_ticket w.tickets t) id (r.owner t)
 
@@ -120,8 +120,8 @@ module _ {S : Type 0} (opening_of : S → List ℕ) (entries_of : S → List (Li
             (λ p. ((a.tickets t p).0, owner_else t (apart t p) ∙ (a.tickets t p).1))
             (λ p. ((b.tickets t p).0, owner_theirs t p))
             (merged_has v.tickets w.tickets t h);
-        says = λ h. absurd (true_not_false h rests);
-        said = λ e. absurd (⊎_elim
+        marked = λ h. absurd (true_not_false h rests);
+        only_marked = λ e. absurd (⊎_elim
             (λ p. not_mine opening_of entries_of o word homes views r id v at live rests (lowest (merged_tickets v.tickets w.tickets)) p e)
             (λ p. not_mine opening_of entries_of o word homes views r other w there alive idle (lowest (merged_tickets v.tickets w.tickets)) p e)
             (merged_has v.tickets w.tickets (lowest (merged_tickets v.tickets w.tickets)) (has_lowest (merged_tickets v.tickets w.tickets) some_merged)));
@@ -144,8 +144,8 @@ module _ {S : Type 0} (opening_of : S → List ℕ) (entries_of : S → List (Li
         tickets = λ t h.
             let theirs : has_ticket w.tickets t ≡ false = tickets_apart opening_of entries_of o word homes views r j other u w here living there alive (λ e. far (sym e)) t h in
             ((su.tickets t h).0, owner_else t theirs ∙ (su.tickets t h).1);
-        says = su.says;
-        said = su.said;
+        marked = su.marked;
+        only_marked = su.only_marked;
         found = su.found;
         opening = su.opening;
         since = su.since;
@@ -157,17 +157,17 @@ module _ {S : Type 0} (opening_of : S → List ℕ) (entries_of : S → List (Li
         olds = su.olds;
       }
 
-  apart_from : (h : Has views r.holder) (k : ℕ) (u : View) → get_elem? views k ≡ some u → u.has ≡ false → r.holder ≢ k
-  apart_from h k u here not e = true_not_false (ap (λ (x : View). x.has)
-      (sym (one_there views k h.view u (subst (λ (x : ℕ). get_elem? views x ≡ some h.view) e h.at) here)) ∙ h.has) not
+  apart_from : (h : Holder views r.holder) (k : ℕ) (u : View) → get_elem? views k ≡ some u → u.has_turn ≡ false → r.holder ≢ k
+  apart_from h k u here not e = true_not_false (ap (λ (x : View). x.has_turn)
+      (sym (one_there views k h.view u (subst (λ (x : ℕ). get_elem? views x ≡ some h.view) e h.at) here)) ∙ h.has_turn) not
 
-  still_has : Has views r.holder → Has (set (set views id (joined v w)) other spent) r.holder
+  still_has : Holder views r.holder → Holder (set (set views id (joined v w)) other spent) r.holder
   still_has h = record {
     view = h.view;
     at = set_else (set views id (joined v w)) other r.holder spent (apart_from h other w there idle)
         ∙ (set_else views id r.holder (joined v w) (apart_from h id v at rests) ∙ h.at);
     live = h.live;
-    has = h.has;
+    has_turn = h.has_turn;
   }
 
   pub join : Ruled opening_of entries_of o word homes (set (set views id (joined v w)) other spent)
@@ -190,14 +190,14 @@ module _ {S : Type 0} (opening_of : S → List ℕ) (entries_of : S → List (Li
   }
 
 module _ {S : Type 0} (opening_of : S → List ℕ) (entries_of : S → List (List ℕ)) (o : Origin) where
-  pub joins : (id : ℕ) (v : View) (other : ℕ) (w : View) → 0 < length v.tickets → v.has ≡ false → 0 < length w.tickets → w.has ≡ false
-      → Joins (Kept opening_of entries_of o) id v other w (joined v w) spent
+  pub joins : (id : ℕ) (v : View) (other : ℕ) (w : View) → 0 < length v.tickets → v.has_turn ≡ false → 0 < length w.tickets → w.has_turn ≡ false
+      → Joins (IsRuled opening_of entries_of o) id v other w (joined v w) spent
   joins id v other w live rests alive idle s k at ne there =
       let here : get_elem? s.views other ≡ some w = sym (set_else s.views id other (joined v w) ne) ∙ there in
       (k.0, join opening_of entries_of o (slice_index s.words 0) s.homes s.views k.1 id v at live rests other w here alive idle ne)
 
   pub looks : (slots id : ℕ) (me : Me (Option S) View) → 0 < length me.0.tickets
-      → Allows (Kept opening_of entries_of o) slots id me 0 (λ n. n) (Looked (step slots 0 0 0 none) me)
+      → Allows (IsRuled opening_of entries_of o) slots id me 0 (λ n. n) (Looked (step slots 0 0 0 none) me)
   looks slots id me live s k _ at _ =
       let st = k.1.stands id me.0 at live in
       let few = few_tickets 0 o.seats me.0.tickets st.rise (omega arith) (λ t h. (st.tickets t h).0) in

@@ -7,7 +7,7 @@ use Rattle.atomic_table.specs.Table.{opening}
 use Rattle.vs_turn.specs.declared.view.View.{View}
 use Rattle.vs_turn.specs.Calls.{calls_from, AreMadeBelow}
 use Rattle.vs_turn.specs.Tickets.{tickets_from, all_tickets}
-use Rattle.vs_turn.specs.Rule.{Origin, Stands, Kept}
+use Rattle.vs_turn.specs.Rule.{Origin, Stands, IsRuled}
 use Rattle.vs_turn.specs.Steps.{first_view}
 use Rattle.vs_turn.proofs.TicketLists.{true_not_false, tickets_from-rise, tickets_from_below}
 use Rattle.vs_turn.proofs.CallLists.{append-nil, drop-all}
@@ -20,8 +20,8 @@ module _ {S : Type 0} (opening_of : S → List ℕ) (entries_of : S → List (Li
   first_stands x n = let es = entries_of x in record {
     rise = tickets_from-rise 0 n;
     tickets = λ t h. (let b = tickets_from_below 0 n t h in omega arith, refl);
-    says = λ h. absurd (true_not_false h refl);
-    said = λ e. absurd (omega arith);
+    marked = λ h. absurd (true_not_false h refl);
+    only_marked = λ e. absurd (omega arith);
     found = λ h. absurd (true_not_false h refl);
     opening = refl;
     since = refl;
@@ -39,7 +39,7 @@ module _ {S : Type 0} (opening_of : S → List ℕ) (entries_of : S → List (Li
   stands_at x n (suc id) v e = absurd (some-ne-none v (sym e))
 
   -- the table at the start
-  pub opens : (x : S) (n : ℕ) → n < 2 ^ 32 → Kept opening_of entries_of (origin x n) (opening (0 ∷ []) (Some x ∷ []) (first_view (opening_of x) (entries_of x) n))
+  pub opens : (x : S) (n : ℕ) → n < 2 ^ 32 → IsRuled opening_of entries_of (origin x n) (opening (0 ∷ []) (Some x ∷ []) (first_view (opening_of x) (entries_of x) n))
   opens x n few = (refl, record {
     log = entries_of x;
     owner = λ _. 0;

@@ -8,7 +8,7 @@ use Rattle.atomic_table.proofs.Lists.{at_set, set_else, at_longer}
 use Rattle.vs_turn.specs.declared.view.View.{View}
 use Rattle.vs_turn.specs.Calls.{has_ticket, calls_of, NoCalls}
 use Rattle.vs_turn.specs.Tickets.{lowest}
-use Rattle.vs_turn.specs.Rule.{Origin, Stands, Has, Ruled, Kept}
+use Rattle.vs_turn.specs.Rule.{Origin, Stands, Holder, Ruled, IsRuled}
 use Rattle.vs_turn.specs.Steps.{keeping, handed}
 use Rattle.vs_turn.proofs.TicketLists.{true_or_false, true_not_false, has_lowest, has_take, has_drop, take_drop_apart, rise_take, rise_drop}
 use Rattle.vs_turn.proofs.CallLists.{no_calls, no_calls_back, fewer_calls}
@@ -22,7 +22,7 @@ at_end (x ∷ xs) a b (suc j) e = ⊎_elim (λ p. inl p) (λ p. inr (ap suc p.0,
 
 module _ {S : Type 0} (opening_of : S → List ℕ) (entries_of : S → List (List ℕ)) (o : Origin)
     (word : ℕ) (homes : List (Home (Option S))) (views : List View) (r : Ruled opening_of entries_of o word homes views)
-    (id : ℕ) (v : View) (at : get_elem? views id ≡ some v) (two : 2 ≤ length v.tickets) (rests : v.has ≡ false) (none_made : v.mine ≡ []) where
+    (id : ℕ) (v : View) (at : get_elem? views id ≡ some v) (two : 2 ≤ length v.tickets) (rests : v.has_turn ≡ false) (none_made : v.mine ≡ []) where
   live : 0 < length v.tickets
   live = omega arith
 
@@ -59,8 +59,8 @@ module _ {S : Type 0} (opening_of : S → List ℕ) (entries_of : S → List (Li
         rise = rise_take n 0 v.tickets st.rise;
         tickets = λ t h. let a = st.tickets t (has_take n t v.tickets h) in
             (a.0, owner_other t (take_drop_apart n 0 t v.tickets st.rise h) ∙ a.1);
-        says = λ h. absurd (true_not_false h rests);
-        said = λ e. absurd (p.0 e);
+        marked = λ h. absurd (true_not_false h rests);
+        only_marked = λ e. absurd (p.0 e);
         found = λ h. absurd (true_not_false h rests);
         opening = st.opening;
         since = st.since;
@@ -80,8 +80,8 @@ module _ {S : Type 0} (opening_of : S → List ℕ) (entries_of : S → List (Li
       record {
         rise = rise_drop n 0 v.tickets st.rise;
         tickets = λ t h. ((st.tickets t (has_drop n t v.tickets h)).0, owner_handed t h ∙ sym new);
-        says = λ h. absurd (true_not_false h rests);
-        said = λ e. absurd (p.0 e);
+        marked = λ h. absurd (true_not_false h rests);
+        only_marked = λ e. absurd (p.0 e);
         found = λ h. absurd (true_not_false h rests);
         opening = st.opening;
         since = st.since;
@@ -104,8 +104,8 @@ module _ {S : Type 0} (opening_of : S → List ℕ) (entries_of : S → List (Li
                 ⊎_elim (λ y. absurd (true_not_false h (tickets_apart opening_of entries_of o word homes views r id j v u at live there alive ne t (has_drop n t v.tickets y))))
                     (λ f. f) (true_or_false (has_ticket (handed v).tickets t)) in
             ((su.tickets t h).0, owner_other t not_handed ∙ (su.tickets t h).1);
-        says = su.says;
-        said = su.said;
+        marked = su.marked;
+        only_marked = su.only_marked;
         found = su.found;
         opening = su.opening;
         since = su.since;
@@ -117,15 +117,15 @@ module _ {S : Type 0} (opening_of : S → List ℕ) (entries_of : S → List (Li
         olds = su.olds;
       }
 
-  still_has : Has views r.holder → Has (set views id (keeping v) ++ handed v ∷ []) r.holder
+  still_has : Holder views r.holder → Holder (set views id (keeping v) ++ handed v ∷ []) r.holder
   still_has h =
-      let ne : r.holder ≢ id = λ e. true_not_false (ap (λ (u : View). u.has)
-          (sym (one_there views id h.view v (subst (λ (x : ℕ). get_elem? views x ≡ some h.view) e h.at) at)) ∙ h.has) rests in
+      let ne : r.holder ≢ id = λ e. true_not_false (ap (λ (u : View). u.has_turn)
+          (sym (one_there views id h.view v (subst (λ (x : ℕ). get_elem? views x ≡ some h.view) e h.at) at)) ∙ h.has_turn) rests in
       record {
         view = h.view;
         at = at_longer (set views id (keeping v)) (handed v ∷ []) r.holder h.view (set_else views id r.holder (keeping v) ne ∙ h.at);
         live = h.live;
-        has = h.has;
+        has_turn = h.has_turn;
       }
 
   pub split : Ruled opening_of entries_of o word homes (set views id (keeping v) ++ handed v ∷ [])
@@ -148,6 +148,6 @@ module _ {S : Type 0} (opening_of : S → List ℕ) (entries_of : S → List (Li
   }
 
 pub splits : {S : Type 0} (opening_of : S → List ℕ) (entries_of : S → List (List ℕ)) (o : Origin) (id : ℕ) (v : View)
-    → 2 ≤ length v.tickets → v.has ≡ false → v.mine ≡ [] → Splits (Kept opening_of entries_of o) id v (keeping v) (handed v)
+    → 2 ≤ length v.tickets → v.has_turn ≡ false → v.mine ≡ [] → Splits (IsRuled opening_of entries_of o) id v (keeping v) (handed v)
 splits opening_of entries_of o id v two rests none_made s k at =
     (k.0, split opening_of entries_of o (slice_index s.words 0) s.homes s.views k.1 id v at two rests none_made)

@@ -11,7 +11,7 @@ use Rattle.atomic_table.proofs.Lists.{at_set, set_again}
 use Rattle.vs_turn.specs.declared.view.View.{View}
 use Rattle.vs_turn.specs.Calls.{has_ticket, calls_of, NoCalls}
 use Rattle.vs_turn.specs.Tickets.{lowest}
-use Rattle.vs_turn.specs.Rule.{Origin, Stands, Has, Rests, Ruled, Kept}
+use Rattle.vs_turn.specs.Rule.{Origin, Stands, Holder, Rests, Ruled, IsRuled}
 use Rattle.vs_turn.specs.Steps.{holding, Finds, Takes, Took}
 use Rattle.vs_turn.proofs.TicketLists.{true_or_false, true_not_false, has_lowest}
 use Rattle.vs_turn.proofs.CallLists.{append-nil, drop-whole, calls_of-append, no_calls}
@@ -19,7 +19,7 @@ use Rattle.vs_turn.proofs.Rules.{here_set, tickets_apart}
 
 module _ {S : Type 0} (opening_of : S → List ℕ) (entries_of : S → List (List ℕ)) (o : Origin) where
   abbrev pub R : State (Option S) View → Type 0
-  R = Kept opening_of entries_of o
+  R = IsRuled opening_of entries_of o
 
   -- a step that changes nothing
   pub unmoved : (s : State (Option S) View) → R s → (id : ℕ) (me : Me (Option S) View) → get_elem? s.views id ≡ some me.0
@@ -61,8 +61,8 @@ module _ {S : Type 0} (opening_of : S → List ℕ) (entries_of : S → List (Li
     taker = let st = r.stands id v at live in record {
       rise = st.rise;
       tickets = st.tickets;
-      says = λ _. marks;
-      said = λ _. refl;
+      marked = λ _. marks;
+      only_marked = λ _. refl;
       found = λ _. x.entries_are;
       opening = st.opening;
       since = st.since;
@@ -78,11 +78,11 @@ module _ {S : Type 0} (opening_of : S → List ℕ) (entries_of : S → List (Li
     bystander j u there alive ne = let st = r.stands j u there alive in record {
       rise = st.rise;
       tickets = st.tickets;
-      says = λ h. let e = st.says h in absurd (omega arith);
-      said = λ e. let low : lowest u.tickets ≡ lowest v.tickets = omega arith in
+      marked = λ h. let e = st.marked h in absurd (omega arith);
+      only_marked = λ e. let low : lowest u.tickets ≡ lowest v.tickets = omega arith in
           absurd (true_not_false (subst (λ (t : ℕ). has_ticket u.tickets t ≡ true) low (has_lowest u.tickets alive))
               (tickets_apart opening_of entries_of o 0 homes views r id j v u at live there alive ne (lowest v.tickets) (has_lowest v.tickets live)));
-      found = λ h. let e = st.says h in absurd (omega arith);
+      found = λ h. let e = st.marked h in absurd (omega arith);
       opening = st.opening;
       since = st.since;
       begun = st.begun;
@@ -101,7 +101,7 @@ module _ {S : Type 0} (opening_of : S → List ℕ) (entries_of : S → List (Li
       in_range = let b = ((r.stands id v at live).tickets (lowest v.tickets) (has_lowest v.tickets live)).0 in omega arith;
       free = λ z. absurd (omega arith);
       holder = id;
-      taken = λ _. record { view = w; at = here_set views id v w at; live = live; has = refl };
+      taken = λ _. record { view = w; at = here_set views id v w at; live = live; has_turn = refl };
       stands = λ j u there alive. ⊎_elim
           (λ t. subst (λ (z : ℕ × View). Stands o r.owner r.log word z.0 z.1) (λ i. (sym t.0 i, t.1 i)) taker)
           (λ t. bystander j u t.1 alive t.0)
@@ -109,7 +109,7 @@ module _ {S : Type 0} (opening_of : S → List ℕ) (entries_of : S → List (Li
       made = r.made;
     }
 
-  pub takes_turn : (slots id : ℕ) (me : Me (Option S) View) (mark : ℕ) → me.0.has ≡ false → 0 < length me.0.tickets → mark ≡ 1 + lowest me.0.tickets
+  pub takes_turn : (slots id : ℕ) (me : Me (Option S) View) (mark : ℕ) → me.0.has_turn ≡ false → 0 < length me.0.tickets → mark ≡ 1 + lowest me.0.tickets
       → Allows R slots id me 0 (λ n. either (eqb n 0) mark n) (Took opening_of entries_of (step slots 0 0 mark none) me)
   takes_turn slots id me mark rests live marks s k _ at _ =
       let word : ℕ = get_or s.words 0 0 in

@@ -27,9 +27,9 @@ pub record Stands (o : Origin) (owner : ℕ → ℕ) (log : List (List ℕ)) (wo
   pub rise : RiseFrom 0 v.tickets
   pub tickets : (t : ℕ) → has_ticket v.tickets t ≡ true → (t < o.seats) × (owner t ≡ id)
   -- it has the turn exactly where the word says so, and then knows what it found
-  pub says : v.has ≡ true → word ≡ 1 + lowest v.tickets
-  pub said : word ≡ 1 + lowest v.tickets → v.has ≡ true
-  pub found : v.has ≡ true → v.found ≡ log
+  pub marked : v.has_turn ≡ true → word ≡ 1 + lowest v.tickets
+  pub only_marked : word ≡ 1 + lowest v.tickets → v.has_turn ≡ true
+  pub found : v.has_turn ≡ true → v.found ≡ log
   pub opening : v.opening ≡ o.opening
   pub since : v.since ≡ o.since
   pub begun : o.since ≤ length v.seen
@@ -43,11 +43,11 @@ pub record Stands (o : Origin) (owner : ℕ → ℕ) (log : List (List ℕ)) (wo
   pub olds : AllBegin v.olds v.seen
 
 -- the seat `id` has the turn
-pub record Has (views : List View) (id : ℕ) : Type 0 where
+pub record Holder (views : List View) (id : ℕ) : Type 0 where
   pub view : View
   pub at : get_elem? views id ≡ some view
   pub live : 0 < length view.tickets
-  pub has : view.has ≡ true
+  pub has_turn : view.has_turn ≡ true
 
 module _ {S : Type 0} (opening_of : S → List ℕ) (entries_of : S → List (List ℕ)) where
   -- the value is in the slot, with this opening and these entries
@@ -65,9 +65,9 @@ module _ {S : Type 0} (opening_of : S → List ℕ) (entries_of : S → List (Li
     pub in_range : word ≤ o.seats
     pub free : word ≡ 0 → Rests o.opening log homes
     pub holder : ℕ
-    pub taken : 0 < word → Has views holder
+    pub taken : 0 < word → Holder views holder
     pub stands : (id : ℕ) (v : View) → get_elem? views id ≡ some v → 0 < length v.tickets → Stands o owner log word id v
     pub made : AreMadeBelow o.seats (drop o.since log)
 
-  abbrev pub Kept : Origin → State (Option S) View → Type 0
-  Kept o s = (length s.words ≡ 1) × Ruled o (slice_index s.words 0) s.homes s.views
+  abbrev pub IsRuled : Origin → State (Option S) View → Type 0
+  IsRuled o s = (length s.words ≡ 1) × Ruled o (slice_index s.words 0) s.homes s.views

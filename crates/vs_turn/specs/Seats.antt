@@ -41,7 +41,7 @@ seat_at z (v ∷ vs) = seat_of z v
 pub record IsSeat (views : List View) (tickets : List ℕ) : Type 0 where
   pub view : View
   pub one : views ≡ view ∷ []
-  pub at_rest : view.has ≡ false
+  pub at_rest : view.has_turn ≡ false
   pub numbers : view.tickets ≡ tickets
   pub some_ticket : 0 < length tickets
   pub rise : RiseFrom 0 tickets
@@ -65,7 +65,7 @@ IsMadeWith opening entries seats t = (t.opening ≡ opening) × (t.since ≡ len
 -- a seat of this turn with these tickets, which has made no entry
 pub record IsNew (turn : TableId) (tickets : List ℕ) (seat : SeatModel) : Type 0 where
   pub of_turn : seat.turn ≡ turn
-  pub has : seat.tickets ≡ tickets
+  pub tickets_are : seat.tickets ≡ tickets
   pub none_made : seat.mine ≡ []
 
 -- the seat with these tickets instead of its own
@@ -88,7 +88,7 @@ both_seats a b = record a {
 pub record IsHeld {S : Type 0} (turn table : TableId) (me : Me (Option S) View) (tickets : List ℕ) : Type 0 where
   pub of_turn : table ≡ turn
   pub slot : me.1 ≡ (0, None) ∷ []
-  pub has : me.0.has ≡ true
+  pub has_turn : me.0.has_turn ≡ true
   pub numbers : me.0.tickets ≡ tickets
   pub some_ticket : 0 < length tickets
   pub rise : RiseFrom 0 tickets

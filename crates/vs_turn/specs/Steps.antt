@@ -15,21 +15,21 @@ first_view opening entries seats = record {
   tickets = all_tickets seats;
   seen = entries;
   mine = [];
-  has = false;
+  has_turn = false;
   found = [];
   olds = [];
 }
 
 -- the seat has the turn, and found these entries
 abbrev pub holding : View → List (List ℕ) → View
-holding v entries = record v { has = true; found = entries }
+holding v entries = record v { has_turn = true; found = entries }
 
 -- the seat has given up the turn, and has seen these entries
 abbrev pub released : View → List (List ℕ) → View
 released v entries = record v {
   seen = entries;
   mine = calls_of v.tickets v.since entries;
-  has = false;
+  has_turn = false;
   found = [];
   olds = [];
 }
@@ -52,7 +52,7 @@ joined v w = record v {
 
 -- a view whose seat is gone
 abbrev pub spent : View
-spent = record { opening = []; since = 0; tickets = []; seen = []; mine = []; has = false; found = []; olds = [] }
+spent = record { opening = []; since = 0; tickets = []; seen = []; mine = []; has_turn = false; found = []; olds = [] }
 
 -- a look leaves the view as it was, and tells that its tickets rise and are few, and that the lists which a join left begin what was seen
 abbrev pub Looked : {S : Type 0} → Step (Option S) → Me (Option S) View → ℕ → Me (Option S) View → Type 0

@@ -15,10 +15,10 @@ pub struct Law;
 
 impl<S: Kept> TableRule<Option<S>, View, Start<S>> for Law {
     ghost use Rattle.std.specs.Prelude.{length};
-    ghost use Rattle.vs_turn.specs.Rule.{Kept as IsKept};
+    ghost use Rattle.vs_turn.specs.Rule.{IsRuled};
     ghost use Rattle.vs_turn.specs.Steps.{first_view};
 
-    ghost holds = { λ start. IsKept S.opening S.entries (record { opening = S.opening start.value.value; since = length (S.entries start.value.value); seats = start.seats }) };
+    ghost holds = { λ start. IsRuled S.opening S.entries (record { opening = S.opening start.value.value; since = length (S.entries start.value.value); seats = start.seats }) };
 
     ghost first = { λ start. first_view (S.opening start.value.value) (S.entries start.value.value) start.seats };
 }

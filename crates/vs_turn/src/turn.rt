@@ -191,7 +191,7 @@ impl<S: Kept> Turn<S> {
     // Takes the turn, and the slot with it. It sleeps for as long as another seat has the turn.
     fn take<R: Wait>(&self, rt: &R, place: &mut Place<S>, mark: u64)
         requires table { place.old.table_id ≡ self.now.name }
-        requires rests { (place.old.me.0.has ≡ false) × (0 < length place.old.me.0.tickets) }
+        requires rests { (place.old.me.0.has_turn ≡ false) × (0 < length place.old.me.0.tickets) }
         requires mark { mark ≡ 1 + lowest place.old.me.0.tickets }
         ensures table { place.new.table_id ≡ place.old.table_id }
         ensures taken { Takes S.opening S.entries place.old.me place.new.me }

@@ -8,7 +8,7 @@ pub struct View {
     pub seen: LinkedList<LinkedList<u64>>,
     pub mine: LinkedList<(u64, LinkedList<u64>)>,
     /// Whether it has the turn.
-    pub has: bool,
+    pub has_turn: bool,
     /// The entries that it found when it took the turn.
     pub found: LinkedList<LinkedList<u64>>,
     /// What both seats of a join had seen.

@@ -15,7 +15,7 @@ returns-clause-first c =
     let is = c.split.ensures.first in
     record {
       of_turn = ap (λ (s : SeatModel). s.turn) is ∙ c.requires.turn;
-      has = ap (λ (s : SeatModel). s.tickets) is
+      tickets_are = ap (λ (s : SeatModel). s.tickets) is
           ∙ (ap (λ (ts : List ℕ). take (length ts - 1) ts) c.requires.tickets ∙ all_but_highest c.args.maker);
       none_made = ap (λ (s : SeatModel). s.mine) is ∙ c.requires.none_made;
     }
@@ -25,7 +25,7 @@ returns-clause-second c =
     let is = c.split.ensures.second in
     record {
       of_turn = ap (λ (s : SeatModel). s.turn) is ∙ c.requires.turn;
-      has = ap (λ (s : SeatModel). s.tickets) is
+      tickets_are = ap (λ (s : SeatModel). s.tickets) is
           ∙ (ap (λ (ts : List ℕ). drop (length ts - 1) ts) c.requires.tickets ∙ highest c.args.maker);
       none_made = ap (λ (s : SeatModel). s.mine) is ∙ c.requires.none_made;
     }

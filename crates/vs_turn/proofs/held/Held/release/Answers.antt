@@ -3,7 +3,7 @@ use mathlib.Core.Option.{none}
 use Rattle.std.specs.Prelude.{Option, Some}
 use Rattle.atomic_table.specs.Table.{Me, step, rest, Allows}
 use Rattle.vs_turn.specs.declared.view.View.{View}
-use Rattle.vs_turn.specs.Rule.{Origin, Kept}
+use Rattle.vs_turn.specs.Rule.{Origin, IsRuled}
 use Rattle.vs_turn.specs.Calls.{GoOn, new_calls}
 use Rattle.vs_turn.specs.Seats.{HeldModel, seat_at, seat_of, seen_with}
 use Rattle.vs_turn.specs.Steps.{Freed, released}
@@ -28,8 +28,8 @@ store-requires g c =
     (
       search rules,
       search rules,
-      subst (λ (m : Me (Option g.row.S.Denot) View). Allows (Kept open' entries o) slots c.exchange.new.seat.id m 0 (λ _. 0) (λ _. Freed open' entries (step slots 0 0 0 none) m 0))
-          (sym back) (frees open' entries o slots c.exchange.new.seat.id v held.value slot live inv.has same on),
+      subst (λ (m : Me (Option g.row.S.Denot) View). Allows (IsRuled open' entries o) slots c.exchange.new.seat.id m 0 (λ _. 0) (λ _. Freed open' entries (step slots 0 0 0 none) m 0))
+          (sym back) (frees open' entries o slots c.exchange.new.seat.id v held.value slot live inv.has_turn same on),
     )
 
 pub returns : goal.returns
