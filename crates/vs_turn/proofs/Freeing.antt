@@ -7,7 +7,7 @@ use Rattle.atomic_table.specs.Table.{State, Me, step, gives, Allows}
 use Rattle.atomic_table.proofs.Lists.{at_set, set_here}
 use Rattle.atomic_table.specs.Seated.{TableId}
 use Rattle.vs_turn.specs.declared.view.View.{View}
-use Rattle.vs_turn.specs.Seats.{SeatModel, seat_of, seen_with}
+use Rattle.vs_turn.specs.Seats.{SeatModel, seat_of, released_seat}
 use Rattle.vs_turn.specs.Calls.{has_ticket, calls_from, calls_of, NoCalls, AreMadeBelow, GoOn, numbered, new_calls}
 use Rattle.vs_turn.specs.Rule.{Origin, Stands, Rests, Ruled, IsRuled}
 use Rattle.vs_turn.specs.Steps.{released, Freed}
@@ -104,7 +104,7 @@ module _ {S : Type 0} (opening_of : S → List ℕ) (entries_of : S → List (Li
 
   pub frees : (slots id : ℕ) (v : View) (value : S) → 0 < slots → 0 < length v.tickets → v.has_turn ≡ true → opening_of value ≡ v.opening → GoOn v.tickets v.found (entries_of value)
       → Allows (IsRuled opening_of entries_of o) slots id (v, (0, Some value) ∷ []) 0 (λ _. 0)
-          (λ _. Freed opening_of entries_of (step slots 0 0 0 none) (v, (0, Some value) ∷ []) 0)
+          (λ _. Freed entries_of (step slots 0 0 0 none) (v, (0, Some value) ∷ []) 0)
   frees slots id v value some_slot live has same on s k full at _ =
       let wide = k.0 in
       let read : get_or (set s.words 0 0) 0 0 ≡ 0 = get_or-set_same s.words 0 0 0 (omega arith) in
@@ -120,7 +120,7 @@ module _ {S : Type 0} (opening_of : S → List ℕ) (entries_of : S → List (Li
 
 -- a seat that has given up the turn, as contracts see it
 pub seat_released : (z : TableId) (v : View) (entries : List (List ℕ)) → v.since ≤ length v.found → calls_of v.tickets v.since v.found ≡ v.mine → GoOn v.tickets v.found entries
-    → seat_of z (released v entries) ≡ seen_with (seat_of z v) entries (new_calls v.found entries)
+    → seat_of z (released v entries) ≡ released_seat (seat_of z v) v.found entries
 seat_released z v entries begun mine on =
     let m : calls_of v.tickets v.since entries ≡ v.mine ++ new_calls v.found entries =
         calls_added v.tickets v.since v.found entries begun on ∙ ap (λ l. l ++ new_calls v.found entries) mine in

@@ -15,6 +15,13 @@ pub record Origin : Type 0 where
   pub since : ℕ
   pub seats : ℕ
 
+abbrev pub origin : {S : Type 0} → (S → List ℕ) → (S → List (List ℕ)) → S → ℕ → Origin
+origin opening_of entries_of value seats = record {
+  opening = opening_of value;
+  since = length (entries_of value);
+  seats = seats;
+}
+
 -- each of these lists begins the entries
 abbrev pub AllBegin : List (List (List ℕ)) → List (List ℕ) → Type 0
 AllBegin [] entries = Unit {0}

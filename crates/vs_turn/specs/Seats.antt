@@ -3,7 +3,7 @@ use Rattle.std.specs.Prelude.{◌≡◌, ℕ, ◌<◌, ◌≤◌, ◌^◌, true,
 use Rattle.atomic_table.specs.Seated.{TableId}
 use Rattle.vs_turn.specs.declared.view.View.{View}
 use Rattle.atomic_table.specs.Table.{Me}
-use Rattle.vs_turn.specs.Calls.{calls_of, merged_calls, longer}
+use Rattle.vs_turn.specs.Calls.{calls_of, new_calls, merged_calls, longer}
 use Rattle.vs_turn.specs.Tickets.{all_tickets, merged_tickets, RiseFrom}
 
 -- a turn: its name, which no other turn has, and the value and the number of seats that it was made with, as far as they matter
@@ -12,6 +12,15 @@ pub record TurnModel : Type 0 where
   pub opening : List ℕ
   pub since : ℕ
   pub seats : ℕ
+
+-- the turn of this name, made with this value for so many seats
+abbrev pub turn_over : {S : Type 0} → (S → List ℕ) → (S → List (List ℕ)) → TableId → S → ℕ → TurnModel
+turn_over opening_of entries_of z value seats = record {
+  name = z;
+  opening = opening_of value;
+  since = length (entries_of value);
+  seats = seats;
+}
 
 -- a seat: the name of its turn, the opening of the value, how many entries that had when the turn was made,
 -- the seat's tickets, the entries that it has seen, and those of them that it made, with their positions
@@ -32,6 +41,10 @@ pub record HeldModel (S : Type 0) : Type 0 where
 -- a seat, by the name of its turn and what the table knows of it
 abbrev pub seat_of : TableId → View → SeatModel
 seat_of z v = record { turn = z; opening = v.opening; since = v.since; tickets = v.tickets; seen = v.seen; mine = v.mine }
+
+-- a seat that has the turn, by the name of the turn and what the table knows of it
+abbrev pub held_of : {S : Type 0} → TableId → View → S → HeldModel S
+held_of z v value = record { seat = seat_of z v; found = v.found; value = value }
 
 abbrev pub seat_at : TableId → List View → SeatModel
 seat_at z [] = record { turn = z; opening = []; since = 0; tickets = []; seen = []; mine = [] }
@@ -72,9 +85,9 @@ pub record IsNew (turn : TableId) (tickets : List ℕ) (seat : SeatModel) : Type
 abbrev pub with_tickets : SeatModel → List ℕ → SeatModel
 with_tickets seat tickets = record seat { tickets = tickets }
 
--- the seat once it has seen these entries, and made these calls more
-abbrev pub seen_with : SeatModel → List (List ℕ) → List (ℕ × List ℕ) → SeatModel
-seen_with seat entries calls = record seat { seen = entries; mine = seat.mine ++ calls }
+-- the seat after a release: it has seen these entries, and those after the ones that it found are its calls
+abbrev pub released_seat : SeatModel → List (List ℕ) → List (List ℕ) → SeatModel
+released_seat seat found entries = record seat { seen = entries; mine = seat.mine ++ new_calls found entries }
 
 -- both seats in one
 abbrev pub both_seats : SeatModel → SeatModel → SeatModel
@@ -95,3 +108,7 @@ pub record IsHeld {S : Type 0} (turn table : TableId) (me : Me (Option S) View) 
   pub few : length tickets < 2 ^ 32
   pub begun : me.0.since ≤ length me.0.found
   pub mine : calls_of me.0.tickets me.0.since me.0.found ≡ me.0.mine
+
+-- what `Held::value` lends is written back into it
+abbrev pub with_value : {S : Type 0} → HeldModel S → S → HeldModel S
+with_value held value = record held { value = value }

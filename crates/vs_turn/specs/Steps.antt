@@ -3,7 +3,7 @@ use Rattle.std.specs.Prelude.{◌≡◌, ◌≢◌, ℕ, ◌-◌, ◌^◌, ◌<�
 use Rattle.atomic_table.specs.Table.{Me, Step}
 use mathlib.Core.List.{IsPrefix}
 use Rattle.vs_turn.specs.declared.view.View.{View}
-use Rattle.vs_turn.specs.Calls.{calls_of, NoCalls, merged_calls, longer}
+use Rattle.vs_turn.specs.Calls.{calls_of, NoCalls, GoOn, merged_calls, longer}
 use Rattle.vs_turn.specs.Tickets.{all_tickets, merged_tickets, RiseFrom}
 use Rattle.vs_turn.specs.Rule.{AllBegin}
 
@@ -77,6 +77,18 @@ module _ {S : Type 0} (opening_of : S → List ℕ) (entries_of : S → List (Li
   abbrev pub Took : Step (Option S) → Me (Option S) View → ℕ → Me (Option S) View → Type 0
   Took st me found after = (found ≡ 0 → Takes me after) × (found ≢ 0 → (after ≡ me) × (found < 2 ^ 32))
 
+  -- the seat has put a value into the slot that it has: the opening is its own, and the entries went on by its calls
+  pub record HasPutBack (me : Me (Option S) View) : Type 0 where
+    pub value : S
+    pub slot : me.1 ≡ (0, Some value) ∷ []
+    pub opening : opening_of value ≡ me.0.opening
+    pub entries : GoOn me.0.tickets me.0.found (entries_of value)
+
+module _ {S : Type 0} (entries_of : S → List (List ℕ)) where
+  -- the seat has given up the turn and the slot, and seen the entries of the value in it
+  abbrev pub IsFreed : Me (Option S) View → Me (Option S) View → Type 0
+  IsFreed me after = (value : S) → me.1 ≡ (0, Some value) ∷ [] → after ≡ (released me.0 (entries_of value), [])
+
   -- the turn is given up with the value that the seat has put back
   abbrev pub Freed : Step (Option S) → Me (Option S) View → ℕ → Me (Option S) View → Type 0
-  Freed st me stored after = (value : S) → me.1 ≡ (0, Some value) ∷ [] → after ≡ (released me.0 (entries_of value), [])
+  Freed st me stored after = IsFreed me after

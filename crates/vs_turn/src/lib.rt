@@ -5,6 +5,7 @@ mod held;
 mod kept;
 mod rule;
 mod seat;
+mod steps;
 #[cfg(test)]
 mod tests;
 mod tickets;

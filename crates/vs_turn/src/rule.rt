@@ -14,13 +14,12 @@ pub struct Start<S> {
 pub struct Law;
 
 impl<S: Kept> TableRule<Option<S>, View, Start<S>> for Law {
-    ghost use Rattle.std.specs.Prelude.{length};
-    ghost use Rattle.vs_turn.specs.Rule.{IsRuled};
+    ghost use Rattle.vs_turn.specs.Rule.{IsRuled, origin};
     ghost use Rattle.vs_turn.specs.Steps.{first_view};
 
-    ghost holds = { λ start. IsRuled S.opening S.entries (record { opening = S.opening start.value.value; since = length (S.entries start.value.value); seats = start.seats }) };
+    ghost holds = { λ s. IsRuled S.opening S.entries (origin S.opening S.entries s.value.value s.seats) };
 
-    ghost first = { λ start. first_view (S.opening start.value.value) (S.entries start.value.value) start.seats };
+    ghost first = { λ s. first_view (S.opening s.value.value) (S.entries s.value.value) s.seats };
 }
 
 /// Takes the turn where it is free.
@@ -38,7 +37,7 @@ pub struct Free;
 impl<S: Kept> Play<Option<S>, View> for Free {
     ghost use Rattle.vs_turn.specs.Steps.{Freed};
 
-    ghost then = { Freed S.opening S.entries };
+    ghost then = { Freed S.entries };
 }
 
 /// Looks at the word, and so learns how what was seen hangs together.

@@ -1,14 +1,14 @@
-ghost use Rattle.std.specs.Prelude.{◌≡◌, ◌+◌, ◌-◌, ◌<◌, ◌≤◌, false, [], ◌∷◌, ◌++◌, Some, None, length, take, drop, IfOk, IfErr};
+ghost use Rattle.std.specs.Prelude.{◌≡◌, ◌+◌, ◌-◌, ◌≤◌, [], ◌∷◌, ◌++◌, Some, length, take, drop, IfOk, IfErr};
 ghost use mathlib.Core.List.{IsPrefix};
 ghost use Rattle.vs_turn.specs.Calls.{calls_of, NoCalls};
 ghost use Rattle.vs_turn.specs.Seats.{first_seat, with_tickets, both_seats, IsMadeWith};
-ghost use Rattle.vs_turn.specs.Steps.{Takes};
-ghost use Rattle.vs_turn.specs.Tickets.{RiseFrom, lowest};
+ghost use Rattle.vs_turn.specs.Tickets.{RiseFrom};
 
 use crate::held::Held;
 use crate::kept::Kept;
-use crate::rule::{AddUp, HandOn, Law, Look, Start, Take};
+use crate::rule::{AddUp, HandOn, Law, Look, Start};
 use crate::seat::Seat;
+use crate::steps::Place;
 use crate::tickets;
 use crate::view::View;
 use atomic_table::{Refused, Table};
@@ -18,21 +18,19 @@ use std::snapshot::Snapshot;
 use std::sync::Wait;
 use vs_types::Memory;
 
-// A seat as the table has it.
-pub(crate) type Place<S> = atomic_table::Seat<Option<S>, View>;
-
 /// One value that seats share. A seat that holds it has it alone.
 pub struct Turn<S: Kept> {
     pub(crate) table: Table<Option<S>, View, Start<S>, Law, Global>,
 }
 
 impl<S: Kept> Model for Turn<S> {
-    ghost use Rattle.std.specs.Prelude.{◌≡◌, length};
-    ghost use Rattle.vs_turn.specs.Seats.{TurnModel};
+    ghost use Rattle.std.specs.Prelude.{◌≡◌};
+    ghost use Rattle.vs_turn.specs.Seats.{TurnModel, turn_over};
 
     ghost Value = { TurnModel };
 
-    ghost view = { λ t. record { name = t.table.shared.table_id; opening = S.opening t.table.shared.key.value.value; since = length (S.entries t.table.shared.key.value.value); seats = t.table.shared.key.seats } };
+    ghost view = { λ t. turn_over S.opening S.entries t.table.shared.table_id
+        t.table.shared.key.value.value t.table.shared.key.seats };
 
     ghost invariant = { λ t. (t.table.shared.table_id.words ≡ 1) × (t.table.shared.table_id.slots ≡ 1) };
 }
@@ -183,39 +181,6 @@ impl<S: Kept> Turn<S> {
         let slot = closed.take(0);
         closed.free();
         match slot {
-            Some(value) => value,
-            None => unreachable!(),
-        }
-    }
-
-    // Takes the turn, and the slot with it. It sleeps for as long as another seat has the turn.
-    fn take<R: Wait>(&self, rt: &R, place: &mut Place<S>, mark: u64)
-        requires table { place.old.table_id ≡ self.now.name }
-        requires rests { (place.old.me.0.has_turn ≡ false) × (0 < length place.old.me.0.tickets) }
-        requires mark { mark ≡ 1 + lowest place.old.me.0.tickets }
-        ensures table { place.new.table_id ≡ place.old.table_id }
-        ensures taken { Takes S.opening S.entries place.old.me place.new.me }
-    {
-        let shared = &self.table.shared;
-        for _ in rt.forever() {
-            let found = shared.compare_exchange::<Take>(place, 0, 0, mark);
-            if found == 0 {
-                return;
-            }
-            shared.park(rt, 0, found as u32);
-        }
-        unreachable!()
-    }
-
-    // Takes the value out of the slot that the seat has.
-    fn take_out(&self, place: &mut Place<S>) -> S
-        requires table { place.old.table_id ≡ self.now.name }
-        requires slot { (x : S) × (place.old.me.1 ≡ (0, Some x) ∷ []) }
-        ensures table { place.new.table_id ≡ place.old.table_id }
-        ensures value { place.old.me.1 ≡ (0, Some result) ∷ [] }
-        ensures slot { place.new.me ≡ (place.old.me.0, (0, None) ∷ []) }
-    {
-        match self.table.shared.exchange(place, 0, None) {
             Some(value) => value,
             None => unreachable!(),
         }

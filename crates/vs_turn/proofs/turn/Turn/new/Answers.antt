@@ -1,11 +1,11 @@
 use Rattle.std.proofs.Common.{◌≡◌, ◌<◌, ◌^◌, List, ℕ, [], ◌∷◌, length, sym, ap, ◌∙◌, subst, refl, rules, arith}
 use Rattle.std.specs.Prelude.{Option, Some}
 use Rattle.atomic_table.specs.Table.{opening}
-use Rattle.vs_turn.specs.Rule.{IsRuled}
+use Rattle.vs_turn.specs.Rule.{origin, IsRuled}
 use Rattle.vs_turn.specs.Steps.{first_view}
 use Rattle.vs_turn.specs.Tickets.{RiseFrom}
 use Rattle.vs_turn.proofs.TicketLists.{length-tickets_from, tickets_from-rise}
-use Rattle.vs_turn.proofs.Opening.{origin, opens}
+use Rattle.vs_turn.proofs.Opening.{opens}
 use Rattle.vs_turn.proofs.turn.Turn.new.Goals as goal
 
 pub new-requires : goal.new-requires
