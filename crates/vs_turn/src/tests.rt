@@ -6,11 +6,15 @@ ghost use Rattle.vs_turn.specs.Tickets.{all_tickets};
 
 mod tally;
 
-use crate::{Seat, Turn};
+use crate::{Kept, Seat, Turn};
 use std::alloc::Global;
+use std::io;
+use std::rt::Clock;
 use std::sync::Wait;
 use std::test::Fail;
+use std::thread;
 use std::thread::{Threads, join};
+use std::time::{CpuClock, Duration};
 use tally::Tally;
 use vs_types::Memory;
 
@@ -145,5 +149,68 @@ fn finds_its_own_entry(rt: HostRuntime) -> Result<(), Fail> {
     assert_eq!(rt; (added, entries), (true, 1));
     assert_eq!(rt; tally.amounts.as_slice(), [(2, 1)].as_slice());
     assert_eq!(rt; tally.start, 7);
+    Ok(())
+}
+
+// Holds the turn for a fifth of a second.
+fn hold_a_while<R: Wait + Clock>(rt: &R, turn: &Turn<Tally>, seat: Seat) -> Seat
+    requires { seat.turn ≡ turn.now.name }
+    ensures { (result.turn ≡ seat.turn) × (result.tickets ≡ seat.tickets) }
+{
+    let held = turn.hold(rt, seat);
+    thread::sleep(rt, Duration::from_millis(200));
+    held.release()
+}
+
+// Asks for the turn once another seat has it, and tells how long this thread has computed meanwhile.
+fn ask_later<R: Wait + Clock + CpuClock>(
+    rt: &R,
+    turn: &Turn<Tally>,
+    seat: Seat,
+) -> (Seat, io::Result<Duration>)
+    requires { seat.turn ≡ turn.now.name }
+    ensures { (result.0.turn ≡ seat.turn) × (result.0.tickets ≡ seat.tickets) }
+{
+    thread::sleep(rt, Duration::from_millis(50));
+    let (seat, _entries) = look(rt, turn, seat);
+    (seat, rt.thread_cpu_time())
+}
+
+#[test]
+fn a_seat_that_waits_sleeps(rt: HostRuntime) -> Result<(), Fail> {
+    let Ok((turn, seat)) = Turn::new(rt.alloc(), Tally::new(rt.alloc(), 7), 2) else {
+        panic!(rt; "memory");
+    };
+    let (first, second) = turn.split(seat);
+    let (waits, holds) = join(
+        &rt,
+        || ask_later(&rt, &turn, second),
+        || hold_a_while(&rt, &turn, first),
+    );
+    let seat = turn.join(waits.0, holds);
+    let tally = turn.close(seat);
+    assert_eq!(rt; tally.start, 7);
+    assert!(rt; waits.1? < Duration::from_millis(100));
+    Ok(())
+}
+
+fn crosses<T: Send + Sync>(_shared: &T) {}
+
+fn moves<T: Send>(_moved: &T) {}
+
+// A turn over what may cross threads may be shared by them, and a seat may always cross.
+fn are_for_threads<S: Kept + Send>(turn: &Turn<S>, seat: &Seat) {
+    crosses(turn);
+    moves(seat);
+}
+
+#[test]
+fn turns_and_seats_cross_threads(rt: HostRuntime) -> Result<(), Fail> {
+    let Ok((turn, seat)) = Turn::new(rt.alloc(), Tally::new(rt.alloc(), 7), 1) else {
+        panic!(rt; "memory");
+    };
+    are_for_threads(&turn, &seat);
+    let tally = turn.close(seat);
+    assert_eq!(rt; tally.amounts.len(), 0);
     Ok(())
 }
