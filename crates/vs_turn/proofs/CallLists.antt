@@ -111,3 +111,12 @@ AreMadeBelow-back n (x ∷ xs) ys a = AreMadeBelow-back n xs ys a.1
 pub none_left : (n : ℕ) (ts : List ℕ) (es : List E) → ((t : ℕ) → t < n → has_ticket ts t ≡ true) → AreMadeBelow n es → NoCalls ts es → es ≡ []
 none_left n ts [] all made none = refl
 none_left n ts (e ∷ es) all made none = absurd (true_not_false (all (maker e) made.0) none.0)
+
+-- what a value brings along is nobody's call
+pub calls_of-none : (ts : List ℕ) (es : List E) → calls_of ts (length es) es ≡ []
+calls_of-none ts es = ap (calls_from (length es) ts) (drop-all es)
+
+-- of no calls, fewer tickets have none
+pub fewer_calls_of : (ts us : List ℕ) (since : ℕ) (es : List E) → ((t : ℕ) → has_ticket us t ≡ true → has_ticket ts t ≡ true)
+    → calls_of ts since es ≡ [] → calls_of us since es ≡ []
+fewer_calls_of ts us since es part h = no_calls since us (drop since es) (fewer_calls ts us (drop since es) part (no_calls_back since ts (drop since es) h))

@@ -11,7 +11,7 @@ use Rattle.vs_turn.specs.declared.view.View.{View}
 use Rattle.vs_turn.specs.Calls.{has_ticket, calls_of, NoCalls, merged_calls, longer}
 use Rattle.vs_turn.specs.Tickets.{lowest, merged_tickets}
 use Rattle.vs_turn.specs.Rule.{Origin, AllBegin, Stands, Holder, Ruled, IsRuled}
-use Rattle.vs_turn.specs.Steps.{joined, spent, Looked}
+use Rattle.vs_turn.specs.Steps.{joined, spent, Learned, Looked}
 use Rattle.vs_turn.proofs.TicketLists.{true_or_false, true_not_false, has_lowest, few_tickets}
 use Rattle.vs_turn.proofs.CallLists.{append-nil, NoCalls-front, NoCalls-back}
 use Rattle.vs_turn.proofs.MergedTickets.{length-merged, merged_has, rise-merged}
@@ -202,4 +202,13 @@ module _ {S : Type 0} (opening_of : S → List ℕ) (entries_of : S → List (Li
       let st = k.1.stands id me.0 at live in
       let few = few_tickets 0 o.seats me.0.tickets st.rise (omega arith) (λ t h. (st.tickets t h).0) in
       let seats = k.1.few in
-      (me.0, keeps, tt, unmoved opening_of entries_of o s k id me at, (refl, st.rise, omega arith, st.olds))
+      let since = st.since in
+      let begun = st.begun in
+      let learned : Learned me.0 = record {
+        rise = st.rise;
+        few = omega arith;
+        begun = omega arith;
+        mine = ap (λ (n : ℕ). calls_of me.0.tickets n me.0.seen) since ∙ st.mine;
+        olds = st.olds;
+      } in
+      (me.0, keeps, tt, unmoved opening_of entries_of o s k id me at, (refl, learned))

@@ -10,7 +10,7 @@ use Rattle.vs_turn.specs.Tickets.{tickets_from, all_tickets}
 use Rattle.vs_turn.specs.Rule.{origin, Stands, IsRuled}
 use Rattle.vs_turn.specs.Steps.{first_view}
 use Rattle.vs_turn.proofs.TicketLists.{true_not_false, tickets_from-rise, tickets_from_below}
-use Rattle.vs_turn.proofs.CallLists.{append-nil, drop-all}
+use Rattle.vs_turn.proofs.CallLists.{append-nil, drop-all, calls_of-none}
 
 module _ {S : Type 0} (opening_of : S → List ℕ) (entries_of : S → List (List ℕ)) where
   first_stands : (x : S) (n : ℕ) → Stands (origin opening_of entries_of x n) (λ _. 0) (entries_of x) 0 0 (first_view (opening_of x) (entries_of x) n)
@@ -23,7 +23,7 @@ module _ {S : Type 0} (opening_of : S → List ℕ) (entries_of : S → List (Li
     opening = refl;
     since = refl;
     begun = omega arith;
-    mine = ap (calls_from (length es) (all_tickets n)) (drop-all es);
+    mine = calls_of-none (all_tickets n) es;
     rest = [];
     begins = append-nil es;
     unmade = tt;

@@ -11,7 +11,7 @@ use Rattle.vs_turn.specs.Tickets.{lowest}
 use Rattle.vs_turn.specs.Rule.{Origin, Stands, Holder, Ruled, IsRuled}
 use Rattle.vs_turn.specs.Steps.{keeping, handed}
 use Rattle.vs_turn.proofs.TicketLists.{true_or_false, true_not_false, has_lowest, has_take, has_drop, take_drop_apart, rise_take, rise_drop}
-use Rattle.vs_turn.proofs.CallLists.{no_calls, no_calls_back, fewer_calls}
+use Rattle.vs_turn.proofs.CallLists.{fewer_calls, fewer_calls_of}
 use Rattle.vs_turn.proofs.Rules.{one_there, not_mine, tickets_apart}
 
 at_end : {A : Type 0} (l : List A) (a b : A) (j : ℕ) → get_elem? (l ++ a ∷ []) j ≡ some b → (get_elem? l j ≡ some b) ⊎ ((j ≡ length l) × (a ≡ b))
@@ -44,9 +44,7 @@ module _ {S : Type 0} (opening_of : S → List ℕ) (entries_of : S → List (Li
       → (word ≡ 1 + lowest ts → ⊥) × (calls_of ts o.since v.seen ≡ v.mine) × NoCalls ts st.rest
   part ts within some_ticket = (
     not_mine opening_of entries_of o word homes views r id v at live rests (lowest ts) (within (lowest ts) (has_lowest ts some_ticket)),
-    no_calls o.since ts (drop o.since v.seen)
-        (fewer_calls v.tickets ts (drop o.since v.seen) within (no_calls_back o.since v.tickets (drop o.since v.seen) (st.mine ∙ none_made)))
-        ∙ sym none_made,
+    fewer_calls_of v.tickets ts o.since v.seen within (st.mine ∙ none_made) ∙ sym none_made,
     fewer_calls v.tickets ts st.rest within st.unmade,
   )
 

@@ -50,6 +50,11 @@ abbrev pub seat_at : TableId → List View → SeatModel
 seat_at z [] = record { turn = z; opening = []; since = 0; tickets = []; seen = []; mine = [] }
 seat_at z (v ∷ vs) = seat_of z v
 
+-- the seat's calls among the entries that it has seen are those that it made
+pub record KnowsCalls (seat : SeatModel) : Type 0 where
+  pub begun : seat.since ≤ length seat.seen
+  pub calls : calls_of seat.tickets seat.since seat.seen ≡ seat.mine
+
 -- the table knows one view of a seat, which doesn't have the turn, and the seat carries its tickets
 pub record IsSeat (views : List View) (tickets : List ℕ) : Type 0 where
   pub view : View
@@ -59,6 +64,8 @@ pub record IsSeat (views : List View) (tickets : List ℕ) : Type 0 where
   pub some_ticket : 0 < length tickets
   pub rise : RiseFrom 0 tickets
   pub few : length tickets < 2 ^ 32
+  pub begun : view.since ≤ length view.seen
+  pub mine : calls_of view.tickets view.since view.seen ≡ view.mine
 
 -- the seat that a turn is made with
 abbrev pub first_seat : TableId → List ℕ → List (List ℕ) → ℕ → SeatModel

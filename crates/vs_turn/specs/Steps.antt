@@ -54,9 +54,18 @@ joined v w = record v {
 abbrev pub spent : View
 spent = record { opening = []; since = 0; tickets = []; seen = []; mine = []; has_turn = false; found = []; olds = [] }
 
--- a look leaves the view as it was, and tells that its tickets rise and are few, and that the lists which a join left begin what was seen
+-- what a look tells of the view: its tickets rise and are few, it knows its calls, and the lists that a join left begin
+-- what it has seen
+pub record Learned (v : View) : Type 0 where
+  pub rise : RiseFrom 0 v.tickets
+  pub few : length v.tickets < 2 ^ 32
+  pub begun : v.since ≤ length v.seen
+  pub mine : calls_of v.tickets v.since v.seen ≡ v.mine
+  pub olds : AllBegin v.olds v.seen
+
+-- a look leaves the view as it was
 abbrev pub Looked : {S : Type 0} → Step (Option S) → Me (Option S) View → ℕ → Me (Option S) View → Type 0
-Looked st me found after = (after ≡ me) × RiseFrom 0 me.0.tickets × (length me.0.tickets < 2 ^ 32) × AllBegin me.0.olds me.0.seen
+Looked st me found after = (after ≡ me) × Learned me.0
 
 module _ {S : Type 0} (opening_of : S → List ℕ) (entries_of : S → List (List ℕ)) where
   -- the value as a seat finds it: it has the seat's opening, its entries begin with what the seat has seen, and hold no call

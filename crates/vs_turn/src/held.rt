@@ -3,7 +3,7 @@ ghost use Rattle.std.specs.Borrow.{Lends, sem};
 ghost use mir.Syntax.{named};
 ghost use Rattle.vs_turn.specs.contracts.held.Held.{the_row};
 ghost use Rattle.vs_turn.specs.Calls.{GoOn};
-ghost use Rattle.vs_turn.specs.Seats.{released_seat, with_value};
+ghost use Rattle.vs_turn.specs.Seats.{released_seat, with_value, KnowsCalls};
 
 use crate::kept::Kept;
 use crate::seat::Seat;
@@ -44,7 +44,8 @@ impl<'a, S: Kept> Held<'a, S> {
     pub fn release(self) -> Seat
         requires opening { S.opening self.value ≡ self.seat.opening }
         requires entries { GoOn self.seat.tickets self.found (S.entries self.value) }
-        ensures { result ≡ released_seat self.entry.seat self.entry.found (S.entries self.entry.value) }
+        ensures seat { result ≡ released_seat self.entry.seat self.entry.found (S.entries self.entry.value) }
+        ensures knows { KnowsCalls result }
     {
         let Held {
             turn,

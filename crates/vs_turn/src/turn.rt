@@ -1,7 +1,7 @@
 ghost use Rattle.std.specs.Prelude.{◌≡◌, ◌+◌, ◌-◌, ◌≤◌, [], ◌∷◌, ◌++◌, Some, length, take, drop, IfOk, IfErr};
 ghost use mathlib.Core.List.{IsPrefix};
 ghost use Rattle.vs_turn.specs.Calls.{calls_of, NoCalls};
-ghost use Rattle.vs_turn.specs.Seats.{first_seat, with_tickets, both_seats, IsMadeWith};
+ghost use Rattle.vs_turn.specs.Seats.{first_seat, with_tickets, both_seats, IsMadeWith, KnowsCalls};
 ghost use Rattle.vs_turn.specs.Tickets.{RiseFrom};
 
 use crate::held::Held;
@@ -74,6 +74,7 @@ impl<S: Kept> Turn<S> {
         requires { 1 ≤ seats }
         ensures turn { IfOk result (λ r. IsMadeWith (S.opening value) (S.entries value) seats r.0) }
         ensures seat { IfOk result (λ r. r.1 ≡ first_seat r.0.name (S.opening value) (S.entries value) seats) }
+        ensures knows { IfOk result (λ r. KnowsCalls r.1) }
         ensures err { IfErr result (λ e. e.0 ≡ value) }
     {
         let Ok(tickets) = tickets::all(alloc, seats) else {
@@ -128,6 +129,7 @@ impl<S: Kept> Turn<S> {
         ensures all { result.0.tickets ++ result.1.tickets ≡ seat.tickets }
         ensures rise { RiseFrom 0 seat.tickets }
         ensures one { length result.1.tickets ≡ 1 }
+        ensures knows { KnowsCalls result.0 × KnowsCalls result.1 }
     {
         let Seat { mut tickets, badge } = seat;
         let mut place: Place<S> = badge.into_seat();
@@ -151,6 +153,7 @@ impl<S: Kept> Turn<S> {
         ensures begins { IsPrefix a.seen result.seen × IsPrefix b.seen result.seen }
         ensures tickets { length result.tickets ≡ length a.tickets + length b.tickets }
         ensures calls { length result.mine ≡ length a.mine + length b.mine }
+        ensures knows { KnowsCalls result }
     {
         let Seat { tickets, badge } = a;
         let Seat {

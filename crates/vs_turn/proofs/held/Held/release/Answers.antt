@@ -20,8 +20,8 @@ free-requires-clause-back g c =
       entries = subst (λ (h : HeldModel g.row.S.Denot). GoOn h.seat.tickets h.found (entries h.value)) view c.requires.entries;
     }
 
-pub returns : goal.returns
-returns g c =
+pub returns-clause-seat : goal.returns-clause-seat
+returns-clause-seat g c =
     let entries = g.S.Kept.entries in
     let held = c.self.inside in
     let v = held.place.me.0 in

@@ -1,15 +1,17 @@
-use Rattle.std.proofs.Common.{rules, ◌≡◌, ℕ, ◌+◌, ◌<◌, ◌^◌, List, [], ◌∷◌, length, sym, ap, ◌∙◌, subst, arith}
+use Rattle.std.proofs.Common.{rules, ◌≡◌, ℕ, ◌+◌, ◌<◌, ◌≤◌, ◌^◌, List, [], ◌∷◌, length, sym, ap, ◌∙◌, subst, arith}
 use Rattle.std.specs.Prelude.{Option}
 use Rattle.atomic_table.specs.Table.{Me}
 use Rattle.vs_turn.specs.declared.view.View.{View}
+use Rattle.vs_turn.specs.Calls.{calls_of}
 use Rattle.vs_turn.specs.Seats.{SeatModel, seat_at}
 use Rattle.vs_turn.specs.Steps.{joined}
 use Rattle.vs_turn.specs.Tickets.{RiseFrom, merged_tickets}
-use Rattle.vs_turn.proofs.AtRest.{at_rest, seen_seat}
+use Rattle.vs_turn.proofs.AtRest.{at_rest, seen_seat, knows_calls}
 use Rattle.vs_turn.proofs.MergedTickets.{length-merged}
 use Rattle.vs_turn.proofs.MergedCalls.{length-merged_calls}
 use Rattle.vs_turn.proofs.Joining.{joins, looks}
 use Rattle.vs_turn.proofs.turn.Turn.join.Goals as goal
+use Rattle.vs_turn.proofs.turn.Turn.join.Goals.{After-into_badge}
 
 pub join_seat-requires : goal.join_seat-requires
 join_seat-requires g c =
@@ -47,14 +49,17 @@ invariant_of-result g c =
     let count = ap length carried in
     let sum = ap length (sym numbers) ∙ length-merged v.tickets w.tickets in
     let some_ticket = first.live in
-    let few = c.load.ensures.2.2 in
+    let learned = c.load.ensures.2.1 in
+    let few = learned.few in
     record {
       view = joined v w;
       one = c.into_badge.ensures.2 ∙ ap (λ (m : Me (Option g.row.S.Denot) View). m.0 ∷ []) (c.load.ensures.2.0 ∙ both);
       at_rest = first.rests;
       numbers = numbers;
       some_ticket = omega arith;
-      rise = subst (RiseFrom 0) carried c.load.ensures.2.1;
+      rise = subst (RiseFrom 0) carried learned.rise;
+      begun = subst (λ (m : Me (Option g.row.S.Denot) View). m.0.since ≤ length m.0.seen) both learned.begun;
+      mine = subst (λ (m : Me (Option g.row.S.Denot) View). calls_of m.0.tickets m.0.since m.0.seen ≡ m.0.mine) both learned.mine;
       few = omega arith;
     }
 
@@ -77,3 +82,6 @@ returns-clause-calls g c =
     let one = c.into_badge.ensures.2 ∙ ap (λ (m : Me (Option g.row.S.Denot) View). m.0 ∷ []) (c.load.ensures.2.0 ∙ c.join_seat.ensures.2) in
     ap (λ (views : List View). length (seat_at c.into_badge.result.table_id views).mine) one
     ∙ (length-merged_calls v.mine w.mine ∙ (λ i. length ((first i).mine) + length ((second i).mine)))
+
+pub returns-clause-knows : goal.returns-clause-knows
+returns-clause-knows g c = knows_calls _ _ _ (invariant_of-result g (goal.at.returns-clause-knows g c).After-into_badge)
