@@ -42,11 +42,11 @@ calls_from-append at ts (e ∷ es) ys =
     let i = calls_from-append (suc at) ts es ys in
     let n : suc at + length es ≡ at + suc (length es) = omega arith in
     let i' : calls_from (suc at) ts (es ++ ys) ≡ calls_from (suc at) ts es ++ calls_from (at + suc (length es)) ts ys =
-        i ∙ ap (λ (k : ℕ). calls_from (suc at) ts es ++ calls_from k ts ys) n in
+    i ∙ ap (λ (k : ℕ). calls_from (suc at) ts es ++ calls_from k ts ys) n in
     ⊎_elim
-      (λ y. calls_from-yes at ts e (es ++ ys) y ∙ (ap (λ l. (at, e) ∷ l) i' ∙ sym (ap (λ l. l ++ calls_from (at + suc (length es)) ts ys) (calls_from-yes at ts e es y))))
-      (λ n. calls_from-no at ts e (es ++ ys) n ∙ (i' ∙ sym (ap (λ l. l ++ calls_from (at + suc (length es)) ts ys) (calls_from-no at ts e es n))))
-      (true_or_false (has_ticket ts (maker e)))
+    (λ y. calls_from-yes at ts e (es ++ ys) y ∙ (ap (λ l. (at, e) ∷ l) i' ∙ sym (ap (λ l. l ++ calls_from (at + suc (length es)) ts ys) (calls_from-yes at ts e es y))))
+    (λ n. calls_from-no at ts e (es ++ ys) n ∙ (i' ∙ sym (ap (λ l. l ++ calls_from (at + suc (length es)) ts ys) (calls_from-no at ts e es n))))
+    (true_or_false (has_ticket ts (maker e)))
 
 pub calls_of-append : (ts : List ℕ) (since : ℕ) (xs ys : List E) → since ≤ length xs → calls_of ts since (xs ++ ys) ≡ calls_of ts since xs ++ calls_from (length xs) ts ys
 calls_of-append ts since xs ys h =
@@ -91,9 +91,9 @@ calls_of_another ts us (e ∷ es) apart h = (apart (maker e) h.0, calls_of_anoth
 pub fewer_calls : (ts us : List ℕ) (es : List E) → ((t : ℕ) → has_ticket us t ≡ true → has_ticket ts t ≡ true) → NoCalls ts es → NoCalls us es
 fewer_calls ts us [] part h = tt
 fewer_calls ts us (e ∷ es) part h = (
-    ⊎_elim (λ y. absurd (true_not_false (part (maker e) y) h.0)) (λ n. n) (true_or_false (has_ticket us (maker e))),
-    fewer_calls ts us es part h.1,
-  )
+  ⊎_elim (λ y. absurd (true_not_false (part (maker e) y) h.0)) (λ n. n) (true_or_false (has_ticket us (maker e))),
+  fewer_calls ts us es part h.1,
+)
 
 pub made_below : (n : ℕ) (ts : List ℕ) (es : List E) → ((t : ℕ) → has_ticket ts t ≡ true → t < n) → AreCalls ts es → AreMadeBelow n es
 made_below n ts [] b h = tt

@@ -104,17 +104,18 @@ module _ {S : Type 0} (opening_of : S → List ℕ) (entries_of : S → List (Li
 
   pub frees : (slots id : ℕ) (v : View) (value : S) → 0 < slots → 0 < length v.tickets → v.has_turn ≡ true → opening_of value ≡ v.opening → GoOn v.tickets v.found (entries_of value)
       → Allows (IsRuled opening_of entries_of o) slots id (v, (0, Some value) ∷ []) 0 (λ _. 0)
-          (λ _. Freed entries_of (step slots 0 0 0 none) (v, (0, Some value) ∷ []) 0)
+      (λ _. Freed entries_of (step slots 0 0 0 none) (v, (0, Some value) ∷ []) 0)
   frees slots id v value some_slot live has same on s k full at _ =
       let wide = k.0 in
-      let read : get_or (set s.words 0 0) 0 0 ≡ 0 = get_or-set_same s.words 0 0 0 (omega arith) in
-      (
+      let read : get_or (set s.words 0 0) 0 0 ≡ 0 = get_or-set_same s.words 0 0 0 (omega arith) in (
         released v (entries_of value),
         gives,
         tt,
-        (length-set s.words 0 0 ∙ wide,
-        subst (λ (z : ℕ). Ruled opening_of entries_of o z (set s.homes 0 (some (Some value))) (set s.views id (released v (entries_of value)))) (sym read)
-          (freed (get_or s.words 0 0) s.homes s.views k.1 id v at live has value same on (omega arith))),
+        (
+          length-set s.words 0 0 ∙ wide,
+          subst (λ (z : ℕ). Ruled opening_of entries_of o z (set s.homes 0 (some (Some value))) (set s.views id (released v (entries_of value)))) (sym read)
+              (freed (get_or s.words 0 0) s.homes s.views k.1 id v at live has value same on (omega arith)),
+        ),
         λ other e. ap (λ (y : S). (released v (entries_of y), [])) (ap (value_in value) e),
       )
 
@@ -123,6 +124,6 @@ pub seat_released : (z : TableId) (v : View) (entries : List (List ℕ)) → v.s
     → seat_of z (released v entries) ≡ released_seat (seat_of z v) v.found entries
 seat_released z v entries begun mine on =
     let m : calls_of v.tickets v.since entries ≡ v.mine ++ new_calls v.found entries =
-        calls_added v.tickets v.since v.found entries begun on ∙ ap (λ l. l ++ new_calls v.found entries) mine in
+    calls_added v.tickets v.since v.found entries begun on ∙ ap (λ l. l ++ new_calls v.found entries) mine in
     let with : List (ℕ × List ℕ) → SeatModel = λ calls. record { turn = z; opening = v.opening; since = v.since; tickets = v.tickets; seen = entries; mine = calls } in
     ap with m

@@ -86,9 +86,9 @@ module _ (o : Origin) (owner : ℕ → ℕ) (log : List (List ℕ)) (word : ℕ)
   together =
       let P : List (List ℕ) → Type 0 = λ seen. Together v.tickets w.tickets o.since seen v.mine w.mine log v.seen w.seen in
       ⊎_elim
-        (λ y. subst P (sym (longer_second v.seen w.seen y)) (second_longer (let l = ltb-true (length v.seen) (length w.seen) y in omega arith)))
-        (λ n. subst P (sym (longer_first v.seen w.seen n)) (first_longer (ltb-false (length v.seen) (length w.seen) n)))
-        (true_or_false (nat_lt (length v.seen) (length w.seen)))
+      (λ y. subst P (sym (longer_second v.seen w.seen y)) (second_longer (let l = ltb-true (length v.seen) (length w.seen) y in omega arith)))
+      (λ n. subst P (sym (longer_first v.seen w.seen n)) (first_longer (ltb-false (length v.seen) (length w.seen) n)))
+      (true_or_false (nat_lt (length v.seen) (length w.seen)))
 
 module _ {S : Type 0} (opening_of : S → List ℕ) (entries_of : S → List (List ℕ)) (o : Origin)
     (word : ℕ) (homes : List (Home (Option S))) (views : List View) (r : Ruled opening_of entries_of o word homes views)
@@ -182,9 +182,9 @@ module _ {S : Type 0} (opening_of : S → List ℕ) (entries_of : S → List (Li
     stands = λ j u here living. ⊎_elim
         (λ gone. let none_left : length u.tickets ≡ 0 = ap (λ (x : View). length x.tickets) (sym gone.1) in absurd (omega arith))
         (λ t. ⊎_elim
-            (λ x. subst (λ (z : ℕ × View). Stands o owner r.log word z.0 z.1) (λ i. (sym x.0 i, x.1 i)) both)
-            (λ x. bystander j u x.1 living t.0)
-            (at_set views id j (joined v w) u t.1))
+        (λ x. subst (λ (z : ℕ × View). Stands o owner r.log word z.0 z.1) (λ i. (sym x.0 i, x.1 i)) both)
+        (λ x. bystander j u x.1 living t.0)
+        (at_set views id j (joined v w) u t.1))
         (at_set (set views id (joined v w)) other j spent u here);
     made = r.made;
   }

@@ -25,7 +25,7 @@ calls_later k ts [] = tt
 calls_later k ts (e ∷ es) =
     let r = later (suc k) k (calls_from (suc k) ts es) (omega arith) (calls_later (suc k) ts es) in
     ⊎_elim (λ y. subst (FromOn k) (sym (calls_from-yes k ts e es y)) (omega arith, r))
-        (λ n. subst (FromOn k) (sym (calls_from-no k ts e es n)) r) (true_or_false (has_ticket ts (maker e)))
+    (λ n. subst (FromOn k) (sym (calls_from-no k ts e es n)) r) (true_or_false (has_ticket ts (maker e)))
 
 insert_early : (c d : Call) (ds : List Call) → c.0 < d.0 → insert_call c (d ∷ ds) ≡ c ∷ d ∷ ds
 insert_early c d ds h = ap (λ (b : Bool). cond b (c ∷ d ∷ ds) (d ∷ insert_call c ds)) (lt-ltb c.0 d.0 h)
@@ -65,30 +65,30 @@ calls_from-merged k ts us (e ∷ es) apart =
     let ds = calls_from (suc k) us es in
     let m = maker e in
     ⊎_elim
-      (λ y. let n = apart m y in
-          let in_both : has_ticket both m ≡ true = has-merged ts us m ∙ ap (λ (b : Bool). b || has_ticket us m) y in
-          calls_from-yes k both e es in_both
-          ∙ (ap (λ l. (k, e) ∷ l) rest
-          ∙ (sym (insert_first (k, e) (merged_calls cs ds) (merged_from (suc k) cs ds (calls_later (suc k) ts es) (calls_later (suc k) us es)))
-          ∙ sym ((λ i. merged_calls (calls_from-yes k ts e es y i) (calls_from-no k us e es n i))))))
-      (λ n. ⊎_elim
-          (λ y. let in_both : has_ticket both m ≡ true = has-merged ts us m ∙ (λ i. n i || y i) in
-              calls_from-yes k both e es in_both
-              ∙ (ap (λ l. (k, e) ∷ l) rest
-              ∙ (sym (merged_second (k, e) cs ds (calls_later (suc k) ts es))
-              ∙ sym ((λ i. merged_calls (calls_from-no k ts e es n i) (calls_from-yes k us e es y i))))))
-          (λ z. let in_none : has_ticket both m ≡ false = has-merged ts us m ∙ (λ i. n i || z i) in
-              calls_from-no k both e es in_none
-              ∙ (rest ∙ sym ((λ i. merged_calls (calls_from-no k ts e es n i) (calls_from-no k us e es z i)))))
-          (true_or_false (has_ticket us m)))
-      (true_or_false (has_ticket ts m))
+    (λ y. let n = apart m y in
+    let in_both : has_ticket both m ≡ true = has-merged ts us m ∙ ap (λ (b : Bool). b || has_ticket us m) y in
+    calls_from-yes k both e es in_both
+    ∙ (ap (λ l. (k, e) ∷ l) rest
+    ∙ (sym (insert_first (k, e) (merged_calls cs ds) (merged_from (suc k) cs ds (calls_later (suc k) ts es) (calls_later (suc k) us es)))
+    ∙ sym ((λ i. merged_calls (calls_from-yes k ts e es y i) (calls_from-no k us e es n i))))))
+    (λ n. ⊎_elim
+    (λ y. let in_both : has_ticket both m ≡ true = has-merged ts us m ∙ (λ i. n i || y i) in
+    calls_from-yes k both e es in_both
+    ∙ (ap (λ l. (k, e) ∷ l) rest
+    ∙ (sym (merged_second (k, e) cs ds (calls_later (suc k) ts es))
+    ∙ sym ((λ i. merged_calls (calls_from-no k ts e es n i) (calls_from-yes k us e es y i))))))
+    (λ z. let in_none : has_ticket both m ≡ false = has-merged ts us m ∙ (λ i. n i || z i) in
+    calls_from-no k both e es in_none
+    ∙ (rest ∙ sym ((λ i. merged_calls (calls_from-no k ts e es n i) (calls_from-no k us e es z i)))))
+    (true_or_false (has_ticket us m)))
+    (true_or_false (has_ticket ts m))
 
 -- what neither has made, both together haven't
 pub NoCalls-merged : (ts us : List ℕ) (es : List (List ℕ)) → NoCalls ts es → NoCalls us es → NoCalls (merged_tickets ts us) es
 NoCalls-merged ts us [] a b = tt
 NoCalls-merged ts us (e ∷ es) a b = (
   ⊎_elim (λ y. absurd (⊎_elim (λ p. true_not_false p a.0) (λ p. true_not_false p b.0) (merged_has ts us (maker e) y))) (λ n. n)
-    (true_or_false (has_ticket (merged_tickets ts us) (maker e))),
+      (true_or_false (has_ticket (merged_tickets ts us) (maker e))),
   NoCalls-merged ts us es a.1 b.1,
 )
 

@@ -37,14 +37,17 @@ module _ {S : Type 0} (opening_of : S → List ℕ) (entries_of : S → List (Li
 
   -- the table at the start
   pub opens : (x : S) (n : ℕ) → n < 2 ^ 32 → IsRuled opening_of entries_of (origin opening_of entries_of x n) (opening (0 ∷ []) (Some x ∷ []) (first_view (opening_of x) (entries_of x) n))
-  opens x n few = (refl, record {
-    log = entries_of x;
-    owner = λ _. 0;
-    few = few;
-    in_range = omega arith;
-    free = λ _. record { value = x; at = refl; opening_is = refl; entries_are = refl };
-    holder = 0;
-    taken = λ h. absurd (omega arith);
-    stands = λ id v at live. stands_at x n id v at;
-    made = subst (AreMadeBelow n) (sym (drop-all (entries_of x))) tt;
-  })
+  opens x n few = (
+    refl,
+    record {
+      log = entries_of x;
+      owner = λ _. 0;
+      few = few;
+      in_range = omega arith;
+      free = λ _. record { value = x; at = refl; opening_is = refl; entries_are = refl };
+      holder = 0;
+      taken = λ h. absurd (omega arith);
+      stands = λ id v at live. stands_at x n id v at;
+      made = subst (AreMadeBelow n) (sym (drop-all (entries_of x))) tt;
+    },
+  )

@@ -46,7 +46,7 @@ module _ {S : Type 0} (opening_of : S → List ℕ) (entries_of : S → List (Li
       → v.has_turn ≡ true → w.has_turn ≡ false
   one_has word homes views r i j v w at live at' live' ne h = ⊎_elim
       (λ y. let a = (r.stands i v at live).marked h in let b = (r.stands j w at' live').marked y in
-          let low : lowest w.tickets ≡ lowest v.tickets = omega arith in
-          absurd (true_not_false (subst (λ (x : ℕ). has_ticket w.tickets x ≡ true) low (has_lowest w.tickets live'))
-              (tickets_apart word homes views r i j v w at live at' live' ne (lowest v.tickets) (has_lowest v.tickets live))))
+      let low : lowest w.tickets ≡ lowest v.tickets = omega arith in
+      absurd (true_not_false (subst (λ (x : ℕ). has_ticket w.tickets x ≡ true) low (has_lowest w.tickets live'))
+      (tickets_apart word homes views r i j v w at live at' live' ne (lowest v.tickets) (has_lowest v.tickets live))))
       (λ n. n) (true_or_false w.has_turn)

@@ -99,8 +99,8 @@ module _ {S : Type 0} (opening_of : S → List ℕ) (entries_of : S → List (Li
         rise = su.rise;
         tickets = λ t h.
             let not_handed : has_ticket (handed v).tickets t ≡ false =
-                ⊎_elim (λ y. absurd (true_not_false h (tickets_apart opening_of entries_of o word homes views r id j v u at live there alive ne t (has_drop n t v.tickets y))))
-                    (λ f. f) (true_or_false (has_ticket (handed v).tickets t)) in
+            ⊎_elim (λ y. absurd (true_not_false h (tickets_apart opening_of entries_of o word homes views r id j v u at live there alive ne t (has_drop n t v.tickets y))))
+            (λ f. f) (true_or_false (has_ticket (handed v).tickets t)) in
             ((su.tickets t h).0, owner_other t not_handed ∙ (su.tickets t h).1);
         marked = su.marked;
         only_marked = su.only_marked;
@@ -118,7 +118,7 @@ module _ {S : Type 0} (opening_of : S → List ℕ) (entries_of : S → List (Li
   still_has : Holder views r.holder → Holder (set views id (keeping v) ++ handed v ∷ []) r.holder
   still_has h =
       let ne : r.holder ≢ id = λ e. true_not_false (ap (λ (u : View). u.has_turn)
-          (sym (one_there views id h.view v (subst (λ (x : ℕ). get_elem? views x ≡ some h.view) e h.at) at)) ∙ h.has_turn) rests in
+      (sym (one_there views id h.view v (subst (λ (x : ℕ). get_elem? views x ≡ some h.view) e h.at) at)) ∙ h.has_turn) rests in
       record {
         view = h.view;
         at = at_longer (set views id (keeping v)) (handed v ∷ []) r.holder h.view (set_else views id r.holder (keeping v) ne ∙ h.at);
@@ -137,9 +137,9 @@ module _ {S : Type 0} (opening_of : S → List ℕ) (entries_of : S → List (Li
     taken = λ h. still_has (r.taken h);
     stands = λ j u there alive. ⊎_elim
         (λ old. ⊎_elim
-            (λ t. subst (λ (z : ℕ × View). Stands o owner r.log word z.0 z.1) (λ i. (sym t.0 i, t.1 i)) keeper)
-            (λ t. bystander j u t.1 alive t.0)
-            (at_set views id j (keeping v) u old))
+        (λ t. subst (λ (z : ℕ × View). Stands o owner r.log word z.0 z.1) (λ i. (sym t.0 i, t.1 i)) keeper)
+        (λ t. bystander j u t.1 alive t.0)
+        (at_set views id j (keeping v) u old))
         (λ new. subst (Stands o owner r.log word j) new.1 (newcomer j (new.0 ∙ length-set views id (keeping v))))
         (at_end (set views id (keeping v)) (handed v) u j there);
     made = r.made;

@@ -26,8 +26,7 @@ module _ {S : Type 0} (opening_of : S → List ℕ) (entries_of : S → List (Li
       → R (stepped s 0 (get_or s.words 0 0) id me.1 me.0 keeps)
   unmoved s k id me at =
       let wide = k.0 in
-      let word : get_or (set s.words 0 (get_or s.words 0 0)) 0 0 ≡ get_or s.words 0 0 = get_or-set_same s.words 0 (get_or s.words 0 0) 0 (omega arith) in
-      (
+      let word : get_or (set s.words 0 (get_or s.words 0 0)) 0 0 ≡ get_or s.words 0 0 = get_or-set_same s.words 0 (get_or s.words 0 0) 0 (omega arith) in (
         length-set s.words 0 (get_or s.words 0 0) ∙ wide,
         subst (λ (z : ℕ × List View). Ruled opening_of entries_of o z.0 s.homes z.1) (λ i. (sym word i, sym (set_again s.views id me.0 at) i)) k.1,
       )
@@ -81,7 +80,7 @@ module _ {S : Type 0} (opening_of : S → List ℕ) (entries_of : S → List (Li
       marked = λ h. let e = st.marked h in absurd (omega arith);
       only_marked = λ e. let low : lowest u.tickets ≡ lowest v.tickets = omega arith in
           absurd (true_not_false (subst (λ (t : ℕ). has_ticket u.tickets t ≡ true) low (has_lowest u.tickets alive))
-              (tickets_apart opening_of entries_of o 0 homes views r id j v u at live there alive ne (lowest v.tickets) (has_lowest v.tickets live)));
+          (tickets_apart opening_of entries_of o 0 homes views r id j v u at live there alive ne (lowest v.tickets) (has_lowest v.tickets live)));
       found = λ h. let e = st.marked h in absurd (omega arith);
       opening = st.opening;
       since = st.since;
@@ -115,28 +114,28 @@ module _ {S : Type 0} (opening_of : S → List ℕ) (entries_of : S → List (Li
       let word : ℕ = get_or s.words 0 0 in
       let wide = k.0 in
       dite (ℕ_discrete word 0)
-        (λ hit.
-          let r : Ruled opening_of entries_of o 0 s.homes s.views = subst (λ (z : ℕ). Ruled opening_of entries_of o z s.homes s.views) hit k.1 in
-          let x : Rests opening_of entries_of o.opening r.log s.homes = r.free refl in
-          let w : View = holding me.0 (entries_of x.value) in
-          let read : get_or (set s.words 0 mark) 0 0 ≡ mark = get_or-set_same s.words 0 mark 0 (omega arith) in
-          (
-            w,
-            takes 0 (Some x.value),
-            x.at,
-            subst (λ b. R (stepped s 0 (either b mark word) id me.1 w (takes 0 (Some x.value)))) (sym (eq-eqb word 0 hit))
-              (length-set s.words 0 mark ∙ wide,
-              subst (λ (z : ℕ). Ruled opening_of entries_of o z (set s.homes 0 none) (set s.views id w)) (sym read)
-                (taken s.homes s.views r id me.0 at live mark marks x)),
-            (
-              (λ _. record { value = x.value; finds = found r.log r.owner 0 id me.0 s.homes (r.stands id me.0 at live) x; after_is = refl }),
-              λ ne. absurd (ne hit),
-            ),
-          ))
-        (λ miss. (
-          me.0,
-          keeps,
-          tt,
-          subst (λ b. R (stepped s 0 (either b mark word) id me.1 me.0 keeps)) (sym (ne_eqb word 0 miss)) (unmoved s k id me at),
-          ((λ hit. absurd (miss hit)), λ _. (refl, let few = k.1.few in let range = k.1.in_range in omega arith)),
-        ))
+      (λ hit.
+      let r : Ruled opening_of entries_of o 0 s.homes s.views = subst (λ (z : ℕ). Ruled opening_of entries_of o z s.homes s.views) hit k.1 in
+      let x : Rests opening_of entries_of o.opening r.log s.homes = r.free refl in
+      let w : View = holding me.0 (entries_of x.value) in
+      let read : get_or (set s.words 0 mark) 0 0 ≡ mark = get_or-set_same s.words 0 mark 0 (omega arith) in (
+        w,
+        takes 0 (Some x.value),
+        x.at,
+        subst (λ b. R (stepped s 0 (either b mark word) id me.1 w (takes 0 (Some x.value)))) (sym (eq-eqb word 0 hit)) (
+          length-set s.words 0 mark ∙ wide,
+          subst (λ (z : ℕ). Ruled opening_of entries_of o z (set s.homes 0 none) (set s.views id w)) (sym read)
+              (taken s.homes s.views r id me.0 at live mark marks x),
+        ),
+        (
+          (λ _. record { value = x.value; finds = found r.log r.owner 0 id me.0 s.homes (r.stands id me.0 at live) x; after_is = refl }),
+          λ ne. absurd (ne hit),
+        ),
+      ))
+      (λ miss. (
+        me.0,
+        keeps,
+        tt,
+        subst (λ b. R (stepped s 0 (either b mark word) id me.1 me.0 keeps)) (sym (ne_eqb word 0 miss)) (unmoved s k id me at),
+        ((λ hit. absurd (miss hit)), λ _. (refl, let few = k.1.few in let range = k.1.in_range in omega arith)),
+      ))

@@ -136,7 +136,7 @@ full_tickets k (suc n) (u ∷ us) r l h t a b =
     let same : (x : ℕ) → has_ticket us x ≡ true → x < suc k + n = λ x y. let z = h x (has_later u x us y) in omega arith in
     let rise : RiseFrom (suc k) us = rise_lower (suc u) (suc k) us (omega arith) r.1 in
     dite (ℕ_discrete u t) (λ e. has_first u t us e)
-      (λ ne. has_later u t us (full_tickets (suc k) n us rise (omega arith) same t (other u t k here a ne) (omega arith)))
+    (λ ne. has_later u t us (full_tickets (suc k) n us rise (omega arith) same t (other u t k here a ne) (omega arith)))
   where
     other : (u t k : ℕ) → u ≡ k → k ≤ t → u ≢ t → suc k ≤ t
     other u t k e a ne = omega arith

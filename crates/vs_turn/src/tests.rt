@@ -8,13 +8,12 @@ mod tally;
 
 use crate::{Kept, Seat, Turn};
 use std::alloc::Global;
-use std::io;
 use std::rt::Clock;
 use std::sync::Wait;
 use std::test::Fail;
-use std::thread;
 use std::thread::{Threads, join};
 use std::time::{CpuClock, Duration};
+use std::{io, thread};
 use tally::Tally;
 use vs_types::Memory;
 

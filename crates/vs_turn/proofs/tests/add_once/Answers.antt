@@ -37,7 +37,7 @@ release-requires-clause-entries g c =
     let found = c.hold-held.ensures.found in
     let new = amounts g c in
     subst (λ (z : List ℕ × List (List ℕ) × List (ℕ × ℕ)). GoOn z.0 z.1 (entries z.2)) (λ i. ((sym seat i).tickets, sym found i, sym new i))
-        (goes_on c.args.seat.tickets (c.args.maker, 1) c.hold-held.result.value.amounts.items (is_ok c.add.result) c.requires.maker)
+    (goes_on c.args.seat.tickets (c.args.maker, 1) c.hold-held.result.value.amounts.items (is_ok c.add.result) c.requires.maker)
 
 pub returns-clause-made : goal.returns-clause-made
 returns-clause-made g c =

@@ -29,8 +29,8 @@ returns-clause-seat g c =
     let back = c.put_in.ensures.slot in
     let freed = c.free.ensures.freed held.value (ap (λ (m : Me (Option g.row.S.Denot) View). m.1) back) in
     let views = c.into_badge-badge.ensures.2
-        ∙ (ap (λ (m : Me (Option g.row.S.Denot) View). m.0 ∷ []) freed
-        ∙ ap (λ (m : Me (Option g.row.S.Denot) View). released m.0 (entries held.value) ∷ []) back) in
+    ∙ (ap (λ (m : Me (Option g.row.S.Denot) View). m.0 ∷ []) freed
+    ∙ ap (λ (m : Me (Option g.row.S.Denot) View). released m.0 (entries held.value) ∷ []) back) in
     let name = c.into_badge-badge.ensures.0 ∙ (c.free.ensures.table ∙ c.put_in.ensures.table) in
     let on = subst (λ (h : HeldModel g.row.S.Denot). GoOn h.seat.tickets h.found (entries h.value)) (sym c.self.view_is) c.requires.entries in
     (λ i. seat_at (name i) (views i))

@@ -23,8 +23,8 @@ last g c =
     let rest = at_rest _ _ v c.seat.invariant one in
     let seat = seen_seat _ _ v _ one c.seat.view_is in
     closes g.S.Kept.opening g.S.Kept.entries (made_with g c) c.into_seat.result.id v _ _ rest.live rest.rests
-        (ap (λ (s : SeatModel). length s.tickets) seat ∙ (c.requires.all ∙ sym (ap (λ (t : TurnModel). t.seats) c.self.view_is)))
-        c.close_with-closed.ensures.values.2
+    (ap (λ (s : SeatModel). length s.tickets) seat ∙ (c.requires.all ∙ sym (ap (λ (t : TurnModel). t.seats) c.self.view_is)))
+    c.close_with-closed.ensures.values.2
 
 pub unreachable-requires : goal.unreachable-requires
 unreachable-requires g c =

@@ -16,8 +16,7 @@ store-requires g c =
     let slots = c.self.inside.table.shared.table_id.slots in
     let me = c.args.place.now.me in
     let back = c.requires.back in
-    let slot : 0 < slots = let e = c.self.invariant.1 in omega arith in
-    (
+    let slot : 0 < slots = let e = c.self.invariant.1 in omega arith in (
       search rules,
       search rules,
       subst (λ (xs : List (ℕ × Option g.row.S.Denot)). Allows (IsRuled open' entries (origin open' entries key.value.value key.seats)) slots c.args.place.now.id (me.0, xs) 0 (λ _. 0)

@@ -16,8 +16,7 @@ use Rattle.vs_turn.proofs.turn.Turn.join.Goals.{After-into_badge}
 pub join_seat-requires : goal.join_seat-requires
 join_seat-requires g c =
     let first = at_rest _ _ c.into_seat-place.result.me.0 c.a.invariant c.into_seat-place.ensures.2 in
-    let second = at_rest _ _ c.into_seat.result.me.0 c.b.invariant c.into_seat.ensures.2 in
-    (
+    let second = at_rest _ _ c.into_seat.result.me.0 c.b.invariant c.into_seat.ensures.2 in (
       search rules,
       search rules,
       search rules,
@@ -30,8 +29,7 @@ load-requires g c =
     let first = at_rest _ _ c.into_seat-place.result.me.0 c.a.invariant c.into_seat-place.ensures.2 in
     let is = ap (λ (m : Me (Option g.row.S.Denot) View). length m.0.tickets) c.join_seat.ensures.2 in
     let sum = length-merged c.into_seat-place.result.me.0.tickets c.into_seat.result.me.0.tickets in
-    let some_ticket = first.live in
-    (
+    let some_ticket = first.live in (
       search rules,
       search rules,
       looks g.S.Kept.opening g.S.Kept.entries _ _ c.join_seat.new.seat.id c.join_seat.new.seat.me (omega arith),

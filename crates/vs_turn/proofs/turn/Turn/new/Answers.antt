@@ -18,7 +18,7 @@ new-requires g c =
     let o = g.S.Kept.opening in let e = g.S.Kept.entries in let x = c.of.result.value in let n = c.args.seats in
     let few : n < 2 ^ 32 = search rules in
     subst (λ (items : List (Option g.row.S.Denot)). IsRuled o e (origin o e x n) (opening (0 ∷ []) items (first_view (o x) (e x) n)))
-        (ap (λ (y : g.row.S.Denot). Some y ∷ []) c.of.ensures ∙ sym c.in-Ok-row_of.ensures.ok) (opens o e x n few)
+    (ap (λ (y : g.row.S.Denot). Some y ∷ []) c.of.ensures ∙ sym c.in-Ok-row_of.ensures.ok) (opens o e x n few)
 
 pub invariant_of-result-in-Ok-new : goal.invariant_of-result-in-Ok-new
 invariant_of-result-in-Ok-new g c =

@@ -18,8 +18,7 @@ split_seat-other-requires g c =
     let one = c.into_seat-place.ensures.2 in
     let rest = at_rest _ _ v c.seat.invariant one in
     let seat = seen_seat _ _ v _ one c.seat.view_is in
-    let two = ap (λ (s : SeatModel). length s.tickets) seat in
-    (
+    let two = ap (λ (s : SeatModel). length s.tickets) seat in (
       search rules,
       search rules,
       splits g.S.Kept.opening g.S.Kept.entries _ c.into_seat-place.result.id v (let r = c.requires.two in omega arith) rest.rests

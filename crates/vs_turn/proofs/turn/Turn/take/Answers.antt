@@ -6,8 +6,7 @@ use Rattle.vs_turn.proofs.turn.Turn.take.Goals as goal
 pub compare_exchange-found-requires : goal.compare_exchange-found-requires
 compare_exchange-found-requires g c =
     let e = c.loop.invariant.2 in
-    let numbers = ap (λ m. m.0.tickets) e in
-    (
+    let numbers = ap (λ m. m.0.tickets) e in (
       c.loop.invariant.0 ∙ c.requires.table ∙ search rules,
       search rules,
       takes_turn g.S.Kept.opening g.S.Kept.entries _ c.self.inside.table.shared.table_id.slots c.loop.place.id c.loop.place.me c.args.mark
