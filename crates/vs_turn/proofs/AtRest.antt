@@ -17,7 +17,8 @@ abbrev first_or : View → List View → View
 first_or d [] = d
 first_or d (v ∷ vs) = v
 
-pub at_rest : (views : List View) (tickets : List ℕ) (v : View) → IsSeat views tickets → views ≡ v ∷ [] → AtRest v tickets
+pub at_rest : (views : List View) (tickets : List ℕ) (v : View) → IsSeat views tickets → views ≡ v ∷ []
+    → AtRest v tickets
 at_rest views tickets v s e =
     let same : s.view ≡ v = ap (first_or v) (sym s.one ∙ e) in
     let numbers : v.tickets ≡ tickets = ap (λ (u : View). u.tickets) (sym same) ∙ s.numbers in
@@ -30,9 +31,12 @@ at_rest views tickets v s e =
     }
 
 -- the seat that contracts see is its view's
-pub seen_seat : (z : TableId) (views : List View) (v : View) (seat : SeatModel) → views ≡ v ∷ [] → seat_at z views ≡ seat → seat_of z v ≡ seat
+pub seen_seat : (z : TableId) (views : List View) (v : View) (seat : SeatModel) → views ≡ v ∷ []
+    → seat_at z views ≡ seat → seat_of z v ≡ seat
 seen_seat z views v seat e is = ap (seat_at z) (sym e) ∙ is
 
 -- a seat knows its calls
-pub knows_calls : (z : TableId) (views : List View) (tickets : List ℕ) → IsSeat views tickets → KnowsCalls (seat_at z views)
-knows_calls z views tickets s = subst (λ vs. KnowsCalls (seat_at z vs)) (sym s.one) record { begun = s.begun; calls = s.mine }
+pub knows_calls : (z : TableId) (views : List View) (tickets : List ℕ) → IsSeat views tickets
+    → KnowsCalls (seat_at z views)
+knows_calls z views tickets s = subst (λ vs. KnowsCalls (seat_at z vs)) (sym s.one) record { begun = s.begun;
+    calls = s.mine }

@@ -29,26 +29,35 @@ drop-whole [] ys = refl
 drop-whole (x ∷ xs) ys = drop-whole xs ys
 
 -- what stands behind calls_from: one entry more
-pub calls_from-yes : (at : ℕ) (ts : List ℕ) (e : E) (es : List E) → has_ticket ts (maker e) ≡ true → calls_from at ts (e ∷ es) ≡ (at, e) ∷ calls_from (suc at) ts es
-calls_from-yes at ts e es h = ap (λ (b : Bool). cond b ((at, e) ∷ calls_from (suc at) ts es) (calls_from (suc at) ts es)) h
+pub calls_from-yes : (at : ℕ) (ts : List ℕ) (e : E) (es : List E) → has_ticket ts (maker e) ≡ true
+    → calls_from at ts (e ∷ es) ≡ (at, e) ∷ calls_from (suc at) ts es
+calls_from-yes at ts e es h = ap (λ (b : Bool). cond b ((at, e) ∷ calls_from (suc at) ts es)
+    (calls_from (suc at) ts es)) h
 
-pub calls_from-no : (at : ℕ) (ts : List ℕ) (e : E) (es : List E) → has_ticket ts (maker e) ≡ false → calls_from at ts (e ∷ es) ≡ calls_from (suc at) ts es
-calls_from-no at ts e es h = ap (λ (b : Bool). cond b ((at, e) ∷ calls_from (suc at) ts es) (calls_from (suc at) ts es)) h
+pub calls_from-no : (at : ℕ) (ts : List ℕ) (e : E) (es : List E) → has_ticket ts (maker e) ≡ false
+    → calls_from at ts (e ∷ es) ≡ calls_from (suc at) ts es
+calls_from-no at ts e es h = ap (λ (b : Bool). cond b ((at, e) ∷ calls_from (suc at) ts es)
+    (calls_from (suc at) ts es)) h
 
 -- calls among entries that go on
-pub calls_from-append : (at : ℕ) (ts : List ℕ) (xs ys : List E) → calls_from at ts (xs ++ ys) ≡ calls_from at ts xs ++ calls_from (at + length xs) ts ys
+pub calls_from-append : (at : ℕ) (ts : List ℕ) (xs ys : List E)
+    → calls_from at ts (xs ++ ys) ≡ calls_from at ts xs ++ calls_from (at + length xs) ts ys
 calls_from-append at ts [] ys = ap (λ (n : ℕ). calls_from n ts ys) (omega arith)
 calls_from-append at ts (e ∷ es) ys =
     let i = calls_from-append (suc at) ts es ys in
     let n : suc at + length es ≡ at + suc (length es) = omega arith in
-    let i' : calls_from (suc at) ts (es ++ ys) ≡ calls_from (suc at) ts es ++ calls_from (at + suc (length es)) ts ys =
+    let i' : calls_from (suc at) ts (es ++ ys) ≡ calls_from (suc at) ts es ++ calls_from (at + suc (length es))
+        ts ys =
     i ∙ ap (λ (k : ℕ). calls_from (suc at) ts es ++ calls_from k ts ys) n in
     ⊎_elim
-    (λ y. calls_from-yes at ts e (es ++ ys) y ∙ (ap (λ l. (at, e) ∷ l) i' ∙ sym (ap (λ l. l ++ calls_from (at + suc (length es)) ts ys) (calls_from-yes at ts e es y))))
-    (λ n. calls_from-no at ts e (es ++ ys) n ∙ (i' ∙ sym (ap (λ l. l ++ calls_from (at + suc (length es)) ts ys) (calls_from-no at ts e es n))))
+    (λ y. calls_from-yes at ts e (es ++ ys) y ∙ (ap (λ l. (at, e) ∷ l) i'
+        ∙ sym (ap (λ l. l ++ calls_from (at + suc (length es)) ts ys) (calls_from-yes at ts e es y))))
+    (λ n. calls_from-no at ts e (es ++ ys) n
+        ∙ (i' ∙ sym (ap (λ l. l ++ calls_from (at + suc (length es)) ts ys) (calls_from-no at ts e es n))))
     (true_or_false (has_ticket ts (maker e)))
 
-pub calls_of-append : (ts : List ℕ) (since : ℕ) (xs ys : List E) → since ≤ length xs → calls_of ts since (xs ++ ys) ≡ calls_of ts since xs ++ calls_from (length xs) ts ys
+pub calls_of-append : (ts : List ℕ) (since : ℕ) (xs ys : List E) → since ≤ length xs
+    → calls_of ts since (xs ++ ys) ≡ calls_of ts since xs ++ calls_from (length xs) ts ys
 calls_of-append ts since xs ys h =
     let n : since + length (drop since xs) ≡ length xs = omega (arith, length-drop since xs) in
     ap (calls_from since ts) (drop-begun since xs ys h)
@@ -62,7 +71,8 @@ no_calls at ts (e ∷ es) h = calls_from-no at ts e es h.0 ∙ no_calls (suc at)
 pub no_calls_back : (at : ℕ) (ts : List ℕ) (es : List E) → calls_from at ts es ≡ [] → NoCalls ts es
 no_calls_back at ts [] h = tt
 no_calls_back at ts (e ∷ es) h = ⊎_elim
-    (λ y. let bad : (at, e) ∷ calls_from (suc at) ts es ≡ [] = sym (calls_from-yes at ts e es y) ∙ h in absurd (let l : suc (length (calls_from (suc at) ts es)) ≡ 0 = ap length bad in omega arith))
+    (λ y. let bad : (at, e) ∷ calls_from (suc at) ts es ≡ [] = sym (calls_from-yes at ts e es y) ∙ h in
+        absurd (let l : suc (length (calls_from (suc at) ts es)) ≡ 0 = ap length bad in omega arith))
     (λ n. (n, no_calls_back (suc at) ts es (sym (calls_from-no at ts e es n) ∙ h)))
     (true_or_false (has_ticket ts (maker e)))
 
@@ -83,23 +93,27 @@ NoCalls-back ts [] ys a = a
 NoCalls-back ts (x ∷ xs) ys a = NoCalls-back ts xs ys a.1
 
 -- calls of one seat are none of a seat with other tickets
-pub calls_of_another : (ts us : List ℕ) (es : List E) → ((t : ℕ) → has_ticket ts t ≡ true → has_ticket us t ≡ false) → AreCalls ts es → NoCalls us es
+pub calls_of_another : (ts us : List ℕ) (es : List E) → ((t : ℕ) → has_ticket ts t ≡ true → has_ticket us t ≡ false)
+    → AreCalls ts es → NoCalls us es
 calls_of_another ts us [] apart h = tt
 calls_of_another ts us (e ∷ es) apart h = (apart (maker e) h.0, calls_of_another ts us es apart h.1)
 
 -- fewer tickets have no more calls
-pub fewer_calls : (ts us : List ℕ) (es : List E) → ((t : ℕ) → has_ticket us t ≡ true → has_ticket ts t ≡ true) → NoCalls ts es → NoCalls us es
+pub fewer_calls : (ts us : List ℕ) (es : List E) → ((t : ℕ) → has_ticket us t ≡ true → has_ticket ts t ≡ true)
+    → NoCalls ts es → NoCalls us es
 fewer_calls ts us [] part h = tt
 fewer_calls ts us (e ∷ es) part h = (
   ⊎_elim (λ y. absurd (true_not_false (part (maker e) y) h.0)) (λ n. n) (true_or_false (has_ticket us (maker e))),
   fewer_calls ts us es part h.1,
 )
 
-pub made_below : (n : ℕ) (ts : List ℕ) (es : List E) → ((t : ℕ) → has_ticket ts t ≡ true → t < n) → AreCalls ts es → AreMadeBelow n es
+pub made_below : (n : ℕ) (ts : List ℕ) (es : List E) → ((t : ℕ) → has_ticket ts t ≡ true → t < n) → AreCalls ts es
+    → AreMadeBelow n es
 made_below n ts [] b h = tt
 made_below n ts (e ∷ es) b h = (b (maker e) h.0, made_below n ts es b h.1)
 
-pub AreMadeBelow-append : (n : ℕ) (xs ys : List E) → AreMadeBelow n xs → AreMadeBelow n ys → AreMadeBelow n (xs ++ ys)
+pub AreMadeBelow-append : (n : ℕ) (xs ys : List E) → AreMadeBelow n xs → AreMadeBelow n ys
+    → AreMadeBelow n (xs ++ ys)
 AreMadeBelow-append n [] ys a b = b
 AreMadeBelow-append n (x ∷ xs) ys a b = (a.0, AreMadeBelow-append n xs ys a.1 b)
 
@@ -108,7 +122,8 @@ AreMadeBelow-back n [] ys a = a
 AreMadeBelow-back n (x ∷ xs) ys a = AreMadeBelow-back n xs ys a.1
 
 -- where all makers are below n, a seat that has every ticket below n made all
-pub none_left : (n : ℕ) (ts : List ℕ) (es : List E) → ((t : ℕ) → t < n → has_ticket ts t ≡ true) → AreMadeBelow n es → NoCalls ts es → es ≡ []
+pub none_left : (n : ℕ) (ts : List ℕ) (es : List E) → ((t : ℕ) → t < n → has_ticket ts t ≡ true) → AreMadeBelow n es
+    → NoCalls ts es → es ≡ []
 none_left n ts [] all made none = refl
 none_left n ts (e ∷ es) all made none = absurd (true_not_false (all (maker e) made.0) none.0)
 
@@ -117,6 +132,16 @@ pub calls_of-none : (ts : List ℕ) (es : List E) → calls_of ts (length es) es
 calls_of-none ts es = ap (calls_from (length es) ts) (drop-all es)
 
 -- of no calls, fewer tickets have none
-pub fewer_calls_of : (ts us : List ℕ) (since : ℕ) (es : List E) → ((t : ℕ) → has_ticket us t ≡ true → has_ticket ts t ≡ true)
+pub fewer_calls_of : (ts us : List ℕ) (since : ℕ) (es : List E)
+    → ((t : ℕ) → has_ticket us t ≡ true → has_ticket ts t ≡ true)
     → calls_of ts since es ≡ [] → calls_of us since es ≡ []
-fewer_calls_of ts us since es part h = no_calls since us (drop since es) (fewer_calls ts us (drop since es) part (no_calls_back since ts (drop since es) h))
+fewer_calls_of ts us since es part h = no_calls since us (drop since es)
+    (fewer_calls ts us (drop since es) part (no_calls_back since ts (drop since es) h))
+
+-- entries that a seat didn't make leave its calls as they were
+pub still_all_calls : (ts : List ℕ) (since : ℕ) (seen more : List E) → since ≤ length seen → NoCalls ts more
+    → calls_of ts since (seen ++ more) ≡ calls_of ts since seen
+still_all_calls ts since seen more begun none =
+    calls_of-append ts since seen more begun
+    ∙ (ap (λ l. calls_of ts since seen ++ l) (no_calls (length seen) ts more none)
+    ∙ append-nil (calls_of ts since seen))

@@ -3,36 +3,54 @@ use Rattle.std.proofs.Common.{◌≡◌, ◌≢◌, ℕ, suc, ◌+◌, ◌<◌, 
 use mathlib.Core.Option.{Option as Home, none, some}
 use lib.ListN.{get_elem?}
 use Rattle.std.specs.Prelude.{Option, Some, None}
+use Rattle.atomic_table.specs.Seated.{TableId}
 use Rattle.atomic_table.specs.Table.{State, Me, step, gives, Allows}
 use Rattle.atomic_table.proofs.Lists.{at_set, set_here}
-use Rattle.atomic_table.specs.Seated.{TableId}
 use Rattle.vs_turn.specs.declared.view.View.{View}
+use Rattle.vs_turn.specs.Calls.{has_ticket, calls_of, NoCalls, AreMadeBelow, GoOn, numbered, new_calls}
 use Rattle.vs_turn.specs.Seats.{SeatModel, seat_of, released_seat}
-use Rattle.vs_turn.specs.Calls.{has_ticket, calls_from, calls_of, NoCalls, AreMadeBelow, GoOn, numbered, new_calls}
-use Rattle.vs_turn.specs.Rule.{Origin, Stands, Rests, Ruled, IsRuled}
+use Rattle.vs_turn.specs.Rule.{Origin, IsAt, Stands, Rests, Ruled, IsRuled}
 use Rattle.vs_turn.specs.Steps.{released, Freed}
 use Rattle.vs_turn.proofs.TicketLists.{true_not_false}
 use Rattle.vs_turn.proofs.CallLists.{append-nil, append-assoc, drop-begun, drop-whole, calls_of-append, all_calls, NoCalls-append, calls_of_another, made_below, AreMadeBelow-append}
 use Rattle.vs_turn.proofs.Rules.{tickets_apart, one_has}
 
--- a release adds the calls after those that were found
-pub calls_added : (tickets : List ℕ) (since : ℕ) (before after : List (List ℕ)) → since ≤ length before → GoOn tickets before after
+-- the calls after a release are those before it, and then the new ones
+calls_added : (tickets : List ℕ) (since : ℕ) (before after : List (List ℕ)) → since ≤ length before
+    → GoOn tickets before after
     → calls_of tickets since after ≡ calls_of tickets since before ++ new_calls before after
 calls_added tickets since before after begun on =
     let new = on.new in
+    let rest : new ≡ drop (length before) after = sym (drop-whole before new) ∙ ap (drop (length before)) on.begins in
     ap (calls_of tickets since) (sym on.begins)
     ∙ (calls_of-append tickets since before new begun
-    ∙ ap (λ l. calls_of tickets since before ++ l) (all_calls (length before) tickets new on.calls ∙ numbers before new after on.begins))
-  where
-    numbers : (before new after : List (List ℕ)) → before ++ new ≡ after → numbered (length before) new ≡ new_calls before after
-    numbers before new after e = ap (numbered (length before)) (sym (drop-whole before new) ∙ ap (drop (length before)) e)
+    ∙ ap (λ l. calls_of tickets since before ++ l)
+        (all_calls (length before) tickets new on.calls ∙ ap (numbered (length before)) rest))
+
+-- a seat that has given up the turn, as contracts see it
+pub seat_released : (z : TableId) (v : View) (entries : List (List ℕ)) → v.since ≤ length v.found
+    → calls_of v.tickets v.since v.found ≡ v.mine → GoOn v.tickets v.found entries
+    → seat_of z (released v entries) ≡ released_seat (seat_of z v) v.found entries
+seat_released z v entries begun mine on =
+    let calls : calls_of v.tickets v.since entries ≡ v.mine ++ new_calls v.found entries =
+        calls_added v.tickets v.since v.found entries begun on ∙ ap (λ l. l ++ new_calls v.found entries) mine in
+    let with : List (ℕ × List ℕ) → SeatModel = λ cs. record {
+      turn = z;
+      opening = v.opening;
+      since = v.since;
+      tickets = v.tickets;
+      seen = entries;
+      mine = cs;
+    } in
+    ap with calls
 
 module _ {S : Type 0} (opening_of : S → List ℕ) (entries_of : S → List (List ℕ)) (o : Origin) where
-  module _ (word : ℕ) (homes : List (Home (Option S))) (views : List View) (r : Ruled opening_of entries_of o word homes views)
-      (id : ℕ) (v : View) (at : get_elem? views id ≡ some v) (live : 0 < length v.tickets) (has : v.has_turn ≡ true)
-      (value : S) (same : opening_of value ≡ v.opening) (on : GoOn v.tickets v.found (entries_of value)) (wide : 0 < length homes) where
+  module _ (word : ℕ) (homes : List (Home (Option S))) (views : List View)
+      (r : Ruled opening_of entries_of o word homes views) (id : ℕ) (v : View) (here : IsAt views id v)
+      (has : v.has_turn ≡ true) (value : S) (same : opening_of value ≡ v.opening)
+      (on : GoOn v.tickets v.found (entries_of value)) (wide : 0 < length homes) where
     abbrev st : Stands o r.owner r.log word id v
-    st = r.stands id v at live
+    st = r.stands id v here
 
     -- the history goes on with the new entries
     longer_log : r.log ++ on.new ≡ entries_of value
@@ -41,8 +59,8 @@ module _ {S : Type 0} (opening_of : S → List ℕ) (entries_of : S → List (Li
     log_long : o.since ≤ length r.log
     log_long = let b = st.begun in let l = ap length st.begins in omega (arith, length-append v.seen st.rest)
 
-    free_one : Stands o r.owner (entries_of value) 0 id (released v (entries_of value))
-    free_one = record {
+    leaver : Stands o r.owner (entries_of value) 0 id (released v (entries_of value))
+    leaver = record {
       rise = st.rise;
       tickets = st.tickets;
       marked = λ h. absurd (true_not_false h refl);
@@ -58,10 +76,10 @@ module _ {S : Type 0} (opening_of : S → List ℕ) (entries_of : S → List (Li
       olds = tt;
     }
 
-    bystander : (j : ℕ) (u : View) → get_elem? views j ≡ some u → 0 < length u.tickets → j ≢ id → Stands o r.owner (entries_of value) 0 j u
-    bystander j u there alive ne =
-        let su = r.stands j u there alive in
-        let not = one_has opening_of entries_of o word homes views r id j v u at live there alive ne has in
+    bystander : (j : ℕ) (u : View) → IsAt views j u → j ≢ id → Stands o r.owner (entries_of value) 0 j u
+    bystander j u there ne =
+        let su = r.stands j u there in
+        let not = one_has r here there ne has in
         record {
           rise = su.rise;
           tickets = su.tickets;
@@ -75,26 +93,33 @@ module _ {S : Type 0} (opening_of : S → List ℕ) (entries_of : S → List (Li
           rest = su.rest ++ on.new;
           begins = sym (append-assoc u.seen su.rest on.new) ∙ (ap (λ l. l ++ on.new) su.begins ∙ longer_log);
           unmade = NoCalls-append u.tickets su.rest on.new su.unmade
-              (calls_of_another v.tickets u.tickets on.new (tickets_apart opening_of entries_of o word homes views r id j v u at live there alive ne) on.calls);
+              (calls_of_another v.tickets u.tickets on.new (tickets_apart r here there ne) on.calls);
           olds = su.olds;
         }
 
-    pub freed : Ruled opening_of entries_of o 0 (set homes 0 (some (Some value))) (set views id (released v (entries_of value)))
+    freed : Ruled opening_of entries_of o 0 (set homes 0 (some (Some value))) (set views id (released v (entries_of value)))
     freed = record {
       log = entries_of value;
       owner = r.owner;
       few = r.few;
       in_range = omega arith;
-      free = λ _. record { value = value; at = set_here homes 0 (some (Some value)) wide; opening_is = same ∙ st.opening; entries_are = refl };
+      free = λ _. record {
+        value = value;
+        at = set_here homes 0 (some (Some value)) wide;
+        opening_is = same ∙ st.opening;
+        entries_are = refl;
+      };
       holder = id;
       taken = λ h. absurd (omega arith);
-      stands = λ j u there alive. ⊎_elim
-          (λ t. subst (λ (z : ℕ × View). Stands o r.owner (entries_of value) 0 z.0 z.1) (λ i. (sym t.0 i, t.1 i)) free_one)
-          (λ t. bystander j u t.1 alive t.0)
-          (at_set views id j (released v (entries_of value)) u there);
-      made = subst (λ l. AreMadeBelow o.seats (drop o.since l)) longer_log
+      stands = λ j u there. ⊎_elim
+          (λ t. subst (λ (z : ℕ × View). Stands o r.owner (entries_of value) 0 z.0 z.1) (λ i. (sym t.0 i, t.1 i)) leaver)
+          (λ t. bystander j u record { at = t.1; live = there.live } t.0)
+          (at_set views id j (released v (entries_of value)) u there.at);
+      made =
+        let added = made_below o.seats v.tickets on.new (λ t h. (st.tickets t h).0) on.calls in
+        subst (λ l. AreMadeBelow o.seats (drop o.since l)) longer_log
           (subst (AreMadeBelow o.seats) (sym (drop-begun o.since r.log on.new log_long))
-          (AreMadeBelow-append o.seats (drop o.since r.log) on.new r.made (made_below o.seats v.tickets on.new (λ t h. (st.tickets t h).0) on.calls)));
+          (AreMadeBelow-append o.seats (drop o.since r.log) on.new r.made added));
     }
 
   abbrev value_in : S → List (ℕ × Option S) → S
@@ -102,28 +127,23 @@ module _ {S : Type 0} (opening_of : S → List ℕ) (entries_of : S → List (Li
   value_in d ((k, Some x) ∷ xs) = x
   value_in d ((k, None) ∷ xs) = d
 
-  pub frees : (slots id : ℕ) (v : View) (value : S) → 0 < slots → 0 < length v.tickets → v.has_turn ≡ true → opening_of value ≡ v.opening → GoOn v.tickets v.found (entries_of value)
+  pub frees : (slots id : ℕ) (v : View) (value : S) → 0 < slots → 0 < length v.tickets → v.has_turn ≡ true
+      → opening_of value ≡ v.opening → GoOn v.tickets v.found (entries_of value)
       → Allows (IsRuled opening_of entries_of o) slots id (v, (0, Some value) ∷ []) 0 (λ _. 0)
-      (λ _. Freed entries_of (step slots 0 0 0 none) (v, (0, Some value) ∷ []) 0)
+          (λ _. Freed entries_of (step slots 0 0 0 none) (v, (0, Some value) ∷ []) 0)
   frees slots id v value some_slot live has same on s k full at _ =
       let wide = k.0 in
-      let read : get_or (set s.words 0 0) 0 0 ≡ 0 = get_or-set_same s.words 0 0 0 (omega arith) in (
-        released v (entries_of value),
+      let w : View = released v (entries_of value) in
+      let read : get_or (set s.words 0 0) 0 0 ≡ 0 = get_or-set_same s.words 0 0 0 (omega arith) in
+      let here : IsAt s.views id v = record { at = at; live = live } in
+      (
+        w,
         gives,
         tt,
         (
           length-set s.words 0 0 ∙ wide,
-          subst (λ (z : ℕ). Ruled opening_of entries_of o z (set s.homes 0 (some (Some value))) (set s.views id (released v (entries_of value)))) (sym read)
-              (freed (get_or s.words 0 0) s.homes s.views k.1 id v at live has value same on (omega arith)),
+          subst (λ (z : ℕ). Ruled opening_of entries_of o z (set s.homes 0 (some (Some value))) (set s.views id w))
+            (sym read) (freed (get_or s.words 0 0) s.homes s.views k.1 id v here has value same on (omega arith)),
         ),
         λ other e. ap (λ (y : S). (released v (entries_of y), [])) (ap (value_in value) e),
       )
-
--- a seat that has given up the turn, as contracts see it
-pub seat_released : (z : TableId) (v : View) (entries : List (List ℕ)) → v.since ≤ length v.found → calls_of v.tickets v.since v.found ≡ v.mine → GoOn v.tickets v.found entries
-    → seat_of z (released v entries) ≡ released_seat (seat_of z v) v.found entries
-seat_released z v entries begun mine on =
-    let m : calls_of v.tickets v.since entries ≡ v.mine ++ new_calls v.found entries =
-    calls_added v.tickets v.since v.found entries begun on ∙ ap (λ l. l ++ new_calls v.found entries) mine in
-    let with : List (ℕ × List ℕ) → SeatModel = λ calls. record { turn = z; opening = v.opening; since = v.since; tickets = v.tickets; seen = entries; mine = calls } in
-    ap with m

@@ -12,12 +12,14 @@ pub adds_one : (tickets : List ℕ) (before after : List (List ℕ)) (entry : Li
     → has_ticket tickets (maker entry) ≡ true → GoOn tickets before after
 adds_one tickets before after entry e mine = record { new = entry ∷ []; begins = e; calls = (mine, tt) }
 
-AreCalls-append : (tickets : List ℕ) (xs ys : List (List ℕ)) → AreCalls tickets xs → AreCalls tickets ys → AreCalls tickets (xs ++ ys)
+AreCalls-append : (tickets : List ℕ) (xs ys : List (List ℕ)) → AreCalls tickets xs → AreCalls tickets ys
+    → AreCalls tickets (xs ++ ys)
 AreCalls-append tickets [] ys a b = b
 AreCalls-append tickets (x ∷ xs) ys a b = (a.0, AreCalls-append tickets xs ys a.1 b)
 
 -- calls were added twice
-pub adds_more : (tickets : List ℕ) (before between after : List (List ℕ)) → GoOn tickets before between → GoOn tickets between after
+pub adds_more : (tickets : List ℕ) (before between after : List (List ℕ)) → GoOn tickets before between
+    → GoOn tickets between after
     → GoOn tickets before after
 adds_more tickets before between after a b = record {
   new = a.new ++ b.new;
@@ -28,5 +30,6 @@ adds_more tickets before between after a b = record {
 pub new_calls-none : (entries : List (List ℕ)) → new_calls entries entries ≡ []
 new_calls-none entries = ap (numbered (length entries)) (drop-all entries)
 
-pub new_calls-one : (before : List (List ℕ)) (entry : List ℕ) → new_calls before (before ++ entry ∷ []) ≡ (length before, entry) ∷ []
+pub new_calls-one : (before : List (List ℕ)) (entry : List ℕ)
+    → new_calls before (before ++ entry ∷ []) ≡ (length before, entry) ∷ []
 new_calls-one before entry = ap (numbered (length before)) (drop-whole before (entry ∷ []))

@@ -5,7 +5,7 @@ use Rattle.std.proofs.lemmas.Bool.{lt-ltb, le-ltb}
 use Rattle.vs_turn.specs.Calls.{maker, has_ticket, calls_from, calls_of, NoCalls, insert_call, merged_calls}
 use Rattle.vs_turn.specs.Tickets.{merged_tickets}
 use Rattle.vs_turn.proofs.TicketLists.{true_or_false, true_not_false}
-use Rattle.vs_turn.proofs.CallLists.{append-nil, calls_from-yes, calls_from-no, calls_of-append, no_calls, NoCalls-front, NoCalls-back}
+use Rattle.vs_turn.proofs.CallLists.{calls_from-yes, calls_from-no}
 use Rattle.vs_turn.proofs.MergedTickets.{has-merged, merged_has}
 
 abbrev Call : Type 0
@@ -41,7 +41,8 @@ insert_from : (k : ℕ) (c : Call) (ds : List Call) → k ≤ c.0 → FromOn k d
 insert_from k c [] h f = (h, tt)
 insert_from k c (d ∷ ds) h f = ⊎_elim
     (λ y. subst (FromOn k) (sym (ap (λ (b : Bool). cond b (c ∷ d ∷ ds) (d ∷ insert_call c ds)) y)) (h, f))
-    (λ n. subst (FromOn k) (sym (ap (λ (b : Bool). cond b (c ∷ d ∷ ds) (d ∷ insert_call c ds)) n)) (f.0, insert_from k c ds h f.1))
+    (λ n. subst (FromOn k) (sym (ap (λ (b : Bool). cond b (c ∷ d ∷ ds) (d ∷ insert_call c ds)) n)) (f.0,
+        insert_from k c ds h f.1))
     (true_or_false (nat_lt c.0 d.0))
 
 merged_from : (k : ℕ) (cs ds : List Call) → FromOn k cs → FromOn k ds → FromOn k (merged_calls cs ds)
@@ -49,13 +50,15 @@ merged_from k [] ds f g = g
 merged_from k (c ∷ cs) ds f g = insert_from k c (merged_calls cs ds) f.0 (merged_from k cs ds f.1 g)
 
 -- a call of the second that stands before all of the first
-merged_second : (d : Call) (cs ds : List Call) → FromOn (suc d.0) cs → merged_calls cs (d ∷ ds) ≡ d ∷ merged_calls cs ds
+merged_second : (d : Call) (cs ds : List Call) → FromOn (suc d.0) cs
+    → merged_calls cs (d ∷ ds) ≡ d ∷ merged_calls cs ds
 merged_second d [] ds f = refl
 merged_second d (c ∷ cs) ds f = let a : suc d.0 ≤ c.0 = f.0 in
     ap (insert_call c) (merged_second d cs ds f.1) ∙ insert_late c d (merged_calls cs ds) (omega arith)
 
 -- the calls of both seats together
-pub calls_from-merged : (k : ℕ) (ts us : List ℕ) (es : List (List ℕ)) → ((t : ℕ) → has_ticket ts t ≡ true → has_ticket us t ≡ false)
+pub calls_from-merged : (k : ℕ) (ts us : List ℕ) (es : List (List ℕ))
+    → ((t : ℕ) → has_ticket ts t ≡ true → has_ticket us t ≡ false)
     → calls_from k (merged_tickets ts us) es ≡ merged_calls (calls_from k ts es) (calls_from k us es)
 calls_from-merged k ts us [] apart = refl
 calls_from-merged k ts us (e ∷ es) apart =
@@ -69,7 +72,8 @@ calls_from-merged k ts us (e ∷ es) apart =
     let in_both : has_ticket both m ≡ true = has-merged ts us m ∙ ap (λ (b : Bool). b || has_ticket us m) y in
     calls_from-yes k both e es in_both
     ∙ (ap (λ l. (k, e) ∷ l) rest
-    ∙ (sym (insert_first (k, e) (merged_calls cs ds) (merged_from (suc k) cs ds (calls_later (suc k) ts es) (calls_later (suc k) us es)))
+    ∙ (sym (insert_first (k, e) (merged_calls cs ds) (merged_from (suc k) cs ds (calls_later (suc k) ts es)
+        (calls_later (suc k) us es)))
     ∙ sym ((λ i. merged_calls (calls_from-yes k ts e es y i) (calls_from-no k us e es n i))))))
     (λ n. ⊎_elim
     (λ y. let in_both : has_ticket both m ≡ true = has-merged ts us m ∙ (λ i. n i || y i) in
@@ -84,27 +88,26 @@ calls_from-merged k ts us (e ∷ es) apart =
     (true_or_false (has_ticket ts m))
 
 -- what neither has made, both together haven't
-pub NoCalls-merged : (ts us : List ℕ) (es : List (List ℕ)) → NoCalls ts es → NoCalls us es → NoCalls (merged_tickets ts us) es
+pub NoCalls-merged : (ts us : List ℕ) (es : List (List ℕ)) → NoCalls ts es → NoCalls us es
+    → NoCalls (merged_tickets ts us) es
 NoCalls-merged ts us [] a b = tt
 NoCalls-merged ts us (e ∷ es) a b = (
-  ⊎_elim (λ y. absurd (⊎_elim (λ p. true_not_false p a.0) (λ p. true_not_false p b.0) (merged_has ts us (maker e) y))) (λ n. n)
+  ⊎_elim (λ y. absurd (⊎_elim (λ p. true_not_false p a.0) (λ p. true_not_false p b.0)
+      (merged_has ts us (maker e) y))) (λ n. n)
       (true_or_false (has_ticket (merged_tickets ts us) (maker e))),
   NoCalls-merged ts us es a.1 b.1,
 )
-
--- no call is among what was seen later by another
-pub still_all_calls : (ts : List ℕ) (since : ℕ) (seen more : List (List ℕ)) → since ≤ length seen → NoCalls ts more → calls_of ts since (seen ++ more) ≡ calls_of ts since seen
-still_all_calls ts since seen more begun none = calls_of-append ts since seen more begun
-    ∙ (ap (λ l. calls_of ts since seen ++ l) (no_calls (length seen) ts more none) ∙ append-nil (calls_of ts since seen))
 
 length-insert_call : (c : Call) (ds : List Call) → length (insert_call c ds) ≡ 1 + length ds
 length-insert_call c [] = refl
 length-insert_call c (d ∷ ds) = ⊎_elim
     (λ y. ap (λ (b : Bool). length (cond b (c ∷ d ∷ ds) (d ∷ insert_call c ds))) y ∙ omega arith)
-    (λ n. ap (λ (b : Bool). length (cond b (c ∷ d ∷ ds) (d ∷ insert_call c ds))) n ∙ (let l = length-insert_call c ds in omega arith))
+    (λ n. ap (λ (b : Bool). length (cond b (c ∷ d ∷ ds) (d ∷ insert_call c ds))) n
+        ∙ (let l = length-insert_call c ds in omega arith))
     (true_or_false (nat_lt c.0 d.0))
 
 -- no call is lost or doubled
 pub length-merged_calls : (cs ds : List Call) → length (merged_calls cs ds) ≡ length cs + length ds
 length-merged_calls [] ds = omega arith
-length-merged_calls (c ∷ cs) ds = length-insert_call c (merged_calls cs ds) ∙ (let l = length-merged_calls cs ds in omega arith)
+length-merged_calls (c ∷ cs) ds = length-insert_call c (merged_calls cs ds)
+    ∙ (let l = length-merged_calls cs ds in omega arith)

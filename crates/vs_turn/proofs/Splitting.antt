@@ -8,26 +8,29 @@ use Rattle.atomic_table.proofs.Lists.{at_set, set_else, at_longer}
 use Rattle.vs_turn.specs.declared.view.View.{View}
 use Rattle.vs_turn.specs.Calls.{has_ticket, calls_of, NoCalls}
 use Rattle.vs_turn.specs.Tickets.{lowest}
-use Rattle.vs_turn.specs.Rule.{Origin, Stands, Holder, Ruled, IsRuled}
+use Rattle.vs_turn.specs.Rule.{Origin, IsAt, Stands, Holder, Ruled, IsRuled}
 use Rattle.vs_turn.specs.Steps.{keeping, handed}
 use Rattle.vs_turn.proofs.TicketLists.{true_or_false, true_not_false, has_lowest, has_take, has_drop, take_drop_apart, rise_take, rise_drop}
 use Rattle.vs_turn.proofs.CallLists.{fewer_calls, fewer_calls_of}
-use Rattle.vs_turn.proofs.Rules.{one_there, not_mine, tickets_apart}
+use Rattle.vs_turn.proofs.Rules.{one_there, moved, not_mine, tickets_apart}
 
-at_end : {A : Type 0} (l : List A) (a b : A) (j : ℕ) → get_elem? (l ++ a ∷ []) j ≡ some b → (get_elem? l j ≡ some b) ⊎ ((j ≡ length l) × (a ≡ b))
+-- an element of a list that is one longer
+at_end : {A : Type 0} (l : List A) (a b : A) (j : ℕ) → get_elem? (l ++ a ∷ []) j ≡ some b
+    → (get_elem? l j ≡ some b) ⊎ ((j ≡ length l) × (a ≡ b))
 at_end [] a b zero e = inr (refl, some-injective a b e)
 at_end [] a b (suc j) e = absurd (some-ne-none b (sym e))
 at_end (x ∷ xs) a b zero e = inl e
 at_end (x ∷ xs) a b (suc j) e = ⊎_elim (λ p. inl p) (λ p. inr (ap suc p.0, p.1)) (at_end xs a b j e)
 
 module _ {S : Type 0} (opening_of : S → List ℕ) (entries_of : S → List (List ℕ)) (o : Origin)
-    (word : ℕ) (homes : List (Home (Option S))) (views : List View) (r : Ruled opening_of entries_of o word homes views)
-    (id : ℕ) (v : View) (at : get_elem? views id ≡ some v) (two : 2 ≤ length v.tickets) (rests : v.has_turn ≡ false) (none_made : v.mine ≡ []) where
-  live : 0 < length v.tickets
-  live = omega arith
-
+    (word : ℕ) (homes : List (Home (Option S))) (views : List View)
+    (r : Ruled opening_of entries_of o word homes views) (id : ℕ) (v : View) (here : IsAt views id v)
+    (two : 2 ≤ length v.tickets) (rests : v.has_turn ≡ false) (none_made : v.mine ≡ []) where
   abbrev st : Stands o r.owner r.log word id v
-  st = r.stands id v at live
+  st = r.stands id v here
+
+  abbrev last : ℕ
+  last = length v.tickets - 1
 
   -- the highest ticket is the new seat's
   abbrev owner : ℕ → ℕ
@@ -43,20 +46,19 @@ module _ {S : Type 0} (opening_of : S → List ℕ) (entries_of : S → List (Li
   part : (ts : List ℕ) → ((t : ℕ) → has_ticket ts t ≡ true → has_ticket v.tickets t ≡ true) → 0 < length ts
       → (word ≡ 1 + lowest ts → ⊥) × (calls_of ts o.since v.seen ≡ v.mine) × NoCalls ts st.rest
   part ts within some_ticket = (
-    not_mine opening_of entries_of o word homes views r id v at live rests (lowest ts) (within (lowest ts) (has_lowest ts some_ticket)),
+    not_mine r here rests (lowest ts) (within (lowest ts) (has_lowest ts some_ticket)),
     fewer_calls_of v.tickets ts o.since v.seen within (st.mine ∙ none_made) ∙ sym none_made,
     fewer_calls v.tickets ts st.rest within st.unmade,
   )
 
   keeper : Stands o owner r.log word id (keeping v)
   keeper =
-      let n : ℕ = length v.tickets - 1 in
-      let ts : List ℕ = take n v.tickets in
-      let p = part ts (λ t h. has_take n t v.tickets h) (omega (arith, length-take n v.tickets)) in
+      let p = part (take last v.tickets) (λ t h. has_take last t v.tickets h) (omega (arith, length-take last v.tickets)) in
       record {
-        rise = rise_take n 0 v.tickets st.rise;
-        tickets = λ t h. let a = st.tickets t (has_take n t v.tickets h) in
-            (a.0, owner_other t (take_drop_apart n 0 t v.tickets st.rise h) ∙ a.1);
+        rise = rise_take last 0 v.tickets st.rise;
+        tickets = λ t h.
+            let a = st.tickets t (has_take last t v.tickets h) in
+            (a.0, owner_other t (take_drop_apart last 0 t v.tickets st.rise h) ∙ a.1);
         marked = λ h. absurd (true_not_false h rests);
         only_marked = λ e. absurd (p.0 e);
         found = λ h. absurd (true_not_false h rests);
@@ -72,12 +74,10 @@ module _ {S : Type 0} (opening_of : S → List ℕ) (entries_of : S → List (Li
 
   newcomer : (j : ℕ) → j ≡ length views → Stands o owner r.log word j (handed v)
   newcomer j new =
-      let n : ℕ = length v.tickets - 1 in
-      let ts : List ℕ = drop n v.tickets in
-      let p = part ts (λ t h. has_drop n t v.tickets h) (omega (arith, length-drop n v.tickets)) in
+      let p = part (drop last v.tickets) (λ t h. has_drop last t v.tickets h) (omega (arith, length-drop last v.tickets)) in
       record {
-        rise = rise_drop n 0 v.tickets st.rise;
-        tickets = λ t h. ((st.tickets t (has_drop n t v.tickets h)).0, owner_handed t h ∙ sym new);
+        rise = rise_drop last 0 v.tickets st.rise;
+        tickets = λ t h. ((st.tickets t (has_drop last t v.tickets h)).0, owner_handed t h ∙ sym new);
         marked = λ h. absurd (true_not_false h rests);
         only_marked = λ e. absurd (p.0 e);
         found = λ h. absurd (true_not_false h rests);
@@ -91,16 +91,16 @@ module _ {S : Type 0} (opening_of : S → List ℕ) (entries_of : S → List (Li
         olds = st.olds;
       }
 
-  bystander : (j : ℕ) (u : View) → get_elem? views j ≡ some u → 0 < length u.tickets → j ≢ id → Stands o owner r.log word j u
-  bystander j u there alive ne =
-      let su = r.stands j u there alive in
-      let n : ℕ = length v.tickets - 1 in
+  bystander : (j : ℕ) (u : View) → IsAt views j u → j ≢ id → Stands o owner r.log word j u
+  bystander j u there ne =
+      let su = r.stands j u there in
       record {
         rise = su.rise;
         tickets = λ t h.
-            let not_handed : has_ticket (handed v).tickets t ≡ false =
-            ⊎_elim (λ y. absurd (true_not_false h (tickets_apart opening_of entries_of o word homes views r id j v u at live there alive ne t (has_drop n t v.tickets y))))
-            (λ f. f) (true_or_false (has_ticket (handed v).tickets t)) in
+            let not_handed : has_ticket (handed v).tickets t ≡ false = ⊎_elim
+                (λ y. absurd (true_not_false h (tickets_apart r here there ne t (has_drop last t v.tickets y))))
+                (λ f. f)
+                (true_or_false (has_ticket (handed v).tickets t)) in
             ((su.tickets t h).0, owner_other t not_handed ∙ (su.tickets t h).1);
         marked = su.marked;
         only_marked = su.only_marked;
@@ -117,16 +117,20 @@ module _ {S : Type 0} (opening_of : S → List ℕ) (entries_of : S → List (Li
 
   still_has : Holder views r.holder → Holder (set views id (keeping v) ++ handed v ∷ []) r.holder
   still_has h =
-      let ne : r.holder ≢ id = λ e. true_not_false (ap (λ (u : View). u.has_turn)
-      (sym (one_there views id h.view v (subst (λ (x : ℕ). get_elem? views x ≡ some h.view) e h.at) at)) ∙ h.has_turn) rests in
+      let ne : r.holder ≢ id = λ e.
+          let same = one_there (moved e h.is_at) here in
+          true_not_false (ap (λ (u : View). u.has_turn) (sym same) ∙ h.has_turn) rests in
+      let kept = set_else views id r.holder (keeping v) ne ∙ h.is_at.at in
       record {
         view = h.view;
-        at = at_longer (set views id (keeping v)) (handed v ∷ []) r.holder h.view (set_else views id r.holder (keeping v) ne ∙ h.at);
-        live = h.live;
+        is_at = record {
+          at = at_longer (set views id (keeping v)) (handed v ∷ []) r.holder h.view kept;
+          live = h.is_at.live;
+        };
         has_turn = h.has_turn;
       }
 
-  pub split : Ruled opening_of entries_of o word homes (set views id (keeping v) ++ handed v ∷ [])
+  split : Ruled opening_of entries_of o word homes (set views id (keeping v) ++ handed v ∷ [])
   split = record {
     log = r.log;
     owner = owner;
@@ -135,17 +139,22 @@ module _ {S : Type 0} (opening_of : S → List ℕ) (entries_of : S → List (Li
     free = r.free;
     holder = r.holder;
     taken = λ h. still_has (r.taken h);
-    stands = λ j u there alive. ⊎_elim
+    stands = λ j u there. ⊎_elim
         (λ old. ⊎_elim
-        (λ t. subst (λ (z : ℕ × View). Stands o owner r.log word z.0 z.1) (λ i. (sym t.0 i, t.1 i)) keeper)
-        (λ t. bystander j u t.1 alive t.0)
-        (at_set views id j (keeping v) u old))
+            (λ t. subst (λ (z : ℕ × View). Stands o owner r.log word z.0 z.1) (λ i. (sym t.0 i, t.1 i)) keeper)
+            (λ t. bystander j u record { at = t.1; live = there.live } t.0)
+            (at_set views id j (keeping v) u old))
         (λ new. subst (Stands o owner r.log word j) new.1 (newcomer j (new.0 ∙ length-set views id (keeping v))))
-        (at_end (set views id (keeping v)) (handed v) u j there);
+        (at_end (set views id (keeping v)) (handed v) u j there.at);
     made = r.made;
   }
 
 pub splits : {S : Type 0} (opening_of : S → List ℕ) (entries_of : S → List (List ℕ)) (o : Origin) (id : ℕ) (v : View)
-    → 2 ≤ length v.tickets → v.has_turn ≡ false → v.mine ≡ [] → Splits (IsRuled opening_of entries_of o) id v (keeping v) (handed v)
+    → 2 ≤ length v.tickets → v.has_turn ≡ false → v.mine ≡ []
+    → Splits (IsRuled opening_of entries_of o) id v (keeping v) (handed v)
 splits opening_of entries_of o id v two rests none_made s k at =
-    (k.0, split opening_of entries_of o (slice_index s.words 0) s.homes s.views k.1 id v at two rests none_made)
+    let here : IsAt s.views id v = record { at = at; live = omega arith } in
+    (
+      k.0,
+      split opening_of entries_of o (slice_index s.words 0) s.homes s.views k.1 id v here two rests none_made,
+    )

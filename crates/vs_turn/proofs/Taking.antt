@@ -11,53 +11,61 @@ use Rattle.atomic_table.proofs.Lists.{at_set, set_again}
 use Rattle.vs_turn.specs.declared.view.View.{View}
 use Rattle.vs_turn.specs.Calls.{has_ticket, calls_of, NoCalls}
 use Rattle.vs_turn.specs.Tickets.{lowest}
-use Rattle.vs_turn.specs.Rule.{Origin, Stands, Holder, Rests, Ruled, IsRuled}
+use Rattle.vs_turn.specs.Rule.{Origin, IsAt, Stands, Holder, Rests, Ruled, IsRuled}
 use Rattle.vs_turn.specs.Steps.{holding, Finds, Takes, Took}
 use Rattle.vs_turn.proofs.TicketLists.{true_or_false, true_not_false, has_lowest}
-use Rattle.vs_turn.proofs.CallLists.{append-nil, drop-whole, calls_of-append, no_calls}
+use Rattle.vs_turn.proofs.CallLists.{drop-whole, still_all_calls}
 use Rattle.vs_turn.proofs.Rules.{here_set, tickets_apart}
 
 module _ {S : Type 0} (opening_of : S → List ℕ) (entries_of : S → List (List ℕ)) (o : Origin) where
-  abbrev pub R : State (Option S) View → Type 0
+  abbrev R : State (Option S) View → Type 0
   R = IsRuled opening_of entries_of o
 
   -- a step that changes nothing
-  pub unmoved : (s : State (Option S) View) → R s → (id : ℕ) (me : Me (Option S) View) → get_elem? s.views id ≡ some me.0
-      → R (stepped s 0 (get_or s.words 0 0) id me.1 me.0 keeps)
+  pub unmoved : (s : State (Option S) View) → IsRuled opening_of entries_of o s → (id : ℕ) (me : Me (Option S) View)
+      → get_elem? s.views id ≡ some me.0
+      → IsRuled opening_of entries_of o (stepped s 0 (get_or s.words 0 0) id me.1 me.0 keeps)
   unmoved s k id me at =
       let wide = k.0 in
-      let word : get_or (set s.words 0 (get_or s.words 0 0)) 0 0 ≡ get_or s.words 0 0 = get_or-set_same s.words 0 (get_or s.words 0 0) 0 (omega arith) in (
-        length-set s.words 0 (get_or s.words 0 0) ∙ wide,
-        subst (λ (z : ℕ × List View). Ruled opening_of entries_of o z.0 s.homes z.1) (λ i. (sym word i, sym (set_again s.views id me.0 at) i)) k.1,
+      let n : ℕ = get_or s.words 0 0 in
+      let word : get_or (set s.words 0 n) 0 0 ≡ n = get_or-set_same s.words 0 n 0 (omega arith) in
+      (
+        length-set s.words 0 n ∙ wide,
+        subst (λ (z : ℕ × List View). Ruled opening_of entries_of o z.0 s.homes z.1)
+            (λ i. (sym word i, sym (set_again s.views id me.0 at) i)) k.1,
       )
 
-  -- what the rule says of the value in the slot, as a seat sees it
-  pub found : (log : List (List ℕ)) (owner : ℕ → ℕ) (word id : ℕ) (v : View) (homes : List (Home (Option S))) → Stands o owner log word id v
-      → (x : Rests opening_of entries_of o.opening log homes) → Finds opening_of entries_of v x.value
-  found log owner word id v homes st x =
-      let same : entries_of x.value ≡ v.seen ++ st.rest = x.entries_are ∙ sym st.begins in
-      let begun = st.begun in let since = st.since in
+  -- the value in the slot, as a seat sees it
+  found : {log : List (List ℕ)} {owner : ℕ → ℕ} {word id : ℕ} {v : View} {homes : List (Home (Option S))}
+      → Stands o owner log word id v → (x : Rests opening_of entries_of o.opening log homes)
+      → Finds opening_of entries_of v x.value
+  found {v = v} st x =
+      let es : List (List ℕ) = entries_of x.value in
+      let same : es ≡ v.seen ++ st.rest = x.entries_are ∙ sym st.begins in
+      let begun = st.begun in
+      let since = st.since in
       record {
         opening = x.opening_is ∙ sym st.opening;
-        begun = let l = ap length same in let m : v.since ≤ length (v.seen ++ st.rest) = omega (arith, length-append v.seen st.rest) in omega arith;
+        begun =
+          let l = ap length same in
+          let m : v.since ≤ length (v.seen ++ st.rest) = omega (arith, length-append v.seen st.rest) in
+          omega arith;
         begins = (st.rest, sym same);
         unmade = subst (λ l. NoCalls v.tickets (drop (length v.seen) l)) (sym same)
             (subst (NoCalls v.tickets) (sym (drop-whole v.seen st.rest)) st.unmade);
-        mine = ap (λ (n : ℕ). calls_of v.tickets n (entries_of x.value)) since
+        mine = ap (λ (n : ℕ). calls_of v.tickets n es) since
             ∙ (ap (calls_of v.tickets o.since) same
-            ∙ (calls_of-append v.tickets o.since v.seen st.rest begun
-            ∙ (ap (λ l. calls_of v.tickets o.since v.seen ++ l) (no_calls (length v.seen) v.tickets st.rest st.unmade)
-            ∙ (append-nil (calls_of v.tickets o.since v.seen) ∙ st.mine))));
+            ∙ (still_all_calls v.tickets o.since v.seen st.rest begun st.unmade ∙ st.mine));
       }
 
   module _ (homes : List (Home (Option S))) (views : List View) (r : Ruled opening_of entries_of o 0 homes views)
-      (id : ℕ) (v : View) (at : get_elem? views id ≡ some v) (live : 0 < length v.tickets) (word : ℕ) (marks : word ≡ 1 + lowest v.tickets)
+      (id : ℕ) (v : View) (here : IsAt views id v) (mark : ℕ) (marks : mark ≡ 1 + lowest v.tickets)
       (x : Rests opening_of entries_of o.opening r.log homes) where
     abbrev w : View
     w = holding v (entries_of x.value)
 
-    taker : Stands o r.owner r.log word id w
-    taker = let st = r.stands id v at live in record {
+    taker : Stands o r.owner r.log mark id w
+    taker = let st = r.stands id v here in record {
       rise = st.rise;
       tickets = st.tickets;
       marked = λ _. marks;
@@ -73,14 +81,17 @@ module _ {S : Type 0} (opening_of : S → List ℕ) (entries_of : S → List (Li
       olds = st.olds;
     }
 
-    bystander : (j : ℕ) (u : View) → get_elem? views j ≡ some u → 0 < length u.tickets → j ≢ id → Stands o r.owner r.log word j u
-    bystander j u there alive ne = let st = r.stands j u there alive in record {
+    bystander : (j : ℕ) (u : View) → IsAt views j u → j ≢ id → Stands o r.owner r.log mark j u
+    bystander j u there ne = let st = r.stands j u there in record {
       rise = st.rise;
       tickets = st.tickets;
       marked = λ h. let e = st.marked h in absurd (omega arith);
-      only_marked = λ e. let low : lowest u.tickets ≡ lowest v.tickets = omega arith in
-          absurd (true_not_false (subst (λ (t : ℕ). has_ticket u.tickets t ≡ true) low (has_lowest u.tickets alive))
-          (tickets_apart opening_of entries_of o 0 homes views r id j v u at live there alive ne (lowest v.tickets) (has_lowest v.tickets live)));
+      only_marked = λ e.
+          let low : lowest u.tickets ≡ lowest v.tickets = omega arith in
+          let has : has_ticket u.tickets (lowest v.tickets) ≡ true =
+              subst (λ (t : ℕ). has_ticket u.tickets t ≡ true) low (has_lowest u.tickets there.live) in
+          absurd (true_not_false has
+            (tickets_apart r here there ne (lowest v.tickets) (has_lowest v.tickets here.live)));
       found = λ h. let e = st.marked h in absurd (omega arith);
       opening = st.opening;
       since = st.since;
@@ -92,50 +103,66 @@ module _ {S : Type 0} (opening_of : S → List ℕ) (entries_of : S → List (Li
       olds = st.olds;
     }
 
-    pub taken : Ruled opening_of entries_of o word (set homes 0 none) (set views id w)
+    taken : Ruled opening_of entries_of o mark (set homes 0 none) (set views id w)
     taken = record {
       log = r.log;
       owner = r.owner;
       few = r.few;
-      in_range = let b = ((r.stands id v at live).tickets (lowest v.tickets) (has_lowest v.tickets live)).0 in omega arith;
+      in_range =
+        let b = ((r.stands id v here).tickets (lowest v.tickets) (has_lowest v.tickets here.live)).0 in
+        omega arith;
       free = λ z. absurd (omega arith);
       holder = id;
-      taken = λ _. record { view = w; at = here_set views id v w at; live = live; has_turn = refl };
-      stands = λ j u there alive. ⊎_elim
-          (λ t. subst (λ (z : ℕ × View). Stands o r.owner r.log word z.0 z.1) (λ i. (sym t.0 i, t.1 i)) taker)
-          (λ t. bystander j u t.1 alive t.0)
-          (at_set views id j w u there);
+      taken = λ _. record {
+        view = w;
+        is_at = record { at = here_set views id v w here.at; live = here.live };
+        has_turn = refl;
+      };
+      stands = λ j u there. ⊎_elim
+          (λ t. subst (λ (z : ℕ × View). Stands o r.owner r.log mark z.0 z.1) (λ i. (sym t.0 i, t.1 i)) taker)
+          (λ t. bystander j u record { at = t.1; live = there.live } t.0)
+          (at_set views id j w u there.at);
       made = r.made;
     }
 
-  pub takes_turn : (slots id : ℕ) (me : Me (Option S) View) (mark : ℕ) → me.0.has_turn ≡ false → 0 < length me.0.tickets → mark ≡ 1 + lowest me.0.tickets
-      → Allows R slots id me 0 (λ n. either (eqb n 0) mark n) (Took opening_of entries_of (step slots 0 0 mark none) me)
+  pub takes_turn : (slots id : ℕ) (me : Me (Option S) View) (mark : ℕ) → me.0.has_turn ≡ false → 0 < length me.0.tickets
+      → mark ≡ 1 + lowest me.0.tickets
+      → Allows (IsRuled opening_of entries_of o) slots id me 0 (λ n. either (eqb n 0) mark n)
+          (Took opening_of entries_of (step slots 0 0 mark none) me)
   takes_turn slots id me mark rests live marks s k _ at _ =
       let word : ℕ = get_or s.words 0 0 in
       let wide = k.0 in
+      let here : IsAt s.views id me.0 = record { at = at; live = live } in
       dite (ℕ_discrete word 0)
-      (λ hit.
-      let r : Ruled opening_of entries_of o 0 s.homes s.views = subst (λ (z : ℕ). Ruled opening_of entries_of o z s.homes s.views) hit k.1 in
-      let x : Rests opening_of entries_of o.opening r.log s.homes = r.free refl in
-      let w : View = holding me.0 (entries_of x.value) in
-      let read : get_or (set s.words 0 mark) 0 0 ≡ mark = get_or-set_same s.words 0 mark 0 (omega arith) in (
-        w,
-        takes 0 (Some x.value),
-        x.at,
-        subst (λ b. R (stepped s 0 (either b mark word) id me.1 w (takes 0 (Some x.value)))) (sym (eq-eqb word 0 hit)) (
-          length-set s.words 0 mark ∙ wide,
-          subst (λ (z : ℕ). Ruled opening_of entries_of o z (set s.homes 0 none) (set s.views id w)) (sym read)
-              (taken s.homes s.views r id me.0 at live mark marks x),
-        ),
-        (
-          (λ _. record { value = x.value; finds = found r.log r.owner 0 id me.0 s.homes (r.stands id me.0 at live) x; after_is = refl }),
-          λ ne. absurd (ne hit),
-        ),
-      ))
-      (λ miss. (
-        me.0,
-        keeps,
-        tt,
-        subst (λ b. R (stepped s 0 (either b mark word) id me.1 me.0 keeps)) (sym (ne_eqb word 0 miss)) (unmoved s k id me at),
-        ((λ hit. absurd (miss hit)), λ _. (refl, let few = k.1.few in let range = k.1.in_range in omega arith)),
-      ))
+        (λ hit.
+          let r : Ruled opening_of entries_of o 0 s.homes s.views =
+              subst (λ (z : ℕ). Ruled opening_of entries_of o z s.homes s.views) hit k.1 in
+          let x : Rests opening_of entries_of o.opening r.log s.homes = r.free refl in
+          let w : View = holding me.0 (entries_of x.value) in
+          let read : get_or (set s.words 0 mark) 0 0 ≡ mark = get_or-set_same s.words 0 mark 0 (omega arith) in
+          (
+            w,
+            takes 0 (Some x.value),
+            x.at,
+            subst (λ b. R (stepped s 0 (either b mark word) id me.1 w (takes 0 (Some x.value)))) (sym (eq-eqb word 0 hit))
+              (
+                length-set s.words 0 mark ∙ wide,
+                subst (λ (z : ℕ). Ruled opening_of entries_of o z (set s.homes 0 none) (set s.views id w)) (sym read)
+                  (taken s.homes s.views r id me.0 here mark marks x),
+              ),
+            (
+              (λ _. record { value = x.value; finds = found (r.stands id me.0 here) x; after_is = refl }),
+              λ ne. absurd (ne hit),
+            ),
+          ))
+        (λ miss. (
+          me.0,
+          keeps,
+          tt,
+          subst (λ b. R (stepped s 0 (either b mark word) id me.1 me.0 keeps)) (sym (ne_eqb word 0 miss))
+            (unmoved s k id me at),
+          (
+            (λ hit. absurd (miss hit)),
+            λ _. (refl, let few = k.1.few in let range = k.1.in_range in omega arith),
+          ),
+        ))

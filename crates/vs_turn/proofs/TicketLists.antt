@@ -19,10 +19,12 @@ tickets_from-snoc k zero = ap (λ (x : ℕ). x ∷ []) (omega arith)
 tickets_from-snoc k (suc n) =
     let e : suc n + 1 ≡ suc (n + 1) = omega arith in
     let f : suc k + n ≡ k + suc n = omega arith in
-    ap (tickets_from k) e ∙ ap (λ l. k ∷ l) (tickets_from-snoc (suc k) n ∙ ap (λ (x : ℕ). tickets_from (suc k) n ++ x ∷ []) f)
+    ap (tickets_from k) e ∙ ap (λ l. k ∷ l) (tickets_from-snoc (suc k) n
+        ∙ ap (λ (x : ℕ). tickets_from (suc k) n ++ x ∷ []) f)
 
 pub all_tickets-snoc : (n : ℕ) → tickets_from 0 (n + 1) ≡ tickets_from 0 n ++ n ∷ []
-all_tickets-snoc n = let e : 0 + n ≡ n = omega arith in tickets_from-snoc 0 n ∙ ap (λ (x : ℕ). tickets_from 0 n ++ x ∷ []) e
+all_tickets-snoc n = let e : 0 + n ≡ n = omega arith in tickets_from-snoc 0 n
+    ∙ ap (λ (x : ℕ). tickets_from 0 n ++ x ∷ []) e
 
 take-whole : {A : Type 0} (xs ys : List A) → take (length xs) (xs ++ ys) ≡ xs
 take-whole [] ys = refl
@@ -39,12 +41,14 @@ length-tickets_from k (suc n) = ap suc (length-tickets_from (suc k) n)
 -- of all tickets the highest is handed on, and the others stay
 pub all_but_highest : (n : ℕ) → take (length (all_tickets (n + 1)) - 1) (all_tickets (n + 1)) ≡ all_tickets n
 all_but_highest n =
-    let l : length (all_tickets (n + 1)) - 1 ≡ length (all_tickets n) = let a = length-tickets_from 0 (n + 1) in let b = length-tickets_from 0 n in omega arith in
+    let l : length (all_tickets (n + 1)) - 1 ≡ length (all_tickets n) = let a = length-tickets_from 0 (n + 1) in
+        let b = length-tickets_from 0 n in omega arith in
     (λ i. take (l i) (all_tickets-snoc n i)) ∙ take-whole (all_tickets n) (n ∷ [])
 
 pub highest : (n : ℕ) → drop (length (all_tickets (n + 1)) - 1) (all_tickets (n + 1)) ≡ n ∷ []
 highest n =
-    let l : length (all_tickets (n + 1)) - 1 ≡ length (all_tickets n) = let a = length-tickets_from 0 (n + 1) in let b = length-tickets_from 0 n in omega arith in
+    let l : length (all_tickets (n + 1)) - 1 ≡ length (all_tickets n) = let a = length-tickets_from 0 (n + 1) in
+        let b = length-tickets_from 0 n in omega arith in
     (λ i. drop (l i) (all_tickets-snoc n i)) ∙ drop-whole (all_tickets n) (n ∷ [])
 
 pub tickets_from-rise : (k n : ℕ) → RiseFrom k (tickets_from k n)
@@ -70,7 +74,8 @@ has_lowest (t ∷ ts) h = has_first t t ts refl
 -- the tickets from k on are below k + n
 pub tickets_from_below : (k n t : ℕ) → has_ticket (tickets_from k n) t ≡ true → t < k + n
 tickets_from_below k zero t h = absurd (true_not_false h refl)
-tickets_from_below k (suc n) t h = ⊎_elim (λ (e : k ≡ t). omega arith) (λ r. let b = tickets_from_below (suc k) n t r in omega arith)
+tickets_from_below k (suc n) t h = ⊎_elim (λ (e : k ≡ t). omega arith) (λ r. let b =
+    tickets_from_below (suc k) n t r in omega arith)
     (has_cons k t (tickets_from (suc k) n) h)
 
 -- no ticket of a rising list is below its least
@@ -96,10 +101,13 @@ has_drop (suc n) t [] h = h
 has_drop (suc n) t (u ∷ us) h = has_later u t us (has_drop n t us h)
 
 -- no ticket of a rising list is in both parts
-pub take_drop_apart : (n k t : ℕ) (ts : List ℕ) → RiseFrom k ts → has_ticket (take n ts) t ≡ true → has_ticket (drop n ts) t ≡ false
-take_drop_apart n k t ts r h = ⊎_elim (λ b. absurd (both n k t ts r h b)) (λ f. f) (true_or_false (has_ticket (drop n ts) t))
+pub take_drop_apart : (n k t : ℕ) (ts : List ℕ) → RiseFrom k ts → has_ticket (take n ts) t ≡ true
+    → has_ticket (drop n ts) t ≡ false
+take_drop_apart n k t ts r h = ⊎_elim (λ b. absurd (both n k t ts r h b)) (λ f. f)
+    (true_or_false (has_ticket (drop n ts) t))
   where
-    both : (n k t : ℕ) (ts : List ℕ) → RiseFrom k ts → has_ticket (take n ts) t ≡ true → has_ticket (drop n ts) t ≡ true → ⊥
+    both : (n k t : ℕ) (ts : List ℕ) → RiseFrom k ts → has_ticket (take n ts) t ≡ true
+        → has_ticket (drop n ts) t ≡ true → ⊥
     both zero k t ts r h b = true_not_false h refl
     both (suc n) k t [] r h b = true_not_false h refl
     both (suc n) k t (u ∷ us) r h b = ⊎_elim
@@ -114,17 +122,20 @@ rise_take (suc n) k (u ∷ us) r = (r.0, rise_take n (suc u) us r.1)
 pub rise_drop : (n k : ℕ) (ts : List ℕ) → RiseFrom k ts → RiseFrom k (drop n ts)
 rise_drop zero k ts r = r
 rise_drop (suc n) k [] r = tt
-rise_drop (suc n) k (u ∷ us) r = let a : k ≤ u = r.0 in rise_lower (suc u) k (drop n us) (omega arith) (rise_drop n (suc u) us r.1)
+rise_drop (suc n) k (u ∷ us) r = let a : k ≤ u = r.0 in
+    rise_lower (suc u) k (drop n us) (omega arith) (rise_drop n (suc u) us r.1)
 
 -- tickets that rise from k on and lie below m are at most m - k
-pub few_tickets : (k m : ℕ) (ts : List ℕ) → RiseFrom k ts → k ≤ m → ((t : ℕ) → has_ticket ts t ≡ true → t < m) → length ts + k ≤ m
+pub few_tickets : (k m : ℕ) (ts : List ℕ) → RiseFrom k ts → k ≤ m → ((t : ℕ) → has_ticket ts t ≡ true → t < m)
+    → length ts + k ≤ m
 few_tickets k m [] r le h = omega arith
 few_tickets k m (t ∷ ts) r le h =
     let a : k ≤ t = r.0 in let b : t < m = h t (has_first t t ts refl) in
     let c = few_tickets (suc t) m ts r.1 (omega arith) (λ x y. h x (has_later t x ts y)) in omega arith
 
 -- as many tickets as there are numbers are all of them
-pub full_tickets : (k n : ℕ) (ts : List ℕ) → RiseFrom k ts → length ts ≡ n → ((t : ℕ) → has_ticket ts t ≡ true → t < k + n)
+pub full_tickets : (k n : ℕ) (ts : List ℕ) → RiseFrom k ts → length ts ≡ n
+    → ((t : ℕ) → has_ticket ts t ≡ true → t < k + n)
     → (t : ℕ) → k ≤ t → t < k + n → has_ticket ts t ≡ true
 full_tickets k zero ts r l h t a b = absurd (omega arith)
 full_tickets k (suc n) [] r l h t a b = absurd (omega arith)
@@ -133,10 +144,12 @@ full_tickets k (suc n) (u ∷ us) r l h t a b =
     let top : u < k + suc n = h u (has_first u u us refl) in
     let few = few_tickets (suc u) (k + suc n) us r.1 (omega arith) (λ x y. h x (has_later u x us y)) in
     let here : u ≡ k = omega arith in
-    let same : (x : ℕ) → has_ticket us x ≡ true → x < suc k + n = λ x y. let z = h x (has_later u x us y) in omega arith in
+    let same : (x : ℕ) → has_ticket us x ≡ true → x < suc k + n = λ x y. let z = h x (has_later u x us y) in
+        omega arith in
     let rise : RiseFrom (suc k) us = rise_lower (suc u) (suc k) us (omega arith) r.1 in
     dite (ℕ_discrete u t) (λ e. has_first u t us e)
-    (λ ne. has_later u t us (full_tickets (suc k) n us rise (omega arith) same t (other u t k here a ne) (omega arith)))
+    (λ ne. has_later u t us (full_tickets (suc k) n us rise (omega arith) same t (other u t k here a ne)
+        (omega arith)))
   where
     other : (u t k : ℕ) → u ≡ k → k ≤ t → u ≢ t → suc k ≤ t
     other u t k e a ne = omega arith

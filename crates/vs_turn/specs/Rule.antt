@@ -1,5 +1,5 @@
--- The rule that holds between any two atomic steps of a turn. Word 0 is 0 where the turn is free, and else 1 more than the
--- lowest ticket of the seat that has it. Slot 0 holds the value, and is at home wherever the turn is free.
+-- The rule that holds between any two atomic steps of a turn. Word 0 is 0 where the turn is free, and else 1 more than
+-- the lowest ticket of the seat that has it. Slot 0 holds the value, and is at home wherever the turn is free.
 use Rattle.std.specs.Prelude.{◌≡◌, ℕ, ◌+◌, ◌<◌, ◌≤◌, ◌^◌, true, List, [], ◌∷◌, ◌++◌, length, drop, slice_index, Option, Some}
 use mathlib.Core.Option.{Option as Home, some}
 use mathlib.Core.List.{IsPrefix}
@@ -27,8 +27,13 @@ abbrev pub AllBegin : List (List (List ℕ)) → List (List ℕ) → Type 0
 AllBegin [] entries = Unit {0}
 AllBegin (old ∷ olds) entries = IsPrefix old entries × AllBegin olds entries
 
--- What the seat `id` is known to have. `owner` says whose a ticket is, and `log` is the one history: the value's entries
--- where the turn is free, and those that it had when the turn was taken where it isn't
+-- the number `id` is that of a seat with this view. A view without tickets is left where a seat was joined to another
+pub record IsAt (views : List View) (id : ℕ) (v : View) : Type 0 where
+  pub at : get_elem? views id ≡ some v
+  pub live : 0 < length v.tickets
+
+-- What holds of the seat `id`. `owner` says whose a ticket is, and `log` is the one history: the value's entries where
+-- the turn is free, and those that it had when the turn was taken where it isn't
 pub record Stands (o : Origin) (owner : ℕ → ℕ) (log : List (List ℕ)) (word id : ℕ) (v : View) : Type 0 where
   -- its tickets rise, are below the number of seats, and no other seat's
   pub rise : RiseFrom 0 v.tickets
@@ -52,8 +57,7 @@ pub record Stands (o : Origin) (owner : ℕ → ℕ) (log : List (List ℕ)) (wo
 -- the seat `id` has the turn
 pub record Holder (views : List View) (id : ℕ) : Type 0 where
   pub view : View
-  pub at : get_elem? views id ≡ some view
-  pub live : 0 < length view.tickets
+  pub is_at : IsAt views id view
   pub has_turn : view.has_turn ≡ true
 
 module _ {S : Type 0} (opening_of : S → List ℕ) (entries_of : S → List (List ℕ)) where
@@ -64,7 +68,7 @@ module _ {S : Type 0} (opening_of : S → List ℕ) (entries_of : S → List (Li
     pub opening_is : opening_of value ≡ opening
     pub entries_are : entries_of value ≡ log
 
-  -- What holds of the word, the slot and all views. A view without tickets is one whose seat was joined to another
+  -- what holds of the word, the slot and all views
   pub record Ruled (o : Origin) (word : ℕ) (homes : List (Home (Option S))) (views : List View) : Type 0 where
     pub log : List (List ℕ)
     pub owner : ℕ → ℕ
@@ -73,7 +77,7 @@ module _ {S : Type 0} (opening_of : S → List ℕ) (entries_of : S → List (Li
     pub free : word ≡ 0 → Rests o.opening log homes
     pub holder : ℕ
     pub taken : 0 < word → Holder views holder
-    pub stands : (id : ℕ) (v : View) → get_elem? views id ≡ some v → 0 < length v.tickets → Stands o owner log word id v
+    pub stands : (id : ℕ) (v : View) → IsAt views id v → Stands o owner log word id v
     pub made : AreMadeBelow o.seats (drop o.since log)
 
   abbrev pub IsRuled : Origin → State (Option S) View → Type 0

@@ -52,9 +52,18 @@ joined v w = record v {
 
 -- a view whose seat is gone
 abbrev pub spent : View
-spent = record { opening = []; since = 0; tickets = []; seen = []; mine = []; has_turn = false; found = []; olds = [] }
+spent = record {
+  opening = [];
+  since = 0;
+  tickets = [];
+  seen = [];
+  mine = [];
+  has_turn = false;
+  found = [];
+  olds = [];
+}
 
--- what a look tells of the view: its tickets rise and are few, it knows its calls, and the lists that a join left begin
+-- what a look tells of a view: its tickets rise and are few, it knows its calls, and the lists that a join left begin
 -- what it has seen
 pub record Learned (v : View) : Type 0 where
   pub rise : RiseFrom 0 v.tickets
@@ -68,8 +77,8 @@ abbrev pub Looked : {S : Type 0} → Step (Option S) → Me (Option S) View → 
 Looked st me found after = (after ≡ me) × Learned me.0
 
 module _ {S : Type 0} (opening_of : S → List ℕ) (entries_of : S → List (List ℕ)) where
-  -- the value as a seat finds it: it has the seat's opening, its entries begin with what the seat has seen, and hold no call
-  -- of the seat but those that it knows
+  -- the value as a seat finds it: it has the seat's opening, and its entries begin with what the seat has seen and hold
+  -- no call of the seat but those that it knows
   pub record Finds (v : View) (value : S) : Type 0 where
     pub opening : opening_of value ≡ v.opening
     pub begun : v.since ≤ length (entries_of value)
@@ -77,14 +86,17 @@ module _ {S : Type 0} (opening_of : S → List ℕ) (entries_of : S → List (Li
     pub unmade : NoCalls v.tickets (drop (length v.seen) (entries_of value))
     pub mine : calls_of v.tickets v.since (entries_of value) ≡ v.mine
 
+  -- the seat takes the turn, and the slot with the value in it
   pub record Takes (me : Me (Option S) View) (after : Me (Option S) View) : Type 0 where
     pub value : S
     pub finds : Finds me.0 value
     pub after_is : after ≡ (holding me.0 (entries_of value), (0, Some value) ∷ me.1)
 
-  -- the turn was free and is taken, with the slot; or the seat is as before
+  -- the turn was free and is taken, or the seat is as before
   abbrev pub Took : Step (Option S) → Me (Option S) View → ℕ → Me (Option S) View → Type 0
-  Took st me found after = (found ≡ 0 → Takes me after) × (found ≢ 0 → (after ≡ me) × (found < 2 ^ 32))
+  Took st me found after =
+      (found ≡ 0 → Takes me after)
+      × (found ≢ 0 → (after ≡ me) × (found < 2 ^ 32))
 
   -- the seat has put a value into the slot that it has: the opening is its own, and the entries went on by its calls
   pub record HasPutBack (me : Me (Option S) View) : Type 0 where
@@ -96,8 +108,9 @@ module _ {S : Type 0} (opening_of : S → List ℕ) (entries_of : S → List (Li
 module _ {S : Type 0} (entries_of : S → List (List ℕ)) where
   -- the seat has given up the turn and the slot, and seen the entries of the value in it
   abbrev pub IsFreed : Me (Option S) View → Me (Option S) View → Type 0
-  IsFreed me after = (value : S) → me.1 ≡ (0, Some value) ∷ [] → after ≡ (released me.0 (entries_of value), [])
+  IsFreed me after =
+      (value : S) → me.1 ≡ (0, Some value) ∷ [] → after ≡ (released me.0 (entries_of value), [])
 
-  -- the turn is given up with the value that the seat has put back
+  -- the turn is given up
   abbrev pub Freed : Step (Option S) → Me (Option S) View → ℕ → Me (Option S) View → Type 0
   Freed st me stored after = IsFreed me after

@@ -17,7 +17,8 @@ free-requires-clause-back g c =
       value = c.self.inside.value;
       slot = refl;
       opening = subst (λ (h : HeldModel g.row.S.Denot). open' h.value ≡ h.seat.opening) view c.requires.opening;
-      entries = subst (λ (h : HeldModel g.row.S.Denot). GoOn h.seat.tickets h.found (entries h.value)) view c.requires.entries;
+      entries = subst (λ (h : HeldModel g.row.S.Denot). GoOn h.seat.tickets h.found (entries h.value))
+          view c.requires.entries;
     }
 
 pub returns-clause-seat : goal.returns-clause-seat
@@ -32,7 +33,8 @@ returns-clause-seat g c =
     ∙ (ap (λ (m : Me (Option g.row.S.Denot) View). m.0 ∷ []) freed
     ∙ ap (λ (m : Me (Option g.row.S.Denot) View). released m.0 (entries held.value) ∷ []) back) in
     let name = c.into_badge-badge.ensures.0 ∙ (c.free.ensures.table ∙ c.put_in.ensures.table) in
-    let on = subst (λ (h : HeldModel g.row.S.Denot). GoOn h.seat.tickets h.found (entries h.value)) (sym c.self.view_is) c.requires.entries in
+    let on = subst (λ (h : HeldModel g.row.S.Denot). GoOn h.seat.tickets h.found (entries h.value))
+        (sym c.self.view_is) c.requires.entries in
     (λ i. seat_at (name i) (views i))
     ∙ (seat_released held.place.table_id v (entries held.value) inv.begun inv.mine on
     ∙ ap (λ (h : HeldModel g.row.S.Denot). released_seat h.seat h.found (entries h.value)) c.self.view_is)

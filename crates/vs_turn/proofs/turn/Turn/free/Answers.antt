@@ -19,7 +19,11 @@ store-requires g c =
     let slot : 0 < slots = let e = c.self.invariant.1 in omega arith in (
       search rules,
       search rules,
-      subst (λ (xs : List (ℕ × Option g.row.S.Denot)). Allows (IsRuled open' entries (origin open' entries key.value.value key.seats)) slots c.args.place.now.id (me.0, xs) 0 (λ _. 0)
+      subst (λ (xs : List (ℕ × Option g.row.S.Denot)). Allows
+          (IsRuled open' entries (origin open' entries key.value.value key.seats)) slots c.args.place.now.id (me.0,
+              xs) 0 (λ _. 0)
           (λ _. Freed entries (step slots 0 0 0 none) (me.0, xs) 0)) (sym back.slot)
-          (frees open' entries (origin open' entries key.value.value key.seats) slots c.args.place.now.id me.0 back.value slot c.requires.held.1 c.requires.held.0 back.opening back.entries),
+          (frees open' entries (origin open' entries key.value.value key.seats)
+              slots c.args.place.now.id me.0 back.value slot c.requires.held.1 c.requires.held.0 back.opening
+                  back.entries),
     )

@@ -21,7 +21,8 @@ split_seat-other-requires g c =
     let two = ap (λ (s : SeatModel). length s.tickets) seat in (
       search rules,
       search rules,
-      splits g.S.Kept.opening g.S.Kept.entries _ c.into_seat-place.result.id v (let r = c.requires.two in omega arith) rest.rests
+      splits g.S.Kept.opening g.S.Kept.entries _ c.into_seat-place.result.id v (let r = c.requires.two in
+          omega arith) rest.rests
           (ap (λ (s : SeatModel). s.mine) seat ∙ c.requires.none_made),
     )
 
@@ -41,14 +42,16 @@ invariant_of-first g c =
     let none_made = ap (λ (s : SeatModel). s.mine) seat ∙ c.requires.none_made in
     record {
       view = keeping v;
-      one = c.into_badge.ensures.2 ∙ ap (λ (m : Me (Option g.row.S.Denot) View). m.0 ∷ []) c.split_seat-other.ensures.2;
+      one = c.into_badge.ensures.2 ∙ ap (λ (m : Me (Option g.row.S.Denot) View). m.0 ∷ [])
+          c.split_seat-other.ensures.2;
       at_rest = rest.rests;
       numbers = ap (λ ts. take (length ts - 1) ts) rest.numbers ∙ sym kept;
       some_ticket = omega arith;
       rise = subst (RiseFrom 0) (sym kept) (rise_take (length old - 1) 0 old c.seat.invariant.rise);
       few = omega arith;
       begun = rest.begun;
-      mine = fewer_calls_of v.tickets _ v.since v.seen (λ t h. has_take (length v.tickets - 1) t v.tickets h) (rest.mine ∙ none_made) ∙ sym none_made;
+      mine = fewer_calls_of v.tickets _ v.since v.seen (λ t h. has_take (length v.tickets - 1) t v.tickets h)
+          (rest.mine ∙ none_made) ∙ sym none_made;
     }
 
 pub invariant_of-second : goal.invariant_of-second
@@ -65,14 +68,16 @@ invariant_of-second g c =
     let few = c.seat.invariant.few in
     record {
       view = handed v;
-      one = c.into_badge-2.ensures.2 ∙ ap (λ (m : Me (Option g.row.S.Denot) View). m.0 ∷ []) c.split_seat-other.ensures.4;
+      one = c.into_badge-2.ensures.2 ∙ ap (λ (m : Me (Option g.row.S.Denot) View). m.0 ∷ [])
+          c.split_seat-other.ensures.4;
       at_rest = rest.rests;
       numbers = ap (λ ts. drop (length ts - 1) ts) rest.numbers ∙ sym highest;
       some_ticket = omega arith;
       rise = subst (RiseFrom 0) (sym highest) (rise_drop (length old - 1) 0 old c.seat.invariant.rise);
       few = omega arith;
       begun = rest.begun;
-      mine = fewer_calls_of v.tickets _ v.since v.seen (λ t h. has_drop (length v.tickets - 1) t v.tickets h) (rest.mine ∙ none_made) ∙ sym none_made;
+      mine = fewer_calls_of v.tickets _ v.since v.seen (λ t h. has_drop (length v.tickets - 1) t v.tickets h)
+          (rest.mine ∙ none_made) ∙ sym none_made;
     }
 
 pub returns-clause-knows : goal.returns-clause-knows
