@@ -97,7 +97,8 @@ module _ {S : Type 0} (opening_of : S → List ℕ) (entries_of : S → List (Li
           olds = su.olds;
         }
 
-    freed : Ruled opening_of entries_of o 0 (set homes 0 (some (Some value))) (set views id (released v (entries_of value)))
+    freed : Ruled opening_of entries_of o 0 (set homes 0 (some (Some value)))
+        (set views id (released v (entries_of value)))
     freed = record {
       log = entries_of value;
       owner = r.owner;
@@ -112,7 +113,8 @@ module _ {S : Type 0} (opening_of : S → List ℕ) (entries_of : S → List (Li
       holder = id;
       taken = λ h. absurd (omega arith);
       stands = λ j u there. ⊎_elim
-          (λ t. subst (λ (z : ℕ × View). Stands o r.owner (entries_of value) 0 z.0 z.1) (λ i. (sym t.0 i, t.1 i)) leaver)
+          (λ t. subst (λ (z : ℕ × View). Stands o r.owner (entries_of value) 0 z.0 z.1) (λ i. (sym t.0 i, t.1 i))
+            leaver)
           (λ t. bystander j u record { at = t.1; live = there.live } t.0)
           (at_set views id j (released v (entries_of value)) u there.at);
       made =

@@ -14,7 +14,8 @@ use Rattle.vs_turn.proofs.CallLists.{append-nil, drop-all, calls_of-none}
 
 module _ {S : Type 0} (opening_of : S → List ℕ) (entries_of : S → List (List ℕ)) where
   first_stands : (x : S) (n : ℕ)
-      → Stands (origin opening_of entries_of x n) (λ _. 0) (entries_of x) 0 0 (first_view (opening_of x) (entries_of x) n)
+      → Stands (origin opening_of entries_of x n) (λ _. 0) (entries_of x) 0 0
+          (first_view (opening_of x) (entries_of x) n)
   first_stands x n = let es = entries_of x in record {
     rise = tickets_from-rise 0 n;
     tickets = λ t h. (let b = tickets_from_below 0 n t h in omega arith, refl);

@@ -53,7 +53,8 @@ module _ {S : Type 0} (opening_of : S → List ℕ) (entries_of : S → List (Li
 
   keeper : Stands o owner r.log word id (keeping v)
   keeper =
-      let p = part (take last v.tickets) (λ t h. has_take last t v.tickets h) (omega (arith, length-take last v.tickets)) in
+      let p = part (take last v.tickets) (λ t h. has_take last t v.tickets h)
+          (omega (arith, length-take last v.tickets)) in
       record {
         rise = rise_take last 0 v.tickets st.rise;
         tickets = λ t h.
@@ -74,7 +75,8 @@ module _ {S : Type 0} (opening_of : S → List ℕ) (entries_of : S → List (Li
 
   newcomer : (j : ℕ) → j ≡ length views → Stands o owner r.log word j (handed v)
   newcomer j new =
-      let p = part (drop last v.tickets) (λ t h. has_drop last t v.tickets h) (omega (arith, length-drop last v.tickets)) in
+      let p = part (drop last v.tickets) (λ t h. has_drop last t v.tickets h)
+          (omega (arith, length-drop last v.tickets)) in
       record {
         rise = rise_drop last 0 v.tickets st.rise;
         tickets = λ t h. ((st.tickets t (has_drop last t v.tickets h)).0, owner_handed t h ∙ sym new);

@@ -144,7 +144,8 @@ module _ {S : Type 0} (opening_of : S → List ℕ) (entries_of : S → List (Li
             w,
             takes 0 (Some x.value),
             x.at,
-            subst (λ b. R (stepped s 0 (either b mark word) id me.1 w (takes 0 (Some x.value)))) (sym (eq-eqb word 0 hit))
+            subst (λ b. R (stepped s 0 (either b mark word) id me.1 w (takes 0 (Some x.value))))
+              (sym (eq-eqb word 0 hit))
               (
                 length-set s.words 0 mark ∙ wide,
                 subst (λ (z : ℕ). Ruled opening_of entries_of o z (set s.homes 0 none) (set s.views id w)) (sym read)

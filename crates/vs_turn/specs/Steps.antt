@@ -1,10 +1,10 @@
 -- What each atomic step makes of its seat's view, and what it tells.
-use Rattle.std.specs.Prelude.{◌≡◌, ◌≢◌, ℕ, ◌-◌, ◌^◌, ◌<◌, ◌≤◌, Bool, true, false, List, [], ◌∷◌, take, drop, length, Option, Some, None}
+use Rattle.std.specs.Prelude.{◌≡◌, ◌≢◌, ℕ, ◌^◌, ◌<◌, ◌≤◌, Bool, true, false, List, [], ◌∷◌, drop, length, Option, Some, None}
 use Rattle.atomic_table.specs.Table.{Me, Step}
 use mathlib.Core.List.{IsPrefix}
 use Rattle.vs_turn.specs.declared.view.View.{View}
 use Rattle.vs_turn.specs.Calls.{calls_of, NoCalls, GoOn, merged_calls, longer}
-use Rattle.vs_turn.specs.Tickets.{all_tickets, merged_tickets, RiseFrom}
+use Rattle.vs_turn.specs.Tickets.{all_tickets, without_highest, only_highest, merged_tickets, RiseFrom}
 use Rattle.vs_turn.specs.Rule.{AllBegin}
 
 -- the first seat: it has all tickets, has seen what the value brought along, and made none of it
@@ -36,10 +36,10 @@ released v entries = record v {
 
 -- a split hands on the highest ticket
 abbrev pub keeping : View → View
-keeping v = record v { tickets = take (length v.tickets - 1) v.tickets }
+keeping v = record v { tickets = without_highest v.tickets }
 
 abbrev pub handed : View → View
-handed v = record v { tickets = drop (length v.tickets - 1) v.tickets }
+handed v = record v { tickets = only_highest v.tickets }
 
 -- a join adds up tickets and calls, and keeps both lists that were seen beside the longer
 abbrev pub joined : View → View → View

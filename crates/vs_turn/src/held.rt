@@ -33,7 +33,8 @@ impl<'a, S: Kept> Model for Held<'a, S> {
 impl<'a, S: Kept> Held<'a, S> {
     /// The value, to read and to change. Its opening has to stay, and its entries may only grow by calls of the seat.
     pub fn value(&mut self) -> &mut S
-        ensures* writes_back { sem 𝓛 (Lends (the_row (record { mir = named 0; lft = [] }) S.row S.Kept) S.row
+        ensures* writes_back { sem 𝓛 (Lends
+            (the_row (record { mir = named 0; lft = [] }) S.row S.Kept) S.row
             self.entry result (with_value self.old)) }
         ensures value { result.now ≡ self.old.value }
     {
@@ -44,7 +45,8 @@ impl<'a, S: Kept> Held<'a, S> {
     pub fn release(self) -> Seat
         requires opening { S.opening self.value ≡ self.seat.opening }
         requires entries { GoOn self.seat.tickets self.found (S.entries self.value) }
-        ensures seat { result ≡ released_seat self.entry.seat self.entry.found (S.entries self.entry.value) }
+        ensures seat { result
+            ≡ released_seat self.entry.seat self.entry.found (S.entries self.entry.value) }
         ensures knows { KnowsCalls result }
     {
         let Held {

@@ -17,7 +17,8 @@ impl<S: Kept> TableRule<Option<S>, View, Start<S>> for Law {
     ghost use Rattle.vs_turn.specs.Rule.{IsRuled, origin};
     ghost use Rattle.vs_turn.specs.Steps.{first_view};
 
-    ghost holds = { λ s. IsRuled S.opening S.entries (origin S.opening S.entries s.value.value s.seats) };
+    ghost holds = { λ s. IsRuled S.opening S.entries
+        (origin S.opening S.entries s.value.value s.seats) };
 
     ghost first = { λ s. first_view (S.opening s.value.value) (S.entries s.value.value) s.seats };
 }

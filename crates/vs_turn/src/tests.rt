@@ -1,7 +1,8 @@
-ghost use Rattle.std.specs.Prelude.{◌≡◌, ◌+◌, ◌*◌, ◌≤◌, true, [], ◌∷◌, length, if◌then◌else◌};
+ghost use Rattle.std.specs.Prelude.{◌≡◌, ◌+◌, ◌≤◌, true, [], ◌∷◌, length, if◌then◌else◌};
 ghost use Rattle.std.specs.Thread.{IsSync};
 ghost use Rattle.vs_turn.specs.Calls.{has_ticket};
 ghost use Rattle.vs_turn.specs.Seats.{IsNew};
+ghost use Rattle.vs_turn.specs.Tallies.{HasMade};
 ghost use Rattle.vs_turn.specs.Tickets.{all_tickets};
 
 mod tally;
@@ -25,7 +26,7 @@ fn add_once<R: Wait>(rt: &R, turn: &Turn<Tally>, seat: Seat, maker: u32) -> (Sea
     requires turn { seat.turn ≡ turn.now.name }
     requires maker { has_ticket seat.tickets maker ≡ true }
     ensures seat { (result.0.turn ≡ seat.turn) × (result.0.tickets ≡ seat.tickets) }
-    ensures made { length result.0.mine ≡ (if result.1 then length seat.mine + 1 else length seat.mine) }
+    ensures made { length result.0.mine ≡ length seat.mine + (if result.1 then 1 else 0) }
 {
     let mut held = turn.hold(rt, seat);
     let added = held.value().add(maker, 1).is_ok();
@@ -37,7 +38,7 @@ fn add_often<R: Wait>(rt: &R, turn: &Turn<Tally>, mut seat: Seat, maker: u32) ->
     requires turn { seat.turn ≡ turn.now.name }
     requires maker { has_ticket seat.tickets maker ≡ true }
     ensures seat { (result.0.turn ≡ seat.turn) × (result.0.tickets ≡ seat.tickets) }
-    ensures made { (length result.0.mine ≡ length seat.mine + result.1) × (result.1 ≤ 1000) }
+    ensures made { (length result.0.mine ≡ length seat.mine + result.1) × (result.1 ≤ TIMES) }
 {
     let mut made = 0;
     for time in 0..TIMES {
@@ -69,8 +70,7 @@ fn add_at_once<R: Threads + Wait + Sync>(
 ) -> (Seat, u64)
     requires some { 1 ≤ seats }
     requires seat { IsNew turn.now.name (all_tickets seats) seat }
-    ensures seat { (result.0.turn ≡ turn.now.name) × (length result.0.tickets ≡ seats) }
-    ensures made { (length result.0.mine ≡ result.1) × (result.1 ≤ 1000 * seats) }
+    ensures { HasMade turn.now.name TIMES seats result }
 {
     let maker = seats - 1;
     if maker == 0 {
@@ -81,11 +81,11 @@ fn add_at_once<R: Threads + Wait + Sync>(
         rt,
         move || -> (Seat, u64)
             requires { IsSync R.row × IsNew turn.now.name (all_tickets maker) others × (1 ≤ maker) }
-            ensures { (result.0.turn ≡ turn.entry.now.name) × (length result.0.tickets ≡ maker) × (length result.0.mine ≡ result.1) × (result.1 ≤ 1000 * maker) }
+            ensures { HasMade turn.entry.now.name TIMES maker result }
         { add_at_once(rt, turn, others, maker) },
         move || -> (Seat, u64)
             requires { IsNew turn.now.name (maker ∷ []) last }
-            ensures { (result.0.turn ≡ turn.entry.now.name) × (result.0.tickets ≡ maker ∷ []) × (length result.0.mine ≡ result.1) × (result.1 ≤ 1000) }
+            ensures { HasMade turn.entry.now.name TIMES 1 result }
         { add_often(rt, turn, last, maker) },
     );
     (turn.join(above.0, below.0), below.1 + above.1)
@@ -161,7 +161,7 @@ fn hold_a_while<R: Wait + Clock>(rt: &R, turn: &Turn<Tally>, seat: Seat) -> Seat
     held.release()
 }
 
-// Asks for the turn once another seat has it, and tells how long this thread has computed meanwhile.
+// Asks for the turn once another seat has it, and tells how long this thread has computed.
 fn ask_later<R: Wait + Clock + CpuClock>(
     rt: &R,
     turn: &Turn<Tally>,

@@ -1,8 +1,8 @@
-ghost use Rattle.std.specs.Prelude.{◌≡◌, ◌+◌, ◌-◌, ◌≤◌, [], ◌∷◌, ◌++◌, Some, length, take, drop, IfOk, IfErr};
+ghost use Rattle.std.specs.Prelude.{◌≡◌, ◌+◌, ◌≤◌, [], ◌∷◌, ◌++◌, Some, length, drop, IfOk, IfErr};
 ghost use mathlib.Core.List.{IsPrefix};
 ghost use Rattle.vs_turn.specs.Calls.{calls_of, NoCalls};
 ghost use Rattle.vs_turn.specs.Seats.{first_seat, with_tickets, both_seats, IsMadeWith, KnowsCalls};
-ghost use Rattle.vs_turn.specs.Tickets.{RiseFrom};
+ghost use Rattle.vs_turn.specs.Tickets.{RiseFrom, without_highest, only_highest};
 
 use crate::held::Held;
 use crate::kept::Kept;
@@ -32,7 +32,8 @@ impl<S: Kept> Model for Turn<S> {
     ghost view = { λ t. turn_over S.opening S.entries t.table.shared.table_id
         t.table.shared.key.value.value t.table.shared.key.seats };
 
-    ghost invariant = { λ t. (t.table.shared.table_id.words ≡ 1) × (t.table.shared.table_id.slots ≡ 1) };
+    // It has one word and one slot.
+    ghost invariant = { λ t. let z = t.table.shared.table_id in (z.words ≡ 1) × (z.slots ≡ 1) };
 }
 
 // A row with the value in it, or the value again where there is no memory.
@@ -69,11 +70,13 @@ fn value_of<S>(mut row: Vec<Option<S>>) -> S
 }
 
 impl<S: Kept> Turn<S> {
-    /// A turn over the value, and the one seat that has all tickets. Want of memory gives the value back.
+    /// A turn over the value, and the one seat, which has all tickets. Want of memory gives the value back.
     pub fn new(alloc: Global, value: S, seats: u32) -> Result<(Turn<S>, Seat), (S, Memory)>
         requires { 1 ≤ seats }
-        ensures turn { IfOk result (λ r. IsMadeWith (S.opening value) (S.entries value) seats r.0) }
-        ensures seat { IfOk result (λ r. r.1 ≡ first_seat r.0.name (S.opening value) (S.entries value) seats) }
+        ensures turn { IfOk result
+            (λ r. IsMadeWith (S.opening value) (S.entries value) seats r.0) }
+        ensures seat { IfOk result
+            (λ r. r.1 ≡ first_seat r.0.name (S.opening value) (S.entries value) seats) }
         ensures knows { IfOk result (λ r. KnowsCalls r.1) }
         ensures err { IfErr result (λ e. e.0 ≡ value) }
     {
@@ -97,7 +100,8 @@ impl<S: Kept> Turn<S> {
         }
     }
 
-    /// Waits until the seat has the turn, and takes the value out.
+    /// Waits until the seat has the turn, and takes the value out. A free turn is taken without a system call, and
+    /// a seat that waits sleeps.
     pub fn hold<R: Wait>(&self, rt: &R, seat: Seat) -> Held<'_, S>
         requires { seat.turn ≡ self.now.name }
         ensures seat { result.seat ≡ seat }
@@ -124,8 +128,8 @@ impl<S: Kept> Turn<S> {
         requires turn { seat.turn ≡ self.now.name }
         requires two { 2 ≤ length seat.tickets }
         requires none_made { seat.mine ≡ [] }
-        ensures first { result.0 ≡ with_tickets seat (take (length seat.tickets - 1) seat.tickets) }
-        ensures second { result.1 ≡ with_tickets seat (drop (length seat.tickets - 1) seat.tickets) }
+        ensures first { result.0 ≡ with_tickets seat (without_highest seat.tickets) }
+        ensures second { result.1 ≡ with_tickets seat (only_highest seat.tickets) }
         ensures all { result.0.tickets ++ result.1.tickets ≡ seat.tickets }
         ensures rise { RiseFrom 0 seat.tickets }
         ensures one { length result.1.tickets ≡ 1 }

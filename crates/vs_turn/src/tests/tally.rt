@@ -1,5 +1,6 @@
 //! A value to share: a number to start with, and amounts that were added, each by its maker.
-ghost use Rattle.std.specs.Prelude.{◌≡◌, [], ◌∷◌, ◌++◌, is_ok, if◌then◌else◌};
+ghost use Rattle.std.specs.Prelude.{◌≡◌, is_ok};
+ghost use Rattle.vs_turn.specs.Tallies.{amounts_after};
 
 use crate::Kept;
 use std::alloc::{AllocFailed, Global};
@@ -28,7 +29,8 @@ impl Tally {
 
     pub fn add(&mut self, maker: u32, amount: u64) -> Result<(), AllocFailed<(u32, u64)>>
         ensures start { self.new.start ≡ self.old.start }
-        ensures amounts { self.new.amounts.items ≡ (if is_ok result then self.old.amounts.items ++ (maker, amount) ∷ [] else self.old.amounts.items) }
+        ensures amounts { self.new.amounts.items
+            ≡ amounts_after (is_ok result) self.old.amounts.items (maker, amount) }
     {
         self.amounts.push((maker, amount))
     }
