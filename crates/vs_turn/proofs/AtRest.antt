@@ -17,6 +17,7 @@ abbrev first_or : View → List View → View
 first_or d [] = d
 first_or d (v ∷ vs) = v
 
+-- the view of a seat that isn't held
 pub at_rest : (views : List View) (tickets : List ℕ) (v : View) → IsSeat views tickets → views ≡ v ∷ []
     → AtRest v tickets
 at_rest views tickets v s e =
@@ -38,5 +39,7 @@ seen_seat z views v seat e is = ap (seat_at z) (sym e) ∙ is
 -- a seat knows its calls
 pub knows_calls : (z : TableId) (views : List View) (tickets : List ℕ) → IsSeat views tickets
     → KnowsCalls (seat_at z views)
-knows_calls z views tickets s = subst (λ vs. KnowsCalls (seat_at z vs)) (sym s.one) record { begun = s.begun;
-    calls = s.mine }
+knows_calls z views tickets s = subst (λ vs. KnowsCalls (seat_at z vs)) (sym s.one) record {
+  begun = s.begun;
+  calls = s.mine;
+}

@@ -1,93 +1,79 @@
 -- Entries, and the calls of a seat among them.
-use Rattle.std.proofs.Common.{◌≡◌, ℕ, zero, suc, ◌+◌, ◌<◌, ◌≤◌, ◌⊎◌, inl, inr, ⊎_elim, Bool, true, false, cond, List, [], ◌∷◌, ◌++◌, length, drop, refl, sym, ap, ◌∙◌, subst, arith, length-append, length-drop}
+use Rattle.std.proofs.Common.{◌≡◌, ℕ, suc, ◌+◌, ◌<◌, ◌≤◌, ⊎_elim, Bool, true, false, cond, List, [], ◌∷◌, ◌++◌, length, drop, refl, sym, ap, ◌∙◌, arith, length-drop, append-nil}
+use Rattle.std.proofs.lemmas.List.{drop-append-le}
+use Rattle.std.proofs.Math.Seq.{drop-length}
 use Rattle.vs_turn.specs.Calls.{maker, has_ticket, calls_from, calls_of, AreCalls, NoCalls, AreMadeBelow, numbered}
 use Rattle.vs_turn.proofs.TicketLists.{true_or_false, true_not_false}
 
 abbrev E : Type 0
 E = List ℕ
 
-pub append-nil : {A : Type 0} (xs : List A) → xs ++ [] ≡ xs
-append-nil [] = refl
-append-nil (x ∷ xs) = ap (λ l. x ∷ l) (append-nil xs)
-
-pub append-assoc : {A : Type 0} (xs ys zs : List A) → (xs ++ ys) ++ zs ≡ xs ++ (ys ++ zs)
-append-assoc [] ys zs = refl
-append-assoc (x ∷ xs) ys zs = ap (λ l. x ∷ l) (append-assoc xs ys zs)
-
--- what a list goes on with is what is left after its beginning
-pub drop-begun : {A : Type 0} (n : ℕ) (xs ys : List A) → n ≤ length xs → drop n (xs ++ ys) ≡ drop n xs ++ ys
-drop-begun zero xs ys h = refl
-drop-begun (suc n) [] ys h = absurd (omega arith)
-drop-begun (suc n) (x ∷ xs) ys h = drop-begun n xs ys (omega arith)
-
-pub drop-all : {A : Type 0} (xs : List A) → drop (length xs) xs ≡ []
-drop-all [] = refl
-drop-all (x ∷ xs) = drop-all xs
-
-pub drop-whole : {A : Type 0} (xs ys : List A) → drop (length xs) (xs ++ ys) ≡ ys
-drop-whole [] ys = refl
-drop-whole (x ∷ xs) ys = drop-whole xs ys
-
--- what stands behind calls_from: one entry more
+-- the calls where the first entry is one
 pub calls_from-yes : (at : ℕ) (ts : List ℕ) (e : E) (es : List E) → has_ticket ts (maker e) ≡ true
     → calls_from at ts (e ∷ es) ≡ (at, e) ∷ calls_from (suc at) ts es
 calls_from-yes at ts e es h = ap (λ (b : Bool). cond b ((at, e) ∷ calls_from (suc at) ts es)
     (calls_from (suc at) ts es)) h
 
+-- and where the first entry is none
 pub calls_from-no : (at : ℕ) (ts : List ℕ) (e : E) (es : List E) → has_ticket ts (maker e) ≡ false
     → calls_from at ts (e ∷ es) ≡ calls_from (suc at) ts es
 calls_from-no at ts e es h = ap (λ (b : Bool). cond b ((at, e) ∷ calls_from (suc at) ts es)
     (calls_from (suc at) ts es)) h
 
 -- calls among entries that go on
-pub calls_from-append : (at : ℕ) (ts : List ℕ) (xs ys : List E)
+calls_from-append : (at : ℕ) (ts : List ℕ) (xs ys : List E)
     → calls_from at ts (xs ++ ys) ≡ calls_from at ts xs ++ calls_from (at + length xs) ts ys
 calls_from-append at ts [] ys = ap (λ (n : ℕ). calls_from n ts ys) (omega arith)
 calls_from-append at ts (e ∷ es) ys =
     let i = calls_from-append (suc at) ts es ys in
     let n : suc at + length es ≡ at + suc (length es) = omega arith in
     let i' : calls_from (suc at) ts (es ++ ys) ≡ calls_from (suc at) ts es ++ calls_from (at + suc (length es))
-        ts ys =
+    ts ys =
     i ∙ ap (λ (k : ℕ). calls_from (suc at) ts es ++ calls_from k ts ys) n in
     ⊎_elim
     (λ y. calls_from-yes at ts e (es ++ ys) y ∙ (ap (λ l. (at, e) ∷ l) i'
-        ∙ sym (ap (λ l. l ++ calls_from (at + suc (length es)) ts ys) (calls_from-yes at ts e es y))))
+    ∙ sym (ap (λ l. l ++ calls_from (at + suc (length es)) ts ys) (calls_from-yes at ts e es y))))
     (λ n. calls_from-no at ts e (es ++ ys) n
-        ∙ (i' ∙ sym (ap (λ l. l ++ calls_from (at + suc (length es)) ts ys) (calls_from-no at ts e es n))))
+    ∙ (i' ∙ sym (ap (λ l. l ++ calls_from (at + suc (length es)) ts ys) (calls_from-no at ts e es n))))
     (true_or_false (has_ticket ts (maker e)))
 
+-- the calls of a seat in a history that goes on
 pub calls_of-append : (ts : List ℕ) (since : ℕ) (xs ys : List E) → since ≤ length xs
     → calls_of ts since (xs ++ ys) ≡ calls_of ts since xs ++ calls_from (length xs) ts ys
 calls_of-append ts since xs ys h =
     let n : since + length (drop since xs) ≡ length xs = omega (arith, length-drop since xs) in
-    ap (calls_from since ts) (drop-begun since xs ys h)
+    ap (calls_from since ts) (drop-append-le since xs ys h)
     ∙ (calls_from-append since ts (drop since xs) ys ∙ ap (λ (k : ℕ). calls_of ts since xs ++ calls_from k ts ys) n)
 
-pub no_calls : (at : ℕ) (ts : List ℕ) (es : List E) → NoCalls ts es → calls_from at ts es ≡ []
+no_calls : (at : ℕ) (ts : List ℕ) (es : List E) → NoCalls ts es → calls_from at ts es ≡ []
 no_calls at ts [] h = refl
 no_calls at ts (e ∷ es) h = calls_from-no at ts e es h.0 ∙ no_calls (suc at) ts es h.1
 
 -- where there is no call, none of the entries is one
-pub no_calls_back : (at : ℕ) (ts : List ℕ) (es : List E) → calls_from at ts es ≡ [] → NoCalls ts es
+no_calls_back : (at : ℕ) (ts : List ℕ) (es : List E) → calls_from at ts es ≡ [] → NoCalls ts es
 no_calls_back at ts [] h = tt
 no_calls_back at ts (e ∷ es) h = ⊎_elim
     (λ y. let bad : (at, e) ∷ calls_from (suc at) ts es ≡ [] = sym (calls_from-yes at ts e es y) ∙ h in
-        absurd (let l : suc (length (calls_from (suc at) ts es)) ≡ 0 = ap length bad in omega arith))
+    absurd (let l : suc (length (calls_from (suc at) ts es)) ≡ 0 = ap length bad in omega arith))
     (λ n. (n, no_calls_back (suc at) ts es (sym (calls_from-no at ts e es n) ∙ h)))
     (true_or_false (has_ticket ts (maker e)))
 
+-- where each entry is a call, the calls are all entries with their positions
 pub all_calls : (at : ℕ) (ts : List ℕ) (es : List E) → AreCalls ts es → calls_from at ts es ≡ numbered at es
 all_calls at ts [] h = refl
 all_calls at ts (e ∷ es) h = calls_from-yes at ts e es h.0 ∙ ap (λ l. (at, e) ∷ l) (all_calls (suc at) ts es h.1)
 
+-- where two lists have no call, the two together have none
 pub NoCalls-append : (ts : List ℕ) (xs ys : List E) → NoCalls ts xs → NoCalls ts ys → NoCalls ts (xs ++ ys)
 NoCalls-append ts [] ys a b = b
 NoCalls-append ts (x ∷ xs) ys a b = (a.0, NoCalls-append ts xs ys a.1 b)
 
+-- where a list has no call, its beginning has none
 pub NoCalls-front : (ts : List ℕ) (xs ys : List E) → NoCalls ts (xs ++ ys) → NoCalls ts xs
 NoCalls-front ts [] ys a = tt
 NoCalls-front ts (x ∷ xs) ys a = (a.0, NoCalls-front ts xs ys a.1)
 
+-- and its end has none
 pub NoCalls-back : (ts : List ℕ) (xs ys : List E) → NoCalls ts (xs ++ ys) → NoCalls ts ys
 NoCalls-back ts [] ys a = a
 NoCalls-back ts (x ∷ xs) ys a = NoCalls-back ts xs ys a.1
@@ -107,16 +93,19 @@ fewer_calls ts us (e ∷ es) part h = (
   fewer_calls ts us es part h.1,
 )
 
+-- calls under tickets below n are made below n
 pub made_below : (n : ℕ) (ts : List ℕ) (es : List E) → ((t : ℕ) → has_ticket ts t ≡ true → t < n) → AreCalls ts es
     → AreMadeBelow n es
 made_below n ts [] b h = tt
 made_below n ts (e ∷ es) b h = (b (maker e) h.0, made_below n ts es b h.1)
 
+-- two lists made below n are so together
 pub AreMadeBelow-append : (n : ℕ) (xs ys : List E) → AreMadeBelow n xs → AreMadeBelow n ys
     → AreMadeBelow n (xs ++ ys)
 AreMadeBelow-append n [] ys a b = b
 AreMadeBelow-append n (x ∷ xs) ys a b = (a.0, AreMadeBelow-append n xs ys a.1 b)
 
+-- the end of a list made below n is so
 pub AreMadeBelow-back : (n : ℕ) (xs ys : List E) → AreMadeBelow n (xs ++ ys) → AreMadeBelow n ys
 AreMadeBelow-back n [] ys a = a
 AreMadeBelow-back n (x ∷ xs) ys a = AreMadeBelow-back n xs ys a.1
@@ -129,7 +118,7 @@ none_left n ts (e ∷ es) all made none = absurd (true_not_false (all (maker e) 
 
 -- what a value brings along is nobody's call
 pub calls_of-none : (ts : List ℕ) (es : List E) → calls_of ts (length es) es ≡ []
-calls_of-none ts es = ap (calls_from (length es) ts) (drop-all es)
+calls_of-none ts es = ap (calls_from (length es) ts) (drop-length es)
 
 -- of no calls, fewer tickets have none
 pub fewer_calls_of : (ts us : List ℕ) (since : ℕ) (es : List E)

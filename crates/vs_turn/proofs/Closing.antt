@@ -1,17 +1,18 @@
 -- The seat that has all tickets has seen everything, and the value is in its slot.
-use Rattle.std.proofs.Common.{◌≡◌, ◌≢◌, ℕ, zero, suc, ◌+◌, ◌<◌, ◌≤◌, ◌⊎◌, inl, inr, ⊎_elim, true, false, List, [], ◌∷◌, ◌++◌, length, drop, refl, sym, ap, ◌∙◌, subst, arith}
+use Rattle.std.proofs.Common.{◌≡◌, ℕ, ◌+◌, ◌<◌, true, false, List, [], ◌++◌, length, drop, sym, ap, ◌∙◌, subst, arith, append-nil}
+use Rattle.std.proofs.lemmas.List.{drop-append-le}
 use mathlib.Core.Logic.{dite}
-use mathlib.Core.Option.{Option as Home, none, some}
+use mathlib.Core.Option.{Option as Home, some}
 use native.Mathlib.Decide.{ℕ_discrete}
 use lib.ListN.{get_elem?}
 use Rattle.std.specs.Prelude.{Option, Some, slice_index}
-use Rattle.atomic_table.specs.Table.{State, Final, Seen}
+use Rattle.atomic_table.specs.Table.{Final, Seen}
 use Rattle.vs_turn.specs.declared.view.View.{View}
 use Rattle.vs_turn.specs.Calls.{has_ticket, AreMadeBelow}
 use Rattle.vs_turn.specs.Tickets.{lowest}
-use Rattle.vs_turn.specs.Rule.{Origin, IsAt, Stands, Holder, Rests, Ruled, IsRuled}
-use Rattle.vs_turn.proofs.TicketLists.{true_not_false, has_lowest, full_tickets}
-use Rattle.vs_turn.proofs.CallLists.{append-nil, drop-begun, AreMadeBelow-back, none_left}
+use Rattle.vs_turn.specs.Rule.{Origin, IsAt, Stands, Ruled, IsRuled}
+use Rattle.vs_turn.proofs.TicketLists.{has_lowest, full_tickets}
+use Rattle.vs_turn.proofs.CallLists.{AreMadeBelow-back, none_left}
 use Rattle.vs_turn.proofs.Rules.{not_mine}
 
 module _ {S : Type 0} (opening_of : S → List ℕ) (entries_of : S → List (List ℕ)) (o : Origin) where
@@ -32,7 +33,7 @@ module _ {S : Type 0} (opening_of : S → List ℕ) (entries_of : S → List (Li
     every_ticket : (t : ℕ) → t < o.seats → has_ticket v.tickets t ≡ true
     every_ticket t h =
         let below : (x : ℕ) → has_ticket v.tickets x ≡ true → x < 0 + o.seats =
-            λ x y. let b = (st.tickets x y).0 in omega arith in
+        λ x y. let b = (st.tickets x y).0 in omega arith in
         full_tickets 0 o.seats v.tickets st.rise all below t (omega arith) (omega arith)
 
     -- nobody else has a ticket, so nobody has the turn
@@ -47,9 +48,9 @@ module _ {S : Type 0} (opening_of : S → List ℕ) (entries_of : S → List (Li
     nothing_new : st.rest ≡ []
     nothing_new =
         let made = subst (AreMadeBelow o.seats)
-            (ap (drop o.since) (sym st.begins) ∙ drop-begun o.since v.seen st.rest st.begun) r.made in
+        (ap (drop o.since) (sym st.begins) ∙ drop-append-le o.since v.seen st.rest st.begun) r.made in
         none_left o.seats v.tickets st.rest every_ticket (AreMadeBelow-back o.seats (drop o.since v.seen) st.rest made)
-          st.unmade
+        st.unmade
 
     seen_all : r.log ≡ v.seen
     seen_all = sym st.begins ∙ (ap (λ l. v.seen ++ l) nothing_new ∙ append-nil v.seen)
@@ -64,6 +65,7 @@ module _ {S : Type 0} (opening_of : S → List ℕ) (entries_of : S → List (Li
       entries = x.entries_are ∙ seen_all;
     }
 
+  -- what a table is closed with
   pub closes : (id : ℕ) (v : View) (words : List ℕ) (slots : List (Option S)) → 0 < length v.tickets
       → v.has_turn ≡ false → length v.tickets ≡ o.seats
       → Final (Seen (IsRuled opening_of entries_of o) id v) words slots → Ends v slots

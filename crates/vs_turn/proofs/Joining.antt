@@ -1,19 +1,18 @@
 -- Joining two seats keeps the rule, and the look after it tells how what they had seen hangs together.
-use Rattle.std.proofs.Common.{◌≡◌, ◌≢◌, ℕ, zero, suc, ◌+◌, ◌-◌, ◌<◌, ◌≤◌, ◌⊎◌, inl, inr, ⊎_elim, Bool, true, false, cond, List, [], ◌∷◌, ◌++◌, length, get_or, set, drop, refl, sym, ap, ◌∙◌, subst, arith, length-append}
-use mathlib.Core.Option.{Option as Home, none, some, some-ne-none}
+use Rattle.std.proofs.Common.{◌≡◌, ◌≢◌, ℕ, ◌<◌, ◌≤◌, ⊎_elim, Bool, true, false, cond, List, [], ◌∷◌, ◌++◌, length, set, drop, refl, sym, ap, ◌∙◌, subst, arith, append-nil}
+use mathlib.Core.Option.{Option as Home, none}
 use mathlib.Core.List.{IsPrefix}
-use lib.ListN.{get_elem?}
 use Rattle.std.specs.Prelude.{Option, nat_lt, slice_index}
 use Rattle.std.proofs.lemmas.Bool.{ltb-true, ltb-false}
-use Rattle.atomic_table.specs.Table.{State, Me, step, keeps, Allows, Joins}
+use Rattle.atomic_table.specs.Table.{Me, step, keeps, Allows, Joins}
 use Rattle.atomic_table.proofs.Lists.{at_set, set_else}
 use Rattle.vs_turn.specs.declared.view.View.{View}
 use Rattle.vs_turn.specs.Calls.{has_ticket, calls_of, NoCalls, merged_calls, longer}
 use Rattle.vs_turn.specs.Tickets.{lowest, merged_tickets}
-use Rattle.vs_turn.specs.Rule.{Origin, IsAt, AllBegin, Stands, Holder, Ruled, IsRuled}
+use Rattle.vs_turn.specs.Rule.{Origin, IsAt, Stands, Holder, Ruled, IsRuled}
 use Rattle.vs_turn.specs.Steps.{joined, spent, Learned, Looked}
 use Rattle.vs_turn.proofs.TicketLists.{true_or_false, true_not_false, has_lowest, few_tickets}
-use Rattle.vs_turn.proofs.CallLists.{append-nil, NoCalls-front, NoCalls-back, still_all_calls}
+use Rattle.vs_turn.proofs.CallLists.{NoCalls-front, NoCalls-back, still_all_calls}
 use Rattle.vs_turn.proofs.MergedTickets.{length-merged, merged_has, rise-merged}
 use Rattle.vs_turn.proofs.MergedCalls.{calls_from-merged, NoCalls-merged}
 use Rattle.vs_turn.proofs.Rules.{one_there, moved, not_mine, tickets_apart}
@@ -66,8 +65,8 @@ module _ (o : Origin) (owner : ℕ → ℕ) (log : List (List ℕ)) (word : ℕ)
         begun = b.begun;
         calls = both_calls w.seen
             (ap (calls_of v.tickets o.since) (sym m.1)
-                ∙ (still_all_calls v.tickets o.since v.seen m.0 a.begun (NoCalls-front v.tickets m.0 b.rest unmade)
-                    ∙ a.mine)) b.mine;
+            ∙ (still_all_calls v.tickets o.since v.seen m.0 a.begun (NoCalls-front v.tickets m.0 b.rest unmade)
+            ∙ a.mine)) b.mine;
         rest = b.rest;
         begins = b.begins;
         unmade = NoCalls-merged v.tickets w.tickets b.rest (NoCalls-back v.tickets m.0 b.rest unmade) b.unmade;
@@ -84,8 +83,8 @@ module _ (o : Origin) (owner : ℕ → ℕ) (log : List (List ℕ)) (word : ℕ)
         begun = a.begun;
         calls = both_calls v.seen a.mine
             (ap (calls_of w.tickets o.since) (sym m.1)
-                ∙ (still_all_calls w.tickets o.since w.seen m.0 b.begun (NoCalls-front w.tickets m.0 a.rest unmade)
-                    ∙ b.mine));
+            ∙ (still_all_calls w.tickets o.since w.seen m.0 b.begun (NoCalls-front w.tickets m.0 a.rest unmade)
+            ∙ b.mine));
         rest = a.rest;
         begins = a.begins;
         unmade = NoCalls-merged v.tickets w.tickets a.rest a.unmade (NoCalls-back w.tickets m.0 a.rest unmade);
@@ -93,15 +92,16 @@ module _ (o : Origin) (owner : ℕ → ℕ) (log : List (List ℕ)) (word : ℕ)
         second = (m.0, m.1);
       }
 
+  -- what both seats know, whichever has seen more
   pub together : Together v.tickets w.tickets o.since (longer v.seen w.seen) v.mine w.mine log v.seen w.seen
   together =
       let P : List (List ℕ)
-          → Type 0 = λ seen. Together v.tickets w.tickets o.since seen v.mine w.mine log v.seen w.seen in
+      → Type 0 = λ seen. Together v.tickets w.tickets o.since seen v.mine w.mine log v.seen w.seen in
       ⊎_elim
       (λ y. subst P (sym (longer_second v.seen w.seen y))
-          (second_longer (let l = ltb-true (length v.seen) (length w.seen) y in omega arith)))
+      (second_longer (let l = ltb-true (length v.seen) (length w.seen) y in omega arith)))
       (λ n. subst P (sym (longer_first v.seen w.seen n))
-          (first_longer (ltb-false (length v.seen) (length w.seen) n)))
+      (first_longer (ltb-false (length v.seen) (length w.seen) n)))
       (true_or_false (nat_lt (length v.seen) (length w.seen)))
 
 module _ {S : Type 0} (opening_of : S → List ℕ) (entries_of : S → List (List ℕ)) (o : Origin)
@@ -199,18 +199,19 @@ module _ {S : Type 0} (opening_of : S → List ℕ) (entries_of : S → List (Li
     taken = λ h. still_has (r.taken h);
     stands = λ j u at. ⊎_elim
         (λ gone.
-          let none_left : length u.tickets ≡ 0 = ap (λ (x : View). length x.tickets) (sym gone.1) in
-          let live = at.live in
-          absurd (omega arith))
+        let none_left : length u.tickets ≡ 0 = ap (λ (x : View). length x.tickets) (sym gone.1) in
+        let live = at.live in
+        absurd (omega arith))
         (λ t. ⊎_elim
-            (λ x. subst (λ (z : ℕ × View). Stands o owner r.log word z.0 z.1) (λ i. (sym x.0 i, x.1 i)) both)
-            (λ x. bystander j u record { at = x.1; live = at.live } t.0)
-            (at_set views id j (joined v w) u t.1))
+        (λ x. subst (λ (z : ℕ × View). Stands o owner r.log word z.0 z.1) (λ i. (sym x.0 i, x.1 i)) both)
+        (λ x. bystander j u record { at = x.1; live = at.live } t.0)
+        (at_set views id j (joined v w) u t.1))
         (at_set (set views id (joined v w)) other j spent u at.at);
     made = r.made;
   }
 
 module _ {S : Type 0} (opening_of : S → List ℕ) (entries_of : S → List (List ℕ)) (o : Origin) where
+  -- the step itself
   pub joins : (id : ℕ) (v : View) (other : ℕ) (w : View) → 0 < length v.tickets → v.has_turn ≡ false
       → 0 < length w.tickets → w.has_turn ≡ false
       → Joins (IsRuled opening_of entries_of o) id v other w (joined v w) spent
@@ -219,12 +220,12 @@ module _ {S : Type 0} (opening_of : S → List ℕ) (entries_of : S → List (Li
       let beside : IsAt s.views other w = record {
         at = sym (set_else s.views id other (joined v w) ne) ∙ there;
         live = alive;
-      } in
-      (
+      } in (
         k.0,
         join opening_of entries_of o (slice_index s.words 0) s.homes s.views k.1 id v here rests other w beside idle ne,
       )
 
+  -- the look after it
   pub looks : (slots id : ℕ) (me : Me (Option S) View) → 0 < length me.0.tickets
       → Allows (IsRuled opening_of entries_of o) slots id me 0 (λ n. n) (Looked (step slots 0 0 0 none) me)
   looks slots id me live s k _ at _ =

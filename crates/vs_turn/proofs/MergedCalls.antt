@@ -1,8 +1,8 @@
 -- The calls of two seats that have no ticket in common, in the order of their positions.
-use Rattle.std.proofs.Common.{◌≡◌, ◌≢◌, ℕ, zero, suc, ◌+◌, ◌<◌, ◌≤◌, ◌⊎◌, inl, inr, ⊎_elim, Bool, true, false, ◌||◌, cond, List, [], ◌∷◌, ◌++◌, length, drop, refl, sym, ap, ◌∙◌, subst, arith}
+use Rattle.std.proofs.Common.{◌≡◌, ℕ, suc, ◌+◌, ◌<◌, ◌≤◌, ⊎_elim, Bool, true, false, ◌||◌, cond, List, [], ◌∷◌, length, refl, sym, ap, ◌∙◌, subst, arith}
 use Rattle.std.specs.Prelude.{nat_lt}
 use Rattle.std.proofs.lemmas.Bool.{lt-ltb, le-ltb}
-use Rattle.vs_turn.specs.Calls.{maker, has_ticket, calls_from, calls_of, NoCalls, insert_call, merged_calls}
+use Rattle.vs_turn.specs.Calls.{maker, has_ticket, calls_from, NoCalls, insert_call, merged_calls}
 use Rattle.vs_turn.specs.Tickets.{merged_tickets}
 use Rattle.vs_turn.proofs.TicketLists.{true_or_false, true_not_false}
 use Rattle.vs_turn.proofs.CallLists.{calls_from-yes, calls_from-no}
@@ -41,8 +41,10 @@ insert_from : (k : ℕ) (c : Call) (ds : List Call) → k ≤ c.0 → FromOn k d
 insert_from k c [] h f = (h, tt)
 insert_from k c (d ∷ ds) h f = ⊎_elim
     (λ y. subst (FromOn k) (sym (ap (λ (b : Bool). cond b (c ∷ d ∷ ds) (d ∷ insert_call c ds)) y)) (h, f))
-    (λ n. subst (FromOn k) (sym (ap (λ (b : Bool). cond b (c ∷ d ∷ ds) (d ∷ insert_call c ds)) n)) (f.0,
-        insert_from k c ds h f.1))
+    (λ n. subst (FromOn k) (sym (ap (λ (b : Bool). cond b (c ∷ d ∷ ds) (d ∷ insert_call c ds)) n)) (
+      f.0,
+      insert_from k c ds h f.1,
+    ))
     (true_or_false (nat_lt c.0 d.0))
 
 merged_from : (k : ℕ) (cs ds : List Call) → FromOn k cs → FromOn k ds → FromOn k (merged_calls cs ds)
@@ -73,7 +75,7 @@ calls_from-merged k ts us (e ∷ es) apart =
     calls_from-yes k both e es in_both
     ∙ (ap (λ l. (k, e) ∷ l) rest
     ∙ (sym (insert_first (k, e) (merged_calls cs ds) (merged_from (suc k) cs ds (calls_later (suc k) ts es)
-        (calls_later (suc k) us es)))
+    (calls_later (suc k) us es)))
     ∙ sym ((λ i. merged_calls (calls_from-yes k ts e es y i) (calls_from-no k us e es n i))))))
     (λ n. ⊎_elim
     (λ y. let in_both : has_ticket both m ≡ true = has-merged ts us m ∙ (λ i. n i || y i) in
@@ -103,7 +105,7 @@ length-insert_call c [] = refl
 length-insert_call c (d ∷ ds) = ⊎_elim
     (λ y. ap (λ (b : Bool). length (cond b (c ∷ d ∷ ds) (d ∷ insert_call c ds))) y ∙ omega arith)
     (λ n. ap (λ (b : Bool). length (cond b (c ∷ d ∷ ds) (d ∷ insert_call c ds))) n
-        ∙ (let l = length-insert_call c ds in omega arith))
+    ∙ (let l = length-insert_call c ds in omega arith))
     (true_or_false (nat_lt c.0 d.0))
 
 -- no call is lost or doubled

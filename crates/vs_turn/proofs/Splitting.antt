@@ -1,9 +1,9 @@
 -- Splitting a seat that has made no entry keeps the rule.
 use Rattle.std.proofs.Common.{◌≡◌, ◌≢◌, ℕ, zero, suc, ◌+◌, ◌-◌, ◌<◌, ◌≤◌, ◌⊎◌, inl, inr, ⊎_elim, Bool, true, false, cond, List, [], ◌∷◌, ◌++◌, length, set, take, drop, refl, sym, ap, ◌∙◌, subst, arith, length-set, length-take, length-drop}
-use mathlib.Core.Option.{Option as Home, none, some, some-injective, some-ne-none}
+use mathlib.Core.Option.{Option as Home, some, some-injective, some-ne-none}
 use lib.ListN.{get_elem?}
 use Rattle.std.specs.Prelude.{Option, slice_index}
-use Rattle.atomic_table.specs.Table.{State, Splits}
+use Rattle.atomic_table.specs.Table.{Splits}
 use Rattle.atomic_table.proofs.Lists.{at_set, set_else, at_longer}
 use Rattle.vs_turn.specs.declared.view.View.{View}
 use Rattle.vs_turn.specs.Calls.{has_ticket, calls_of, NoCalls}
@@ -54,7 +54,7 @@ module _ {S : Type 0} (opening_of : S → List ℕ) (entries_of : S → List (Li
   keeper : Stands o owner r.log word id (keeping v)
   keeper =
       let p = part (take last v.tickets) (λ t h. has_take last t v.tickets h)
-          (omega (arith, length-take last v.tickets)) in
+      (omega (arith, length-take last v.tickets)) in
       record {
         rise = rise_take last 0 v.tickets st.rise;
         tickets = λ t h.
@@ -76,7 +76,7 @@ module _ {S : Type 0} (opening_of : S → List ℕ) (entries_of : S → List (Li
   newcomer : (j : ℕ) → j ≡ length views → Stands o owner r.log word j (handed v)
   newcomer j new =
       let p = part (drop last v.tickets) (λ t h. has_drop last t v.tickets h)
-          (omega (arith, length-drop last v.tickets)) in
+      (omega (arith, length-drop last v.tickets)) in
       record {
         rise = rise_drop last 0 v.tickets st.rise;
         tickets = λ t h. ((st.tickets t (has_drop last t v.tickets h)).0, owner_handed t h ∙ sym new);
@@ -100,9 +100,9 @@ module _ {S : Type 0} (opening_of : S → List ℕ) (entries_of : S → List (Li
         rise = su.rise;
         tickets = λ t h.
             let not_handed : has_ticket (handed v).tickets t ≡ false = ⊎_elim
-                (λ y. absurd (true_not_false h (tickets_apart r here there ne t (has_drop last t v.tickets y))))
-                (λ f. f)
-                (true_or_false (has_ticket (handed v).tickets t)) in
+            (λ y. absurd (true_not_false h (tickets_apart r here there ne t (has_drop last t v.tickets y))))
+            (λ f. f)
+            (true_or_false (has_ticket (handed v).tickets t)) in
             ((su.tickets t h).0, owner_other t not_handed ∙ (su.tickets t h).1);
         marked = su.marked;
         only_marked = su.only_marked;
@@ -120,8 +120,8 @@ module _ {S : Type 0} (opening_of : S → List ℕ) (entries_of : S → List (Li
   still_has : Holder views r.holder → Holder (set views id (keeping v) ++ handed v ∷ []) r.holder
   still_has h =
       let ne : r.holder ≢ id = λ e.
-          let same = one_there (moved e h.is_at) here in
-          true_not_false (ap (λ (u : View). u.has_turn) (sym same) ∙ h.has_turn) rests in
+      let same = one_there (moved e h.is_at) here in
+      true_not_false (ap (λ (u : View). u.has_turn) (sym same) ∙ h.has_turn) rests in
       let kept = set_else views id r.holder (keeping v) ne ∙ h.is_at.at in
       record {
         view = h.view;
@@ -143,20 +143,20 @@ module _ {S : Type 0} (opening_of : S → List ℕ) (entries_of : S → List (Li
     taken = λ h. still_has (r.taken h);
     stands = λ j u there. ⊎_elim
         (λ old. ⊎_elim
-            (λ t. subst (λ (z : ℕ × View). Stands o owner r.log word z.0 z.1) (λ i. (sym t.0 i, t.1 i)) keeper)
-            (λ t. bystander j u record { at = t.1; live = there.live } t.0)
-            (at_set views id j (keeping v) u old))
+        (λ t. subst (λ (z : ℕ × View). Stands o owner r.log word z.0 z.1) (λ i. (sym t.0 i, t.1 i)) keeper)
+        (λ t. bystander j u record { at = t.1; live = there.live } t.0)
+        (at_set views id j (keeping v) u old))
         (λ new. subst (Stands o owner r.log word j) new.1 (newcomer j (new.0 ∙ length-set views id (keeping v))))
         (at_end (set views id (keeping v)) (handed v) u j there.at);
     made = r.made;
   }
 
+-- the step itself
 pub splits : {S : Type 0} (opening_of : S → List ℕ) (entries_of : S → List (List ℕ)) (o : Origin) (id : ℕ) (v : View)
     → 2 ≤ length v.tickets → v.has_turn ≡ false → v.mine ≡ []
     → Splits (IsRuled opening_of entries_of o) id v (keeping v) (handed v)
 splits opening_of entries_of o id v two rests none_made s k at =
-    let here : IsAt s.views id v = record { at = at; live = omega arith } in
-    (
+    let here : IsAt s.views id v = record { at = at; live = omega arith } in (
       k.0,
       split opening_of entries_of o (slice_index s.words 0) s.homes s.views k.1 id v here two rests none_made,
     )

@@ -1,5 +1,5 @@
 -- What each atomic step makes of its seat's view, and what it tells.
-use Rattle.std.specs.Prelude.{◌≡◌, ◌≢◌, ℕ, ◌^◌, ◌<◌, ◌≤◌, Bool, true, false, List, [], ◌∷◌, drop, length, Option, Some, None}
+use Rattle.std.specs.Prelude.{◌≡◌, ◌≢◌, ℕ, ◌^◌, ◌<◌, ◌≤◌, true, false, List, [], ◌∷◌, drop, length, Option, Some}
 use Rattle.atomic_table.specs.Table.{Me, Step}
 use mathlib.Core.List.{IsPrefix}
 use Rattle.vs_turn.specs.declared.view.View.{View}

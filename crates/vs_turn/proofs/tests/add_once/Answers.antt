@@ -22,10 +22,10 @@ goes_on tickets x old false mine = adds_none tickets (entries old) _ refl
 
 counted : (calls : List (ℕ × List ℕ)) (x : ℕ × ℕ) (old : List (ℕ × ℕ)) (b : Bool)
     → length (calls ++ new_calls (entries old) (entries (amounts_after b old x)))
-        ≡ length calls + (if b then 1 else 0)
+    ≡ length calls + (if b then 1 else 0)
 counted calls x old true =
     ap (λ l. length (calls ++ l)) (ap (new_calls (entries old)) (map-append (λ a. a.0 ∷ a.1 ∷ []) old (x ∷ []))
-        ∙ new_calls-one (entries old) (x.0 ∷ x.1 ∷ []))
+    ∙ new_calls-one (entries old) (x.0 ∷ x.1 ∷ []))
     ∙ length-append calls _
 counted calls x old false = ap (λ l. length (calls ++ l)) (new_calls-none (entries old))
     ∙ (length-append calls _ ∙ omega arith)
@@ -33,10 +33,10 @@ counted calls x old false = ap (λ l. length (calls ++ l)) (new_calls-none (entr
 -- the amounts after the call of `add`
 amounts : (g : Over) (c : After-is_ok-added g)
     → c.add.new.self.amounts.items ≡ (if is_ok c.add.result then c.hold-held.result.value.amounts.items ++
-        (c.args.maker, 1) ∷ [] else c.hold-held.result.value.amounts.items)
+    (c.args.maker, 1) ∷ [] else c.hold-held.result.value.amounts.items)
 amounts g c = c.add.ensures.amounts
     ∙ ap (λ (t : Tally). amounts_after (is_ok c.add.result) t.amounts.items (c.args.maker, 1))
-        c.value.ensures.value
+    c.value.ensures.value
 
 pub release-requires-clause-entries : goal.release-requires-clause-entries
 release-requires-clause-entries g c =
@@ -44,9 +44,9 @@ release-requires-clause-entries g c =
     let found = c.hold-held.ensures.found in
     let new = amounts g c in
     subst (λ (z : List ℕ × List (List ℕ) × List (ℕ × ℕ)). GoOn z.0 z.1 (entries z.2))
-        (λ i. ((sym seat i).tickets, sym found i, sym new i))
+    (λ i. ((sym seat i).tickets, sym found i, sym new i))
     (goes_on c.args.seat.tickets (c.args.maker, 1) c.hold-held.result.value.amounts.items (is_ok c.add.result)
-        c.requires.maker)
+    c.requires.maker)
 
 pub returns-clause-made : goal.returns-clause-made
 returns-clause-made g c =

@@ -1,7 +1,7 @@
-use Rattle.std.proofs.Common.{◌≡◌, ◌+◌, ◌-◌, ℕ, List, length, take, drop, sym, ap, ◌∙◌, arith}
+use Rattle.std.proofs.Common.{◌+◌, length, ap, ◌∙◌, arith}
 use Rattle.vs_turn.specs.Seats.{SeatModel}
-use Rattle.vs_turn.specs.Tickets.{all_tickets}
-use Rattle.vs_turn.proofs.TicketLists.{length-tickets_from, all_but_highest, highest}
+use Rattle.vs_turn.specs.Tickets.{without_highest, only_highest}
+use Rattle.vs_turn.proofs.TicketLists.{length-tickets_from, without_highest-all, only_highest-all}
 use Rattle.vs_turn.proofs.tests.split_off.Goals as goal
 
 pub split-requires-clause-two : goal.split-requires-clause-two
@@ -16,7 +16,7 @@ returns-clause-first c =
     record {
       of_turn = ap (λ (s : SeatModel). s.turn) is ∙ c.requires.turn;
       tickets_are = ap (λ (s : SeatModel). s.tickets) is
-          ∙ (ap (λ (ts : List ℕ). take (length ts - 1) ts) c.requires.tickets ∙ all_but_highest c.args.maker);
+          ∙ (ap without_highest c.requires.tickets ∙ without_highest-all c.args.maker);
       none_made = ap (λ (s : SeatModel). s.mine) is ∙ c.requires.none_made;
     }
 
@@ -26,6 +26,6 @@ returns-clause-second c =
     record {
       of_turn = ap (λ (s : SeatModel). s.turn) is ∙ c.requires.turn;
       tickets_are = ap (λ (s : SeatModel). s.tickets) is
-          ∙ (ap (λ (ts : List ℕ). drop (length ts - 1) ts) c.requires.tickets ∙ highest c.args.maker);
+          ∙ (ap only_highest c.requires.tickets ∙ only_highest-all c.args.maker);
       none_made = ap (λ (s : SeatModel). s.mine) is ∙ c.requires.none_made;
     }

@@ -1,4 +1,4 @@
-use Rattle.std.proofs.Common.{◌≡◌, ℕ, List, [], ◌∷◌, refl, sym, ap, ◌∙◌, subst}
+use Rattle.std.proofs.Common.{◌≡◌, [], ◌∷◌, refl, sym, ap, ◌∙◌, subst}
 use Rattle.std.specs.Prelude.{Option}
 use Rattle.atomic_table.specs.Table.{Me}
 use Rattle.vs_turn.specs.declared.view.View.{View}
@@ -34,7 +34,7 @@ returns-clause-seat g c =
     ∙ ap (λ (m : Me (Option g.row.S.Denot) View). released m.0 (entries held.value) ∷ []) back) in
     let name = c.into_badge-badge.ensures.0 ∙ (c.free.ensures.table ∙ c.put_in.ensures.table) in
     let on = subst (λ (h : HeldModel g.row.S.Denot). GoOn h.seat.tickets h.found (entries h.value))
-        (sym c.self.view_is) c.requires.entries in
+    (sym c.self.view_is) c.requires.entries in
     (λ i. seat_at (name i) (views i))
     ∙ (seat_released held.place.table_id v (entries held.value) inv.begun inv.mine on
     ∙ ap (λ (h : HeldModel g.row.S.Denot). released_seat h.seat h.found (entries h.value)) c.self.view_is)

@@ -1,8 +1,7 @@
-use Rattle.std.proofs.Common.{rules, ◌≡◌, ◌<◌, ℕ, List, [], ◌∷◌, sym, ap, ◌∙◌, subst, arith}
+use Rattle.std.proofs.Common.{rules, ◌<◌, ℕ, List, sym, subst, arith}
 use mathlib.Core.Option.{none}
-use Rattle.std.specs.Prelude.{Option, Some}
-use Rattle.atomic_table.specs.Table.{Me, step, Allows}
-use Rattle.vs_turn.specs.declared.view.View.{View}
+use Rattle.std.specs.Prelude.{Option}
+use Rattle.atomic_table.specs.Table.{step, Allows}
 use Rattle.vs_turn.specs.Rule.{origin, IsRuled}
 use Rattle.vs_turn.specs.Steps.{Freed}
 use Rattle.vs_turn.proofs.Freeing.{frees}
@@ -20,10 +19,12 @@ store-requires g c =
       search rules,
       search rules,
       subst (λ (xs : List (ℕ × Option g.row.S.Denot)). Allows
-          (IsRuled open' entries (origin open' entries key.value.value key.seats)) slots c.args.place.now.id (me.0,
-              xs) 0 (λ _. 0)
+          (IsRuled open' entries (origin open' entries key.value.value key.seats)) slots c.args.place.now.id (
+            me.0,
+            xs,
+          ) 0 (λ _. 0)
           (λ _. Freed entries (step slots 0 0 0 none) (me.0, xs) 0)) (sym back.slot)
           (frees open' entries (origin open' entries key.value.value key.seats)
-              slots c.args.place.now.id me.0 back.value slot c.requires.held.1 c.requires.held.0 back.opening
-                  back.entries),
+          slots c.args.place.now.id me.0 back.value slot c.requires.held.1 c.requires.held.0 back.opening
+          back.entries),
     )

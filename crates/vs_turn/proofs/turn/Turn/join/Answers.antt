@@ -1,9 +1,9 @@
-use Rattle.std.proofs.Common.{rules, ◌≡◌, ℕ, ◌+◌, ◌<◌, ◌≤◌, ◌^◌, List, [], ◌∷◌, length, sym, ap, ◌∙◌, subst, arith}
+use Rattle.std.proofs.Common.{rules, ◌≡◌, ◌+◌, ◌≤◌, List, [], ◌∷◌, length, sym, ap, ◌∙◌, subst, arith}
 use Rattle.std.specs.Prelude.{Option}
 use Rattle.atomic_table.specs.Table.{Me}
 use Rattle.vs_turn.specs.declared.view.View.{View}
 use Rattle.vs_turn.specs.Calls.{calls_of}
-use Rattle.vs_turn.specs.Seats.{SeatModel, seat_at}
+use Rattle.vs_turn.specs.Seats.{seat_at}
 use Rattle.vs_turn.specs.Steps.{joined}
 use Rattle.vs_turn.specs.Tickets.{RiseFrom, merged_tickets}
 use Rattle.vs_turn.proofs.AtRest.{at_rest, seen_seat, knows_calls}
@@ -44,7 +44,7 @@ invariant_of-result g c =
     let second = at_rest _ _ w c.b.invariant c.into_seat.ensures.2 in
     let both = c.join_seat.ensures.2 in
     let numbers : merged_tickets v.tickets w.tickets ≡ c.merge.result =
-        (λ i. merged_tickets (first.numbers i) (second.numbers i)) ∙ sym c.merge.ensures in
+    (λ i. merged_tickets (first.numbers i) (second.numbers i)) ∙ sym c.merge.ensures in
     let carried = ap (λ (m : Me (Option g.row.S.Denot) View). m.0.tickets) both ∙ numbers in
     let count = ap length carried in
     let sum = ap length (sym numbers) ∙ length-merged v.tickets w.tickets in
@@ -72,7 +72,7 @@ returns-clause-tickets g c =
     let first = seen_seat _ _ v _ c.into_seat-place.ensures.2 c.a.view_is in
     let second = seen_seat _ _ w _ c.into_seat.ensures.2 c.b.view_is in
     let one = c.into_badge.ensures.2 ∙ ap (λ (m : Me (Option g.row.S.Denot) View). m.0 ∷ []) (c.load.ensures.2.0
-        ∙ c.join_seat.ensures.2) in
+    ∙ c.join_seat.ensures.2) in
     ap (λ (views : List View). length (seat_at c.into_badge.result.table_id views).tickets) one
     ∙ (length-merged v.tickets w.tickets ∙ (λ i. length ((first i).tickets) + length ((second i).tickets)))
 
@@ -83,7 +83,7 @@ returns-clause-calls g c =
     let first = seen_seat _ _ v _ c.into_seat-place.ensures.2 c.a.view_is in
     let second = seen_seat _ _ w _ c.into_seat.ensures.2 c.b.view_is in
     let one = c.into_badge.ensures.2 ∙ ap (λ (m : Me (Option g.row.S.Denot) View). m.0 ∷ []) (c.load.ensures.2.0
-        ∙ c.join_seat.ensures.2) in
+    ∙ c.join_seat.ensures.2) in
     ap (λ (views : List View). length (seat_at c.into_badge.result.table_id views).mine) one
     ∙ (length-merged_calls v.mine w.mine ∙ (λ i. length ((first i).mine) + length ((second i).mine)))
 

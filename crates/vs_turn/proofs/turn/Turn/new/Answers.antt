@@ -1,4 +1,4 @@
-use Rattle.std.proofs.Common.{◌≡◌, ◌<◌, ◌≤◌, ◌^◌, List, ℕ, [], ◌∷◌, length, sym, ap, ◌∙◌, subst, refl, rules, arith}
+use Rattle.std.proofs.Common.{◌≡◌, ◌<◌, ◌≤◌, ◌^◌, List, [], ◌∷◌, length, sym, ap, ◌∙◌, subst, rules, arith}
 use Rattle.std.specs.Prelude.{Option, Some}
 use Rattle.atomic_table.specs.Table.{Me, opening}
 use Rattle.vs_turn.specs.declared.view.View.{View}
@@ -18,7 +18,7 @@ new-requires g c =
     let o = g.S.Kept.opening in let e = g.S.Kept.entries in let x = c.of.result.value in let n = c.args.seats in
     let few : n < 2 ^ 32 = search rules in
     subst (λ (items : List (Option g.row.S.Denot)). IsRuled o e (origin o e x n)
-        (opening (0 ∷ []) items (first_view (o x) (e x) n)))
+    (opening (0 ∷ []) items (first_view (o x) (e x) n)))
     (ap (λ (y : g.row.S.Denot). Some y ∷ []) c.of.ensures ∙ sym c.in-Ok-row_of.ensures.ok) (opens o e x n few)
 
 pub invariant_of-result-in-Ok-new : goal.invariant_of-result-in-Ok-new
@@ -43,4 +43,4 @@ invariant_of-result-in-Ok-new g c =
 pub returns-in-Ok-new-clause-knows : goal.returns-in-Ok-new-clause-knows
 returns-in-Ok-new-clause-knows g c =
     knows_calls _ _ _ (invariant_of-result-in-Ok-new g
-        (goal.at.returns-in-Ok-new-clause-knows g c).After-into_badge-badge)
+    (goal.at.returns-in-Ok-new-clause-knows g c).After-into_badge-badge)

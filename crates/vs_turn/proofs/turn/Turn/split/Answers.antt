@@ -1,10 +1,10 @@
-use Rattle.std.proofs.Common.{rules, ◌≡◌, ◌-◌, ◌<◌, ◌≤◌, ℕ, List, [], ◌∷◌, length, drop, take, sym, ap, ◌∙◌, subst, arith, length-take, length-drop}
+use Rattle.std.proofs.Common.{rules, ◌-◌, [], ◌∷◌, length, sym, ap, ◌∙◌, subst, arith, length-take, length-drop}
 use Rattle.std.specs.Prelude.{Option}
 use Rattle.atomic_table.specs.Table.{Me}
 use Rattle.vs_turn.specs.declared.view.View.{View}
 use Rattle.vs_turn.specs.Seats.{SeatModel}
 use Rattle.vs_turn.specs.Steps.{keeping, handed}
-use Rattle.vs_turn.specs.Tickets.{RiseFrom}
+use Rattle.vs_turn.specs.Tickets.{RiseFrom, without_highest, only_highest}
 use Rattle.vs_turn.proofs.AtRest.{at_rest, seen_seat, knows_calls}
 use Rattle.vs_turn.proofs.TicketLists.{has_take, has_drop, rise_take, rise_drop}
 use Rattle.vs_turn.proofs.CallLists.{fewer_calls_of}
@@ -45,7 +45,7 @@ invariant_of-first g c =
       one = c.into_badge.ensures.2 ∙ ap (λ (m : Me (Option g.row.S.Denot) View). m.0 ∷ [])
           c.split_seat-other.ensures.2;
       at_rest = rest.rests;
-      numbers = ap (λ ts. take (length ts - 1) ts) rest.numbers ∙ sym kept;
+      numbers = ap without_highest rest.numbers ∙ sym kept;
       some_ticket = omega arith;
       rise = subst (RiseFrom 0) (sym kept) (rise_take (length old - 1) 0 old c.seat.invariant.rise);
       few = omega arith;
@@ -71,7 +71,7 @@ invariant_of-second g c =
       one = c.into_badge-2.ensures.2 ∙ ap (λ (m : Me (Option g.row.S.Denot) View). m.0 ∷ [])
           c.split_seat-other.ensures.4;
       at_rest = rest.rests;
-      numbers = ap (λ ts. drop (length ts - 1) ts) rest.numbers ∙ sym highest;
+      numbers = ap only_highest rest.numbers ∙ sym highest;
       some_ticket = omega arith;
       rise = subst (RiseFrom 0) (sym highest) (rise_drop (length old - 1) 0 old c.seat.invariant.rise);
       few = omega arith;

@@ -1,4 +1,4 @@
-use Rattle.std.proofs.Common.{rules, ap, ◌∙◌, ◌<◌, ◌≡◌, ◌+◌, ℕ, sym, subst, length, arith}
+use Rattle.std.proofs.Common.{rules, ap, ◌∙◌, ◌+◌, sym, length, arith}
 use Rattle.vs_turn.specs.Tickets.{lowest}
 use Rattle.vs_turn.proofs.Taking.{takes_turn}
 use Rattle.vs_turn.proofs.turn.Turn.take.Goals as goal
