@@ -151,6 +151,21 @@ fn finds_its_own_entry(rt: HostRuntime) -> Result<(), Fail> {
     Ok(())
 }
 
+#[test]
+fn finds_what_another_released(rt: HostRuntime) -> Result<(), Fail> {
+    let Ok((turn, seat)) = Turn::new(rt.alloc(), Tally::new(rt.alloc(), 7), 2) else {
+        panic!(rt; "memory");
+    };
+    let (first, second) = split_off(&turn, seat, 1);
+    let (first, added) = add_once(&rt, &turn, first, 0);
+    let (second, entries) = look(&rt, &turn, second);
+    assert_eq!(rt; (added, entries), (true, 1));
+    let seat = turn.join(second, first);
+    let tally = turn.close(seat);
+    assert_eq!(rt; tally.amounts.as_slice(), [(0, 1)].as_slice());
+    Ok(())
+}
+
 // Holds the turn for a fifth of a second.
 fn hold_a_while<R: Wait + Clock>(rt: &R, turn: &Turn<Tally>, seat: Seat) -> Seat
     requires { seat.turn ≡ turn.now.name }
