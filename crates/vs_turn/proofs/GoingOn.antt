@@ -1,0 +1,22 @@
+-- What a holder adds, for callers of `release`.
+use Rattle.std.proofs.Common.{◌≡◌, ℕ, true, List, [], ◌∷◌, ◌++◌, length, sym, ap, ◌∙◌, append-nil, append_assoc}
+use Rattle.std.proofs.Math.Seq.{drop-append_seam, drop-length}
+use Rattle.vs_turn.specs.Calls.{maker, has_ticket, AreCalls, GoOn, numbered, new_calls}
+
+-- nothing was added
+pub adds_none : (tickets : List ℕ) (before after : List (List ℕ)) → before ≡ after → GoOn tickets before after
+adds_none tickets before after e = record { new = []; begins = append-nil before ∙ e; calls = tt }
+
+-- one call was added
+pub adds_one : (tickets : List ℕ) (before after : List (List ℕ)) (entry : List ℕ) → before ++ entry ∷ [] ≡ after
+    → has_ticket tickets (maker entry) ≡ true → GoOn tickets before after
+adds_one tickets before after entry e mine = record { new = entry ∷ []; begins = e; calls = (mine, tt) }
+
+-- where nothing was added there is no new call
+pub new_calls-none : (entries : List (List ℕ)) → new_calls entries entries ≡ []
+new_calls-none entries = ap (numbered (length entries)) (drop-length entries)
+
+-- where one entry was added it is the new call
+pub new_calls-one : (before : List (List ℕ)) (entry : List ℕ)
+    → new_calls before (before ++ entry ∷ []) ≡ (length before, entry) ∷ []
+new_calls-one before entry = ap (numbered (length before)) (drop-append_seam before (entry ∷ []))

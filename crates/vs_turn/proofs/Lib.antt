@@ -1,0 +1,13 @@
+pub mod TicketLists
+pub mod CallLists
+pub mod Rules
+pub mod Opening
+pub mod Taking
+pub mod Freeing
+pub mod MergedTickets
+pub mod Splitting
+pub mod Closing
+pub mod MergedCalls
+pub mod AtRest
+pub mod Joining
+pub mod GoingOn

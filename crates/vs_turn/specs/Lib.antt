@@ -1,0 +1,6 @@
+pub mod Calls
+pub mod Tickets
+pub mod Seats
+pub mod Rule
+pub mod Steps
+pub mod Tallies

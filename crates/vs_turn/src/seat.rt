@@ -1,0 +1,22 @@
+use crate::view::View;
+use atomic_table::Badge;
+use std::collections::LinkedList;
+use std::marker::Model;
+
+/// A caller's token of a turn. Contracts see the turn's name, the opening of the value and how many entries that had
+/// when the turn was made, the seat's tickets, the entries that it has seen, and those of them that it made.
+#[derive(Drop)]
+pub struct Seat {
+    pub(crate) tickets: LinkedList<u32>,
+    pub(crate) badge: Badge<View>,
+}
+
+impl Model for Seat {
+    ghost use Rattle.vs_turn.specs.Seats.{SeatModel, seat_at, IsSeat};
+
+    ghost Value = { SeatModel };
+
+    ghost view = { λ s. seat_at s.badge.table_id s.badge.views };
+
+    ghost invariant = { λ s. IsSeat s.badge.views s.tickets };
+}
