@@ -1,28 +1,12 @@
 #!/usr/bin/env bash
-# Times the program on instances of the largest size: 500 stops with all deadheads, 16 layers and 2,000 trips, each
-# permitted in every layer. It prints seconds and asserts nothing. Build bin/mdvsp first.
+# Times `solve --nodes 0` and `check` on an instance of the largest size (bench/largest_instance.sh). It prints seconds
+# and asserts nothing. Build bin/mdvsp first.
 set -u
 cd "$(dirname "$0")/.." || exit 1
 work=$(mktemp -d)
 trap 'rm -rf "$work"' EXIT
 
-awk 'BEGIN {
-  print "instance,1"
-  for (s = 0; s < 500; s++) print "stop,S" s
-  for (k = 0; k < 500; k++) for (s = 0; s < 500; s++) if (k != s) {
-    d = (k > s ? k - s : s - k); print "deadhead,S" k ",S" s "," d "," d * 500
-  }
-  for (l = 0; l < 16; l++) print "layer,L" l ",S" l * 30 ",2000,50000,10,1"
-  for (l = 0; l < 16; l++) names = names ",L" l
-  seed = 7
-  for (i = 0; i < 2000; i++) {
-    seed = (seed * 48271) % 2147483647; from = seed % 500
-    seed = (seed * 48271) % 2147483647; to = seed % 500
-    seed = (seed * 48271) % 2147483647; start = 300 + seed % 1080
-    end = start + 5 + (from > to ? from - to : to - from)
-    printf "trip,T%d,S%d,%d:%02d,S%d,%d:%02d,1000%s\n", i, from, start / 60, start % 60, to, end / 60, end % 60, names
-  }
-}' > "$work/instance"
+bench/largest_instance.sh > "$work/instance"
 
 echo "solve --nodes 0 on $(wc -l < "$work/instance") records:"
 time bin/mdvsp solve --nodes 0 < "$work/instance" > "$work/plan"

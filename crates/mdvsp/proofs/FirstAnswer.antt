@@ -16,14 +16,16 @@ use Rattle.vs_cert.specs.declared.shape.Shape.TheVariants.{Leaf}
 use Rattle.vs_prices.specs.declared.table.Table.{Table}
 use Rattle.vs_plan.specs.Blocks.{blocks_of}
 use Rattle.vs_plan.specs.Blocks.{IsOfInstance}
-use Rattle.vs_check.specs.HoldingDocument.{HasLeaf, HoldingDocument}
+use Rattle.vs_check.specs.HoldingDocument.{HoldingDocument, IsStrongLeaf}
 use Rattle.vs_tree.specs.Claims.{claim_found}
 use Rattle.vs_prices.specs.Table.{Fits, HoldingTable}
 use Rattle.vs_prices.specs.Worth.{IsWorth, Reaches}
 use Rattle.vs_cert.specs.DocumentText.{HasText, IsBetween, IsBlankElsewhere, IsShapeOf, IsTreeOf}
 use Rattle.mdvsp.specs.PricedPlan.{IsPricedPlan}
 use Rattle.mdvsp.specs.Owed.{IsZeroTable}
-use Rattle.mdvsp.specs.SolveAnswer.{AreNamedInOrder, AreWorths, IsBoundOf, LeafPlace, SolveAnswer, leaves, leaves_from, splits}
+use Rattle.vs_tree.specs.Tree.{LeafPlace}
+use Rattle.vs_tree.specs.Tree as tree
+use Rattle.mdvsp.specs.SolveAnswer.{IsBoundOf, SolveAnswer}
 use Rattle.mdvsp.proofs.ZeroTable.{zero-IsBlankElsewhere, zero-worth}
 
 -- a number within the limits of printed bounds
@@ -132,40 +134,42 @@ module _ (p : Problem) (instance : IsInstance p) (d : Document) (table : Table) 
         (All-nil (IsShapeOf p (length d.tables.items))));
   }
 
-  has_leaf : HasLeaf p d
-  has_leaf = (0, table, shape_is, first_table, (worth, is_worth, worth_reaches d.cost worth d.bound bound_is))
+  abbrev place : LeafPlace
+  place = record { sets = permitted_sets p; table = 0 }
+
+  abbrev IsStrong : LeafPlace → Type 0
+  IsStrong leaf = IsStrongLeaf p d.tables.items d.bound leaf
 
   holds : HoldingDocument p d
   holds = record {
     plan = priced_plan p (blocks_of d.plan) d.cost priced;
     tables = all_tables (λ (t : Table). Fits p t × HoldingTable p t) (is_zero.fits, is_holding);
-    leaf = has_leaf;
+    tree = record {
+      tree = tree.Leaf 0;
+      shape_is = shape_is;
+      strong = record {
+        splits = tt;
+        leaves = All-cons IsStrong place [] (record {
+          table = table;
+          table_is = first_table;
+          reaches = (worth, is_worth, worth_reaches d.cost worth d.bound bound_is);
+        }) (All-nil IsStrong);
+      };
+    };
     claim = claim_is;
   }
 
-  abbrev place : LeafPlace
-  place = record { sets = permitted_sets p; table = 0 }
-
-  one_leaf : leaves p d ≡ place ∷ []
-  one_leaf = ap (leaves_from (permitted_sets p ∷ [])) shape_is
-
-  no_splits : splits d.shape.items ≡ 0
-  no_splits = ap splits shape_is
-
   pub first_answer_solves : SolveAnswer p 0 d
+  unfolding holds
   first_answer_solves = record {
     has_text = has_text;
-    written =
-        subst (λ (places : List LeafPlace). AreNamedInOrder 0 places (length d.tables.items)) (sym one_leaf)
-        (inr (refl, one_table));
     holds = holds;
+    written = inr (refl, one_table);
     worths = worth ∷ [];
-    are_worths =
-        subst (λ (places : List LeafPlace). AreWorths p d places (worth ∷ [])) (sym one_leaf)
-        (table, first_table, is_worth, tt);
+    are_worths = (table, first_table, is_worth, tt);
     bound = bound_is;
     within_budget = omega arith;
-    each_split = omega (arith, no_splits);
+    each_split = omega arith;
     each_node = omega arith;
     still_open = λ _. nodes_are;
     start = λ some. absurd (omega arith);

@@ -17,7 +17,8 @@ use Rattle.vs_prices.specs.Worth.{IsWorth}
 use Rattle.mdvsp.specs.declared.status.Status.{Status}
 use Rattle.mdvsp.specs.declared.status.Status.TheVariants as status
 use Rattle.mdvsp.specs.Owed.{status_of}
-use Rattle.mdvsp.specs.SolveAnswer.{SolveAnswer, LeafPlace, AreWorths, leaves_from, IsBoundOf}
+use Rattle.vs_tree.specs.Tree.{Tree, Leaf, Split, LeafPlace, leaves, splits}
+use Rattle.mdvsp.specs.SolveAnswer.{SolveAnswer, AreWorths, IsBoundOf}
 
 -- the worth of one leaf
 one_worth : (p : Problem) (d : Document) (place : LeafPlace) (worths : List Bound) → AreWorths p d (place ∷ []) worths
@@ -37,13 +38,22 @@ a_number : (p : Problem) (table : Table) (w : Bound) → table.ray ≡ false →
 a_number p table (AtLeast n) cost h = (n, refl)
 a_number p table NoPlan cost h = absurd (false≢true (sym cost ∙ h.0))
 
+-- a tree without splits is a leaf
+pub one_case : (tree : Tree) → splits tree ≡ 0 → (t : ℕ) × (tree ≡ Leaf t)
+one_case (Leaf t) none = (t, refl)
+one_case (Split trip left lower upper) none = absurd (omega (arith, none))
+
+-- so is that of a search without a budget
+pub one_leaf : (p : Problem) (d : Document) (s : SolveAnswer p 0 d) → (t : ℕ) × (s.holds.tree.tree ≡ Leaf t)
+one_leaf p d s = one_case s.holds.tree.tree (omega (arith, s.each_split, s.within_budget))
+
 -- the one worth is that of the one table
 pub worth_is : (p : Problem) (d : Document) (table : Table) (s : SolveAnswer p 0 d) → d.tables.items ≡ table ∷ []
     → table.ray ≡ false
     → (n : ℤ) × IsWorth p (permitted_sets p) table (AtLeast n) × (s.worths ≡ AtLeast n ∷ [])
 worth_is p d table s one cost =
-    let leaf = s.holds.leaf in
-    let places = ap (leaves_from (permitted_sets p ∷ [])) leaf.2 in
+    let leaf = one_leaf p d s in
+    let places = ap (leaves (permitted_sets p)) leaf.1 in
     let o = one_worth p d (record { sets = permitted_sets p; table = leaf.0 }) s.worths
     (subst (λ (ps : List LeafPlace). AreWorths p d ps s.worths) places s.are_worths) in
     let same : o.1 ≡ table =

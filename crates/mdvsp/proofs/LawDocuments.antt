@@ -12,7 +12,11 @@ use Rattle.vs_cert.specs.declared.shape.Shape.{Shape}
 use Rattle.vs_cert.specs.declared.shape.Shape.TheVariants.{Leaf}
 use Rattle.vs_prices.specs.declared.table.Table.{Table}
 use Rattle.vs_plan.specs.Blocks.{blocks_of}
-use Rattle.vs_check.specs.HoldingDocument.{ReachesBound}
+use Rattle.vs_instance.specs.Restriction.{permitted_sets}
+use Rattle.vs_tree.specs.Tree.{Tree, LeafPlace, leaves}
+use Rattle.vs_tree.specs.Tree as tree
+use Rattle.vs_cert.specs.Shapes.{preorder}
+use Rattle.vs_check.specs.HoldingDocument.{IsStrongLeaf, ReachesBound}
 use Rattle.mdvsp.specs.declared.status.Status.{Status}
 use Rattle.vs_reader.specs.Rows.{Field, Row, IsPlainRow, lines}
 use Rattle.vs_reader.specs.Names.{IsName, NameLists}
@@ -24,6 +28,7 @@ use Rattle.vs_cert.specs.DocumentText.{AreShapeRows, DocumentText, IsShapeOf, do
 use Rattle.vs_cert.specs.FirstForm.{IsFirstDocument}
 use Rattle.mdvsp.specs.Owed.{OwesDocument, OwesYes, HasZeroTable, yes_row}
 use Rattle.mdvsp.specs.SolveAnswer.{SolveAnswer}
+use Rattle.mdvsp.proofs.LawBounds.{one_leaf}
 use Rattle.mdvsp.proofs.LawPlain.{HaveNames, plain_document}
 use Rattle.vs_plan.proofs.PlanTrips.{plan_trips}
 
@@ -69,7 +74,8 @@ instance_names bytes p names before rest stands =
     (record { layers = no_names; trips = no_names }))
 
 -- a cost table is worth a number, so what it reaches is one
-number_reached : (p : Problem) (table : Table) (bound : Option ℤ) → table.ray ≡ false → ReachesBound p table bound
+number_reached : (p : Problem) (table : Table) (bound : Option ℤ) → table.ray ≡ false
+    → ReachesBound p (permitted_sets p) table bound
     → IsSome bound
 number_reached p table (Some n) cost reaches = refl
 number_reached p table None cost (NoPlan, is, at) = absurd (false≢true (sym cost ∙ is.0))
@@ -88,39 +94,54 @@ few_in_plan p None blocks few none =
     omega arith
 few_in_plan p (Some n) blocks few plan = let size = plan_trips p blocks plan.0 in omega arith
 
--- a document of the zero table that answers a search
-module _ (p : Problem) (d : Document) (budget : ℕ) (solves : SolveAnswer p budget d) (zero : HasZeroTable p d)
+-- a document of the zero table that answers a search without a budget
+module _ (p : Problem) (d : Document) (solves : SolveAnswer p 0 d) (zero : HasZeroTable p d)
     (few : length p.trips ≤ 2000) where
-  leaf_is : solves.holds.leaf.0 ≡ 0
+  case_is : (t : ℕ) × (solves.holds.tree.tree ≡ tree.Leaf t)
+  case_is = one_leaf p d solves
+
+  shape_is : d.shape.items ≡ Leaf case_is.0 ∷ []
+  shape_is = solves.holds.tree.shape_is ∙ ap preorder case_is.1
+
+  leaf_is : case_is.0 ≡ 0
   leaf_is =
       let tables : length d.tables.items ≡ 1 = ap length zero.1 in
-      let within : solves.holds.leaf.0 < length d.tables.items =
-      All-head (IsShapeOf p (length d.tables.items)) (Leaf solves.holds.leaf.0) []
-      (subst (All (IsShapeOf p (length d.tables.items))) solves.holds.leaf.2 solves.has_text.shape) in
+      let within : case_is.0 < length d.tables.items =
+      All-head (IsShapeOf p (length d.tables.items)) (Leaf case_is.0) []
+      (subst (All (IsShapeOf p (length d.tables.items))) shape_is solves.has_text.shape) in
       omega (arith, tables, within)
 
-  one_leaf : d.shape.items ≡ Leaf 0 ∷ []
-  one_leaf = solves.holds.leaf.2 ∙ ap (λ (t : ℕ). Leaf t ∷ []) leaf_is
+  is_one_leaf : d.shape.items ≡ Leaf 0 ∷ []
+  is_one_leaf = shape_is ∙ ap (λ (t : ℕ). Leaf t ∷ []) leaf_is
 
-  cost_table : solves.holds.leaf.1.ray ≡ false
+  abbrev place : LeafPlace
+  place = record { sets = permitted_sets p; table = case_is.0 }
+
+  strong_leaf : IsStrongLeaf p d.tables.items d.bound place
+  strong_leaf =
+      All-head (IsStrongLeaf p d.tables.items d.bound) place []
+      (subst (λ (t : Tree). All (IsStrongLeaf p d.tables.items d.bound) (leaves (permitted_sets p) t)) case_is.1
+      solves.holds.tree.strong.leaves)
+
+  cost_table : strong_leaf.table.ray ≡ false
   cost_table =
-      ap ray_of (sym solves.holds.leaf.3)
+      ap ray_of (sym strong_leaf.table_is)
       ∙ ap (λ (t : ℕ). ray_of (slice_get d.tables.items t)) leaf_is
       ∙ ap (λ (tables : List Table). ray_of (slice_get tables 0)) zero.1
       ∙ zero.2.cost
 
   first_document : IsFirstDocument d
   first_document = record {
-    bound = number_reached p solves.holds.leaf.1 d.bound cost_table solves.holds.leaf.4;
+    bound = number_reached p strong_leaf.table d.bound cost_table strong_leaf.reaches;
     table = zero.0;
     one_table = zero.1;
     cost_table = zero.2.cost;
-    one_leaf = one_leaf;
+    one_leaf = is_one_leaf;
   }
 
   shape_rows : (names : NameLists) → AreShapeRows names (map (shape_row names) d.shape.items) d.shape.items
   shape_rows names =
-      subst (λ (shapes : List Shape). AreShapeRows names (map (shape_row names) shapes) shapes) (sym one_leaf)
+      subst (λ (shapes : List Shape). AreShapeRows names (map (shape_row names) shapes) shapes) (sym is_one_leaf)
       (refl, tt)
 
   document_text : (names : NameLists) → DocumentText p names (document_rows p names d) d
@@ -133,7 +154,7 @@ module _ (p : Problem) (d : Document) (budget : ℕ) (solves : SolveAnswer p bud
   }
 
   document_plain : (names : NameLists) → HaveNames names → All IsPlainRow (document_rows p names d)
-  document_plain names have = plain_document p names have d zero.0 solves.has_text zero.1 one_leaf
+  document_plain names have = plain_document p names have d zero.0 solves.has_text zero.1 is_one_leaf
 
 -- behind the records they are one text
 pub solved_holds : (bytes read : List ℕ) (answer : Status) (rows : List Row) (owed : OwesDocument bytes answer rows)
@@ -147,7 +168,7 @@ solved_holds bytes read answer rows owed has ends =
     let stands = owed.text.instance in
     let few = stands.text.makes.instance.few_trips in
     let plain =
-    document_plain p d 0 owed.solves owed.table few names
+    document_plain p d owed.solves owed.table few names
     (instance_names bytes p names owed.text.before owed.text.rest stands) in
     subst (λ (others : List Row). OwesYes (read ++ lines others) (yes_row d ∷ [])) (sym owed.rows_are) (record {
       problem = p;
@@ -158,8 +179,8 @@ solved_holds bytes read answer rows owed has ends =
         rest = written;
         instance = stands_behind bytes read p names owed.text.before owed.text.rest written stands has ends plain refl;
         document = record {
-          text = document_text p d 0 owed.solves owed.table few names;
-          first = first_document p d 0 owed.solves owed.table few;
+          text = document_text p d owed.solves owed.table few names;
+          first = first_document p d owed.solves owed.table few;
         };
       };
       holds = owed.solves.holds;

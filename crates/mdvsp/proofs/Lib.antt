@@ -1,11 +1,14 @@
 pub mod OwedAnswers
+pub mod BlocksOwed
 pub mod RunEnds
-pub mod WordLists
+pub mod CommandWords
+pub mod RowsInParts
+pub mod NetworkRows
+pub mod TripCounts
+pub mod WordLaws
 pub mod ZeroTable
 pub mod FirstAnswer
 pub mod Sequences
-pub mod LawPlain
 pub mod LawDocuments
-pub mod LawAlike
 pub mod LawVerdicts
 pub mod LawBounds

@@ -1,5 +1,5 @@
 -- Answers that are owed.
-use Rattle.std.proofs.Common.{◌≡◌, ◌∙◌, ℕ, List, [], ◌∷◌, Result, Ok, Err, Option, Some, None, inl, inr, refl, sym, subst, IfOk}
+use Rattle.std.proofs.Common.{◌≡◌, ℕ, List, [], ◌∷◌, Result, Ok, Err, Option, Some, None, inl, inr, refl, sym, subst, IfOk}
 use Rattle.vs_types.specs.declared.memory.Memory.{Memory}
 use Rattle.vs_instance.specs.Problem.{Problem}
 use Rattle.vs_tree.specs.declared.claim.Claim.{Claim}
@@ -13,12 +13,12 @@ use Rattle.vs_reader.specs.Texts.{StandsFor, IsRefused}
 use Rattle.mdvsp.specs.declared.answer.Answer.{Answer}
 use Rattle.mdvsp.specs.declared.status.Status.{Status}
 use Rattle.mdvsp.specs.declared.status.Status.TheVariants as status
-use Rattle.mdvsp.specs.declared.words.Command.{Command}
-use Rattle.mdvsp.specs.declared.words.Command.TheVariants.{Check, Solve}
-use Rattle.mdvsp.specs.Answered.{IsOwedFor, IsDocumentOf}
+use Rattle.mdvsp.specs.declared.command.Command.{Command}
+use Rattle.mdvsp.specs.declared.command.Command.TheVariants.{Check, Solve, Network, Blocks}
+use Rattle.mdvsp.specs.Answered.{HasSizes, IsDocumentOf, IsNoCase, IsOwedFor, RefusesCase, case_error}
 use Rattle.vs_cert.specs.DocumentText.{document_rows}
 use Rattle.vs_cert.specs.FirstForm.{FirstDocumentText, CheckText, SolveText}
-use Rattle.mdvsp.specs.Owed.{CheckOwes, SolveOwes, OwesDocument, status_of, yes_row}
+use Rattle.mdvsp.specs.Owed.{Owes, SolveOwes, OwesDocument, OwesRefusal, status_of, yes_row}
 use Rattle.mdvsp.specs.RefusalRows.{refusal_row, other_form_row}
 use Rattle.mdvsp.specs.FlawRows.{no_row}
 use Rattle.vs_instance.specs.Firsts.{first}
@@ -28,57 +28,90 @@ use Rattle.vs_check.specs.declared.verdict.Verdict.{Verdict}
 use Rattle.vs_check.specs.declared.verdict.Verdict.TheVariants.{No}
 use Rattle.vs_check.proofs.Claims.{prove_their_claims}
 
-check_owes : (bytes : List ℕ) (answer : Answer) (wanted : Status) (row : Row) → CheckOwes bytes wanted (row ∷ [])
-    → (answer.status ≡ wanted) × (answer.text.items ≡ lines (row ∷ []))
-    → IsOwedFor Check bytes answer
-check_owes bytes answer wanted row owed says = record {
-  rows = row ∷ [];
-  owed = inl (refl, subst (λ (s : Status). CheckOwes bytes s (row ∷ [])) (sym says.0) owed);
-  text_is = says.1;
+-- rows that are owed with a status, as an answer has them
+pub owed_so : (command : Command) (bytes : List ℕ) (answer : Answer) (wanted : Status) (rows : List Row)
+    → Owes command bytes wanted rows → answer.status ≡ wanted → answer.text.items ≡ lines rows
+    → IsOwedFor command bytes answer
+owed_so command bytes answer wanted rows owed is text = record {
+  rows = rows;
+  owed = subst (λ (s : Status). Owes command bytes s rows) (sym is) owed;
+  text_is = text;
 }
 
--- a text that is refused is owed its refusal, whatever the command
-pub refusal_owed : (command : Command) (bytes : List ℕ) (refused : Refused) (r : Result Answer Memory)
-    → IsRefused bytes refused
-    → IfOk r (λ a. (a.status ≡ status.BadInput) × (a.text.items ≡ lines (refusal_row refused ∷ [])))
-    → IfOk r (IsOwedFor command bytes)
-refusal_owed Check bytes refused (Ok a) is says = check_owes bytes a status.BadInput (refusal_row refused)
-    (inl (record { refused = refused; is_refused = is; rows_are = refl })) says
-refusal_owed Solve bytes refused (Ok a) is says = record {
+-- the row of a refusal was answered
+abbrev TellsRow : Status → Row → Answer → Type 0
+TellsRow wanted row a = (a.status ≡ wanted) × (a.text.items ≡ lines (row ∷ []))
+
+refusal : (bytes : List ℕ) (refused : Refused) → IsRefused bytes refused
+    → OwesRefusal bytes (refusal_row refused ∷ [])
+refusal bytes refused is = record { refused = refused; is_refused = is; rows_are = refl }
+
+-- a text that is refused is owed its refusal
+pub solve_refusal_owed : (bytes : List ℕ) (refused : Refused) (r : Result Answer Memory) → IsRefused bytes refused
+    → IfOk r (TellsRow status.BadInput (refusal_row refused)) → IfOk r (IsOwedFor Solve bytes)
+solve_refusal_owed bytes refused (Ok a) is says =
+    owed_so Solve bytes a status.BadInput (refusal_row refused ∷ []) (refusal bytes refused is) says.0 says.1
+solve_refusal_owed bytes refused (Err m) is says = tt
+
+pub network_refusal_owed : (bytes : List ℕ) (refused : Refused) (r : Result Answer Memory) → IsRefused bytes refused
+    → IfOk r (TellsRow status.BadInput (refusal_row refused)) → IfOk r (IsOwedFor Network bytes)
+network_refusal_owed bytes refused (Ok a) is says =
+    owed_so Network bytes a status.BadInput (refusal_row refused ∷ []) (refusal bytes refused is) says.0 says.1
+network_refusal_owed bytes refused (Err m) is says = tt
+
+-- and so is one that is no instance with a document behind it
+refused_case : (bytes : List ℕ) (refused : Refused) (a : Answer) → IsRefused bytes refused
+    → TellsRow status.BadInput (refusal_row refused) a → IsNoCase bytes a
+refused_case bytes refused a is says = record {
   rows = refusal_row refused ∷ [];
-  owed = inr (
-    refl,
-    subst (λ (s : Status). SolveOwes bytes s (refusal_row refused ∷ [])) (sym says.0)
-        (record { refused = refused; is_refused = is; rows_are = refl }),
-  );
+  owed = inl (refusal bytes refused is);
+  status_is = says.0;
   text_is = says.1;
 }
-refusal_owed Check bytes refused (Err m) is says = tt
-refusal_owed Solve bytes refused (Err m) is says = tt
 
-pub other_form_owed : (bytes : List ℕ) (p : Problem) (names : NameLists) (before : ℕ) (rest : List Row)
+other_form_case : (bytes : List ℕ) (p : Problem) (names : NameLists) (before : ℕ) (rest : List Row) (a : Answer)
+    → StandsFor bytes p names before rest
+    → ((d : Document) → ¬ (FirstDocumentText p names rest d))
+    → TellsRow status.BadInput other_form_row a → IsNoCase bytes a
+other_form_case bytes p names before rest a stands none says = record {
+  rows = other_form_row ∷ [];
+  owed = inr (record {
+    problem = p;
+    names = names;
+    before = before;
+    rest = rest;
+    instance = stands;
+    no_document = none;
+    rows_are = refl;
+  });
+  status_is = says.0;
+  text_is = says.1;
+}
+
+pub refusal_case : (bytes : List ℕ) (refused : Refused) (r : Result Answer Memory) → IsRefused bytes refused
+    → IfOk r (TellsRow status.BadInput (refusal_row refused)) → RefusesCase bytes (case_error r)
+refusal_case bytes refused (Ok a) is says = refused_case bytes refused a is says
+refusal_case bytes refused (Err m) is says = tt
+
+pub no_document_case : (bytes : List ℕ) (p : Problem) (names : NameLists) (before : ℕ) (rest : List Row)
     (r : Result Answer Memory) → StandsFor bytes p names before rest
     → ((d : Document) → ¬ (FirstDocumentText p names rest d))
-    → IfOk r (λ a. (a.status ≡ status.BadInput) × (a.text.items ≡ lines (other_form_row ∷ [])))
-    → IfOk r (IsOwedFor Check bytes)
-other_form_owed bytes p names before rest (Ok a) stands none says = check_owes bytes a status.BadInput other_form_row
-    (inr (record {
-      problem = p;
-      names = names;
-      before = before;
-      rest = rest;
-      instance = stands;
-      no_document =
-          none;
-      rows_are = refl;
-    })) says
-other_form_owed bytes p names before rest (Err m) stands none says = tt
+    → IfOk r (TellsRow status.BadInput other_form_row) → RefusesCase bytes (case_error r)
+no_document_case bytes p names before rest (Ok a) stands none says =
+    other_form_case bytes p names before rest a stands none says
+no_document_case bytes p names before rest (Err m) stands none says = tt
+
+pub check_no_case : (bytes : List ℕ) (a : Answer) → IsNoCase bytes a → IsOwedFor Check bytes a
+check_no_case bytes a none = owed_so Check bytes a status.BadInput none.rows none.owed none.status_is none.text_is
+
+pub blocks_no_case : (bytes : List ℕ) (a : Answer) → IsNoCase bytes a → IsOwedFor Blocks bytes a
+blocks_no_case bytes a none = owed_so Blocks bytes a status.BadInput none.rows none.owed none.status_is none.text_is
 
 pub yes_owed : (bytes : List ℕ) (p : Problem) (names : NameLists) (d : Document) (r : Result Answer Memory)
     → CheckText bytes p names d → HoldingDocument p d
-    → IfOk r (λ a. (a.status ≡ status.Done) × (a.text.items ≡ lines (yes_row d ∷ []))) → IfOk r (IsOwedFor Check bytes)
-yes_owed bytes p names d (Ok a) text holds says = check_owes bytes a status.Done (yes_row d)
-    (record {
+    → IfOk r (TellsRow status.Done (yes_row d)) → IfOk r (IsOwedFor Check bytes)
+yes_owed bytes p names d (Ok a) text holds says =
+    owed_so Check bytes a status.Done (yes_row d ∷ []) (record {
       problem = p;
       names = names;
       document = d;
@@ -86,26 +119,24 @@ yes_owed bytes p names d (Ok a) text holds says = check_owes bytes a status.Done
       holds = holds;
       proves = prove_their_claims p d text.instance.text.makes.instance holds;
       rows_are = refl;
-    }) says
+    }) says.0 says.1
 yes_owed bytes p names d (Err m) text holds says = tt
 
 pub no_owed : (bytes : List ℕ) (p : Problem) (names : NameLists) (d : Document) (flaw : Flaw)
     (r : Result Answer Memory) → CheckText bytes p names d
     → ¬ (HoldingDocument p d) → first (flaws_of p d) ≡ Some flaw
-    → IfOk r (λ a. (a.status ≡ status.SaysNo) × (a.text.items ≡ lines (no_row names flaw ∷ [])))
-    → IfOk r (IsOwedFor Check bytes)
-no_owed bytes p names d flaw (Ok a) text fails is_first says = check_owes bytes a status.SaysNo (no_row names flaw)
-    (record {
+    → IfOk r (TellsRow status.SaysNo (no_row names flaw)) → IfOk r (IsOwedFor Check bytes)
+no_owed bytes p names d flaw (Ok a) text fails is_first says =
+    owed_so Check bytes a status.SaysNo (no_row names flaw ∷ []) (record {
       problem = p;
       names = names;
       document = d;
       text = text;
       fails = fails;
       flaw = flaw;
-      is_first =
-          is_first;
+      is_first = is_first;
       rows_are = refl;
-    }) says
+    }) says.0 says.1
 no_owed bytes p names d flaw (Err m) text fails is_first says = tt
 
 -- the flaw of a verdict is the first
@@ -124,24 +155,26 @@ solve_owes bytes StillOpen rows o = o
 pub document_owed : (bytes : List ℕ) (p : Problem) (names : NameLists) (r : Result Answer Memory)
     → SolveText bytes p names
     → IfOk r (IsDocumentOf p names) → IfOk r (IsOwedFor Solve bytes)
-document_owed bytes p names (Ok a) text d = record {
-  rows = document_rows p names d.document;
-  owed = inr (
-    refl,
-    subst (λ (s : Status). SolveOwes bytes s (document_rows p names d.document)) (sym d.status_is)
-        (solve_owes bytes d.document.claim (document_rows p names d.document) (record {
-          problem = p;
-          names = names;
-          document = d.document;
-          text = text;
-          solves = d.solves;
-          proves = prove_their_claims p d.document text.instance.text.makes.instance d.solves.holds;
-          plan = d.plan;
-          table = d.table;
-          status_is = refl;
-          rows_are = refl;
-        })),
-  );
-  text_is = d.text_is;
-}
+document_owed bytes p names (Ok a) text d =
+    owed_so Solve bytes a (status_of d.document.claim) (document_rows p names d.document)
+    (solve_owes bytes d.document.claim (document_rows p names d.document) (record {
+      problem = p;
+      names = names;
+      document = d.document;
+      text = text;
+      solves = d.solves;
+      proves = prove_their_claims p d.document text.instance.text.makes.instance d.solves.holds;
+      plan = d.plan;
+      table = d.table;
+      status_is = refl;
+      rows_are = refl;
+    })) d.status_is d.text_is
 document_owed bytes p names (Err m) text d = tt
+
+-- the sizes of the nets are what network owes
+pub sizes_owed : (bytes : List ℕ) (p : Problem) (names : NameLists) (r : Result Answer Memory)
+    → SolveText bytes p names → IfOk r (HasSizes p names) → IfOk r (IsOwedFor Network bytes)
+sizes_owed bytes p names (Ok a) text s =
+    owed_so Network bytes a status.Done s.rows
+    (record { problem = p; names = names; text = text; rows_are = s.rows_are }) s.status_is s.text_is
+sizes_owed bytes p names (Err m) text s = tt

@@ -5,22 +5,24 @@ use Rattle.vs_io.specs.Bytes.{Appends, AppendsPrefix}
 use Rattle.vs_io.specs.Faults.{Rose}
 use Rattle.mdvsp.specs.declared.answer.Answer.{Answer}
 use Rattle.mdvsp.specs.declared.status.Status.{Status}
-use Rattle.mdvsp.specs.declared.status.Status.TheVariants.{WriteFault, NoMemory}
-use Rattle.mdvsp.specs.declared.words.Command.{Command}
+use Rattle.mdvsp.specs.declared.status.Status.TheVariants.{Done, BadInput, WriteFault, NoMemory}
+use Rattle.mdvsp.specs.declared.command.Command.{Command}
 use Rattle.mdvsp.specs.Outcome.{Told}
 use Rattle.vs_instance.specs.Problem.{Problem}
 use Rattle.vs_cert.specs.declared.document.Document.{Document}
-use Rattle.vs_cert.specs.DocumentText.{document_rows}
+use Rattle.vs_cert.specs.DocumentRows.{document_rows}
 use Rattle.vs_reader.specs.Names.{NameLists}
 use Rattle.mdvsp.specs.SolveAnswer.{SolveAnswer}
-use Rattle.mdvsp.specs.Owed.{Owes, HasGreedyPlan, HasZeroTable, status_of}
+use Rattle.mdvsp.specs.declared.case.CaseError.{CaseError}
+use Rattle.mdvsp.specs.declared.case.CaseError.TheVariants as error
+use Rattle.mdvsp.specs.Network.{AreNetworkRows}
+use Rattle.mdvsp.specs.Owed.{Owes, OwesNoCase, HasGreedyPlan, HasZeroTable, status_of}
 use Rattle.vs_reader.specs.Rows.{Row, lines}
-use Rattle.mdvsp.specs.Words.{command_words}
 
 -- the text is the lines of rows that are owed for the bytes, with this answer
 pub record IsOwedFor (command : Command) (bytes : List ℕ) (answer : Answer) : Type 0 where
   pub rows : List Row
-  pub owed : Owes (command_words command) bytes answer.status rows
+  pub owed : Owes command bytes answer.status rows
   pub text_is : answer.text.items ≡ lines rows
 
 -- The text was written, or a first part of it and the sink's faults rose; where there was no memory for an answer,
@@ -30,6 +32,30 @@ IsSaid (Ok answer) said taken taken_after faults faults_after =
     ((said ≡ answer.status) × Appends taken taken_after answer.text.items)
     ⊎ ((said ≡ WriteFault) × AppendsPrefix taken taken_after answer.text.items × Rose faults faults_after)
 IsSaid (Err memory) said taken taken_after faults faults_after = (said ≡ NoMemory) × (taken_after ≡ taken)
+
+-- the rows that refuse a text which is no instance with a document behind it
+pub record IsNoCase (bytes : List ℕ) (answer : Answer) : Type 0 where
+  pub rows : List Row
+  pub owed : OwesNoCase bytes rows
+  pub status_is : answer.status ≡ BadInput
+  pub text_is : answer.text.items ≡ lines rows
+
+-- an error that isn't want of memory has them
+abbrev pub RefusesCase : List ℕ → CaseError → Type 0
+RefusesCase bytes (error.Refused answer) = IsNoCase bytes answer
+RefusesCase bytes error.Memory = Unit {0}
+
+-- an answer as an error, and want of memory for one
+abbrev pub case_error : Result Answer Memory → CaseError
+case_error (Ok answer) = error.Refused answer
+case_error (Err memory) = error.Memory
+
+-- the text has the sizes of the nets of each layer
+pub record HasSizes (problem : Problem) (names : NameLists) (answer : Answer) : Type 0 where
+  pub rows : List Row
+  pub rows_are : AreNetworkRows problem names rows
+  pub status_is : answer.status ≡ Done
+  pub text_is : answer.text.items ≡ lines rows
 
 -- the text is that of a document that answers for the instance, and the status that of its claim
 pub record IsDocumentOf (problem : Problem) (names : NameLists) (answer : Answer) : Type 0 where

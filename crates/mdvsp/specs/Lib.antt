@@ -5,6 +5,9 @@ pub mod Status
 pub mod Words
 pub mod PricedPlan
 pub mod SolveAnswer
+pub mod Network
+pub mod Timetable
+pub mod Cases
 pub mod Owed
 pub mod Laws
 pub mod Outcome

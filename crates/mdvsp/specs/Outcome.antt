@@ -1,12 +1,16 @@
 -- How a run may end: with what was read, and what was written.
 use Rattle.std.specs.Prelude.{◌≡◌, ℕ, ◌<◌, ◌≤◌, List, [], ◌∷◌, length, Option, ◌⊎◌}
+use Rattle.mdvsp.specs.declared.command.Command.{Command}
+use Rattle.mdvsp.specs.declared.command.Command.TheVariants.{Make}
 use Rattle.vs_reader.specs.declared.limits.TheConstants.{MAX_BYTES}
 use Rattle.vs_io.specs.Bytes.{Takes, TakesAll, Appends, AppendsPrefix}
 use Rattle.vs_io.specs.Faults.{Rose}
+use Rattle.vs_io.specs.declared.slurping.SlurpError.{SlurpError}
+use Rattle.vs_io.specs.declared.slurping.SlurpError.TheVariants.{ReadFault, TooLong, Memory}
 use Rattle.mdvsp.specs.declared.status.Status.{Status}
 use Rattle.mdvsp.specs.declared.status.Status.TheVariants as status
 use Rattle.vs_reader.specs.Rows.{Row, lines}
-use Rattle.mdvsp.specs.Words.{DepartAt, AreAccepted, words_row}
+use Rattle.mdvsp.specs.Words.{Word, AreBadAt, AskFor, AskToRead, Reads, words_row}
 use Rattle.mdvsp.specs.Owed.{Owes}
 
 -- how many bytes an input may have
@@ -17,11 +21,31 @@ input_limit = MAX_BYTES
 abbrev pub Told : Type 0
 Told = Option (List ℕ)
 
+-- no more bytes were taken than an input may have
+abbrev pub TookFew : Told → Told → Type 0
+TookFew left left_after = (gone : List ℕ) × Takes left left_after gone × (length gone ≤ input_limit)
+
+-- more were
+abbrev pub TookTooMany : Told → Told → Type 0
+TookTooMany left left_after = (gone : List ℕ) × Takes left left_after gone × (input_limit < length gone)
+
+-- a command reads all bytes that are left, of which there may be so many; `make` reads none
+abbrev pub HasRead : Command → Told → Told → List ℕ → Type 0
+HasRead (Make n) left left_after bytes = (bytes ≡ []) × (left_after ≡ left)
+HasRead _ left left_after bytes = TakesAll left left_after bytes × (length bytes ≤ input_limit)
+
+-- why it couldn't, with the count of the source's faults before and after it
+abbrev pub CouldNotRead : Command → Told → Told → ℕ → ℕ → SlurpError → Type 0
+CouldNotRead command left left_after faults faults_after ReadFault =
+    Rose faults faults_after × TookFew left left_after × Reads command
+CouldNotRead command left left_after faults faults_after TooLong = TookTooMany left left_after × Reads command
+CouldNotRead command left left_after faults faults_after Memory = TookFew left left_after
+
 -- a run: its words, the bytes that the source has left before and after it, those that the sink has taken before and
 -- after it, and both counts of
 -- faults before and after it
 pub record Run : Type 0 where
-  pub words : List (List ℕ)
+  pub words : List Word
   pub left : Told
   pub left_after : Told
   pub taken : Told
@@ -31,30 +55,23 @@ pub record Run : Type 0 where
   pub sink_faults : ℕ
   pub sink_faults_after : ℕ
 
--- all bytes that were left were read, and these rows are owed for them with this answer
+-- the words ask for a command, and these rows are owed with this answer for what it read
 pub record IsOwed (run : Run) (answer : Status) (rows : List Row) : Type 0 where
+  pub command : Command
+  pub asked : AskFor run.words command
   pub bytes : List ℕ
-  pub read : TakesAll run.left run.left_after bytes
-  pub few : length bytes ≤ input_limit
-  pub owed : Owes run.words bytes answer rows
+  pub read : HasRead command run.left run.left_after bytes
+  pub owed : Owes command bytes answer rows
 
 -- the words are wrong, and this row tells where
 pub record IsTold (run : Run) (row : Row) : Type 0 where
   pub place : ℕ
-  pub departs : DepartAt run.words place
+  pub bad : AreBadAt run.words place
   pub row_is : row ≡ words_row place
 
 -- nothing was written
 abbrev pub Unwritten : Run → Type 0
 Unwritten run = run.taken_after ≡ run.taken
-
--- no more bytes were taken than an input may have
-abbrev pub TookFew : Run → Type 0
-TookFew run = (gone : List ℕ) × Takes run.left run.left_after gone × (length gone ≤ input_limit)
-
--- more were
-abbrev pub TookTooMany : Run → Type 0
-TookTooMany run = (gone : List ℕ) × Takes run.left run.left_after gone × (input_limit < length gone)
 
 -- the work was done, and the rows written that are owed with this answer
 abbrev pub Answered : Run → Status → Type 0
@@ -80,9 +97,9 @@ Ends run status.SaysNo = Answered run status.SaysNo
 Ends run status.BadWords = Refused run
 Ends run status.BadInput = Answered run status.BadInput
 Ends run status.ReadFault =
-    Rose run.source_faults run.source_faults_after × Unwritten run × TookFew run × AreAccepted run.words
+    Rose run.source_faults run.source_faults_after × Unwritten run × TookFew run.left run.left_after × AskToRead run.words
 Ends run status.WriteFault = Rose run.sink_faults run.sink_faults_after × BrokenOff run
-Ends run status.NoMemory = Unwritten run × TookFew run
-Ends run status.TooLong = TookTooMany run × Unwritten run × AreAccepted run.words
+Ends run status.NoMemory = Unwritten run × TookFew run.left run.left_after
+Ends run status.TooLong = TookTooMany run.left run.left_after × Unwritten run × AskToRead run.words
 Ends run status.Infeasible = Answered run status.Infeasible
 Ends run status.StillOpen = Answered run status.StillOpen

@@ -1,5 +1,5 @@
 -- What a call has to answer, and what it has to write.
-use Rattle.std.specs.Prelude.{◌≡◌, ℕ, false, List, [], ◌∷◌, codes, MatchOption, Some, ◌⊎◌}
+use Rattle.std.specs.Prelude.{◌≡◌, ℕ, false, List, [], ◌∷◌, codes, MatchOption, Some, IsSome, IfSome, ◌⊎◌}
 use Rattle.vs_instance.specs.Problem.{Problem}
 use Rattle.vs_tree.specs.declared.claim.Claim.{Claim}
 use Rattle.vs_tree.specs.declared.claim.Claim.TheVariants.{Optimal, Infeasible, StillOpen}
@@ -15,15 +15,24 @@ use Rattle.mdvsp.specs.declared.status.Status.{Status}
 use Rattle.mdvsp.specs.declared.status.Status.TheVariants as status
 use Rattle.vs_reader.specs.Rows.{Row}
 use Rattle.vs_reader.specs.Names.{NameLists}
-use Rattle.vs_cert.specs.DocumentText.{claim_field, number_field, document_rows}
-use Rattle.vs_reader.specs.Texts.{StandsFor, IsRefused}
+use Rattle.vs_cert.specs.DocumentRows.{claim_field, number_field, document_rows}
+use Rattle.vs_cert.specs.declared.refused.DocWhy.{DocWhy}
+use Rattle.vs_reader.specs.Texts.{IsRefused}
 use Rattle.vs_reader.specs.declared.refused.Refused.{Refused}
-use Rattle.vs_cert.specs.FirstForm.{FirstDocumentText, CheckText, SolveText}
-use Rattle.mdvsp.specs.RefusalRows.{refusal_row, other_form_row}
+use Rattle.mdvsp.specs.Cases.{CheckText, LacksDocument, SolveText}
+use Rattle.mdvsp.specs.RefusalRows.{refusal_row, document_refusal_row}
 use Rattle.mdvsp.specs.FlawRows.{no_row}
 use Rattle.vs_plan.specs.Greedy.{GreedyGives, GreedyGetsStuck}
 use Rattle.mdvsp.specs.SolveAnswer.{SolveAnswer}
-use Rattle.mdvsp.specs.Words.{check_words, solve_words}
+use Rattle.mdvsp.specs.declared.command.Command.{Command}
+use Rattle.mdvsp.specs.declared.command.Command.TheVariants.{Check, Solve, Network, Blocks, Make}
+use Rattle.mdvsp.specs.Generator.{make_rows}
+use Rattle.mdvsp.specs.Network.{AreNetworkRows}
+use Rattle.mdvsp.specs.Timetable.{timetable_of}
+use Rattle.vs_instance.specs.Plan.{IsPlan}
+use Rattle.vs_plan.specs.PlanFaults.{faults_of}
+use Rattle.vs_plan.specs.declared.plan_fault.PlanFault.{PlanFault}
+use Rattle.vs_check.specs.declared.flaw.Flaw.TheVariants.{Plan}
 
 -- `yes`, CLAIM, COST, BOUND
 abbrev pub yes_row : Document → Row
@@ -56,15 +65,44 @@ pub record OwesRefusal (bytes : List ℕ) (rows : List Row) : Type 0 where
   pub is_refused : IsRefused bytes refused
   pub rows_are : rows ≡ refusal_row refused ∷ []
 
--- and an instance text behind which no document of the first form stands, one of its own
-pub record OwesOtherForm (bytes : List ℕ) (rows : List Row) : Type 0 where
+-- and an instance text behind which no document stands, that of what follows its records
+pub record OwesDocumentRefusal (bytes : List ℕ) (rows : List Row) : Type 0 where
+  pub at : ℕ
+  pub why : DocWhy
+  pub lacks : LacksDocument bytes at why
+  pub rows_are : rows ≡ document_refusal_row at why ∷ []
+
+-- a text that is no instance with a document behind it is refused for its instance first
+abbrev pub OwesNoCase : List ℕ → List Row → Type 0
+OwesNoCase bytes rows = OwesRefusal bytes rows ⊎ OwesDocumentRefusal bytes rows
+
+-- `network` is owed the sizes of the nets of each layer
+pub record OwesNetwork (bytes : List ℕ) (rows : List Row) : Type 0 where
   pub problem : Problem
   pub names : NameLists
-  pub before : ℕ
-  pub rest : List Row
-  pub instance : StandsFor bytes problem names before rest
-  pub no_document : (d : Document) → ¬ (FirstDocumentText problem names rest d)
-  pub rows_are : rows ≡ other_form_row ∷ []
+  pub text : SolveText bytes problem names
+  pub rows_are : AreNetworkRows problem names rows
+
+-- `blocks` is owed the timetable of the document's blocks, which are a plan where a cost is printed
+pub record OwesTimetable (bytes : List ℕ) (rows : List Row) : Type 0 where
+  pub problem : Problem
+  pub names : NameLists
+  pub document : Document
+  pub text : CheckText bytes problem names document
+  pub plan : IfSome document.cost (λ _. IsPlan problem (blocks_of document.plan))
+  pub rows_are : rows ≡ timetable_of problem names document
+
+-- and else the first fault of the blocks
+pub record OwesNoTimetable (bytes : List ℕ) (rows : List Row) : Type 0 where
+  pub problem : Problem
+  pub names : NameLists
+  pub document : Document
+  pub text : CheckText bytes problem names document
+  pub printed : IsSome document.cost
+  pub no_plan : ¬ (IsPlan problem (blocks_of document.plan))
+  pub fault : PlanFault
+  pub is_first : first (faults_of problem (blocks_of document.plan)) ≡ Some fault
+  pub rows_are : rows ≡ no_row names (Plan fault) ∷ []
 
 -- the document's plan is the greedy rule's, and it has none where that rule gets stuck
 abbrev pub HasGreedyPlan : Problem → Document → Type 0
@@ -102,7 +140,7 @@ pub record OwesDocument (bytes : List ℕ) (answer : Status) (rows : List Row) :
 abbrev pub CheckOwes : List ℕ → Status → List Row → Type 0
 CheckOwes bytes status.Done rows = OwesYes bytes rows
 CheckOwes bytes status.SaysNo rows = OwesNo bytes rows
-CheckOwes bytes status.BadInput rows = OwesRefusal bytes rows ⊎ OwesOtherForm bytes rows
+CheckOwes bytes status.BadInput rows = OwesNoCase bytes rows
 CheckOwes bytes _ rows = ⊥
 
 -- the same of `solve`
@@ -113,7 +151,28 @@ SolveOwes bytes status.StillOpen rows = OwesDocument bytes status.StillOpen rows
 SolveOwes bytes status.BadInput rows = OwesRefusal bytes rows
 SolveOwes bytes _ rows = ⊥
 
--- what the words ask for is owed
-abbrev pub Owes : List (List ℕ) → List ℕ → Status → List Row → Type 0
-Owes words bytes answer rows =
-    ((words ≡ check_words) × CheckOwes bytes answer rows) ⊎ ((words ≡ solve_words) × SolveOwes bytes answer rows)
+-- of `network`
+abbrev pub NetworkOwes : List ℕ → Status → List Row → Type 0
+NetworkOwes bytes status.Done rows = OwesNetwork bytes rows
+NetworkOwes bytes status.BadInput rows = OwesRefusal bytes rows
+NetworkOwes bytes _ rows = ⊥
+
+-- of `blocks`
+abbrev pub BlocksOwes : List ℕ → Status → List Row → Type 0
+BlocksOwes bytes status.Done rows = OwesTimetable bytes rows
+BlocksOwes bytes status.SaysNo rows = OwesNoTimetable bytes rows
+BlocksOwes bytes status.BadInput rows = OwesNoCase bytes rows
+BlocksOwes bytes _ rows = ⊥
+
+-- and of `make n`, whatever the input
+abbrev pub MakeOwes : ℕ → Status → List Row → Type 0
+MakeOwes n status.Done rows = rows ≡ make_rows n
+MakeOwes n _ rows = ⊥
+
+-- what a command has to answer for the bytes that it read, and which rows it has to write
+abbrev pub Owes : Command → List ℕ → Status → List Row → Type 0
+Owes Check bytes answer rows = CheckOwes bytes answer rows
+Owes Solve bytes answer rows = SolveOwes bytes answer rows
+Owes Network bytes answer rows = NetworkOwes bytes answer rows
+Owes Blocks bytes answer rows = BlocksOwes bytes answer rows
+Owes (Make n) bytes answer rows = MakeOwes n answer rows

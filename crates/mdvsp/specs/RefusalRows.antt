@@ -8,6 +8,8 @@ use Rattle.vs_reader.specs.declared.refused.Refused.{Refused}
 use Rattle.vs_reader.specs.declared.refused.Why.{Why}
 use Rattle.vs_reader.specs.declared.refused.Why.TheVariants as why
 use Rattle.vs_reader.specs.Rows.{Field, Row}
+use Rattle.vs_cert.specs.declared.refused.DocWhy.{DocWhy}
+use Rattle.vs_cert.specs.declared.refused.DocWhy.TheVariants as doc
 
 abbrev pub misfit_name : Misfit → Field
 misfit_name (Range field place) = codes "Range"
@@ -74,6 +76,26 @@ refusal_row refused =
     codes "refused" ∷ decimal refused.row ∷ decimal (why_number refused.why) ∷ why_name refused.why
     ∷ why_details refused.why
 
--- `refused`, 0, 90, `NotThisForm`
-abbrev pub other_form_row : Row
-other_form_row = codes "refused" ∷ decimal 0 ∷ decimal 90 ∷ codes "NotThisForm" ∷ []
+-- the number of a refusal of what follows the instance, and its name
+abbrev pub document_number : DocWhy → ℕ
+document_number doc.NoResult = 20
+document_number doc.BadRow = 21
+document_number doc.OutOfOrder = 22
+document_number doc.TableNumber = 23
+document_number doc.EndsEarly = 24
+document_number doc.RowsAfterEnd = 25
+document_number doc.PriceRange = 26
+
+abbrev pub document_name : DocWhy → Field
+document_name doc.NoResult = codes "NoResult"
+document_name doc.BadRow = codes "BadRow"
+document_name doc.OutOfOrder = codes "OutOfOrder"
+document_name doc.TableNumber = codes "TableNumber"
+document_name doc.EndsEarly = codes "EndsEarly"
+document_name doc.RowsAfterEnd = codes "RowsAfterEnd"
+document_name doc.PriceRange = codes "PriceRange"
+
+-- `refused`, ROW, NUMBER, NAME
+abbrev pub document_refusal_row : ℕ → DocWhy → Row
+document_refusal_row at why =
+    codes "refused" ∷ decimal at ∷ decimal (document_number why) ∷ document_name why ∷ []

@@ -1,44 +1,25 @@
 -- What a document has to be that a search of so many nodes answers.
-use Rattle.std.specs.Prelude.{◌≡◌, ℕ, ◌+◌, ◌-◌, ◌<◌, ◌≤◌, Bool, true, false, not, List, [], ◌∷◌, length, set, count_by, ℤ, ◌≤ℤ◌, ◌⊎◌, Option, Some, None, IfSome, MatchOption, bit_and, int_lt, slice_get}
-use Rattle.vs_types.specs.declared.layer_set.LayerSet.{LayerSet}
+use Rattle.std.specs.Prelude.{◌≡◌, ℕ, ◌+◌, ◌<◌, ◌≤◌, Bool, true, false, not, List, [], ◌∷◌, length, count_by, ℤ, ◌≤ℤ◌, ◌⊎◌, Option, Some, None, IfSome, MatchOption, int_lt, slice_get}
 use Rattle.vs_instance.specs.Problem.{Problem}
 use Rattle.vs_instance.specs.Lagrangian.{IsStartingValue}
-use Rattle.vs_instance.specs.Restriction.{set_of, permitted_sets}
+use Rattle.vs_instance.specs.Restriction.{permitted_sets}
+use Rattle.vs_prices.specs.Worth.{IsWorth, IsRoundedUp}
 use Rattle.vs_prices.specs.declared.bound.Bound.{Bound}
 use Rattle.vs_prices.specs.declared.bound.Bound.TheVariants.{AtLeast, NoPlan}
-use Rattle.vs_tree.specs.declared.claim.Claim.TheVariants.{StillOpen}
-use Rattle.vs_cert.specs.declared.document.Document.{Document}
-use Rattle.vs_cert.specs.declared.shape.Shape.{Shape}
-use Rattle.vs_cert.specs.declared.shape.Shape.TheVariants.{Split, Leaf}
 use Rattle.vs_prices.specs.declared.table.Table.{Table}
+use Rattle.vs_tree.specs.Tree.{LeafPlace, leaves, splits}
+use Rattle.vs_tree.specs.declared.claim.Claim.TheVariants.{StillOpen}
+use Rattle.vs_cert.specs.NewDocumentText.{HasText}
+use Rattle.vs_cert.specs.declared.document.Document.{Document}
 use Rattle.vs_check.specs.HoldingDocument.{HoldingDocument}
-use Rattle.vs_prices.specs.Worth.{IsWorth, IsRoundedUp}
-use Rattle.vs_cert.specs.DocumentText.{HasText}
 
--- a leaf: which layers each trip may be run in there, and the number of its table
-pub record LeafPlace : Type 0 where
-  pub sets : List LayerSet
-  pub table : ℕ
+-- the leaves of the tree of a document that holds, in order
+abbrev pub places_of : (p : Problem) (d : Document) → HoldingDocument p d → List LeafPlace
+places_of p d holds = leaves (permitted_sets p) holds.tree.tree
 
--- what a set leaves of another
-abbrev pub without : LayerSet → LayerSet → LayerSet
-without all left = record { 0 = bit_and all.0 (65535 - left.0) }
-
--- the leaves of a tree in preorder, of which the parts still to come have these restrictions
-abbrev pub leaves_from : List (List LayerSet) → List Shape → List LeafPlace
-leaves_from (sets ∷ later) (Leaf table ∷ shapes) = record { sets = sets; table = table } ∷ leaves_from later shapes
-leaves_from (sets ∷ later) (Split trip left ∷ shapes) =
-    leaves_from (set sets trip.0 left ∷ set sets trip.0 (without (set_of sets trip.0) left) ∷ later) shapes
-leaves_from _ _ = []
-
-abbrev pub leaves : Problem → Document → List LeafPlace
-leaves p d = leaves_from (permitted_sets p ∷ []) d.shape.items
-
--- how many splits the tree has
-abbrev pub splits : List Shape → ℕ
-splits [] = 0
-splits (Leaf table ∷ shapes) = splits shapes
-splits (Split trip left ∷ shapes) = splits shapes + 1
+-- how many splits that tree has
+abbrev pub splits_of : (p : Problem) (d : Document) → HoldingDocument p d → ℕ
+splits_of p d holds = splits holds.tree.tree
 
 -- the worths of the leaves, in order
 abbrev pub AreWorths : Problem → Document → List LeafPlace → List Bound → Type 0
@@ -89,13 +70,13 @@ ReachesStart p d bound = (value start : ℤ) → IsStartingValue p value → IsR
 -- a document that a search of so many nodes may answer
 pub record SolveAnswer (p : Problem) (budget : ℕ) (d : Document) : Type 0 where
   pub has_text : HasText p d
-  pub written : AreNamedInOrder 0 (leaves p d) (length d.tables.items)
   pub holds : HoldingDocument p d
+  pub written : AreNamedInOrder 0 (places_of p d holds) (length d.tables.items)
   pub worths : List Bound
-  pub are_worths : AreWorths p d (leaves p d) worths
+  pub are_worths : AreWorths p d (places_of p d holds) worths
   pub bound : IsBoundOf d.cost worths d.bound
   pub within_budget : d.nodes ≤ budget
-  pub each_split : splits d.shape.items ≤ d.nodes
-  pub each_node : d.nodes ≤ splits d.shape.items + count_not_below d.cost worths
+  pub each_split : splits_of p d holds ≤ d.nodes
+  pub each_node : d.nodes ≤ splits_of p d holds + count_not_below d.cost worths
   pub still_open : d.claim ≡ StillOpen → d.nodes ≡ budget
   pub start : 1 ≤ d.nodes → IfSome d.bound (ReachesStart p d)

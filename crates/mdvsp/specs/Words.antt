@@ -1,59 +1,98 @@
--- The words that a call is given.
-use Rattle.std.specs.Prelude.{◌≡◌, ℕ, ◌+◌, ◌-◌, ◌<◌, ◌≤◌, List, [], ◌∷◌, length, map, take, codes, decimal, ◌⊎◌, String, string_bytes, slice_index_or}
+-- What words ask for, and at which word they are bad.
+use Rattle.std.specs.Prelude.{◌≡◌, ℕ, ◌+◌, ◌-◌, ◌<◌, ◌≤◌, List, [], ◌∷◌, ◌++◌, length, map, take, codes, decimal, String, string_bytes, slice_index_or, Result, MatchResult}
+use Rattle.std.specs.Str.Parse.{digits_value}
 use Rattle.std.specs.declared.alloc.Global.{Global}
-use Rattle.std.specs.Borrow.{Bor}
-use Rattle.mdvsp.specs.declared.words.Command.{Command}
-use Rattle.mdvsp.specs.declared.words.Command.TheVariants.{Check, Solve}
+use Rattle.vs_instance.specs.declared.limits.TheConstants.{MAX_TRIPS}
+use Rattle.vs_reader.specs.Numbers.{AreDigits}
 use Rattle.vs_reader.specs.Rows.{Row}
+use Rattle.mdvsp.specs.declared.command.Command.{Command}
+use Rattle.mdvsp.specs.declared.command.Command.TheVariants.{Check, Solve, Network, Blocks, Make}
+use Rattle.mdvsp.specs.declared.words.BadWord.{BadWord}
+use Rattle.mdvsp.specs.declared.words.TheConstants.{MAX_DIGITS}
 
-abbrev pub check_words : List (List ℕ)
-check_words = codes "check" ∷ []
+-- a word, as bytes
+abbrev pub Word : Type 0
+Word = List ℕ
 
-abbrev pub solve_words : List (List ℕ)
-solve_words = codes "solve" ∷ codes "--nodes" ∷ codes "0" ∷ []
+-- the first word of each command
+abbrev pub command_name : Command → Word
+command_name Check = codes "check"
+command_name Solve = codes "solve"
+command_name Network = codes "network"
+command_name Blocks = codes "blocks"
+command_name (Make n) = codes "make"
 
-abbrev pub command_words : Command → List (List ℕ)
-command_words Check = check_words
-command_words Solve = solve_words
+-- 1 to 6 digits, with leading zeros or without, that write n, which is no more than an instance has trips
+pub record IsTripCount (word : Word) (n : ℕ) : Type 0 where
+  pub digits : AreDigits word MAX_DIGITS
+  pub value : n ≡ digits_value 10 word
+  pub few : n ≤ MAX_TRIPS
 
--- the words are those of some command
-abbrev pub AreAccepted : List (List ℕ) → Type 0
-AreAccepted words = (words ≡ check_words) ⊎ (words ≡ solve_words)
+-- the words behind the first
+abbrev pub AreFurther : Command → List Word → Type 0
+AreFurther Check words = words ≡ []
+AreFurther Solve words = words ≡ codes "--nodes" ∷ codes "0" ∷ []
+AreFurther Network words = words ≡ []
+AreFurther Blocks words = words ≡ []
+AreFurther (Make n) words = (count : Word) × (words ≡ count ∷ []) × IsTripCount count n
 
--- they are the first of some command's words
-abbrev pub Begin : List (List ℕ) → Type 0
-Begin words = (words ≡ take (length words) check_words) ⊎ (words ≡ take (length words) solve_words)
+-- the words ask for the command
+pub record AskFor (words : List Word) (command : Command) : Type 0 where
+  pub further : List Word
+  pub words_are : words ≡ command_name command ∷ further
+  pub are_further : AreFurther command further
 
--- The words depart from those of every command at word n, counted from 1: those before it begin one's, and those up to
--- it begin none's, or it is
--- missing, and the words are no command's.
-pub record DepartAt (words : List (List ℕ)) (n : ℕ) : Type 0 where
+-- they ask for some command
+abbrev pub AreAccepted : List Word → Type 0
+AreAccepted words = (command : Command) × AskFor words command
+
+-- they would, with further words or none behind them
+abbrev pub Begin : List Word → Type 0
+Begin words = (more : List Word) × AreAccepted (words ++ more)
+
+-- Word n, counted from 1, is the first bad one: the words before it begin those of some command, and with it they begin
+-- none's. A word is missing where they begin some command's and are none's; it is one more than there are.
+pub record AreBadAt (words : List Word) (n : ℕ) : Type 0 where
   pub some : 1 ≤ n
   pub within : n ≤ length words + 1
   pub before : Begin (take (n - 1) words)
-  pub wrong : n ≤ length words → ¬ (Begin (take n words))
+  pub bad : n ≤ length words → ¬ (Begin (take n words))
   pub missing : n ≡ length words + 1 → ¬ (AreAccepted words)
 
--- The words depart from this list at word n: they are alike before it, and at it they differ, or one of them has no
--- such word.
-pub record DepartsFrom (words accepted : List (List ℕ)) (n : ℕ) : Type 0 where
-  pub some : 1 ≤ n
-  pub within : n ≤ length words + 1
-  pub before : take (n - 1) words ≡ take (n - 1) accepted
-  pub differ : ¬ (take n words ≡ take n accepted)
+-- the command that the words ask for, or the first bad one
+abbrev pub Answers : List Word → Result Command BadWord → Type 0
+Answers words result = MatchResult result (AskFor words) (λ bad. AreBadAt words bad.0)
+
+-- the command takes no further words
+abbrev pub IsAlone : Command → Type 0
+IsAlone Check = Unit {0}
+IsAlone Network = Unit {0}
+IsAlone Blocks = Unit {0}
+IsAlone _ = ⊥
+
+-- an instance may have as many trips as the command asks for
+abbrev pub HasFewTrips : Command → Type 0
+HasFewTrips (Make n) = n ≤ MAX_TRIPS
+HasFewTrips _ = Unit {0}
+
+-- the command takes input
+abbrev pub Reads : Command → Type 0
+Reads (Make n) = ⊥
+Reads _ = Unit {0}
+
+-- the words ask for a command that takes input
+abbrev pub AskToRead : List Word → Type 0
+AskToRead words = (command : Command) × AskFor words command × Reads command
 
 -- the word at a place, counted from 0
-pub record IsWordAt (words : List (List ℕ)) (place : ℕ) (word : List ℕ) : Type 0 where
+pub record IsWordAt (words : List Word) (place : ℕ) (word : Word) : Type 0 where
   pub within : place < length words
   pub word_is : slice_index_or words place [] ≡ word
 
 -- words as bytes
-abbrev pub words_of : List (String Global) → List (List ℕ)
+abbrev pub words_of : List (String Global) → List Word
 words_of words = map string_bytes words
 
-abbrev pub texts_of : List (Bor (List ℕ)) → List (List ℕ)
-texts_of texts = map (λ t. t.now) texts
-
--- the row that says where
+-- the row that tells the first bad word
 abbrev pub words_row : ℕ → Row
 words_row n = codes "words" ∷ decimal n ∷ []

@@ -3,16 +3,16 @@ ghost use Rattle.vs_check.specs.Flaws.{IsFlawWithin};
 ghost use Rattle.mdvsp.specs.Answered.{IsSaid};
 ghost use Rattle.mdvsp.specs.FlawRows.{no_row};
 ghost use Rattle.mdvsp.specs.Owed.{yes_row};
-ghost use Rattle.mdvsp.specs.RefusalRows.{refusal_row, other_form_row};
+ghost use Rattle.mdvsp.specs.RefusalRows.{document_refusal_row, refusal_row};
 ghost use Rattle.vs_reader.specs.Rows.{lines};
 ghost use Rattle.mdvsp.specs.Words.{words_row};
 
 use crate::flaws::flaw_fields;
-use crate::refusal::write_why;
+use crate::refusal::{write_document_why, write_why};
 use crate::status::Status;
 use crate::words::BadWord;
 use std::alloc::Global;
-use vs_cert::{Document, Text, bound_field, claim_field, cost_field};
+use vs_cert::{DocWhy, Document, Text, bound_field, claim_field, cost_field};
 use vs_check::Flaw;
 use vs_io::{Sink, emit};
 use vs_reader::{Names, Refused};
@@ -49,15 +49,15 @@ impl Answer {
         Ok(Answer::of(Status::BadInput, text))
     }
 
-    /// What follows the instance is no document of the form that is read.
-    pub fn other_form(alloc: Global) -> Result<Answer, Memory>
-        ensures { IfOk result (λ a. (a.status ≡ Status.BadInput) × (a.text.items ≡ lines (other_form_row ∷ []))) }
+    /// What follows the instance is no document, first of all at this record.
+    pub fn refused_document(alloc: Global, row: u64, why: DocWhy) -> Result<Answer, Memory>
+        ensures { IfOk result (λ a. (a.status ≡ Status.BadInput)
+            × (a.text.items ≡ lines (document_refusal_row row why ∷ []))) }
     {
         let mut text = Text::new(alloc);
         text.begin_row("refused")?;
-        text.number(0u32)?;
-        text.number(90u32)?;
-        text.field("NotThisForm")?;
+        text.number(row)?;
+        write_document_why(&mut text, why)?;
         text.end_row()?;
         Ok(Answer::of(Status::BadInput, text))
     }
@@ -87,8 +87,8 @@ impl Answer {
         Ok(Answer::of(Status::SaysNo, text))
     }
 
-    /// This status and this text.
-    fn of(status: Status, text: Text) -> Answer
+    /// The rows of a text, with this status.
+    pub fn of(status: Status, text: Text) -> Answer
         ensures status { result.status ≡ status }
         ensures text { result.text.items ≡ text }
     {

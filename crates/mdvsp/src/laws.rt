@@ -2,10 +2,12 @@
 
 ghost use Rattle.std.specs.Prelude.{◌≡◌, ℕ, List, [], ◌∷◌, ◌++◌, take};
 ghost use Rattle.vs_reader.specs.Texts.{HasRows, EndsInLine};
+ghost use Rattle.mdvsp.specs.declared.command.Command.{Command};
 ghost use Rattle.mdvsp.specs.declared.status.Status.{Status};
 ghost use Rattle.mdvsp.specs.declared.status.Status.TheVariants.{Done};
 ghost use Rattle.mdvsp.specs.Laws.{IsDoneWhereShown};
 ghost use Rattle.mdvsp.specs.Owed.{OwesDocument, CheckOwes, yes_row};
+ghost use Rattle.mdvsp.specs.Words.{Word, AreBadAt, AskFor};
 ghost use Rattle.vs_reader.specs.Rows.{Row, lines};
 
 /// What `solve` has to write for an instance is true: behind the instance's records, the last of which is
@@ -26,4 +28,11 @@ pub fn one_verdict()
 pub fn done_where_shown()
     ensures { (bytes : List ℕ) (answer : Status) (rows : List Row) (owed : OwesDocument bytes answer rows)
         → IsDoneWhereShown bytes answer rows owed }
+{}
+
+/// Words ask for one command at most, or are bad at one place, and never both.
+pub fn words_mean_one_thing()
+    ensures one_command { (words : List Word) (c d : Command) → AskFor words c → AskFor words d → c ≡ d }
+    ensures one_place { (words : List Word) (m n : ℕ) → AreBadAt words m → AreBadAt words n → m ≡ n }
+    ensures never_both { (words : List Word) (c : Command) (n : ℕ) → AskFor words c → ¬ (AreBadAt words n) }
 {}

@@ -1,12 +1,16 @@
 //! The instance that `make N` writes: stops in a grid, all deadheads between them, four layers, and N trips
 //! drawn from one sequence of numbers. The same N always gives the same bytes.
 
-ghost use Rattle.std.specs.Prelude.{◌≡◌, ◌-◌, ◌%◌, ◌<◌, ◌≤◌, [], ◌∷◌, ◌++◌, codes, map, flat_map, IfOk, OnOk};
+ghost use Rattle.std.specs.Prelude.{◌≡◌, ℕ, List, ◌-◌, ◌%◌, ◌<◌, ◌≤◌, [], ◌∷◌, ◌++◌, codes, map, flat_map, IfOk, OnOk};
 ghost use Rattle.std.specs.List.{range_with_len};
+ghost use Rattle.mdvsp.specs.Answered.{IsOwedFor};
 ghost use Rattle.mdvsp.specs.Generator.{deadhead_row, deadheads_from, depot_of, distance, draws, drawn_row, layer_name, layer_names, layer_row, make_rows, next_number, number_at, other_stop, stop_name, stop_row, trip_row};
 ghost use Rattle.vs_reader.specs.Rows.{fields, line, lines};
 ghost use Rattle.vs_cert.specs.Fields.{numbered, time_field};
 
+use crate::answer::Answer;
+use crate::command::Command;
+use crate::status::Status;
 use std::alloc::Global;
 use std::marker::Model;
 use vs_cert::Text;
@@ -100,8 +104,20 @@ fn distance(k: u32, s: u32) -> u32
     (k % 4).abs_diff(s % 4) + (k / 4).abs_diff(s / 4)
 }
 
+/// What `make n` answers.
+pub fn answer_make(alloc: Global, n: u32) -> Result<Answer, Memory>
+    requires { n ≤ MAX_TRIPS }
+    ensures { (bytes : List ℕ) → IfOk result (IsOwedFor (Command.Make n) bytes) }
+{
+    let text = make_text(alloc, n)?;
+    Ok(Answer {
+        status: Status::Done,
+        text,
+    })
+}
+
 /// The bytes of the instance of n trips.
-pub fn make_text(alloc: Global, n: u32) -> Result<Vec<u8>, Memory>
+fn make_text(alloc: Global, n: u32) -> Result<Vec<u8>, Memory>
     requires { n ≤ MAX_TRIPS }
     ensures { IfOk result (λ bytes. bytes.items ≡ lines (make_rows n)) }
 {

@@ -1,20 +1,24 @@
-ghost use Rattle.std.specs.Prelude.{◌≡◌, ◌≤◌, length, IfOk};
+ghost use Rattle.std.specs.Prelude.{◌≡◌, ◌≤◌, List, length, IfErr, IfOk};
 ghost use Rattle.mdvsp.specs.Answered.{IsOwedFor};
-ghost use Rattle.mdvsp.specs.Outcome.{Ends, input_limit};
-ghost use Rattle.mdvsp.specs.Words.{AreAccepted, words_of, command_words};
+ghost use Rattle.mdvsp.specs.Outcome.{CouldNotRead, Ends, HasRead, input_limit};
+ghost use Rattle.mdvsp.specs.Words.{AskFor, AskToRead, HasFewTrips, Reads, Word, words_of};
 
 use crate::answer::{Answer, say};
 use crate::checking::answer_check;
+use crate::command::Command;
+use crate::making::answer_make;
+use crate::network::answer_network;
 use crate::solving::answer_solve;
 use crate::status::Status;
-use crate::words::{Command, command_of};
+use crate::timetable::answer_blocks;
+use crate::words::command_of;
 use std::alloc::Global;
 use vs_io::{Sink, SlurpError, Source, slurp};
 use vs_reader::MAX_BYTES;
 use vs_types::Memory;
 
 /// Does what the words ask for, and says how it ended. The input is read to its end, and nothing is
-/// written before the whole output stands. Where the words are wrong, nothing is read.
+/// written before the whole output stands. Where the words are wrong, and by `make`, nothing is read.
 pub fn run<I: Source, O: Sink>(
     alloc: Global,
     words: &[String],
@@ -32,7 +36,7 @@ pub fn run<I: Source, O: Sink>(
       sink_faults = O.faults output.old;
       sink_faults_after = O.faults output.new;
     }) result }
-    ensures untouched { ¬ (AreAccepted (words_of words.now)) → input.new ≡ input.old }
+    ensures untouched { ¬ (AskToRead (words_of words.now)) → input.new ≡ input.old }
     ensures never_falls { (I.faults input.old ≤ I.faults input.new) × (O.faults output.old ≤ O.faults output.new) }
 {
     match command_of(words) {
@@ -41,15 +45,16 @@ pub fn run<I: Source, O: Sink>(
     }
 }
 
-/// Reads the input, and does what the command asks for.
+/// Reads what the command takes, does what it asks for, and says how it ended.
 fn obey<I: Source, O: Sink>(
     alloc: Global,
     command: Command,
     input: &mut I,
     output: &mut O,
 ) -> Status
-    ensures ends { Ends (record {
-      words = command_words command;
+    requires { HasFewTrips command }
+    ensures ends { (words : List Word) → AskFor words command → Ends (record {
+      words = words;
       left = I.left input.old;
       left_after = I.left input.new;
       taken = O.taken output.old;
@@ -59,9 +64,10 @@ fn obey<I: Source, O: Sink>(
       sink_faults = O.faults output.old;
       sink_faults_after = O.faults output.new;
     }) result }
+    ensures untouched { ¬ (Reads command) → input.new ≡ input.old }
     ensures never_falls { (I.faults input.old ≤ I.faults input.new) × (O.faults output.old ≤ O.faults output.new) }
 {
-    match slurp(alloc, input, MAX_BYTES as u64) {
+    match input_of(alloc, command, input) {
         Ok(bytes) => say(answer_to(alloc, command, &bytes), output),
         Err(SlurpError::ReadFault) => Status::ReadFault,
         Err(SlurpError::TooLong) => Status::TooLong,
@@ -69,13 +75,36 @@ fn obey<I: Source, O: Sink>(
     }
 }
 
+/// What the command takes of the input: all that is left, and nothing for `make`.
+fn input_of<I: Source>(
+    alloc: Global,
+    command: Command,
+    input: &mut I,
+) -> Result<Vec<u8>, SlurpError>
+    ensures read { IfOk result (λ bytes. HasRead command (I.left input.old) (I.left input.new) bytes.items) }
+    ensures few { IfOk result (λ bytes. length bytes.items ≤ input_limit) }
+    ensures failed { IfErr result
+        (CouldNotRead command (I.left input.old) (I.left input.new) (I.faults input.old) (I.faults input.new)) }
+    ensures untouched { ¬ (Reads command) → input.new ≡ input.old }
+    ensures never_falls { I.faults input.old ≤ I.faults input.new }
+{
+    match command {
+        Command::Make(_) => Ok(Vec::new(alloc)),
+        _ => slurp(alloc, input, MAX_BYTES as u64),
+    }
+}
+
 /// What the command answers for the bytes of its input.
 fn answer_to(alloc: Global, command: Command, bytes: &[u8]) -> Result<Answer, Memory>
-    requires { length bytes.now ≤ input_limit }
+    requires few { length bytes.now ≤ input_limit }
+    requires trips { HasFewTrips command }
     ensures { IfOk result (IsOwedFor command bytes.now) }
 {
     match command {
         Command::Check => answer_check(alloc, bytes),
         Command::Solve => answer_solve(alloc, bytes),
+        Command::Network => answer_network(alloc, bytes),
+        Command::Blocks => answer_blocks(alloc, bytes),
+        Command::Make(n) => answer_make(alloc, n),
     }
 }

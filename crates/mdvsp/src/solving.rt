@@ -5,11 +5,11 @@ ghost use Rattle.mdvsp.specs.Outcome.{input_limit};
 ghost use Rattle.mdvsp.specs.Owed.{status_of};
 
 use crate::answer::Answer;
+use crate::command::Command;
 use crate::planning::first_answer;
 use crate::status::Status;
-use crate::words::Command;
 use std::alloc::Global;
-use vs_cert::write_document;
+use vs_cert::text_of;
 use vs_reader::{Input, ReadError, read};
 use vs_tree::Claim;
 use vs_types::Memory;
@@ -32,7 +32,7 @@ fn plan_of(alloc: Global, input: &Input) -> Result<Answer, Memory>
     ensures { IfOk result (IsDocumentOf input.now.instance input.now.names) }
 {
     let document = first_answer(alloc, &input.instance)?;
-    let text = write_document(alloc, &input.instance, &input.names, &document)?;
+    let text = text_of(alloc, &input.instance, &input.names, &document)?;
     Ok(Answer {
         status: claim_status(document.claim),
         text,

@@ -657,3 +657,34 @@ fn ends_where_a_stream_fails(rt: HostRuntime) -> Result<(), Fail> {
     }
     Ok(())
 }
+
+/// The stops and the layer with six trips, of which the arrivals at P and the departures from Q are close together.
+const SIX_TRIPS: &str =
+    "trip,t1,D,7:30,P,8:00,0,L1\ntrip,t2,D,7:35,P,8:05,0,L1\ntrip,t3,D,7:40,P,8:10,0,L1\ntrip,t4,D,7:50,P,8:20,0,L1\ntrip,t5,Q,8:30,D,9:00,0,L1\ntrip,t6,Q,8:40,D,9:10,0,L1\n";
+
+#[test]
+fn tells_sizes_of_nets(rt: HostRuntime) -> Result<(), Fail> {
+    let cases: [(&str, &str, &str); 3] = [
+        (
+            "six trips",
+            SIX_TRIPS,
+            "network,L1,first,12,9,4,6,6,6,7\nnetwork,L1,latest,12,9,2,6,6,6,7\n",
+        ),
+        (
+            "two trips",
+            TRIPS,
+            "network,L1,first,3,1,0,2,2,2,1\nnetwork,L1,latest,3,1,0,2,2,2,1\n",
+        ),
+        (
+            "until 47:59",
+            LONG_TRIPS,
+            "network,L1,first,4,2,0,2,2,2,0\nnetwork,L1,latest,4,2,0,2,2,2,0\n",
+        ),
+    ];
+    for (case, trips, written) in cases {
+        let (ended, text) = outcome(rt.alloc(), &["network"], &[STOPS, LAYER, trips])?;
+        assert_eq!(rt; ended, Status::Done, "{case}");
+        assert_eq!(rt; text.as_slice(), written.as_bytes(), "{case}");
+    }
+    Ok(())
+}

@@ -23,3 +23,5 @@ pub mod AcceptedRows
 pub mod RefusedOnce
 pub mod AlikeDocuments
 pub mod WholeDocument
+pub mod WrittenPlain
+pub mod Suiting

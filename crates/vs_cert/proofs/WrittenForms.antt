@@ -94,7 +94,7 @@ module _ (p : Problem) (names : NameLists) (instance : IsInstance p) (counts : H
   }
 
   -- of a whole document
-  document_forms : (d : Document) → HasText p d → All (HasForm names) (rows_of_document p d)
+  pub document_forms : (d : Document) → HasText p d → All (HasForm names) (rows_of_document p d)
   document_forms d text =
       let nodes : List DocumentRow = NodesRow d.nodes ∷ [] in
       let bound : List DocumentRow = BoundRow d.bound ∷ nodes in

@@ -1,5 +1,5 @@
 -- A document that holds proves what it claims.
-use Rattle.std.proofs.Common.{◌≡◌, ℕ, ◌≤◌, Bool, true, false, cond, List, [], refl, sym, ◌∙◌, subst, arith, Option, Some, None as nothing, ℤ, pos, ◌≤ℤ◌}
+use Rattle.std.proofs.Common.{◌≡◌, ℕ, ◌≤◌, Bool, true, false, cond, List, [], get_or, refl, sym, ◌∙◌, subst, arith, Option, Some, None as nothing, ℤ, pos, ◌≤ℤ◌}
 use Rattle.std.specs.Prelude.{IfSome, IfNone, MatchOption}
 use Rattle.std.specs.List.{All, slice_get}
 use Rattle.std.specs.Ordering.{int_eq}
@@ -9,7 +9,7 @@ use Rattle.std.proofs.lemmas.Int.{ints}
 use Rattle.vs_instance.specs.Problem.{Problem}
 use Rattle.vs_instance.specs.Instance.{IsInstance}
 use Rattle.vs_instance.specs.Plan.{IsPlan, LayerBlock, plan_cost}
-use Rattle.vs_instance.specs.Restriction.{permitted_sets}
+use Rattle.vs_instance.specs.Restriction.{IsRestriction, permitted_sets}
 use Rattle.vs_instance.proofs.PermittedSets.{permitted_sets-IsRestriction, plans_lie_within}
 use Rattle.vs_plan.specs.Blocks.{blocks_of}
 use Rattle.vs_prices.specs.Table.{Fits, HoldingTable}
@@ -18,9 +18,12 @@ use Rattle.vs_prices.specs.declared.bound.Bound.{Bound}
 use Rattle.vs_prices.specs.declared.bound.Bound.TheVariants.{AtLeast, NoPlan}
 use Rattle.vs_prices.specs.declared.table.Table.{Table}
 use Rattle.vs_prices.proofs.Duality.{bounds_plans}
+use Rattle.vs_tree.proofs.Restrictions.{leaves_restrict}
+use Rattle.vs_tree.proofs.Sharing.{lies_in_one}
+use Rattle.vs_tree.specs.Tree.{LeafPlace, leaves}
 use Rattle.vs_tree.specs.declared.claim.Claim.TheVariants.{Optimal, Infeasible, StillOpen}
 use Rattle.vs_cert.specs.declared.document.Document.{Document}
-use Rattle.vs_check.specs.HoldingDocument.{HoldingDocument}
+use Rattle.vs_check.specs.HoldingDocument.{HoldingDocument, IsStrongLeaf}
 use Rattle.vs_tree.specs.Claims.{claim_found}
 use Rattle.vs_check.specs.Laws.{HoldingDocumentsProveTheirClaims}
 
@@ -98,18 +101,30 @@ table_named p tables t table each is =
     subst (λ (x : Table). Fits p x × HoldingTable p x) (get_or_from_slice_get tables t table table is)
     (each t table (slice_get_within tables t table is))
 
--- the printed bound is one on every plan of the instance
+-- the printed bound is one on every plan of the instance, since the plan lies in a leaf
 bounds_all : (p : Problem) (d : Document) → IsInstance p → HoldingDocument p d → (others : List LayerBlock)
     → IsPlan p others → IsBelow d.bound (plan_cost p others)
 bounds_all p d instance holds others plan =
-    let leaf = holds.leaf in
-    let table = leaf.1 in
-    let reaches = leaf.4 in
-    let fine : Fits p table × HoldingTable p table = table_named p d.tables.items leaf.0 table holds.tables leaf.3 in
+    let root = permitted_sets-IsRestriction p instance in
+    let tree = holds.tree.tree in
+    let strong = holds.tree.strong in
+    let places = leaves (permitted_sets p) tree in
+    let lies = (lies_in_one others p instance plan (permitted_sets p) tree root strong.splits
+    (plans_lie_within p others plan)) in
+    let place = lies.lies.place in
+    let is : get_or places lies.leaf place ≡ place = get_or_from_slice_get places lies.leaf place place lies.lies.is in
+    let inside = slice_get_within places lies.leaf place lies.lies.is in
+    let leaf : IsStrongLeaf p d.tables.items d.bound place =
+    subst (IsStrongLeaf p d.tables.items d.bound) is (strong.leaves lies.leaf place inside) in
+    let restriction : IsRestriction p place.sets =
+    subst (λ (x : LeafPlace). IsRestriction p x.sets) is
+    (leaves_restrict p (permitted_sets p) tree root strong.splits lies.leaf place inside) in
+    let fine : Fits p leaf.table × HoldingTable p leaf.table =
+    table_named p d.tables.items place.table leaf.table holds.tables leaf.table_is in
+    let reaches = leaf.reaches in
     below reaches.0 d.bound (plan_cost p others) reaches.2
-    (bounds_plans p (permitted_sets p) table reaches.0 instance
-    (permitted_sets-IsRestriction p instance) fine.0 fine.1 reaches.1
-    others plan (plans_lie_within p others plan))
+    (bounds_plans p place.sets leaf.table reaches.0 instance restriction fine.0 fine.1 reaches.1 others plan
+    lies.lies.within)
 
 pub prove_their_claims : HoldingDocumentsProveTheirClaims
 prove_their_claims p d instance holds =

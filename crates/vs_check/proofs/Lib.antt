@@ -1,5 +1,13 @@
 pub mod PlanFlaws
 pub mod LeafFlaws
+pub mod WalkSteps
+pub mod RowFlaws
+pub mod ProperParts
+pub mod TreeRows
+pub mod Parts
+pub mod StrongTrees
 pub mod Flawless
 pub mod Claims
 pub mod NamedFlaws
+pub mod AgreeingTables
+pub mod AlikeDocuments

@@ -1,10 +1,11 @@
 -- Every flaw names layers and trips of the instance.
-use Rattle.std.proofs.Common.{◌≡◌, ℕ, ◌-◌, Bool, true, false, cond, not, List, [], ◌∷◌, length, refl, sym, arith, Option, Some, None, ℤ, pos}
+use Rattle.std.proofs.Common.{◌≡◌, ℕ, ◌+◌, ◌-◌, Bool, true, false, cond, not, List, [], ◌∷◌, ◌++◌, length, refl, sym, arith, Option, Some, None, ℤ, pos}
 use Rattle.std.specs.Prelude.{int_lt, nat_lt, ◌==◌, is_none}
-use Rattle.std.specs.List.{All, slice_get}
+use Rattle.std.specs.List.{All, flat_map, slice_get}
 use Rattle.std.specs.Ordering.{int_eq}
 use Rattle.std.proofs.lemmas.List.Elements.{All-append, All-cons, All-nil}
 use Rattle.std.proofs.lemmas.List.FromFn.{length-map-range_with_len}
+use Rattle.vs_types.specs.declared.layer_set.LayerSet.{LayerSet}
 use Rattle.vs_types.specs.declared.numbers.LayerNo.{LayerNo}
 use Rattle.vs_types.specs.declared.numbers.TripNo.{TripNo}
 use Rattle.vs_instance.specs.Firsts.{first, when}
@@ -12,6 +13,7 @@ use Rattle.vs_instance.specs.Pieces.{out_piece, link_piece, in_piece}
 use Rattle.vs_instance.specs.Blocks.{last_of}
 use Rattle.vs_instance.specs.Ways.{layer_of}
 use Rattle.vs_instance.specs.Problem.{Problem}
+use Rattle.vs_instance.specs.Restriction.{permitted_sets, set_of}
 use Rattle.vs_instance.specs.Plan.{LayerBlock, plan_cost, times_run, vehicles_used}
 use Rattle.vs_instance.proofs.FirstHolds.{All-each, All-numbers, All-when, first_holds}
 use Rattle.vs_plan.specs.Blocks.{blocks_of}
@@ -28,10 +30,11 @@ use Rattle.vs_prices.proofs.RealBreaks.{all_broken}
 use Rattle.vs_cert.specs.declared.document.Document.{Document}
 use Rattle.vs_check.specs.declared.flaw.Flaw.{Flaw}
 use Rattle.vs_check.specs.declared.flaw.Flaw.TheVariants.{Plan, CostDiffers, TableBroken, BadSplit, LeafTooWeak, ClaimDiffers}
-use Rattle.vs_cert.specs.declared.shape.Shape.{Shape}
-use Rattle.vs_cert.specs.declared.shape.Shape.TheVariants.{Leaf, Split}
+use Rattle.vs_cert.specs.Shapes.{preorder}
+use Rattle.vs_tree.specs.Tree.{Tree, Leaf, Split, right_of, with_set}
 use Rattle.vs_tree.specs.Claims.{claim_found}
-use Rattle.vs_check.specs.Flaws.{IsBreakWithin, IsFaultWithin, IsFlawWithin, IsVerdictWithin, broken_flaws, cost_flaws, flaws_of, leaf_flaws, named_flaws, plan_flaws, same_claim, shape_flaws, table_flaws, verdict_of}
+use Rattle.vs_check.specs.Flaws.{IsBreakWithin, IsFaultWithin, IsFlawWithin, IsVerdictWithin, broken_flaws, cost_flaws, flaws_of, is_proper_part, leaf_flaws, named_flaws, plan_flaws, same_claim, table_flaws, tree_flaws, verdict_of}
+use Rattle.vs_check.specs.Trees.{trees_of}
 
 break_of : (p : Problem) (table : Table) (at : BrokenAt) → IsBroken p table at
     → IsBreakWithin (length p.layers) (length p.trips) at
@@ -113,22 +116,40 @@ module _ (p : Problem) where
   leaf_named position (AtLeast n) (Some bound) =
       All-when OfFlaw (int_lt n bound) (LeafTooWeak position n (Some bound)) (λ _. tt)
 
-  named_named : (bound : Option ℤ) (table : Option Table) → All OfFlaw (named_flaws p bound table)
-  named_named bound None = All-nil OfFlaw
-  named_named bound (Some table) = leaf_named 0 _ bound
+  named_named : (bound : Option ℤ) (position : ℕ) (sets : List LayerSet) (table : Option Table)
+      → All OfFlaw (named_flaws p bound position sets table)
+  named_named bound position sets None = All-nil OfFlaw
+  named_named bound position sets (Some table) = leaf_named position _ bound
 
-  shape_named : (d : Document) (shape : List Shape) → All OfFlaw (shape_flaws p d shape)
-  shape_named d [] = one_flaw (BadSplit 0) tt
-  shape_named d (Leaf t ∷ []) = named_named d.bound (slice_get d.tables.items t)
-  shape_named d (Leaf t ∷ row ∷ rows) = one_flaw (BadSplit 0) tt
-  shape_named d (Split trip left ∷ rows) = one_flaw (BadSplit 0) tt
+  split_named : (good : Bool) (position : ℕ) (lower upper : List Flaw) → All OfFlaw lower → All OfFlaw upper
+      → All OfFlaw (cond good (lower ++ upper) (BadSplit position ∷ []))
+  split_named true position lower upper on_left on_right = All-append OfFlaw lower upper on_left on_right
+  split_named false position lower upper on_left on_right = one_flaw (BadSplit position) tt
+
+  tree_named : (tables : List Table) (bound : Option ℤ) (position : ℕ) (sets : List LayerSet) (tree : Tree)
+      → All OfFlaw (tree_flaws p tables bound position sets tree)
+  tree_named tables bound position sets (Leaf table) = named_named bound position sets (slice_get tables table)
+  tree_named tables bound position sets (Split trip left lower upper) =
+      split_named (is_proper_part left (set_of sets trip.0)) position
+      (tree_flaws p tables bound (position + 1) (with_set sets trip left) lower)
+      (tree_flaws p tables bound (position + 1 + length (preorder lower))
+      (with_set sets trip (right_of sets trip left)) upper)
+      (tree_named tables bound (position + 1) (with_set sets trip left) lower)
+      (tree_named tables bound (position + 1 + length (preorder lower))
+      (with_set sets trip (right_of sets trip left)) upper)
+
+  trees_named : (tables : List Table) (bound : Option ℤ) (trees : List Tree)
+      → All OfFlaw (flat_map (tree_flaws p tables bound 0 (permitted_sets p)) trees)
+  trees_named tables bound [] = All-nil OfFlaw
+  trees_named tables bound (tree ∷ trees) =
+      All-append OfFlaw _ _ (tree_named tables bound 0 (permitted_sets p) tree) (trees_named tables bound trees)
 
   all_named : (d : Document) → All OfFlaw (flaws_of p d)
   all_named d =
       All-append OfFlaw _ _ (All-append OfFlaw _ _ (All-append OfFlaw _ _ (plan_named (blocks_of d.plan) d.cost)
       (All-each OfFlaw (table_flaws p) 0 d.tables.items
       (λ t table from within. table_named t table (first (breaks_of p table)) refl)))
-      (shape_named d d.shape.items))
+      (trees_named d.tables.items d.bound (trees_of d.shape.items)))
       (All-when OfFlaw (not (same_claim d.claim (claim_found d.cost d.bound)))
       (ClaimDiffers d.claim (claim_found d.cost d.bound)) (λ _. tt))
 

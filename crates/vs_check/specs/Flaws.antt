@@ -1,11 +1,13 @@
 -- What is wrong with a document, as one list in the order in which it is judged.
-use Rattle.std.specs.Prelude.{ℕ, ◌<◌, Bool, true, false, not, List, [], ◌∷◌, ◌++◌, flat_map, ℤ, pos, int_lt, Option, Some, None, slice_get}
+use Rattle.std.specs.Prelude.{ℕ, ◌+◌, ◌<◌, ◌==◌, ◌&&◌, nat_lt, Bool, true, false, not, if◌then◌else◌, List, [], ◌∷◌, ◌++◌, length, flat_map, ℤ, pos, int_lt, Option, Some, None, slice_get}
 use Rattle.std.specs.List.{enumerate_from}
 use Rattle.std.specs.Ordering.{int_eq}
+use Rattle.vs_types.specs.LayerSet.{members}
+use Rattle.vs_types.specs.declared.layer_set.LayerSet.{LayerSet}
 use Rattle.vs_instance.specs.Firsts.{first, when}
 use Rattle.vs_instance.specs.Problem.{Problem}
 use Rattle.vs_instance.specs.Plan.{LayerBlock, plan_cost}
-use Rattle.vs_instance.specs.Restriction.{permitted_sets}
+use Rattle.vs_instance.specs.Restriction.{permitted_sets, set_of}
 use Rattle.vs_plan.specs.Blocks.{blocks_of}
 use Rattle.vs_plan.specs.PlanFaults.{faults_of}
 use Rattle.vs_plan.specs.declared.plan_fault.PlanFault.{PlanFault}
@@ -22,11 +24,13 @@ use Rattle.vs_tree.specs.declared.claim.Claim.TheVariants.{Optimal, Infeasible, 
 use Rattle.vs_cert.specs.declared.document.Document.{Document}
 use Rattle.vs_check.specs.declared.flaw.Flaw.{Flaw}
 use Rattle.vs_check.specs.declared.flaw.Flaw.TheVariants.{Plan, CostDiffers, TableBroken, BadSplit, LeafTooWeak, ClaimDiffers}
-use Rattle.vs_cert.specs.declared.shape.Shape.{Shape}
-use Rattle.vs_cert.specs.declared.shape.Shape.TheVariants.{Leaf}
+use Rattle.vs_cert.specs.Shapes.{preorder}
 use Rattle.vs_check.specs.declared.verdict.Verdict.{Verdict}
 use Rattle.vs_check.specs.declared.verdict.Verdict.TheVariants.{Yes, No}
 use Rattle.vs_tree.specs.Claims.{claim_found}
+use Rattle.vs_tree.specs.Rest.{rest_of}
+use Rattle.vs_tree.specs.Tree.{Tree, Leaf, Split, right_of, with_set}
+use Rattle.vs_check.specs.Trees.{trees_of}
 
 -- beside a printed cost: the first fault of the blocks, and where they have none, a cost that isn't theirs
 abbrev pub cost_flaws : Problem → List LayerBlock → ℤ → Option PlanFault → List Flaw
@@ -56,14 +60,30 @@ leaf_flaws position NoPlan bound = []
 leaf_flaws position (AtLeast n) None = LeafTooWeak position n None ∷ []
 leaf_flaws position (AtLeast n) (Some bound) = when (int_lt n bound) (LeafTooWeak position n (Some bound))
 
-abbrev pub named_flaws : Problem → Option ℤ → Option Table → List Flaw
-named_flaws p bound None = []
-named_flaws p bound (Some table) = leaf_flaws 0 (worth_of p (permitted_sets p) table) bound
+-- of a leaf where each trip may be run in a layer of these sets, which names this table
+abbrev pub named_flaws : Problem → Option ℤ → ℕ → List LayerSet → Option Table → List Flaw
+named_flaws p bound position sets None = []
+named_flaws p bound position sets (Some table) = leaf_flaws position (worth_of p sets table) bound
 
--- of the shape, which is one leaf until splits are judged
-abbrev pub shape_flaws : Problem → Document → List Shape → List Flaw
-shape_flaws p d (Leaf t ∷ []) = named_flaws p d.bound (slice_get d.tables.items t)
-shape_flaws p d _ = BadSplit 0 ∷ []
+-- the part has some of the set's layers, and not all of them
+abbrev pub is_proper_part : LayerSet → LayerSet → Bool
+is_proper_part part whole = nat_lt 0 (length (members part)) && (length (members (rest_of part whole)) == 0)
+    && nat_lt 0 (length (members (rest_of whole part)))
+
+-- Of a tree whose first row is at this position, row by row, where each trip may be run in a layer of these sets. Behind a
+-- split that doesn't share out its trip's set nothing of its parts is told.
+abbrev pub tree_flaws : Problem → List Table → Option ℤ → ℕ → List LayerSet → Tree → List Flaw
+tree_flaws p tables bound position sets (Leaf table) = named_flaws p bound position sets (slice_get tables table)
+tree_flaws p tables bound position sets (Split trip left lower upper) =
+    if is_proper_part left (set_of sets trip.0) then
+    tree_flaws p tables bound (position + 1) (with_set sets trip left) lower
+    ++ tree_flaws p tables bound (position + 1 + length (preorder lower))
+    (with_set sets trip (right_of sets trip left)) upper
+    else BadSplit position ∷ []
+
+-- of the shape's one tree, at whose root each trip may be run in its permitted layers
+abbrev pub shape_flaws : Problem → Document → List Flaw
+shape_flaws p d = flat_map (tree_flaws p d.tables.items d.bound 0 (permitted_sets p)) (trees_of d.shape.items)
 
 abbrev pub same_claim : Claim → Claim → Bool
 same_claim Optimal Optimal = true
@@ -77,7 +97,7 @@ claim_flaws claimed found = when (not (same_claim claimed found)) (ClaimDiffers 
 -- all flaws in order: the plan and its cost, the tables, the shape, and the claim
 abbrev pub flaws_of : Problem → Document → List Flaw
 flaws_of p d =
-    plan_flaws p (blocks_of d.plan) d.cost ++ tables_flaws p d.tables.items ++ shape_flaws p d d.shape.items
+    plan_flaws p (blocks_of d.plan) d.cost ++ tables_flaws p d.tables.items ++ shape_flaws p d
     ++ claim_flaws d.claim (claim_found d.cost d.bound)
 
 -- yes where there is none, and else no for the first

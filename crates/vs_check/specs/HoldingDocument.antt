@@ -1,17 +1,19 @@
 -- When a document proves what it claims.
-use Rattle.std.specs.Prelude.{◌≡◌, ℕ, ◌≤◌, List, [], ◌∷◌, All, ℤ, pos, ◌≤ℤ◌, Option, Some, None, MatchOption, IfSome, IfNone, slice_get}
+use Rattle.std.specs.Prelude.{◌≡◌, ℕ, ◌≤◌, List, [], All, ℤ, pos, ◌≤ℤ◌, Option, Some, MatchOption, IfSome, IfNone, slice_get}
+use Rattle.vs_types.specs.declared.layer_set.LayerSet.{LayerSet}
 use Rattle.vs_instance.specs.Problem.{Problem}
 use Rattle.vs_instance.specs.Plan.{IsPlan, LayerBlock, plan_cost}
 use Rattle.vs_instance.specs.Restriction.{permitted_sets}
-use Rattle.vs_prices.specs.declared.bound.Bound.{Bound}
-use Rattle.vs_tree.specs.declared.claim.Claim.TheVariants.{Optimal, Infeasible}
-use Rattle.vs_tree.specs.Claims.{claim_found}
-use Rattle.vs_cert.specs.declared.document.Document.{Document}
-use Rattle.vs_cert.specs.declared.shape.Shape.TheVariants.{Leaf}
-use Rattle.vs_prices.specs.declared.table.Table.{Table}
 use Rattle.vs_plan.specs.Blocks.{blocks_of}
+use Rattle.vs_prices.specs.declared.bound.Bound.{Bound}
+use Rattle.vs_prices.specs.declared.table.Table.{Table}
 use Rattle.vs_prices.specs.Table.{Fits, HoldingTable}
 use Rattle.vs_prices.specs.Worth.{IsWorth, Reaches}
+use Rattle.vs_tree.specs.Claims.{claim_found}
+use Rattle.vs_tree.specs.declared.claim.Claim.TheVariants.{Optimal, Infeasible}
+use Rattle.vs_tree.specs.Tree.{Tree, IsGoodTree, LeafPlace, leaves}
+use Rattle.vs_cert.specs.Shapes.{preorder}
+use Rattle.vs_cert.specs.declared.document.Document.{Document}
 
 -- the blocks are a plan of the printed cost, and where none is printed there are none
 abbrev pub HasPlan : Problem → Document → Type 0
@@ -19,20 +21,32 @@ HasPlan p d =
     MatchOption d.cost (blocks_of d.plan ≡ []) (λ cost. IsPlan p (blocks_of d.plan)
     × (cost ≡ pos (plan_cost p (blocks_of d.plan))))
 
--- the table reaches the printed bound, whichever permitted layer each trip is run in
-abbrev pub ReachesBound : Problem → Table → Option ℤ → Type 0
-ReachesBound p table bound = (worth : Bound) × IsWorth p (permitted_sets p) table worth × Reaches worth bound
+-- the table reaches the printed bound, whichever layer of its set each trip is run in
+abbrev pub ReachesBound : Problem → List LayerSet → Table → Option ℤ → Type 0
+ReachesBound p sets table bound = (worth : Bound) × IsWorth p sets table worth × Reaches worth bound
 
--- a shape of one leaf, whose table reaches the printed bound
-abbrev pub HasLeaf : Problem → Document → Type 0
-HasLeaf p d =
-    (t : ℕ) × (table : Table) × (d.shape.items ≡ Leaf t ∷ []) × (slice_get d.tables.items t ≡ Some table)
-    × ReachesBound p table d.bound
+-- the leaf names one of the tables, which reaches the printed bound there
+pub record IsStrongLeaf (p : Problem) (tables : List Table) (bound : Option ℤ) (place : LeafPlace) : Type 0 where
+  pub table : Table
+  pub table_is : slice_get tables place.table ≡ Some table
+  pub reaches : ReachesBound p place.sets table bound
+
+-- the tree shares out what each trip may be run in, and each of its leaves reaches the printed bound
+pub record IsStrongTree (p : Problem) (tables : List Table) (bound : Option ℤ) (sets : List LayerSet)
+    (tree : Tree) : Type 0 where
+  pub splits : IsGoodTree sets tree
+  pub leaves : All (IsStrongLeaf p tables bound) (leaves sets tree)
+
+-- the document's shape is such a tree, at whose root each trip may be run in its permitted layers
+pub record HasTree (p : Problem) (d : Document) : Type 0 where
+  pub tree : Tree
+  pub shape_is : d.shape.items ≡ preorder tree
+  pub strong : IsStrongTree p d.tables.items d.bound (permitted_sets p) tree
 
 pub record HoldingDocument (p : Problem) (d : Document) : Type 0 where
   pub plan : HasPlan p d
   pub tables : All (λ t. Fits p t × HoldingTable p t) d.tables.items
-  pub leaf : HasLeaf p d
+  pub tree : HasTree p d
   pub claim : d.claim ≡ claim_found d.cost d.bound
 
 -- What a document that holds proves, whoever wrote it: its blocks are a plan of the printed cost; no plan of the

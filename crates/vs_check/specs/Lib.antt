@@ -1,3 +1,5 @@
+pub mod Trees
 pub mod HoldingDocument
 pub mod Flaws
+pub mod Walk
 pub mod Laws

@@ -1,8 +1,15 @@
-//! What documents prove of every instance.
+//! What holds of the documents of every instance.
 
+ghost use Rattle.vs_check.specs.Laws.{AlikeDocumentsAreJudgedAlike};
 ghost use Rattle.vs_check.specs.Laws.{HoldingDocumentsProveTheirClaims};
 
 /// A document that holds proves what it claims, of every plan of the instance and whoever wrote it.
 pub fn holding_documents_prove_their_claims()
     ensures { HoldingDocumentsProveTheirClaims }
+{}
+
+/// Two documents for an instance that differ only by tables that agree have the same flaws, and hold both
+/// or neither.
+pub fn alike_documents_are_judged_alike()
+    ensures { AlikeDocumentsAreJudgedAlike }
 {}

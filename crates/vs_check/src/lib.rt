@@ -5,9 +5,10 @@
 mod flaw;
 mod laws;
 mod verdict;
+mod walk;
 
 pub use flaw::Flaw;
-pub use laws::holding_documents_prove_their_claims;
+pub use laws::{alike_documents_are_judged_alike, holding_documents_prove_their_claims};
 pub use verdict::{Verdict, check};
 
 #[cfg(test)]

@@ -1,138 +1,24 @@
-ghost use Rattle.std.specs.Prelude.{◌≡◌, ◌≢◌, ◌*◌, ◌<◌, [], ℕ, length, All, IfOk};
-ghost use Rattle.vs_instance.specs.Problem.{Problem};
-ghost use Rattle.vs_plan.specs.Blocks.{CanBeJudged, blocks_of};
-ghost use Rattle.vs_prices.specs.Table.{Fits, IsPrice};
-ghost use Rattle.vs_types.specs.LayerSet.{Has, members};
+mod instances;
+mod shapes;
 
+ghost use Rattle.std.specs.Prelude.{◌≡◌, ◌≤◌, length, All};
+ghost use Rattle.vs_cert.specs.Shapes.{AreTree, IsShapeOf};
+ghost use Rattle.vs_prices.specs.Table.{Fits};
+
+use crate::tests::instances::{both_layers, first_layer, many_trips, one_trip, table, two_trips};
+use crate::tests::shapes::{deep_shape, one_block, one_leaf, one_split};
 use crate::{Flaw, Verdict, check};
 use std::alloc::Global;
 use std::test::Fail;
 use vs_cert::{Document, Shape};
-use vs_instance::{Deadhead, Instance, Layer, Parts, Trip};
-use vs_plan::{Block, Plan, PlanFault};
-use vs_prices::{BrokenAt, MAX_PRICE, Table};
+use vs_instance::Instance;
+use vs_plan::{Plan, PlanFault};
+use vs_prices::{BrokenAt, Table};
 use vs_tree::Claim;
-use vs_types::{LayerNo, LayerSet, StopNo, TripNo};
+use vs_types::{LayerNo, Memory, TripNo};
 
-const DEPOT: StopNo = StopNo(0);
-
-const P: StopNo = StopNo(1);
-
-const Q: StopNo = StopNo(2);
-
-/// A trip of 30 minutes in the one layer.
-fn trip(from: StopNo, to: StopNo, start: u32) -> Trip
-    requires stops { (from.0 < 3) × (to.0 < 3) }
-    requires start { start < 2000 }
-    ensures stops { (result.from.0 < 3) × (result.to.0 < 3) }
-    ensures times { (result.start < 2880) × (result.end < 2880) }
-    ensures some_layer { members result.layers ≢ [] }
-    ensures layers { (l : ℕ) → Has result.layers l → l ≡ 0 }
-{
-    Trip {
-        from,
-        start,
-        to,
-        end: start + 30,
-        metres: 0,
-        layers: LayerSet::only(LayerNo(0)),
-    }
-}
-
-fn deadhead(from: StopNo, to: StopNo, minutes: u64) -> Deadhead
-    requires { (from.0 < 3) × (to.0 < 3) }
-    ensures { (result.from.0 < 3) × (result.to.0 < 3) }
-{
-    Deadhead {
-        from,
-        to,
-        minutes,
-        metres: 0,
-    }
-}
-
-/// Two trips of half an hour, from P at 8:00 to Q and back from there at this minute, and so many
-/// vehicles at a depot that is ten minutes from either stop. A vehicle costs 1000, and 1 for each
-/// minute.
-fn two_trips(alloc: Global, fleet: u64, start: u32) -> Result<Instance, Fail>
-    requires { start < 2000 }
-    ensures { IfOk result (λ i. (length i.layers ≡ 1) × (length i.trips ≡ 2)) }
-{
-    let deadheads = [
-        deadhead(DEPOT, P, 10),
-        deadhead(P, DEPOT, 10),
-        deadhead(DEPOT, Q, 10),
-        deadhead(Q, DEPOT, 10),
-        deadhead(P, Q, 15),
-        deadhead(Q, P, 15),
-    ];
-    let layer = Layer {
-        depot: DEPOT,
-        fleet,
-        fixed: 1000,
-        per_minute: 1,
-        per_metre: 0,
-    };
-    let trips = [trip(P, Q, 480), trip(Q, P, start)];
-    let parts = Parts {
-        stops: 3,
-        deadheads: Vec::from_slice(alloc, &deadheads)?,
-        layers: Vec::from_slice(alloc, &[layer])?,
-        trips: Vec::from_slice(alloc, &trips)?,
-    };
-    Ok(Instance::new(alloc, parts)?)
-}
-
-fn prices(alloc: Global, numbers: &[i64]) -> Result<Vec<i64>, Fail>
-    ensures prices { IfOk result (λ v. All IsPrice v.items) }
-    ensures size { IfOk result (λ v. length v.items ≡ length numbers.now) }
-{
-    let mut prices = Vec::new(alloc);
-    for n in numbers {
-        if *n < -MAX_PRICE || *n > MAX_PRICE {
-            return Err(Fail::new("no price"));
-        }
-        prices.push(*n)?;
-    }
-    Ok(prices)
-}
-
-/// A table for these two trips and their one layer.
-fn table(
-    alloc: Global,
-    instance: &Instance,
-    ray: bool,
-    fleet: i64,
-    into: [i64; 2],
-    from: [i64; 2],
-) -> Result<Table, Fail>
-    requires { (length instance.now.layers ≡ 1) × (length instance.now.trips ≡ 2) }
-    ensures { IfOk result (Fits instance.now) }
-{
-    Ok(Table {
-        into: prices(alloc, &into)?,
-        from: prices(alloc, &from)?,
-        fleet: prices(alloc, &[fleet])?,
-        ray,
-    })
-}
-
-/// One block of the two trips.
-fn both(alloc: Global) -> Result<Plan, Fail>
-    ensures { IfOk result (λ plan. (p : Problem) → length p.layers ≡ 1 → length p.trips ≡ 2
-        → CanBeJudged p (blocks_of plan)) }
-{
-    let block = Block {
-        layer: LayerNo(0),
-        trips: Vec::from_slice(alloc, &[TripNo(0), TripNo(1)])?,
-    };
-    Ok(Plan {
-        blocks: vec![in alloc; block]?,
-    })
-}
-
-/// The verdict on a document with this claim, cost and bound, in which one vehicle runs both trips,
-/// and with this one table.
+/// The verdict on a document of one leaf with this claim, cost and bound, in which one vehicle runs
+/// both trips, and with this one table.
 fn judged(
     alloc: Global,
     instance: &Instance,
@@ -149,9 +35,9 @@ fn judged(
         cost: Some(cost),
         bound: Some(bound),
         nodes: 1,
-        plan: both(alloc)?,
+        plan: one_block(alloc, &[TripNo(0), TripNo(1)])?,
         tables: vec![in alloc; table]?,
-        shape: vec![in alloc; Shape::Leaf { table: 0 }]?,
+        shape: one_leaf(alloc)?,
     };
     Ok(check(alloc, instance, &document)?)
 }
@@ -189,7 +75,7 @@ fn answers_the_first_flaw(rt: HostRuntime) -> Result<(), Fail> {
         (Claim::Optimal, 1080, 60, 0, Verdict::No(open)),
     ];
     for (claim, cost, bound, from, verdict) in cases {
-        let table = table(alloc, &instance, false, 0, [1_010_000, 0], [from, -10_000])?;
+        let table = table(alloc, &instance, false, &[0], [1_010_000, 0], [from, -10_000])?;
         assert_eq!(rt;
             judged(alloc, &instance, claim, cost, bound, table)?,
             verdict
@@ -202,7 +88,7 @@ fn answers_the_first_flaw(rt: HostRuntime) -> Result<(), Fail> {
 fn judges_the_blocks_first(rt: HostRuntime) -> Result<(), Fail> {
     let alloc = rt.alloc();
     let late = two_trips(alloc, 2, 509)?;
-    let table = table(alloc, &late, false, -1, [0, 0], [0, 0])?;
+    let table = table(alloc, &late, false, &[-1], [0, 0], [0, 0])?;
     assert_eq!(rt;
         judged(alloc, &late, Claim::Optimal, 1079, 1080, table)?,
         Verdict::No(Flaw::Plan(PlanFault::NoConnection(0, 1)))
@@ -210,34 +96,115 @@ fn judges_the_blocks_first(rt: HostRuntime) -> Result<(), Fail> {
     Ok(())
 }
 
-/// The verdict on a document that claims that there is no plan, with this one table.
-fn without_plan(alloc: Global, instance: &Instance, table: Table) -> Result<Verdict, Fail>
-    requires { Fits instance.now table }
+/// The verdict on a document without a plan, with this claim, bound, tables and shape.
+fn without_plan(
+    alloc: Global,
+    instance: &Instance,
+    claim: Claim,
+    bound: Option<i128>,
+    tables: Vec<Table>,
+    shape: Vec<Shape>,
+) -> Result<Verdict, Memory>
+    requires fits { All (Fits instance.now) tables.items }
+    requires few { (length tables.items ≤ 3) × (length shape.items ≤ 10000) }
+    requires tree { AreTree shape.items }
+    requires rows { All (IsShapeOf instance.now (length tables.items)) shape.items }
 {
     let document = Document {
-        claim: Claim::Infeasible,
+        claim,
         cost: None,
-        bound: None,
+        bound,
         nodes: 1,
         plan: Plan {
             blocks: Vec::new(alloc),
         },
-        tables: vec![in alloc; table]?,
-        shape: vec![in alloc; Shape::Leaf { table: 0 }]?,
+        tables,
+        shape,
     };
-    Ok(check(alloc, instance, &document)?)
+    check(alloc, instance, &document)
 }
 
 #[test]
 fn judges_a_ray(rt: HostRuntime) -> Result<(), Fail> {
     let alloc = rt.alloc();
     let short = two_trips(alloc, 1, 509)?;
-    let ray = table(alloc, &short, true, 1, [1, 1], [0, 0])?;
-    assert_eq!(rt; without_plan(alloc, &short, ray)?, Verdict::Yes);
-    let weak = table(alloc, &short, true, 1, [1, 0], [0, 0])?;
+    let cases = [
+        (1, Verdict::Yes),
+        (0, Verdict::No(Flaw::LeafTooWeak(0, 0, None))),
+    ];
+    for (into, verdict) in cases {
+        let ray = table(alloc, &short, true, &[1], [1, into], [0, 0])?;
+        let tables = vec![in alloc; ray]?;
+        let shape = one_leaf(alloc)?;
+        assert_eq!(rt;
+            without_plan(alloc, &short, Claim::Infeasible, None, tables, shape)?,
+            verdict
+        );
+    }
+    Ok(())
+}
+
+/// The verdict on a document in which the one trip costs 500, with this shape and three tables: worth
+/// 500 in both layers, in the first alone, and in the second alone.
+fn split_verdict(alloc: Global, instance: &Instance, shape: Vec<Shape>) -> Result<Verdict, Fail>
+    requires sizes { (length instance.now.layers ≡ 2) × (length instance.now.trips ≡ 1) }
+    requires few { length shape.items ≤ 3 }
+    requires tree { AreTree shape.items }
+    requires rows { All (IsShapeOf instance.now 3) shape.items }
+{
+    let fleet = [0, 0];
+    let either = table(alloc, instance, false, &fleet, [460_000, 455_000], [-10_000, -15_000])?;
+    let first = table(alloc, instance, false, &fleet, [460_000, 0], [-10_000, 0])?;
+    let second = table(alloc, instance, false, &fleet, [0, 455_000], [0, -15_000])?;
+    let document = Document {
+        claim: Claim::Optimal,
+        cost: Some(500),
+        bound: Some(500),
+        nodes: 3,
+        plan: one_block(alloc, &[TripNo(0)])?,
+        tables: vec![in alloc; either, first, second]?,
+        shape,
+    };
+    Ok(check(alloc, instance, &document)?)
+}
+
+#[test]
+fn judges_each_leaf_within_its_own_sets(rt: HostRuntime) -> Result<(), Fail> {
+    let alloc = rt.alloc();
+    let instance = one_trip(alloc)?;
+    let cases = [
+        (0, 0, Verdict::Yes),
+        (1, 2, Verdict::Yes),
+        (2, 1, Verdict::No(Flaw::LeafTooWeak(1, 30, Some(500)))),
+        (0, 1, Verdict::No(Flaw::LeafTooWeak(2, 30, Some(500)))),
+    ];
+    for (lower, upper, verdict) in cases {
+        let shape = one_split(alloc, first_layer(), lower, upper)?;
+        assert_eq!(rt; split_verdict(alloc, &instance, shape)?, verdict);
+    }
+    let whole = one_split(alloc, both_layers(), 0, 0)?;
     assert_eq!(rt;
-        without_plan(alloc, &short, weak)?,
-        Verdict::No(Flaw::LeafTooWeak(0, 0, None))
+        split_verdict(alloc, &instance, whole)?,
+        Verdict::No(Flaw::BadSplit(0))
     );
+    Ok(())
+}
+
+#[test]
+fn goes_over_deep_trees(rt: HostRuntime) -> Result<(), Fail> {
+    let alloc = rt.alloc();
+    let instance = many_trips(alloc)?;
+    let cases = [
+        (2000, Verdict::Yes),
+        (2001, Verdict::No(Flaw::BadSplit(4000))),
+    ];
+    for (splits, verdict) in cases {
+        let tables = vec![in alloc; Table::zero(alloc, &instance)?]?;
+        let shape = deep_shape(alloc, splits)?;
+        assert_eq!(rt;
+            without_plan(alloc, &instance, Claim::StillOpen, Some(60_000), tables, shape)?,
+            verdict
+        );
+    }
     Ok(())
 }

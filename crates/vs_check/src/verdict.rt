@@ -1,21 +1,27 @@
-ghost use Rattle.std.specs.Prelude.{◌≡◌, ◌<◌, ◌^◌, ◌↔◌, length, All, IfOk};
-ghost use Rattle.vs_check.specs.Flaws.{claim_flaws, leaf_flaws, plan_flaws, shape_flaws};
+ghost use Rattle.std.specs.Prelude.{◌≡◌, ◌<◌, ◌^◌, ◌↔◌, length, slice_get, All, IfOk};
+ghost use Rattle.vs_check.specs.Flaws.{claim_flaws, is_proper_part, leaf_flaws, named_flaws};
+ghost use Rattle.vs_check.specs.Flaws.{plan_flaws, shape_flaws};
 ghost use Rattle.vs_check.specs.Flaws.{IsVerdictWithin, flaws_of, tables_flaws, verdict_of};
+ghost use Rattle.vs_check.specs.Walk.{GoesOver};
 ghost use Rattle.vs_cert.specs.Form.{IsReadFor};
+ghost use Rattle.vs_cert.specs.Shapes.{IsShapeOf};
 ghost use Rattle.vs_check.specs.HoldingDocument.{HoldingDocument, ProvesItsClaim};
 ghost use Rattle.vs_tree.specs.Claims.{claim_found};
 ghost use Rattle.vs_instance.specs.Firsts.{first};
+ghost use Rattle.vs_instance.specs.Instance.{IsInstance};
+ghost use Rattle.vs_instance.specs.Restriction.{IsRestriction};
 ghost use Rattle.vs_plan.specs.Blocks.{CanBeJudged, blocks_of};
 ghost use Rattle.vs_prices.specs.Table.{Fits};
 
 use crate::flaw::Flaw;
+use crate::walk::Walk;
 use std::alloc::Global;
 use vs_cert::{Document, Shape};
 use vs_instance::{Instance, MAX_TRIPS};
 use vs_plan::{PlanError, judge};
-use vs_prices::{Bound, Table, broken, permitted_sets, worth};
-use vs_tree::claim_found;
-use vs_types::Memory;
+use vs_prices::{Bound, Table, broken, worth};
+use vs_tree::{claim_found, rest_of};
+use vs_types::{LayerSet, Memory};
 
 /// Whether a document holds, and else its first flaw.
 #[derive(Clone, Copy, Debug, PartialEq, Eq)]
@@ -73,24 +79,77 @@ fn weak_flaw(position: u32, worth: Bound, bound: Option<i128>) -> Option<Flaw>
     }
 }
 
-/// The flaw of the shape, whose one leaf stands for all plans of the instance.
+/// Whether a part has some of a set's layers, and not all of them.
+fn is_proper_part(part: LayerSet, whole: LayerSet) -> bool
+    ensures { result ≡ is_proper_part part whole }
+{
+    part.count() > 0 && rest_of(part, whole).count() == 0 && rest_of(whole, part).count() > 0
+}
+
+/// The flaw of a leaf at this position, which names this table, where each trip may be run in a layer of its
+/// set.
+fn leaf_flaw(
+    instance: &Instance,
+    document: &Document,
+    position: u32,
+    sets: &[LayerSet],
+    table: u32,
+) -> Option<Flaw>
+    requires tables { All (Fits instance.now) document.now.tables.items }
+    requires restriction { IsRestriction instance.now sets.now }
+    requires named { table < length document.now.tables.items }
+    ensures { let named = slice_get document.now.tables.items table in
+        result ≡ first (named_flaws instance.now document.now.bound position sets.now named) }
+{
+    let worth = worth(instance, sets, &document.tables[table as usize]);
+    weak_flaw(position, worth, document.bound)
+}
+
+/// The flaw of the row at this position of the shape. Where it has none, the walk goes on to the next row.
+fn row_flaw(
+    instance: &Instance,
+    document: &Document,
+    position: u32,
+    row: Shape,
+    walk: &mut Walk,
+) -> Result<Option<Flaw>, Memory>
+    requires tables { All (Fits instance.now) document.now.tables.items }
+    requires restriction { IsRestriction instance.now walk.old.sets.items }
+    requires row { IsShapeOf instance.now (length document.now.tables.items) row }
+    ensures { IfOk result (λ flaw.
+        GoesOver instance.now document.now position row walk.old walk.new flaw) }
+{
+    match row {
+        Shape::Leaf { table } => {
+            let flaw = leaf_flaw(instance, document, position, walk.sets(), table);
+            walk.leave_part();
+            Ok(flaw)
+        }
+        Shape::Split { trip, left } if is_proper_part(left, walk.layers(trip)) => {
+            walk.enter_left(trip, left)?;
+            Ok(None)
+        }
+        Shape::Split { .. } => Ok(Some(Flaw::BadSplit(position))),
+    }
+}
+
+/// The first flaw of the shape, row by row.
 fn shape_flaw(
     alloc: Global,
     instance: &Instance,
     document: &Document,
 ) -> Result<Option<Flaw>, Memory>
-    requires { IsReadFor instance.now document.now }
-    ensures { IfOk result (λ flaw.
-        flaw ≡ first (shape_flaws instance.now document.now document.now.shape.items)) }
+    requires instance { IsInstance instance.now }
+    requires read { IsReadFor instance.now document.now }
+    ensures { IfOk result (λ flaw. flaw ≡ first (shape_flaws instance.now document.now)) }
 {
-    match document.shape[0] {
-        Shape::Split { .. } => Ok(Some(Flaw::BadSplit(0))),
-        Shape::Leaf { table } => {
-            let sets = permitted_sets(alloc, instance)?;
-            let worth = worth(instance, &sets, &document.tables[table as usize]);
-            Ok(weak_flaw(0, worth, document.bound))
+    let mut walk = Walk::new(alloc, instance)?;
+    for (position, row) in document.shape.iter().enumerate() {
+        if let Some(flaw) = row_flaw(instance, document, position as u32, *row, &mut walk)? {
+            return Ok(Some(flaw));
         }
     }
+    Ok(None)
 }
 
 /// The flaw of the claim beside the printed cost and bound.
@@ -112,7 +171,8 @@ fn first_flaw(
     instance: &Instance,
     document: &Document,
 ) -> Result<Option<Flaw>, Memory>
-    requires { IsReadFor instance.now document.now }
+    requires instance { IsInstance instance.now }
+    requires read { IsReadFor instance.now document.now }
     ensures { IfOk result (λ flaw. flaw ≡ first (flaws_of instance.now document.now)) }
 {
     if let Some(flaw) = plan_flaw(alloc, instance, document)? {
@@ -127,9 +187,9 @@ fn first_flaw(
     Ok(claim_flaw(document))
 }
 
-/// Judges a document of one leaf, over all pairs of trips. Yes exactly where the document holds,
-/// and else the first flaw: of the blocks and their cost, where a cost is printed; of the tables by
-/// number; of the shape; and of the claim. Yes alone, whoever wrote the document, proves that its
+/// Judges a document, over all pairs of trips. Yes exactly where the document holds, and else the
+/// first flaw: of the blocks and their cost, where a cost is printed; of the tables by number; of
+/// the shape row by row; and of the claim. Yes alone, whoever wrote the document, proves that its
 /// blocks are a plan of the printed cost and that no plan of the instance costs less than the
 /// printed bound.
 pub fn check(alloc: Global, instance: &Instance, document: &Document) -> Result<Verdict, Memory>

@@ -8,8 +8,8 @@ use crate::star::Star;
 use std::alloc::Global;
 use std::marker::Model;
 
-/// A net: nodes counted from 0 and arcs counted from 0. Each arc but the last goes from a lower to a higher
-/// node; the last goes from the last node to node 0. The arcs that leave a node, and those that reach it, are
+/// A net of nodes and arcs, both counted from 0. Only the last arc goes back, from the last node to node 0;
+/// the nodes are numbered so that all others go up. The arcs that leave a node, and those that reach it, are
 /// kept as a forward and a reverse star (Ahuja, Magnanti and Orlin, Network Flows, 1993, section 2.3).
 #[derive(Drop)]
 pub struct Net {

@@ -1,12 +1,11 @@
-use Rattle.std.proofs.Common.{ℕ, ◌≤◌, List, length, IfOk, refl, subst, rules}
+use Rattle.std.proofs.Common.{ℕ, List, IfOk, subst}
 use Rattle.mdvsp.specs.Answered.{IsOwedFor}
 use Rattle.mdvsp.proofs.RunEnds.{command_ends}
 use Rattle.mdvsp.proofs.running.obey.Goals as goal
 
 pub returns-in-Ok-clause-ends : goal.returns-in-Ok-clause-ends
-returns-in-Ok-clause-ends g c =
-    let few : length c.in-Ok.bytes.items ≤ 536870912 = search (rules, c.in-Ok.ensures.within) in
-    command_ends _ c.args.command c.in-Ok.bytes.items c.answer_to.result c.say.result refl c.in-Ok.ensures.all few
+returns-in-Ok-clause-ends g c = λ words asked.
+    command_ends _ c.args.command c.in-Ok.bytes.items c.answer_to.result c.say.result asked c.in-Ok.ensures.read
     (subst (λ (bytes : List ℕ). IfOk c.answer_to.result (IsOwedFor c.args.command bytes)) c.deref.ensures.value
     c.answer_to.ensures)
     c.say.ensures.said

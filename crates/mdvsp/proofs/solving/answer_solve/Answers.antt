@@ -2,8 +2,7 @@ use Rattle.std.proofs.Common.{subst}
 use Rattle.vs_reader.specs.ReadErrors.{RefusesAs}
 use Rattle.vs_reader.specs.Texts.{IsRefused}
 use Rattle.vs_reader.proofs.TextLemmas.{stands_counts}
-use Rattle.mdvsp.specs.declared.words.Command.TheVariants.{Solve}
-use Rattle.mdvsp.proofs.OwedAnswers.{refusal_owed, document_owed}
+use Rattle.mdvsp.proofs.OwedAnswers.{solve_refusal_owed, document_owed}
 use Rattle.mdvsp.proofs.solving.answer_solve.Goals as goal
 
 pub plan_of-requires : goal.plan_of-requires
@@ -19,6 +18,6 @@ returns-in-Ok c =
 
 pub returns-in-Err-Refused : goal.returns-in-Err-Refused
 returns-in-Err-Refused c =
-    refusal_owed Solve c.args.bytes.now c.in-Err-Refused.refused c.refused.result
+    solve_refusal_owed c.args.bytes.now c.in-Err-Refused.refused c.refused.result
     (subst (RefusesAs (IsRefused c.args.bytes.now)) c.in-Err-Refused.field-0-is c.in-Err-Refused.ensures.refused)
     c.refused.ensures

@@ -2,6 +2,7 @@ use Rattle.std.proofs.Common.{Some, refl, sym, ap, ◌∙◌}
 use Rattle.std.proofs.lemmas.Option.{none-some}
 use Rattle.vs_instance.specs.Firsts.{first}
 use Rattle.vs_instance.proofs.Firsts.{none_from_first}
+use Rattle.vs_cert.proofs.Suiting.{suits-read}
 use Rattle.vs_check.specs.Flaws.{flaws_of}
 use Rattle.vs_check.proofs.Claims.{prove_their_claims}
 use Rattle.vs_check.proofs.Flawless.{holds_from_none, none_from_holds}
@@ -12,7 +13,7 @@ pub returns-in-None-clause-holds : goal.returns-in-None-clause-holds
 returns-in-None-clause-holds c =
     let p = c.args.instance.now in
     let d = c.args.document.now in (
-      λ _. holds_from_none p d c.requires
+      λ _. holds_from_none p c.trips.ensures.instance d (suits-read p d c.requires)
           (none_from_first (flaws_of p d) (sym c.in_ok-first_flaw.ensures ∙ c.in-None.is)),
       λ _. refl,
     )
@@ -29,7 +30,7 @@ returns-in-Some-clause-holds c =
       λ yes. cc,
       λ holds. absurd
           (none-some c.in-Some.flaw
-          (sym (ap first (none_from_holds p d holds)) ∙ sym c.in_ok-first_flaw.ensures ∙ c.in-Some.is)),
+          (sym (ap first (none_from_holds p c.trips.ensures.instance d holds)) ∙ sym c.in_ok-first_flaw.ensures ∙ c.in-Some.is)),
     )
 
 pub returns-in-Some-clause-of_instance : goal.returns-in-Some-clause-of_instance

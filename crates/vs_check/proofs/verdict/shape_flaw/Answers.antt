@@ -1,37 +1,66 @@
-use Rattle.std.proofs.Common.{◌≡◌, ℕ, ◌<◌, List, [], ◌∷◌, Some, length, get_or, refl, sym, ap, ◌∙◌, subst, arith}
-use Rattle.std.specs.List.{slice_get}
-use Rattle.std.proofs.lemmas.Option.{slice_get_read}
-use Rattle.vs_types.specs.declared.layer_set.LayerSet.{LayerSet}
+use Rattle.std.proofs.Common.{◌≡◌, ◌+◌, ◌<◌, ◌≤◌, List, length, drop, refl, sym, ap, ◌∙◌, subst, arith, Option, Some, None}
+use Rattle.std.specs.List.{All}
 use Rattle.vs_instance.specs.Firsts.{first}
-use Rattle.vs_instance.specs.Restriction.{permitted_sets}
-use Rattle.vs_prices.specs.declared.bound.Bound.{Bound}
-use Rattle.vs_prices.specs.Worth.{IsWorth}
-use Rattle.vs_prices.proofs.Worths.{worth_is}
+use Rattle.vs_cert.specs.Shapes.{IsShapeOf}
 use Rattle.vs_cert.specs.declared.shape.Shape.{Shape}
-use Rattle.vs_cert.specs.declared.shape.Shape.TheVariants.{Leaf}
-use Rattle.vs_check.specs.Flaws.{leaf_flaws}
-use Rattle.vs_check.proofs.Flawless.{one_leaf}
+use Rattle.vs_check.specs.Flaws.{shape_flaws}
+use Rattle.vs_check.specs.declared.flaw.Flaw.{Flaw}
+use Rattle.vs_check.proofs.Parts.{Follows, IsBefore, none_left, root_before, row_follows, walk_restricts}
 use Rattle.vs_check.proofs.verdict.shape_flaw.Goals as goal
 
-leaf_of : (shape : List Shape) (t n : ℕ) (row : Shape) → shape ≡ Leaf t ∷ [] → row ≡ get_or shape 0 row
-    → row ≡ Leaf n → t ≡ n
-leaf_of shape t n row e is leaf =
-    let at : row ≡ Leaf t = is ∙ ap (λ (xs : List Shape). get_or xs 0 row) e in
-    cc
+pub loop-position-init : goal.loop-position-init
+loop-position-init c =
+    let tree = c.requires.read.tree in
+    root_before c.args.instance.now c.args.document.now c.requires.instance tree.tree tree.rows_are c.in_ok-walk.walk
+    c.in_ok-walk.ensures.sets c.in_ok-walk.ensures.ahead
 
-pub returns-in_ok-sets-in-Leaf : goal.returns-in_ok-sets-in-Leaf
-returns-in_ok-sets-in-Leaf c =
+pub row_flaw-requires-clause-restriction : goal.row_flaw-requires-clause-restriction
+row_flaw-requires-clause-restriction c =
+    let rows = c.args.document.now.shape.items in
+    let inside : c.loop-position.position < length rows =
+    omega (arith, ap length c.deref-row-items.ensures.value, c.loop-position-test.true) in
+    walk_restricts c.args.instance.now c.args.document.now rows c.loop-position.position inside c.loop-position.walk _
+    c.loop-position.invariant
+
+pub returns-in-Some : goal.returns-in-Some
+returns-in-Some c =
     let p = c.args.instance.now in
     let d = c.args.document.now in
-    let t = c.in-Leaf.table in
-    let table = c.index-in-Leaf.result.now in
-    let leaf = c.requires.leaf in
-    let named : leaf.0 ≡ t = leaf_of d.shape.items leaf.0 t c.index.result.now leaf.1 c.index.ensures c.in-Leaf.is in
-    let inside : t < length d.tables.items = omega (arith, named, leaf.2) in
-    let got : slice_get d.tables.items t ≡ Some table =
-    slice_get_read d.tables.items (length d.tables.items) t table refl inside c.index-in-Leaf.ensures in
-    let sets = c.deref.ensures.value ∙ c.in_ok-sets-in-Leaf.ensures.sets in
-    let worth = worth_is p (permitted_sets p) table c.worth-worth.result
-    (subst (λ (s : List LayerSet). IsWorth p s table c.worth-worth.result) sets c.worth-worth.ensures.worth) in
-    c.weak_flaw.ensures ∙ ap (λ (b : Bound). first (leaf_flaws 0 b d.bound)) worth
-    ∙ sym (ap first (one_leaf p d t table (leaf.1 ∙ ap (λ (n : ℕ). Leaf n ∷ []) named) got))
+    let rows = c.deref-row-items.result.now in
+    let position = c.loop-position.position in
+    let walk = c.loop-position.walk in
+    let all = first (shape_flaws p d) in
+    let rows_are = c.deref-row-items.ensures.value in
+    let before = subst (λ (rs : List Shape). IsBefore p d (drop position rs) position walk all) (sym rows_are)
+    c.loop-position.invariant in
+    let named : All (IsShapeOf p (length d.tables.items)) rows =
+    subst (All (IsShapeOf p (length d.tables.items))) (sym rows_are) c.requires.read.shapes in
+    let follows = row_follows p d c.requires.instance rows position _ c.loop-position-test.true named walk
+    c.row_flaw.new.walk all before c.in_ok-flaw.field-0 c.in_ok-flaw.ensures in
+    sym (subst (Follows p d (drop (position + 1) rows) (position + 1) c.row_flaw.new.walk all) c.in-Some.is follows)
+
+pub loop-position-preserved : goal.loop-position-preserved
+loop-position-preserved c =
+    let p = c.args.instance.now in
+    let d = c.args.document.now in
+    let rows = c.deref-row-items.result.now in
+    let position = c.loop-position.position in
+    let walk = c.loop-position.walk in
+    let all = first (shape_flaws p d) in
+    let rows_are = c.deref-row-items.ensures.value in
+    let before = subst (λ (rs : List Shape). IsBefore p d (drop position rs) position walk all) (sym rows_are)
+    c.loop-position.invariant in
+    let named : All (IsShapeOf p (length d.tables.items)) rows =
+    subst (All (IsShapeOf p (length d.tables.items))) (sym rows_are) c.requires.read.shapes in
+    let follows = row_follows p d c.requires.instance rows position _ c.loop-position-test.true named walk
+    c.row_flaw.new.walk all before c.in_ok-flaw.field-0 c.in_ok-flaw.ensures in
+    subst (λ (rs : List Shape). IsBefore p d (drop (position + 1) rs) (position + 1) c.row_flaw.new.walk all) rows_are
+    (subst (Follows p d (drop (position + 1) rows) (position + 1) c.row_flaw.new.walk all) c.in_default.is follows)
+
+pub returns : goal.returns
+returns c =
+    let rows = c.args.document.now.shape.items in
+    let past : length rows ≤ c.loop-position.position =
+    omega (arith, ap length c.deref-row-items.ensures.value, c.loop-position-test.false) in
+    none_left c.args.instance.now c.args.document.now rows c.loop-position.position past c.loop-position.walk _
+    c.loop-position.invariant

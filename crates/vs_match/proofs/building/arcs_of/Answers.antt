@@ -4,8 +4,8 @@ use Rattle.vs_match.specs.Adds.{Adds}
 use Rattle.vs_match.specs.ArcsOf.{return_of}
 use Rattle.vs_match.specs.Events.{last_node}
 use Rattle.vs_match.specs.Parts.{IsTrip}
-use Rattle.vs_match.proofs.ArcOrder.{arc_equal}
-use Rattle.vs_match.proofs.WholeNet.{adds_return, adds_all, are_arcs}
+use Rattle.vs_match.proofs.order.ArcOrder.{arc_equal}
+use Rattle.vs_match.proofs.matches.WholeNet.{adds_return, adds_all, are_arcs}
 use Rattle.vs_match.proofs.building.arcs_of.Goals as goal
 
 pub put_in_order-requires : goal.put_in_order-requires

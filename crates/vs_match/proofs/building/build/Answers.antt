@@ -7,8 +7,8 @@ use Rattle.vs_match.specs.Adds.{arc_in, AreArcs}
 use Rattle.vs_match.specs.LayerGraph.{IsNetOf}
 use Rattle.vs_match.specs.TripIndex.{IsBelow}
 use Rattle.vs_match.specs.WalkLaw.{HasWalkLaw}
-use Rattle.vs_match.proofs.WholeNet.{some_arc, all_right, all_below, is_net, net_of_parts}
-use Rattle.vs_match.proofs.WalkLaws.{walk_law}
+use Rattle.vs_match.proofs.matches.WholeNet.{some_arc, all_right, all_below, is_net, net_of_parts}
+use Rattle.vs_match.proofs.walks.WalkLaws.{walk_law}
 use Rattle.vs_match.proofs.building.build.Goals as goal
 
 abbrev kind : LayerArc → ArcKind

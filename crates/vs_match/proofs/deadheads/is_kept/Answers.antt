@@ -4,7 +4,7 @@ use Rattle.std.proofs.lemmas.List.{get_or_default}
 use Rattle.vs_match.specs.declared.matching.Matching.{Matching}
 use Rattle.vs_match.specs.declared.stay.Stay.{Stay}
 use Rattle.vs_match.specs.Sweep.{IsKept}
-use Rattle.vs_match.proofs.Sweeping.{last_kept, next_late, next_in_time}
+use Rattle.vs_match.proofs.matches.Sweeping.{last_kept, next_late, next_in_time}
 use Rattle.vs_match.proofs.deadheads.is_kept.Goals as goal
 
 pub returns-then-k-arrivals : goal.returns-then-k-arrivals

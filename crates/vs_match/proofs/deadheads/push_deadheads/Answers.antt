@@ -1,8 +1,8 @@
 use Rattle.std.proofs.Common.{◌≡◌, ℕ, ◌+◌, ◌<◌, ◌≤◌, subst, arith}
 use Rattle.vs_match.specs.Adds.{Adds}
 use Rattle.vs_match.specs.Parts.{IsDeadheadFrom}
-use Rattle.vs_match.proofs.Adding.{Upto, upto-many}
-use Rattle.vs_match.proofs.Deadheading.{all_deadheads}
+use Rattle.vs_match.proofs.events.Adding.{Upto, upto-many}
+use Rattle.vs_match.proofs.matches.Deadheading.{all_deadheads}
 use Rattle.vs_match.proofs.deadheads.push_deadheads.Goals as goal
 
 pub loop-stop-preserved : goal.loop-stop-preserved

@@ -1,7 +1,7 @@
 use Rattle.std.proofs.Common.{◌+◌, ◌*◌, ◌≤◌, length}
 use Rattle.vs_match.specs.Adds.{Adds}
 use Rattle.vs_match.specs.Parts.{IsDeadheadFrom}
-use Rattle.vs_match.proofs.Adding.{Upto}
+use Rattle.vs_match.proofs.events.Adding.{Upto}
 use Rattle.vs_match.proofs.deadheads.push_deadheads.Given as goal
 
 -- the deadheads from the stops so far

@@ -5,8 +5,8 @@ use Rattle.vs_match.specs.declared.stay.Stay.{Stay}
 use Rattle.vs_match.specs.declared.layer_arc.LayerArc.{LayerArc}
 use Rattle.vs_match.specs.Adds.{Adds}
 use Rattle.vs_match.specs.Parts.{IsDeadheadFrom, IsDeadheadTo}
-use Rattle.vs_match.proofs.Adding.{Upto, adds-none, upto-none, upto-many, upto-skip}
-use Rattle.vs_match.proofs.Deadheading.{AreAt, matches_are, none_from, none_itself, none_without, from_all, arrivals_within, departures_within}
+use Rattle.vs_match.proofs.events.Adding.{Upto, adds-none, upto-none, upto-many, upto-skip}
+use Rattle.vs_match.proofs.matches.Deadheading.{AreAt, matches_are, none_from, none_itself, none_without, from_all, arrivals_within, departures_within}
 use Rattle.vs_match.proofs.deadheads.push_from.Goals as goal
 use Rattle.vs_match.proofs.deadheads.push_from.Goals.{then-ne+in-Some+in_ok-push_matches, then-ne+in_default, else-ne}
 

@@ -4,8 +4,8 @@ use Rattle.vs_match.specs.declared.stay.Stay.{Stay}
 use Rattle.vs_match.specs.declared.layer_arc.LayerArc.{LayerArc}
 use Rattle.vs_match.specs.ArcsOf.{deadhead_of}
 use Rattle.vs_match.specs.Adds.{Adds}
-use Rattle.vs_match.proofs.Adding.{Upto, upto-none, upto-one, upto-skip}
-use Rattle.vs_match.proofs.Sweeping.{OfArrival, are_matches, first_departure, early_take, early_more, of_arrival, only_arrival, kept_of, none_of_arrival}
+use Rattle.vs_match.proofs.events.Adding.{Upto, upto-none, upto-one, upto-skip}
+use Rattle.vs_match.proofs.matches.Sweeping.{OfArrival, are_matches, first_departure, early_take, early_more, of_arrival, only_arrival, kept_of, none_of_arrival}
 use Rattle.vs_match.proofs.deadheads.push_matches.Goals as goal
 use Rattle.vs_match.proofs.deadheads.push_matches.Goals.{then-first-departures+then-is_kept+in_ok-push, then-first-departures+else-is_kept, else-first-departures}
 

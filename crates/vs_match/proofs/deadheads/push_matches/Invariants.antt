@@ -1,8 +1,8 @@
 use Rattle.std.proofs.Common.{ℕ, ◌+◌, ◌<◌, ◌≤◌, length, get_or}
 use Rattle.vs_match.specs.declared.stay.Stay.{Stay}
 use Rattle.vs_match.specs.Adds.{Adds}
-use Rattle.vs_match.proofs.Adding.{Upto}
-use Rattle.vs_match.proofs.Sweeping.{OfArrival, AreEarly}
+use Rattle.vs_match.proofs.events.Adding.{Upto}
+use Rattle.vs_match.proofs.matches.Sweeping.{OfArrival, AreEarly}
 use Rattle.vs_match.proofs.deadheads.push_matches.Given as goal
 
 -- the matches of the arrivals so far; the departures before the place are too early for all later arrivals

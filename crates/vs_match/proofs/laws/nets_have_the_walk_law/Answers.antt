@@ -1,4 +1,4 @@
-use Rattle.vs_match.proofs.WalkLaws.{walk_law}
+use Rattle.vs_match.proofs.walks.WalkLaws.{walk_law}
 use Rattle.vs_match.proofs.laws.nets_have_the_walk_law.Goals as goal
 
 pub returns : goal.returns

@@ -3,7 +3,7 @@ use Rattle.vs_layer.specs.declared.arc.Arc.{Arc}
 use Rattle.vs_layer.specs.declared.net_error.NetError.{NetError}
 use Rattle.vs_layer.specs.Graph.{AllRight}
 use Rattle.vs_layer.specs.Faults.{IfFirstFault}
-use Rattle.vs_match.proofs.RightArcs.{no_fault}
+use Rattle.vs_match.proofs.order.RightArcs.{no_fault}
 use Rattle.vs_match.proofs.layer_net.net_of.Goals as goal
 
 pub unreachable-requires : goal.unreachable-requires

@@ -4,7 +4,7 @@ use Rattle.vs_types.specs.declared.numbers.TripNo.{TripNo}
 use Rattle.vs_match.specs.declared.arc_kind.ArcKind.{ArcKind}
 use Rattle.vs_match.specs.declared.arc_kind.ArcKind.TheVariants.{Trip, Return}
 use Rattle.vs_match.specs.TripIndex.{IsBelow}
-use Rattle.vs_match.proofs.TripIndexes.{IsIndexUpto, get_or-copies, index_none, index_other, index_trip, index_all}
+use Rattle.vs_match.proofs.matches.TripIndexes.{IsIndexUpto, get_or-copies, index_none, index_other, index_trip, index_all}
 use Rattle.vs_match.proofs.layer_net.trip_index.Goals as goal
 use Rattle.vs_match.proofs.layer_net.trip_index.Goals.{in-Trip, in_default}
 

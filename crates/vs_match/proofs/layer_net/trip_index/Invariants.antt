@@ -1,5 +1,5 @@
 use Rattle.std.proofs.Common.{◌≡◌, length}
-use Rattle.vs_match.proofs.TripIndexes.{IsIndexUpto}
+use Rattle.vs_match.proofs.matches.TripIndexes.{IsIndexUpto}
 use Rattle.vs_match.proofs.layer_net.trip_index.Given as goal
 
 -- the arcs so far are in the index

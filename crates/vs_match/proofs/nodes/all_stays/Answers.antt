@@ -4,8 +4,8 @@ use Rattle.vs_match.specs.declared.event.Event.{Event}
 use Rattle.vs_match.specs.declared.stay.Stay.{Stay}
 use Rattle.vs_match.specs.Stays.{event_of}
 use Rattle.vs_match.specs.Adds.{Adds}
-use Rattle.vs_match.proofs.Adding.{Upto, upto-none, upto-one}
-use Rattle.vs_match.proofs.StayLists.{OfPlace, stay_at, of_place, event_stays, stay_equal}
+use Rattle.vs_match.proofs.events.Adding.{Upto, upto-none, upto-one}
+use Rattle.vs_match.proofs.events.StayLists.{OfPlace, stay_at, of_place, event_stays, stay_equal}
 use Rattle.vs_match.proofs.nodes.all_stays.Goals as goal
 
 pub put_in_order-requires : goal.put_in_order-requires

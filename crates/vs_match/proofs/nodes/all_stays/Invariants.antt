@@ -1,7 +1,7 @@
 use Rattle.std.proofs.Common.{[], ◌≡◌, ◌≤◌, length}
 use Rattle.vs_match.specs.Adds.{Adds}
-use Rattle.vs_match.proofs.Adding.{Upto}
-use Rattle.vs_match.proofs.StayLists.{OfPlace}
+use Rattle.vs_match.proofs.events.Adding.{Upto}
+use Rattle.vs_match.proofs.events.StayLists.{OfPlace}
 use Rattle.vs_match.proofs.nodes.all_stays.Given as goal
 
 -- the nodes of the events so far

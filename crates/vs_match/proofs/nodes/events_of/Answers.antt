@@ -5,8 +5,8 @@ use Rattle.vs_instance.specs.declared.trip.Trip.{Trip}
 use Rattle.vs_match.specs.Events.{departure, arrival, MayRun}
 use Rattle.vs_match.specs.declared.event.Event.{Event}
 use Rattle.vs_match.specs.Adds.{Adds}
-use Rattle.vs_match.proofs.Adding.{Upto, upto-none, upto-many, upto-skip}
-use Rattle.vs_match.proofs.EventLists.{OfTrip, are_events, event_equal, adds_both_events}
+use Rattle.vs_match.proofs.events.Adding.{Upto, upto-none, upto-many, upto-skip}
+use Rattle.vs_match.proofs.events.EventLists.{OfTrip, are_events, event_equal, adds_both_events}
 use Rattle.vs_match.proofs.nodes.events_of.Goals as goal
 use Rattle.vs_match.proofs.nodes.events_of.Goals.{then-has+in_ok-push+in_ok-push-2, else-has}
 

@@ -1,7 +1,7 @@
 use Rattle.std.proofs.Common.{[], ◌*◌, ◌≤◌, length}
 use Rattle.vs_match.specs.Adds.{Adds}
-use Rattle.vs_match.proofs.Adding.{Upto}
-use Rattle.vs_match.proofs.EventLists.{OfTrip}
+use Rattle.vs_match.proofs.events.Adding.{Upto}
+use Rattle.vs_match.proofs.events.EventLists.{OfTrip}
 use Rattle.vs_match.proofs.nodes.events_of.Given as goal
 
 -- the events of the trips so far

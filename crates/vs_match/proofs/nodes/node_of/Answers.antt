@@ -3,8 +3,8 @@ use Rattle.std.specs.declared.cmp.Ordering.{Ordering}
 use Rattle.std.specs.declared.cmp.Ordering.TheVariants.{Less, Equal, Greater}
 use Rattle.std.proofs.lemmas.Bool.{cases_lt}
 use Rattle.vs_match.specs.declared.event.Event.{Event}
-use Rattle.vs_match.proofs.Orders.{event_cmp, event_cmp-itself, event_same, searchable_events}
-use Rattle.vs_match.proofs.Places.{place-at}
+use Rattle.vs_match.proofs.order.Orders.{event_cmp, event_cmp-itself, event_same, searchable_events}
+use Rattle.vs_match.proofs.events.Places.{place-at}
 use Rattle.vs_match.proofs.nodes.node_of.Goals as goal
 
 pub unreachable-requires : goal.unreachable-requires

@@ -9,8 +9,8 @@ use Rattle.vs_match.specs.Events.{MayRun, HasPlace}
 use Rattle.vs_match.specs.TripEnds.{event_at}
 use Rattle.vs_match.specs.Stays.{event_of}
 use Rattle.vs_match.specs.Adds.{Adds}
-use Rattle.vs_match.proofs.Adding.{Upto, upto-none, upto-one, upto-skip}
-use Rattle.vs_match.proofs.StayLists.{OfTripEnd, trip_stays, stay_equal, same_stay, event_known}
+use Rattle.vs_match.proofs.events.Adding.{Upto, upto-none, upto-one, upto-skip}
+use Rattle.vs_match.proofs.events.StayLists.{OfTripEnd, trip_stays, stay_equal, same_stay, event_known}
 use Rattle.vs_match.proofs.nodes.stays_of.Goals as goal
 use Rattle.vs_match.proofs.nodes.stays_of.Goals.{then-has+in_ok-push, else-has}
 

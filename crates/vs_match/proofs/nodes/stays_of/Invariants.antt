@@ -1,7 +1,7 @@
 use Rattle.std.proofs.Common.{[], ◌≤◌, length}
 use Rattle.vs_match.specs.Adds.{Adds}
-use Rattle.vs_match.proofs.Adding.{Upto}
-use Rattle.vs_match.proofs.StayLists.{OfTripEnd}
+use Rattle.vs_match.proofs.events.Adding.{Upto}
+use Rattle.vs_match.proofs.events.StayLists.{OfTripEnd}
 use Rattle.vs_match.proofs.nodes.stays_of.Given as goal
 
 -- the nodes of the trips so far

@@ -9,10 +9,10 @@ use Rattle.vs_match.specs.ArcsOf.{pull_in_of}
 use Rattle.vs_match.specs.Events.{last_node}
 use Rattle.vs_match.specs.Stays.{event_of}
 use Rattle.vs_match.specs.Adds.{Adds}
-use Rattle.vs_match.proofs.Adding.{Upto, upto-one, upto-skip}
-use Rattle.vs_match.proofs.ClosedWays.{some-same}
-use Rattle.vs_match.proofs.Deadheading.{arrives_within, way_within}
-use Rattle.vs_match.proofs.PulledOut.{AtPlace, same_at, at_place, OfArrived, only_in, pull_ins_are}
+use Rattle.vs_match.proofs.events.Adding.{Upto, upto-one, upto-skip}
+use Rattle.vs_match.proofs.walks.ClosedWays.{some-same}
+use Rattle.vs_match.proofs.matches.Deadheading.{arrives_within, way_within}
+use Rattle.vs_match.proofs.matches.PulledOut.{AtPlace, same_at, at_place, OfArrived, only_in, pull_ins_are}
 use Rattle.vs_match.proofs.pulls.push_pull_ins.Goals as goal
 use Rattle.vs_match.proofs.pulls.push_pull_ins.Goals.{in-Some+in_ok-push, in_default}
 

@@ -1,7 +1,7 @@
 use Rattle.std.proofs.Common.{◌+◌, ◌≤◌, length}
 use Rattle.vs_match.specs.Adds.{Adds}
-use Rattle.vs_match.proofs.Adding.{Upto}
-use Rattle.vs_match.proofs.PulledOut.{OfArrived}
+use Rattle.vs_match.proofs.events.Adding.{Upto}
+use Rattle.vs_match.proofs.matches.PulledOut.{OfArrived}
 use Rattle.vs_match.proofs.pulls.push_pull_ins.Given as goal
 
 -- the pull-ins from the arrivals so far

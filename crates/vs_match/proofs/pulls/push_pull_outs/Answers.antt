@@ -8,10 +8,10 @@ use Rattle.vs_match.specs.declared.layer_arc.LayerArc.{LayerArc}
 use Rattle.vs_match.specs.ArcsOf.{pull_out_of}
 use Rattle.vs_match.specs.Stays.{event_of}
 use Rattle.vs_match.specs.Adds.{Adds}
-use Rattle.vs_match.proofs.Adding.{Upto, upto-one, upto-skip}
-use Rattle.vs_match.proofs.ClosedWays.{some-same}
-use Rattle.vs_match.proofs.Deadheading.{departs_within, way_within}
-use Rattle.vs_match.proofs.PulledOut.{AtPlace, same_at, at_place, OfDeparture, only_out, pull_outs_are}
+use Rattle.vs_match.proofs.events.Adding.{Upto, upto-one, upto-skip}
+use Rattle.vs_match.proofs.walks.ClosedWays.{some-same}
+use Rattle.vs_match.proofs.matches.Deadheading.{departs_within, way_within}
+use Rattle.vs_match.proofs.matches.PulledOut.{AtPlace, same_at, at_place, OfDeparture, only_out, pull_outs_are}
 use Rattle.vs_match.proofs.pulls.push_pull_outs.Goals as goal
 use Rattle.vs_match.proofs.pulls.push_pull_outs.Goals.{in-Some+then-way-departure+in_ok-push, in-Some+else-way-departure, in_default}
 

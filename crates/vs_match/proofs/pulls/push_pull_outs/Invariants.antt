@@ -1,7 +1,7 @@
 use Rattle.std.proofs.Common.{◌+◌, ◌≤◌, length}
 use Rattle.vs_match.specs.Adds.{Adds}
-use Rattle.vs_match.proofs.Adding.{Upto}
-use Rattle.vs_match.proofs.PulledOut.{OfDeparture}
+use Rattle.vs_match.proofs.events.Adding.{Upto}
+use Rattle.vs_match.proofs.matches.PulledOut.{OfDeparture}
 use Rattle.vs_match.proofs.pulls.push_pull_outs.Given as goal
 
 -- the pull-outs to the departures so far

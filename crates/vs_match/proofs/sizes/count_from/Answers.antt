@@ -4,7 +4,7 @@ use Rattle.std.specs.List.{range_with_len}
 use Rattle.std.proofs.lemmas.List.Sums.{count_by-le-length}
 use Rattle.std.proofs.lemmas.List.FromFn.{length-range_with_len}
 use Rattle.vs_match.specs.Sizes.{is_connection}
-use Rattle.vs_match.proofs.Counting.{count_by-next}
+use Rattle.vs_match.proofs.matches.Counting.{count_by-next}
 use Rattle.vs_match.proofs.sizes.count_from.Goals as goal
 use Rattle.vs_match.proofs.sizes.count_from.Goals.{then-connects, else-connects}
 

@@ -4,7 +4,7 @@ use Rattle.std.specs.List.{range_with_len}
 use Rattle.std.proofs.lemmas.List.Sums.{count_by-le-length}
 use Rattle.std.proofs.lemmas.List.FromFn.{length-range_with_len}
 use Rattle.vs_match.specs.Sizes.{is_connection, numbers}
-use Rattle.vs_match.proofs.Counting.{sum_by-next, sum_by-≤}
+use Rattle.vs_match.proofs.matches.Counting.{sum_by-next, sum_by-≤}
 use Rattle.vs_match.proofs.sizes.full_count.Goals as goal
 
 pub overflow_add-total : goal.overflow_add-total

@@ -4,8 +4,8 @@ use Rattle.std.proofs.lemmas.Bool.{false≢true}
 use Rattle.vs_instance.specs.declared.trip.Trip.{Trip}
 use Rattle.vs_match.specs.declared.layer_arc.LayerArc.{LayerArc}
 use Rattle.vs_match.specs.Adds.{Adds}
-use Rattle.vs_match.proofs.Adding.{Upto, upto-one, upto-skip}
-use Rattle.vs_match.proofs.TripsRun.{OfTripNo, only_trip, trips_are}
+use Rattle.vs_match.proofs.events.Adding.{Upto, upto-one, upto-skip}
+use Rattle.vs_match.proofs.matches.TripsRun.{OfTripNo, only_trip, trips_are}
 use Rattle.vs_match.proofs.trip_arcs.push_trips.Goals as goal
 use Rattle.vs_match.proofs.trip_arcs.push_trips.Goals.{then-has+in_ok-push, else-has}
 

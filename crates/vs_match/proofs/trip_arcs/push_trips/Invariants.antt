@@ -1,7 +1,7 @@
 use Rattle.std.proofs.Common.{◌+◌, ◌≤◌, length}
 use Rattle.vs_match.specs.Adds.{Adds}
-use Rattle.vs_match.proofs.Adding.{Upto}
-use Rattle.vs_match.proofs.TripsRun.{OfTripNo}
+use Rattle.vs_match.proofs.events.Adding.{Upto}
+use Rattle.vs_match.proofs.matches.TripsRun.{OfTripNo}
 use Rattle.vs_match.proofs.trip_arcs.push_trips.Given as goal
 
 -- the trips so far

@@ -2,7 +2,7 @@ use Rattle.std.proofs.Common.{◌≡◌, List, sym, subst, ap}
 use Rattle.std.specs.Prelude.{Contains}
 use Rattle.vs_match.specs.declared.event.Event.{Event}
 use Rattle.vs_match.specs.declared.trip_end.TripEnd.TheVariants.{Departure, Arrival}
-use Rattle.vs_match.proofs.StayLists.{event_known}
+use Rattle.vs_match.proofs.events.StayLists.{event_known}
 use Rattle.vs_match.proofs.trip_arcs.trip_arc.Goals as goal
 
 pub node_of-requires-clause-known : goal.node_of-requires-clause-known

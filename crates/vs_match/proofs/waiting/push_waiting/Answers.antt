@@ -6,11 +6,11 @@ use Rattle.vs_match.specs.declared.stay.Stay.{Stay}
 use Rattle.vs_match.specs.declared.layer_arc.LayerArc.{LayerArc}
 use Rattle.vs_match.specs.ArcsOf.{waiting_of}
 use Rattle.vs_match.specs.Stays.{event_of}
-use Rattle.vs_match.proofs.Adding.{Upto, upto-one, upto-skip, upto-none}
-use Rattle.vs_match.proofs.Deadheading.{event_within}
-use Rattle.vs_match.proofs.PulledOut.{AtPlace, same_at}
-use Rattle.vs_match.proofs.WaitingChains.{same_stop}
-use Rattle.vs_match.proofs.WaitedAt.{OfNeighbours, at_stop_later, only_waiting, waiting_is, waiting_past, none_before_first}
+use Rattle.vs_match.proofs.events.Adding.{Upto, upto-one, upto-skip, upto-none}
+use Rattle.vs_match.proofs.matches.Deadheading.{event_within}
+use Rattle.vs_match.proofs.matches.PulledOut.{AtPlace, same_at}
+use Rattle.vs_match.proofs.walks.WaitingChains.{same_stop}
+use Rattle.vs_match.proofs.matches.WaitedAt.{OfNeighbours, at_stop_later, only_waiting, waiting_is, waiting_past, none_before_first}
 use Rattle.vs_match.proofs.waiting.push_waiting.Goals as goal
 use Rattle.vs_match.proofs.waiting.push_waiting.Goals.{then-eq+in_ok-push, else-eq}
 

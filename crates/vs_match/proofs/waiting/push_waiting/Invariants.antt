@@ -1,7 +1,7 @@
 use Rattle.std.proofs.Common.{◌+◌, ◌≤◌, length}
 use Rattle.vs_match.specs.Adds.{Adds}
-use Rattle.vs_match.proofs.Adding.{Upto}
-use Rattle.vs_match.proofs.WaitedAt.{OfNeighbours}
+use Rattle.vs_match.proofs.events.Adding.{Upto}
+use Rattle.vs_match.proofs.matches.WaitedAt.{OfNeighbours}
 use Rattle.vs_match.proofs.waiting.push_waiting.Given as goal
 
 -- the waiting up to the nodes so far

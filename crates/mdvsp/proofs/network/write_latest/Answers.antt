@@ -1,0 +1,8 @@
+use Rattle.vs_match.specs.declared.matching.Matching.TheVariants.{Latest}
+use Rattle.mdvsp.proofs.NetworkRows.{net_written}
+use Rattle.mdvsp.proofs.network.write_latest.Goals as goal
+
+pub returns : goal.returns
+returns c =
+    net_written c.args.instance.now c.args.layer.now c.args.l.0 Latest c.args.full _ _ c.in_ok-net.net c.counts.result
+    c.write_sizes.result c.in_ok-net.ensures.net c.counts.ensures c.write_sizes.ensures

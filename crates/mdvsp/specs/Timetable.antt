@@ -1,0 +1,40 @@
+-- The timetable of a plan's blocks.
+use Rattle.std.specs.Prelude.{ℕ, ◌+◌, List, [], ◌∷◌, map, flat_map, codes, decimal, Option, Some, None, ℤ}
+use Rattle.std.specs.List.{enumerate_from}
+use Rattle.vs_types.specs.declared.numbers.TripNo.{TripNo}
+use Rattle.vs_instance.specs.Problem.{Problem}
+use Rattle.vs_instance.specs.Ways.{trip_of}
+use Rattle.vs_instance.specs.Blocks.{block_cost, pull_in_minute, pull_out_minute}
+use Rattle.vs_instance.specs.Plan.{LayerBlock}
+use Rattle.vs_plan.specs.Blocks.{blocks_of}
+use Rattle.vs_cert.specs.declared.document.Document.{Document}
+use Rattle.vs_cert.specs.Fields.{time_field}
+use Rattle.vs_reader.specs.Names.{NameLists, name_of}
+use Rattle.vs_reader.specs.Rows.{Row}
+
+-- `vehicle`, NO, LAYER, OUT, IN, COST: when the vehicle of block k, counted from 0, leaves its depot, when it is back, and
+-- what it costs
+abbrev pub vehicle_row : Problem → NameLists → ℕ → LayerBlock → Row
+vehicle_row p names k b = codes "vehicle" ∷ decimal (k + 1) ∷ name_of names.layers b.0.0
+    ∷ time_field (pull_out_minute p b.0 b.1) ∷ time_field (pull_in_minute p b.0 b.1) ∷ decimal (block_cost p b.0 b.1) ∷ []
+
+-- `run`, NO, TRIP, FROM, START, TO, END
+abbrev pub run_row : Problem → NameLists → ℕ → TripNo → Row
+run_row p names k i = codes "run" ∷ decimal (k + 1) ∷ name_of names.trips i.0
+    ∷ name_of names.stops (trip_of p i.0).from.0 ∷ time_field (trip_of p i.0).start
+    ∷ name_of names.stops (trip_of p i.0).to.0 ∷ time_field (trip_of p i.0).end ∷ []
+
+-- a vehicle, and its trips in order
+abbrev pub vehicle_rows : Problem → NameLists → ℕ → LayerBlock → List Row
+vehicle_rows p names k b = vehicle_row p names k b ∷ map (run_row p names k) b.1
+
+abbrev pub timetable : Problem → NameLists → List LayerBlock → List Row
+timetable p names blocks = flat_map (λ e. vehicle_rows p names e.0 e.1) (enumerate_from 0 blocks)
+
+-- nothing where no cost is printed
+abbrev pub rows_beside : Problem → NameLists → List LayerBlock → Option ℤ → List Row
+rows_beside p names blocks None = []
+rows_beside p names blocks (Some cost) = timetable p names blocks
+
+abbrev pub timetable_of : Problem → NameLists → Document → List Row
+timetable_of p names d = rows_beside p names (blocks_of d.plan) d.cost

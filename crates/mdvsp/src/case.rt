@@ -1,0 +1,59 @@
+ghost use Rattle.std.specs.Prelude.{◌≡◌, ◌≤◌, length, IfErr, IfOk};
+ghost use Rattle.mdvsp.specs.Cases.{CheckText};
+ghost use Rattle.mdvsp.specs.Answered.{RefusesCase, case_error};
+ghost use Rattle.mdvsp.specs.Outcome.{input_limit};
+
+use crate::answer::Answer;
+use std::alloc::Global;
+use vs_cert::{DocError, Document};
+use vs_reader::{Input, ReadError};
+use vs_types::Memory;
+
+/// An instance with its names, and the document that stands behind it.
+#[derive(Drop)]
+pub struct Case {
+    pub input: Input,
+    pub document: Document,
+}
+
+/// Why a text gives no case.
+#[derive(Debug, Drop)]
+pub enum CaseError {
+    /// It is no instance text, or no document stands behind it. This answer says so.
+    Refused(Answer),
+    /// There was no memory.
+    Memory,
+}
+
+/// The instance that a text stands for, and the document behind it.
+pub fn read_case(alloc: Global, bytes: &[u8]) -> Result<Case, CaseError>
+    requires { length bytes.now ≤ input_limit }
+    ensures found { IfOk result (λ case.
+        CheckText bytes.now case.input.instance case.input.names case.document) }
+    ensures refused { IfErr result (RefusesCase bytes.now) }
+{
+    let input = match vs_reader::read(alloc, bytes) {
+        Ok(input) => input,
+        Err(ReadError::Refused(refused)) => {
+            return Err(refusal(Answer::refused(alloc, refused)));
+        }
+        Err(ReadError::Memory) => return Err(CaseError::Memory),
+    };
+    match vs_cert::read(alloc, &input) {
+        Ok(document) => Ok(Case { input, document }),
+        Err(DocError::Refused { row, why }) => {
+            Err(refusal(Answer::refused_document(alloc, row, why)))
+        }
+        Err(DocError::Memory) => Err(CaseError::Memory),
+    }
+}
+
+/// An answer that refuses a text, or want of memory for it.
+fn refusal(answer: Result<Answer, Memory>) -> CaseError
+    ensures { result ≡ case_error answer }
+{
+    match answer {
+        Ok(answer) => CaseError::Refused(answer),
+        Err(Memory) => CaseError::Memory,
+    }
+}

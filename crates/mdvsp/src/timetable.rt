@@ -1,0 +1,174 @@
+ghost use Rattle.std.specs.Prelude.{◌≡◌, ℕ, List, ◌+◌, ◌<◌, ◌≤◌, [], ◌∷◌, ◌++◌, All, codes, decimal, length, map, IfOk, OnOk};
+ghost use Rattle.vs_instance.specs.Blocks.{IsBlock};
+ghost use Rattle.vs_instance.specs.Plan.{IsPlan};
+ghost use Rattle.vs_plan.specs.Blocks.{CanBeJudged, blocks_of, pair_of, pairs_of};
+ghost use Rattle.vs_cert.specs.FirstForm.{CheckText};
+ghost use Rattle.vs_cert.specs.Fields.{time_field};
+ghost use Rattle.vs_reader.specs.Names.{HaveCounts, name_of};
+ghost use Rattle.vs_reader.specs.Rows.{fields, line, lines};
+ghost use Rattle.mdvsp.specs.Answered.{IsOwedFor};
+ghost use Rattle.mdvsp.specs.Outcome.{input_limit};
+ghost use Rattle.mdvsp.specs.Timetable.{run_row, timetable, vehicle_row, vehicle_rows};
+
+use crate::answer::Answer;
+use crate::case::{Case, CaseError, read_case};
+use crate::command::Command;
+use crate::status::Status;
+use std::alloc::Global;
+use vs_cert::Text;
+use vs_check::Flaw;
+use vs_instance::Instance;
+use vs_plan::{Block, PlanError, block_cost, block_times, judge};
+use vs_reader::Names;
+use vs_types::{LayerNo, Memory, TripNo};
+
+/// What `blocks` answers for the bytes of an instance and a document.
+pub fn answer_blocks(alloc: Global, bytes: &[u8]) -> Result<Answer, Memory>
+    requires { length bytes.now ≤ input_limit }
+    ensures { IfOk result (IsOwedFor Command.Blocks bytes.now) }
+{
+    match read_case(alloc, bytes) {
+        Ok(case) => answer_for(alloc, &case),
+        Err(CaseError::Refused(answer)) => Ok(answer),
+        Err(CaseError::Memory) => Err(Memory),
+    }
+}
+
+/// The timetable of the document's blocks, or the first reason why they are no plan.
+fn answer_for(alloc: Global, case: &Case) -> Result<Answer, Memory>
+    requires names { HaveCounts case.now.input.instance case.now.input.names }
+    requires blocks { CanBeJudged case.now.input.instance (blocks_of case.now.document.plan) }
+    ensures { (bytes : List ℕ)
+        → CheckText bytes case.now.input.instance case.now.input.names case.now.document
+        → IfOk result (IsOwedFor Command.Blocks bytes) }
+{
+    if case.document.cost.is_none() {
+        return Ok(Answer::of(Status::Done, Text::new(alloc)));
+    }
+    let (instance, names) = (&case.input.instance, &case.input.names);
+    let plan = &case.document.plan;
+    match judge(alloc, instance, plan) {
+        Ok(_) => timetable_of(alloc, instance, names, &plan.blocks),
+        Err(PlanError::Fault(fault)) => Answer::no(alloc, names, Flaw::Plan(fault)),
+        Err(PlanError::Memory) => Err(Memory),
+    }
+}
+
+/// The timetable of a plan's blocks.
+fn timetable_of(
+    alloc: Global,
+    instance: &Instance,
+    names: &Names,
+    blocks: &[Block],
+) -> Result<Answer, Memory>
+    requires plan { IsPlan instance.now (pairs_of blocks.now) }
+    requires names { HaveCounts instance.now names.now }
+    ensures { IfOk result (λ a. (a.status ≡ Status.Done)
+        × (a.text.items ≡ lines (timetable instance.now names.now (pairs_of blocks.now)))) }
+{
+    let mut text = Text::new(alloc);
+    for (k, block) in blocks.iter().enumerate() {
+        write_block(&mut text, instance, names, k, block)?;
+    }
+    Ok(Answer::of(Status::Done, text))
+}
+
+/// Writes the rows of a block, which counts from 0.
+fn write_block(
+    text: &mut Text,
+    instance: &Instance,
+    names: &Names,
+    k: usize,
+    block: &Block,
+) -> Result<(), Memory>
+    requires number { k < usize.MAX }
+    requires block { IsBlock instance.now block.now.layer block.now.trips.items }
+    requires names { HaveCounts instance.now names.now }
+    ensures { OnOk result (text.new ≡ text.old ++ lines (vehicle_rows instance.now names.now k (pair_of block.now))) }
+{
+    write_vehicle(text, instance, names, k, block)?;
+    write_runs(text, instance, names, k, &block.trips)
+}
+
+/// Writes the row of a block's vehicle.
+fn write_vehicle(
+    text: &mut Text,
+    instance: &Instance,
+    names: &Names,
+    k: usize,
+    block: &Block,
+) -> Result<(), Memory>
+    requires number { k < usize.MAX }
+    requires block { IsBlock instance.now block.now.layer block.now.trips.items }
+    requires names { HaveCounts instance.now names.now }
+    ensures { OnOk result (text.new ≡ text.old ++ line (vehicle_row instance.now names.now k (pair_of block.now))) }
+{
+    let (out, back) = block_times(instance, block);
+    begin_vehicle(text, names, k, block.layer, out)?;
+    text.time(back)?;
+    text.number(block_cost(instance, block))?;
+    text.end_row()
+}
+
+/// Begins the row of a vehicle with its number, its layer, and when it leaves its depot.
+fn begin_vehicle(
+    text: &mut Text,
+    names: &Names,
+    k: usize,
+    l: LayerNo,
+    out: u32,
+) -> Result<(), Memory>
+    requires number { k < usize.MAX }
+    requires layer { l.0 < length names.now.layers }
+    requires minute { out < 6000 }
+    ensures { OnOk result (text.new ≡ text.old
+        ++ fields (codes "vehicle" ∷ decimal (k + 1) ∷ name_of names.now.layers l.0 ∷ time_field out ∷ [])) }
+{
+    text.begin_row("vehicle")?;
+    text.number(k + 1)?;
+    text.field(names.layer(l))?;
+    text.time(out)
+}
+
+/// Writes a row for each trip of a block, which counts from 0.
+fn write_runs(
+    text: &mut Text,
+    instance: &Instance,
+    names: &Names,
+    k: usize,
+    trips: &[TripNo],
+) -> Result<(), Memory>
+    requires number { k < usize.MAX }
+    requires trips { All (λ i. i.0 < length instance.now.trips) trips.now }
+    requires names { HaveCounts instance.now names.now }
+    ensures { OnOk result (text.new ≡ text.old ++ lines (map (run_row instance.now names.now k) trips.now)) }
+{
+    for i in trips {
+        write_run(text, instance, names, k, *i)?;
+    }
+    Ok(())
+}
+
+fn write_run(
+    text: &mut Text,
+    instance: &Instance,
+    names: &Names,
+    k: usize,
+    i: TripNo,
+) -> Result<(), Memory>
+    requires number { k < usize.MAX }
+    requires trip { i.0 < length instance.now.trips }
+    requires names { HaveCounts instance.now names.now }
+    ensures { OnOk result (text.new ≡ text.old ++ line (run_row instance.now names.now k i)) }
+{
+    prove!(i.0 < instance.trips());
+    let trip = instance.trip(i);
+    text.begin_row("run")?;
+    text.number(k + 1)?;
+    text.field(names.trip(i))?;
+    text.field(names.stop(trip.from))?;
+    text.time(trip.start)?;
+    text.field(names.stop(trip.to))?;
+    text.time(trip.end)?;
+    text.end_row()
+}

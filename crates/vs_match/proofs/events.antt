@@ -1,0 +1,6 @@
+pub mod Adding
+pub mod EventLists
+pub mod StayLists
+pub mod Places
+pub mod AtStop
+pub mod LeastTrips

@@ -1,0 +1,5 @@
+pub mod Orders
+pub mod StrictOrders
+pub mod KindOrder
+pub mod ArcOrder
+pub mod RightArcs

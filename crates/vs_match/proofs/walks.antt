@@ -1,0 +1,5 @@
+pub mod ClosedWays
+pub mod WalkBounds
+pub mod WaitingChains
+pub mod Matched
+pub mod WalkLaws
