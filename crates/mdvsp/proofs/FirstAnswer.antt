@@ -22,7 +22,7 @@ use Rattle.vs_prices.specs.Table.{Fits, HoldingTable}
 use Rattle.vs_prices.specs.Worth.{IsWorth, Reaches}
 use Rattle.vs_cert.specs.declared.limits.TheConstants.{MAX_BOUND, MAX_COST}
 use Rattle.vs_cert.specs.DocumentRows.{IsBetween, IsWithin}
-use Rattle.vs_cert.specs.NewDocumentText.{HasText}
+use Rattle.vs_cert.specs.DocumentText.{HasText}
 use Rattle.vs_cert.specs.Shapes.{IsShapeOf}
 use Rattle.mdvsp.specs.PricedPlan.{IsPricedPlan}
 use Rattle.mdvsp.specs.Owed.{IsZeroTable}

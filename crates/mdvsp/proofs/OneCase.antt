@@ -18,7 +18,7 @@ use Rattle.vs_reader.proofs.TextLemmas.{one_reading, refused_none, stands_counts
 use Rattle.vs_tree.specs.declared.claim.Claim.{Claim}
 use Rattle.vs_cert.specs.Alike.{AreAlike}
 use Rattle.vs_cert.specs.DocumentRefusals.{AreRefused}
-use Rattle.vs_cert.specs.NewDocumentText.{DocumentText}
+use Rattle.vs_cert.specs.DocumentText.{DocumentText}
 use Rattle.vs_cert.specs.declared.document.Document.{Document}
 use Rattle.vs_cert.specs.declared.refused.DocWhy.{DocWhy}
 use Rattle.vs_cert.proofs.AlikeDocuments.{alike as alike_documents}

@@ -16,7 +16,7 @@ use Rattle.vs_instance.specs.Pieces.{out_piece, trip_piece, link_piece, in_piece
 use Rattle.vs_instance.specs.HoldingTable.{price_of, scaled}
 use Rattle.vs_instance.specs.Restriction.{set_of}
 use Rattle.vs_prices.specs.declared.bound.Bound.TheVariants.{AtLeast}
-use Rattle.vs_cert.specs.NewDocumentText.{Agree}
+use Rattle.vs_cert.specs.DocumentText.{Agree}
 use Rattle.vs_prices.specs.declared.table.Table.{Table}
 use Rattle.vs_prices.specs.Table.{Fits, HoldingTable, IsPrice, prices_in}
 use Rattle.vs_prices.specs.Worth.{IsRoundedUp, IsWorth, fleet_price, least, least_price, table_value, trip_price}

@@ -5,7 +5,7 @@ use Rattle.vs_reader.specs.Names.{NameLists}
 use Rattle.vs_reader.specs.Rows.{Row}
 use Rattle.vs_reader.specs.Texts.{StandsFor}
 use Rattle.vs_cert.specs.DocumentRefusals.{AreRefused}
-use Rattle.vs_cert.specs.NewDocumentText.{DocumentText}
+use Rattle.vs_cert.specs.DocumentText.{DocumentText}
 use Rattle.vs_cert.specs.declared.document.Document.{Document}
 use Rattle.vs_cert.specs.declared.refused.DocWhy.{DocWhy}
 

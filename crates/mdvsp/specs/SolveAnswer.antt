@@ -9,7 +9,7 @@ use Rattle.vs_prices.specs.declared.bound.Bound.TheVariants.{AtLeast, NoPlan}
 use Rattle.vs_prices.specs.declared.table.Table.{Table}
 use Rattle.vs_tree.specs.Tree.{LeafPlace, leaves, splits}
 use Rattle.vs_tree.specs.declared.claim.Claim.TheVariants.{StillOpen}
-use Rattle.vs_cert.specs.NewDocumentText.{HasText}
+use Rattle.vs_cert.specs.DocumentText.{HasText}
 use Rattle.vs_cert.specs.declared.document.Document.{Document}
 use Rattle.vs_check.specs.HoldingDocument.{HoldingDocument}
 

@@ -14,7 +14,7 @@ use Rattle.vs_cert.specs.declared.document.Document.{Document}
 use Rattle.vs_cert.specs.declared.shape.Shape.{Shape}
 use Rattle.vs_cert.specs.declared.shape.Shape.TheVariants as shape
 use Rattle.vs_cert.specs.DocumentRows.{DocumentRow, ClaimRow, CostRow, BoundRow, NodesRow, BlockRow, TableRow, FleetRow, PriceRow, SplitRow, LeafRow, EndRow, head_rows, layer_rows, permitted_trips, rows_of_document, shape_row, table_rows, tables_rows}
-use Rattle.vs_cert.specs.NewDocumentText.{HasText}
+use Rattle.vs_cert.specs.DocumentText.{HasText}
 use Rattle.vs_cert.specs.Places.{Place, AtClaim, AtCost, AtBound, AtNodes, AtBlocks, InTable, InTree, AtEnd, PriceOf, Trip, Vehicle, HasNumber, HasPrices, SuitsCost, behind, prices_of}
 use Rattle.vs_cert.specs.Shapes.{IsShapeOf, preorder}
 use Rattle.vs_cert.proofs.BoundBesideCost.{suits}

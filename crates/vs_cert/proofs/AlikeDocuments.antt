@@ -25,7 +25,7 @@ use Rattle.vs_cert.specs.declared.document.Document.{Document}
 use Rattle.vs_cert.specs.declared.shape.Shape.{Shape}
 use Rattle.vs_cert.specs.declared.shape.Shape.TheVariants as shape
 use Rattle.vs_cert.specs.DocumentRows.{DocumentRow, ClaimRow, CostRow, BoundRow, NodesRow, BlockRow, TableRow, FleetRow, PriceRow, SplitRow, LeafRow, EndRow, SayAll, head_rows, layer_rows, permitted_trips, rows_of_document, shape_row, table_rows, tables_rows}
-use Rattle.vs_cert.specs.NewDocumentText.{Agree, DocumentText}
+use Rattle.vs_cert.specs.DocumentText.{Agree, DocumentText}
 use Rattle.vs_cert.proofs.AcceptedRows.{rest_is, rest_of_rows}
 use Rattle.vs_cert.proofs.SaysOnce.{says_once}
 

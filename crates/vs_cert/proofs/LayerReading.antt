@@ -13,7 +13,7 @@ use Rattle.vs_prices.specs.Table.{IsPrice, Fits, prices_in}
 use Rattle.vs_reader.specs.declared.input.Input.{Input}
 use Rattle.vs_cert.specs.declared.refused.DocError.{DocError}
 use Rattle.vs_cert.specs.declared.limits.TheConstants.{MAX_NUMBER}
-use Rattle.vs_cert.specs.NewDocumentText.{IsBlankElsewhere}
+use Rattle.vs_cert.specs.DocumentText.{IsBlankElsewhere}
 use Rattle.vs_cert.specs.DocumentRows.{DocumentRow, FleetRow, SayAll, TableRow, layer_rows, permitted_trips, table_rows}
 use Rattle.vs_cert.specs.Places.{InTable, PriceOf, Trip, Vehicle, prices_of}
 use Rattle.vs_cert.specs.Reading.{IsEmptyTable, IsRefusedAt, LeadTo, ReadsFleet, ReadsKind, ReadsLayer, ReadsPrices, ReadsTable, SayTo, price_rows, prices_from}

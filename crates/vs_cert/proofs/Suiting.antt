@@ -2,7 +2,7 @@
 use Rattle.vs_instance.specs.Problem.{Problem}
 use Rattle.vs_cert.specs.declared.document.Document.{Document}
 use Rattle.vs_cert.specs.Form.{IsReadFor, Suits}
-use Rattle.vs_cert.specs.NewDocumentText.{HasText}
+use Rattle.vs_cert.specs.DocumentText.{HasText}
 
 pub suits-read : (p : Problem) (d : Document) → IsReadFor p d → Suits p d
 suits-read p d read = record {

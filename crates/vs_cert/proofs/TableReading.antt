@@ -10,7 +10,7 @@ use Rattle.vs_prices.specs.declared.table.Table.{Table}
 use Rattle.vs_reader.specs.Rows.{row_of}
 use Rattle.vs_reader.specs.declared.input.Input.{Input}
 use Rattle.vs_cert.specs.declared.limits.TheConstants.{MAX_NUMBER}
-use Rattle.vs_cert.specs.NewDocumentText.{IsBlankElsewhere}
+use Rattle.vs_cert.specs.DocumentText.{IsBlankElsewhere}
 use Rattle.vs_cert.specs.DocumentRows.{DocumentRow, table_rows, tables_rows}
 use Rattle.vs_cert.specs.Places.{InTable, InTree}
 use Rattle.vs_cert.specs.Reading.{ReadsTable, ReadsTables, ReadsTo}

@@ -24,7 +24,7 @@ use Rattle.vs_cert.specs.declared.limits.TheConstants.{MAX_NUMBER}
 use Rattle.vs_cert.specs.declared.shape.Shape.{Shape}
 use Rattle.vs_cert.specs.declared.shape.Shape.TheVariants as shape
 use Rattle.vs_cert.specs.DocumentRows.{AreLayersOf, BlockRow, BoundRow, ClaimRow, CostRow, DocumentRow, EndRow, FleetRow, HasForm, IsNamedBlock, IsWritten, LeafRow, NodesRow, PriceRow, SayAll, SplitRow, TableRow, document_rows, head_rows, layer_rows, permitted_trips, rows_of_document, shape_row, table_rows, tables_rows, written_row, written_rows}
-use Rattle.vs_cert.specs.NewDocumentText.{DocumentText, HasText}
+use Rattle.vs_cert.specs.DocumentText.{DocumentText, HasText}
 use Rattle.vs_cert.specs.Shapes.{IsShapeOf}
 use Rattle.vs_cert.proofs.PriceRanges.{price_anywhere, prices_in_all, printed}
 

@@ -20,7 +20,7 @@ use Rattle.vs_tree.specs.declared.claim.Claim.TheVariants.{Optimal, Infeasible, 
 use Rattle.vs_cert.specs.declared.document.Document.{Document}
 use Rattle.vs_cert.specs.declared.limits.TheConstants.{MAX_COST, MAX_BOUND, MAX_PRINTED_PRICE}
 use Rattle.vs_cert.specs.DocumentRows.{BlockRow, BoundRow, ClaimRow, CostRow, DocumentRow, EndRow, FleetRow, HasForm, IsBetween, IsWithin, LeafRow, NodesRow, PriceRow, SplitRow, TableRow, claim_field, document_rows, kind_field, number_field, rows_of_document, written_row, written_rows}
-use Rattle.vs_cert.specs.NewDocumentText.{HasText}
+use Rattle.vs_cert.specs.DocumentText.{HasText}
 use Rattle.vs_cert.proofs.WrittenForms.{document_forms}
 
 abbrev IsPlainField : Field → Type 0

@@ -4,9 +4,9 @@ use Rattle.std.specs.List.{AllZip}
 use Rattle.vs_instance.specs.Problem.{Problem}
 use Rattle.vs_plan.specs.Blocks.{blocks_of}
 use Rattle.vs_cert.specs.declared.document.Document.{Document}
-use Rattle.vs_cert.specs.NewDocumentText.{Agree}
+use Rattle.vs_cert.specs.DocumentText.{Agree}
 
--- they have the same claim, numbers, blocks and tree, and tables that agree one by one
+-- they have the same claim, numbers, blocks and tree, and their tables agree, each with the one of its number
 pub record AreAlike (p : Problem) (d e : Document) : Type 0 where
   pub claim : d.claim ≡ e.claim
   pub cost : d.cost ≡ e.cost

@@ -10,7 +10,7 @@ use Rattle.vs_cert.specs.DocumentRefusals.{AreRefused}
 use Rattle.vs_cert.specs.declared.refused.DocWhy.{DocWhy}
 use Rattle.vs_cert.specs.declared.document.Document.{Document}
 use Rattle.vs_cert.specs.DocumentRows.{document_rows}
-use Rattle.vs_cert.specs.NewDocumentText.{DocumentText, HasText}
+use Rattle.vs_cert.specs.DocumentText.{DocumentText, HasText}
 
 -- the rows as which a document is written stand for it
 abbrev pub WrittenRowsStandForTheirDocument : Type 0

@@ -1,7 +1,7 @@
 pub mod Fields
 pub mod Shapes
 pub mod DocumentRows
-pub mod NewDocumentText
+pub mod DocumentText
 pub mod Writing
 pub mod Places
 pub mod DocumentRefusals

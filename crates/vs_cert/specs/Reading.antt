@@ -19,7 +19,7 @@ use Rattle.vs_cert.specs.declared.limits.TheConstants.{MAX_COST, MAX_BOUND, MAX_
 use Rattle.vs_cert.specs.declared.reading.head.Head.{Head}
 use Rattle.vs_cert.specs.declared.shape.Shape.{Shape}
 use Rattle.vs_cert.specs.declared.shape.Shape.TheVariants as shape
-use Rattle.vs_cert.specs.NewDocumentText.{IsBlankElsewhere}
+use Rattle.vs_cert.specs.DocumentText.{IsBlankElsewhere}
 use Rattle.vs_cert.specs.Shapes.{AreTree, IsShapeOf}
 use Rattle.vs_cert.specs.DocumentRows.{DocumentRow, ClaimRow, CostRow, BoundRow, NodesRow, BlockRow, TableRow, EndRow, Says, FleetRow, PriceRow, SayAll, permitted_trips, table_rows, tables_rows, shape_row, IsBetween, IsWithin}
 use Rattle.vs_cert.specs.DocumentRefusals.{AreRefusedFrom}

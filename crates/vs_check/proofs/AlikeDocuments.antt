@@ -20,7 +20,7 @@ use Rattle.vs_tree.specs.declared.claim.Claim.{Claim}
 use Rattle.vs_tree.proofs.Restrictions.{left-restricts, right-restricts}
 use Rattle.vs_cert.specs.Alike.{AreAlike}
 use Rattle.vs_cert.specs.Form.{Suits}
-use Rattle.vs_cert.specs.NewDocumentText.{Agree}
+use Rattle.vs_cert.specs.DocumentText.{Agree}
 use Rattle.vs_cert.specs.Shapes.{IsShapeOf, preorder}
 use Rattle.vs_cert.specs.declared.document.Document.{Document}
 use Rattle.vs_cert.specs.declared.shape.Shape.{Shape}

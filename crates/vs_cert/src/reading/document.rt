@@ -2,7 +2,7 @@ ghost use Rattle.std.specs.Prelude.{All, IfOk, IfErr};
 ghost use Rattle.vs_cert.specs.declared.document.Document.{Document as DocumentOf};
 ghost use Rattle.vs_cert.specs.Alike.{AreAlike};
 ghost use Rattle.vs_cert.specs.DocumentRefusals.{IsRefusal, IsRefusedError};
-ghost use Rattle.vs_cert.specs.NewDocumentText.{DocumentText, IsBlankElsewhere};
+ghost use Rattle.vs_cert.specs.DocumentText.{DocumentText, IsBlankElsewhere};
 ghost use Rattle.vs_cert.specs.Form.{IsReadFor};
 ghost use Rattle.vs_cert.specs.Reading.{IsInput};
 

@@ -2,7 +2,7 @@ ghost use Rattle.std.specs.Prelude.{◌≡◌, ◌++◌, [], ◌∷◌, codes, d
 ghost use Rattle.vs_reader.specs.Names.{HaveCounts};
 ghost use Rattle.vs_reader.specs.Rows.{line, lines};
 ghost use Rattle.vs_cert.specs.DocumentRows.{claim_field, document_rows, head_rows, number_field};
-ghost use Rattle.vs_cert.specs.NewDocumentText.{HasText};
+ghost use Rattle.vs_cert.specs.DocumentText.{HasText};
 ghost use Rattle.vs_cert.specs.Writing.{AddsRows};
 
 use crate::document::Document;
