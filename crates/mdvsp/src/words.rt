@@ -12,7 +12,7 @@ pub struct BadWord(pub usize);
 pub const MAX_DIGITS: usize = 6;
 
 /// What the words ask for: `check`, `network`, `blocks`, `solve --nodes 0`, or `make` and a number.
-#[tactic(auto, using(crate::proofs::CommandWords::no_command))]
+#[tactic(auto, using(crate::proofs::grammar::CommandWords::no_command))]
 pub fn command_of(words: &[String]) -> Result<Command, BadWord>
     ensures { Answers (words_of words.now) result }
 {
@@ -45,7 +45,7 @@ fn alone(words: &[String], command: Command) -> Result<Command, BadWord>
 }
 
 /// `solve`, with a budget of no nodes.
-#[tactic(auto, using(crate::proofs::CommandWords::solve_bad_second, crate::proofs::CommandWords::solve_bad_third, crate::proofs::CommandWords::solve_goes_on))]
+#[tactic(auto, using(crate::proofs::grammar::CommandWords::solve_bad_second, crate::proofs::grammar::CommandWords::solve_bad_third, crate::proofs::grammar::CommandWords::solve_goes_on))]
 fn solve_of(words: &[String]) -> Result<Command, BadWord>
     requires { IsWordAt (words_of words.now) 0 (codes "solve") }
     ensures { Answers (words_of words.now) result }

@@ -1,4 +1,4 @@
-use Rattle.mdvsp.proofs.OneAnswer.{one_answer}
+use Rattle.mdvsp.proofs.once.OneAnswer.{one_answer}
 use Rattle.mdvsp.proofs.laws.one_answer.Goals as goal
 
 pub returns : goal.returns

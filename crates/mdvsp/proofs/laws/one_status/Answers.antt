@@ -4,8 +4,8 @@ use Rattle.mdvsp.specs.Owed.{Owes}
 use Rattle.mdvsp.specs.declared.command.Command.{Command}
 use Rattle.mdvsp.specs.declared.command.Command.TheVariants.{Check, Solve, Network, Blocks, Make}
 use Rattle.mdvsp.specs.declared.status.Status.{Status}
-use Rattle.mdvsp.proofs.OneAnswer.{one_answer}
-use Rattle.mdvsp.proofs.OneStatus.{one_status}
+use Rattle.mdvsp.proofs.once.OneAnswer.{one_answer}
+use Rattle.mdvsp.proofs.once.OneStatus.{one_status}
 use Rattle.mdvsp.proofs.laws.one_status.Goals as goal
 
 by_command : (command : Command) (bytes : List ℕ) (a b : Status) (r s : List Row) → Owes command bytes a r

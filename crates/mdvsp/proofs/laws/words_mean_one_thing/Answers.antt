@@ -1,4 +1,4 @@
-use Rattle.mdvsp.proofs.WordLaws.{one_command, one_place, never_both}
+use Rattle.mdvsp.proofs.grammar.WordLaws.{one_command, one_place, never_both}
 use Rattle.mdvsp.proofs.laws.words_mean_one_thing.Goals as goal
 
 pub returns-clause-one_command : goal.returns-clause-one_command

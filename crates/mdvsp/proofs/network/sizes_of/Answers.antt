@@ -1,5 +1,5 @@
 use Rattle.std.proofs.Common.{arith}
-use Rattle.mdvsp.proofs.NetworkRows.{no_rows, one_layer_more, sizes_written}
+use Rattle.mdvsp.proofs.owing.NetworkRows.{no_rows, one_layer_more, sizes_written}
 use Rattle.mdvsp.proofs.network.sizes_of.Goals as goal
 
 pub loop-l-init : goal.loop-l-init

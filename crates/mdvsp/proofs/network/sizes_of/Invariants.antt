@@ -1,4 +1,4 @@
-use Rattle.mdvsp.proofs.NetworkRows.{HasRowsBelow}
+use Rattle.mdvsp.proofs.owing.NetworkRows.{HasRowsBelow}
 use Rattle.mdvsp.proofs.network.sizes_of.Given as goal
 
 -- the rows of the layers so far are written

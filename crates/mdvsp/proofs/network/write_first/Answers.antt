@@ -1,5 +1,5 @@
 use Rattle.vs_match.specs.declared.matching.Matching.TheVariants.{First}
-use Rattle.mdvsp.proofs.NetworkRows.{net_written}
+use Rattle.mdvsp.proofs.owing.NetworkRows.{net_written}
 use Rattle.mdvsp.proofs.network.write_first.Goals as goal
 
 pub returns : goal.returns

@@ -1,4 +1,4 @@
-use Rattle.mdvsp.proofs.NetworkRows.{layer_written}
+use Rattle.mdvsp.proofs.owing.NetworkRows.{layer_written}
 use Rattle.mdvsp.proofs.network.write_layer.Goals as goal
 
 pub returns : goal.returns

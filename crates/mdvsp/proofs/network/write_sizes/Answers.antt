@@ -2,7 +2,7 @@ use Rattle.std.proofs.Common.{[], ◌∷◌}
 use Rattle.std.specs.Prelude.{codes, decimal}
 use Rattle.std.proofs.lemmas.Result.{IfOk-equal}
 use Rattle.mdvsp.specs.Network.{count_fields}
-use Rattle.mdvsp.proofs.RowsInParts.{row_in_parts}
+use Rattle.mdvsp.proofs.owing.RowsInParts.{row_in_parts}
 use Rattle.mdvsp.proofs.network.write_sizes.Goals as goal
 
 pub returns : goal.returns

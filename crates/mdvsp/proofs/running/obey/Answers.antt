@@ -1,6 +1,6 @@
 use Rattle.std.proofs.Common.{ℕ, List, IfOk, subst}
 use Rattle.mdvsp.specs.Answered.{IsOwedFor}
-use Rattle.mdvsp.proofs.RunEnds.{command_ends}
+use Rattle.mdvsp.proofs.owing.RunEnds.{command_ends}
 use Rattle.mdvsp.proofs.running.obey.Goals as goal
 
 pub returns-in-Ok-clause-ends : goal.returns-in-Ok-clause-ends

@@ -1,5 +1,5 @@
 use Rattle.std.proofs.Common.{refl}
-use Rattle.mdvsp.proofs.RunEnds.{wrong_words_end}
+use Rattle.mdvsp.proofs.owing.RunEnds.{wrong_words_end}
 use Rattle.mdvsp.proofs.running.run.Goals as goal
 
 pub returns-in-Err-clause-ends : goal.returns-in-Err-clause-ends

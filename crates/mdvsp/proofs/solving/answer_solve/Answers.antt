@@ -2,7 +2,7 @@ use Rattle.std.proofs.Common.{subst}
 use Rattle.vs_reader.specs.ReadErrors.{RefusesAs}
 use Rattle.vs_reader.specs.Texts.{IsRefused}
 use Rattle.vs_reader.proofs.TextLemmas.{stands_counts}
-use Rattle.mdvsp.proofs.OwedAnswers.{solve_refusal_owed, document_owed}
+use Rattle.mdvsp.proofs.owing.OwedAnswers.{solve_refusal_owed, document_owed}
 use Rattle.mdvsp.proofs.solving.answer_solve.Goals as goal
 
 pub plan_of-requires : goal.plan_of-requires

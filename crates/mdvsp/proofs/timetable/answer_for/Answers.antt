@@ -10,7 +10,7 @@ use Rattle.mdvsp.specs.declared.answer.Answer.{Answer}
 use Rattle.mdvsp.specs.declared.status.Status.TheVariants.{Done, SaysNo}
 use Rattle.mdvsp.specs.FlawRows.{no_row}
 use Rattle.mdvsp.specs.Timetable.{timetable}
-use Rattle.mdvsp.proofs.BlocksOwed.{no_cost_owed, timetable_owed, no_plan_owed, fault_named}
+use Rattle.mdvsp.proofs.owing.BlocksOwed.{no_cost_owed, timetable_owed, no_plan_owed, fault_named}
 use Rattle.mdvsp.proofs.timetable.answer_for.Goals as goal
 
 pub returns-then-is_none : goal.returns-then-is_none

@@ -9,7 +9,7 @@ use Rattle.vs_plan.specs.Blocks.{pair_of}
 use Rattle.vs_reader.specs.Names.{name_of}
 use Rattle.vs_reader.specs.Rows.{Field, fields, more_fields}
 use Rattle.vs_cert.proofs.WrittenRows.{wrote_last}
-use Rattle.mdvsp.proofs.RowsInParts.{row_in_parts}
+use Rattle.mdvsp.proofs.owing.RowsInParts.{row_in_parts}
 use Rattle.mdvsp.proofs.timetable.write_vehicle.Goals as goal
 
 pub returns : goal.returns

@@ -1,6 +1,6 @@
 use Rattle.std.proofs.lemmas.Bool.{ltb-true}
 use Rattle.std.proofs.Common.{sym}
-use Rattle.mdvsp.proofs.CommandWords.{is_word_by}
+use Rattle.mdvsp.proofs.grammar.CommandWords.{is_word_by}
 use Rattle.mdvsp.proofs.words.is_word.Goals as goal
 
 pub returns-in-Some : goal.returns-in-Some

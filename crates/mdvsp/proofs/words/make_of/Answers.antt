@@ -1,7 +1,7 @@
 use Rattle.std.proofs.Common.{◌∙◌, sym, arith, subst}
 use Rattle.std.proofs.lemmas.Bool.{ltb-true, ltb-false}
 use Rattle.mdvsp.specs.Words.{IsTripCount, Word}
-use Rattle.mdvsp.proofs.CommandWords.{length-words, make_bad_second, make_bad_third, word_read}
+use Rattle.mdvsp.proofs.grammar.CommandWords.{length-words, make_bad_second, make_bad_third, word_read}
 use Rattle.mdvsp.proofs.words.make_of.Goals as goal
 
 pub returns-in_default : goal.returns-in_default

@@ -1,5 +1,5 @@
 use Rattle.std.proofs.Common.{ap}
-use Rattle.mdvsp.proofs.TripCounts.{parses_count}
+use Rattle.mdvsp.proofs.grammar.TripCounts.{parses_count}
 use Rattle.std.specs.Result.{result_ok}
 use Rattle.mdvsp.proofs.words.trip_count.Goals as goal
 

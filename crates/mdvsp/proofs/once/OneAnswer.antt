@@ -27,10 +27,10 @@ use Rattle.mdvsp.specs.Generator.{make_rows}
 use Rattle.mdvsp.specs.Laws.{IsDetermined}
 use Rattle.mdvsp.specs.Owed.{Owes, BlocksOwes, CheckOwes, MakeOwes, NetworkOwes, OwesNetwork, OwesNo, OwesNoCase, OwesNoTimetable, OwesRefusal, OwesTimetable, OwesYes}
 use Rattle.mdvsp.specs.Timetable.{rows_beside, timetable_of}
-use Rattle.mdvsp.proofs.OneCase.{case_refused, one_document_refusal, same_case}
+use Rattle.mdvsp.proofs.once.OneCase.{case_refused, one_document_refusal, same_case}
 use Rattle.mdvsp.specs.RefusalRows.{refusal_row}
-use Rattle.mdvsp.proofs.OneNet.{one_network}
-use Rattle.mdvsp.proofs.OneRefusal.{one_refusal}
+use Rattle.mdvsp.proofs.once.OneNet.{one_network}
+use Rattle.mdvsp.proofs.once.OneRefusal.{one_refusal}
 
 -- the row of a document that holds
 abbrev yes_fields : Claim → Option ℤ → Option ℤ → Row

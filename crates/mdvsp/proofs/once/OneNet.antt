@@ -16,7 +16,7 @@ use Rattle.vs_match.specs.Sizes.{counts_from, counts_of, full_count_of}
 use Rattle.vs_reader.specs.Names.{NameLists, name_of}
 use Rattle.vs_reader.specs.Rows.{Field, Row}
 use Rattle.mdvsp.specs.Network.{AreRowsBelow, IsNetRow, matching_field, size_row}
-use Rattle.mdvsp.proofs.OneOrder.{AreAmong, AreInOrder, IsStrict, one_list, same_length, same_value}
+use Rattle.mdvsp.proofs.once.OneOrder.{AreAmong, AreInOrder, IsStrict, one_list, same_length, same_value}
 
 events_strict : IsStrict IsBefore
 events_strict = record { one_way = λ a b less more. omega arith }

@@ -21,7 +21,7 @@ use Rattle.mdvsp.specs.declared.status.Status.TheVariants as status
 use Rattle.mdvsp.specs.Answered.{IsOwedFor}
 use Rattle.mdvsp.specs.FlawRows.{no_row}
 use Rattle.mdvsp.specs.Timetable.{rows_beside, timetable}
-use Rattle.mdvsp.proofs.OwedAnswers.{owed_so}
+use Rattle.mdvsp.proofs.owing.OwedAnswers.{owed_so}
 
 -- a cost that is printed, and one that isn't
 no_cost : (cost : Option ℤ) → is_some cost ≡ false → cost ≡ None
