@@ -12,8 +12,8 @@ use Rattle.vs_reader.specs.Texts.{HasRows, StandsFor, EndsInLine}
 use Rattle.vs_reader.proofs.LineLemmas.{stands_behind}
 use Rattle.vs_reader.proofs.TextLemmas.{stands_counts}
 use Rattle.vs_cert.specs.DocumentRows.{document_rows}
-use Rattle.vs_cert.proofs.WrittenForms.{stands as stands_for}
-use Rattle.vs_cert.proofs.WrittenPlain.{plain_document}
+use Rattle.vs_cert.proofs.written.WrittenForms.{stands as stands_for}
+use Rattle.vs_cert.proofs.written.WrittenPlain.{plain_document}
 use Rattle.mdvsp.specs.declared.status.Status.{Status}
 use Rattle.mdvsp.specs.Owed.{OwesDocument, OwesYes, yes_row}
 

@@ -21,9 +21,9 @@ use Rattle.vs_cert.specs.DocumentRefusals.{AreRefused}
 use Rattle.vs_cert.specs.DocumentText.{DocumentText}
 use Rattle.vs_cert.specs.declared.document.Document.{Document}
 use Rattle.vs_cert.specs.declared.refused.DocWhy.{DocWhy}
-use Rattle.vs_cert.proofs.AlikeDocuments.{alike as alike_documents}
-use Rattle.vs_cert.proofs.RefusedOnce.{document_not_refused, refused_once}
-use Rattle.vs_cert.proofs.Suiting.{suits-text}
+use Rattle.vs_cert.proofs.alike.AlikeDocuments.{alike as alike_documents}
+use Rattle.vs_cert.proofs.rows.RefusedOnce.{document_not_refused, refused_once}
+use Rattle.vs_cert.proofs.alike.Suiting.{suits-text}
 use Rattle.vs_check.specs.Flaws.{flaws_of}
 use Rattle.vs_check.specs.HoldingDocument.{HoldingDocument}
 use Rattle.vs_check.specs.Laws.{AreJudgedAlike}

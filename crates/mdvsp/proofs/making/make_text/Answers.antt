@@ -5,7 +5,7 @@ use Rattle.std.proofs.lemmas.List.{append_assoc, append-nil}
 use Rattle.vs_reader.specs.Rows.{Row, line, lines}
 use Rattle.mdvsp.specs.declared.making.TheConstants.{STOPS, DEPOTS}
 use Rattle.mdvsp.specs.Generator.{deadheads_from, drawn_row, layer_row, make_rows, stop_row}
-use Rattle.vs_cert.proofs.WrittenRows.{more_rows}
+use Rattle.vs_cert.proofs.written.WrittenRows.{more_rows}
 use Rattle.mdvsp.proofs.making.make_text.Goals as goal
 
 pub returns : goal.returns

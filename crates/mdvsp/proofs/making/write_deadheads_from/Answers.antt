@@ -6,7 +6,7 @@ use Rattle.std.proofs.lemmas.List.{append-nil}
 use Rattle.vs_reader.specs.Rows.{line}
 use Rattle.mdvsp.specs.declared.making.TheConstants.{STOPS}
 use Rattle.mdvsp.specs.Generator.{deadhead_row}
-use Rattle.vs_cert.proofs.WrittenRows.{lines-map, flat_map-filter, numbered_more, numbered_all}
+use Rattle.vs_cert.proofs.written.WrittenRows.{lines-map, flat_map-filter, numbered_more, numbered_all}
 use Rattle.mdvsp.proofs.making.write_deadheads_from.Goals as goal
 use Rattle.mdvsp.proofs.making.write_deadheads_from.Goals.{then-s-k+in_ok-write_deadhead, else-s-k}
 

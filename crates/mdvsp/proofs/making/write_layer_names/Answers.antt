@@ -6,7 +6,7 @@ use Rattle.std.proofs.lemmas.Bool.{eq-eqb, ne_eqb, false≢true}
 use Rattle.std.proofs.lemmas.List.{append-nil}
 use Rattle.vs_types.specs.LayerSet.{members, layer_numbers}
 use Rattle.mdvsp.specs.Generator.{layer_name}
-use Rattle.vs_cert.proofs.WrittenRows.{more_fields-map, flat_map-filter, numbered_more, numbered_all}
+use Rattle.vs_cert.proofs.written.WrittenRows.{more_fields-map, flat_map-filter, numbered_more, numbered_all}
 use Rattle.mdvsp.proofs.making.write_layer_names.Goals as goal
 use Rattle.mdvsp.proofs.making.write_layer_names.Goals.{then-has+in_ok-numbered, else-has}
 

@@ -3,7 +3,7 @@ use Rattle.std.specs.List.{range_with_len}
 use Rattle.vs_reader.specs.Rows.{line}
 use Rattle.mdvsp.specs.declared.making.TheConstants.{DEPOTS}
 use Rattle.mdvsp.specs.Generator.{layer_row}
-use Rattle.vs_cert.proofs.WrittenRows.{lines-map, numbered_more, numbered_all}
+use Rattle.vs_cert.proofs.written.WrittenRows.{lines-map, numbered_more, numbered_all}
 use Rattle.mdvsp.proofs.making.write_layers.Goals as goal
 
 pub loop-l-preserved : goal.loop-l-preserved

@@ -6,7 +6,7 @@ use Rattle.vs_reader.specs.Rows.{Field}
 use Rattle.vs_cert.specs.Fields.{numbered, time_field}
 use Rattle.mdvsp.specs.Generator.{distance, end_of, layer_names, stop_name}
 use Rattle.vs_reader.specs.Rows.{more_fields}
-use Rattle.vs_cert.proofs.WrittenRows.{join-cons, one_more_field, some_more_fields, ended_row}
+use Rattle.vs_cert.proofs.written.WrittenRows.{join-cons, one_more_field, some_more_fields, ended_row}
 use Rattle.mdvsp.proofs.making.write_trip.Goals as goal
 
 pub returns : goal.returns

@@ -8,7 +8,7 @@ use Rattle.vs_instance.specs.Blocks.{block_cost, pull_in_minute, pull_out_minute
 use Rattle.vs_plan.specs.Blocks.{pair_of}
 use Rattle.vs_reader.specs.Names.{name_of}
 use Rattle.vs_reader.specs.Rows.{Field, fields, more_fields}
-use Rattle.vs_cert.proofs.WrittenRows.{wrote_last}
+use Rattle.vs_cert.proofs.written.WrittenRows.{wrote_last}
 use Rattle.mdvsp.proofs.owing.RowsInParts.{row_in_parts}
 use Rattle.mdvsp.proofs.timetable.write_vehicle.Goals as goal
 

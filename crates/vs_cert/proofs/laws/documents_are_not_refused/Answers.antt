@@ -1,4 +1,4 @@
-use Rattle.vs_cert.proofs.RefusedOnce.{document_not_refused}
+use Rattle.vs_cert.proofs.rows.RefusedOnce.{document_not_refused}
 use Rattle.vs_cert.proofs.laws.documents_are_not_refused.Goals as goal
 
 pub returns : goal.returns

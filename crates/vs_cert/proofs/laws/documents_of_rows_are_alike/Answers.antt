@@ -1,4 +1,4 @@
-use Rattle.vs_cert.proofs.AlikeDocuments.{alike}
+use Rattle.vs_cert.proofs.alike.AlikeDocuments.{alike}
 use Rattle.vs_cert.proofs.laws.documents_of_rows_are_alike.Goals as goal
 
 pub returns : goal.returns

@@ -1,4 +1,4 @@
-use Rattle.vs_cert.proofs.WrittenForms.{stands}
+use Rattle.vs_cert.proofs.written.WrittenForms.{stands}
 use Rattle.vs_cert.proofs.laws.written_rows_stand_for_their_document.Goals as goal
 
 pub returns : goal.returns

@@ -4,10 +4,10 @@ use Rattle.std.proofs.lemmas.Bool.{false≢true}
 use Rattle.vs_cert.specs.declared.refused.DocWhy.TheVariants.{BadRow}
 use Rattle.vs_cert.specs.declared.refused.DocError.TheVariants as error
 use Rattle.vs_cert.specs.Places.{AtBlocks}
-use Rattle.vs_cert.proofs.RefusedRows.{bad_row}
-use Rattle.vs_cert.proofs.SamePlaces.{no_block}
+use Rattle.vs_cert.proofs.rows.RefusedRows.{bad_row}
+use Rattle.vs_cert.proofs.parts.SamePlaces.{no_block}
 use Rattle.vs_plan.specs.Blocks.{pair_of, pairs_of}
-use Rattle.vs_cert.proofs.BlockReading.{blocks_none, blocks_more, blocks_done, blocks_to_the_end, blocks_without_cost, has_cost}
+use Rattle.vs_cert.proofs.parts.BlockReading.{blocks_none, blocks_more, blocks_done, blocks_to_the_end, blocks_without_cost, has_cost}
 use Rattle.vs_cert.proofs.reading.blocks.read_blocks.Goals as goal
 
 pub loop-row-init : goal.loop-row-init

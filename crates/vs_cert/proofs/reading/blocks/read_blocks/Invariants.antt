@@ -1,5 +1,5 @@
 use Rattle.vs_plan.specs.Blocks.{pairs_of}
-use Rattle.vs_cert.proofs.BlockReading.{BlocksSoFar}
+use Rattle.vs_cert.proofs.parts.BlockReading.{BlocksSoFar}
 use Rattle.vs_cert.proofs.reading.blocks.read_blocks.Given as goal
 
 abbrev pub invariant-loop-row : goal.invariant-loop-row

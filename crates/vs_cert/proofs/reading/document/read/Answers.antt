@@ -1,6 +1,6 @@
-use Rattle.vs_cert.proofs.AlikeDocuments.{alike}
-use Rattle.vs_cert.proofs.ErrorsPass.{err_weaker, ok_weaker}
-use Rattle.vs_cert.proofs.RefusedOnce.{refusal_leaves_none}
+use Rattle.vs_cert.proofs.alike.AlikeDocuments.{alike}
+use Rattle.vs_cert.proofs.words.ErrorsPass.{err_weaker, ok_weaker}
+use Rattle.vs_cert.proofs.rows.RefusedOnce.{refusal_leaves_none}
 use Rattle.vs_cert.proofs.reading.document.read.Goals as goal
 
 pub returns-clause-only : goal.returns-clause-only

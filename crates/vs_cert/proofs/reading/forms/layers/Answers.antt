@@ -1,6 +1,6 @@
 use Rattle.std.proofs.Common.{arith, refl}
 use Rattle.vs_reader.specs.Rows.{row_of}
-use Rattle.vs_cert.proofs.SplitLayers.{no_layers_in_row, layer_twice_in_row, row_layers_more, row_layers_all, set_none}
+use Rattle.vs_cert.proofs.rows.SplitLayers.{no_layers_in_row, layer_twice_in_row, row_layers_more, row_layers_all, set_none}
 use Rattle.std.proofs.lemmas.Bool.{false≢true}
 use Rattle.std.proofs.Common.{sym, ◌∙◌}
 use Rattle.vs_cert.proofs.reading.forms.layers.Goals as goal

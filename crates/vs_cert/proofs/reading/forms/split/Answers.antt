@@ -1,6 +1,6 @@
 use Rattle.std.proofs.Common.{arith, sym, ◌∙◌}
 use Rattle.std.proofs.lemmas.Bool.{false≢true}
-use Rattle.vs_cert.proofs.SplitLayers.{split_says, split_begins, split_names}
+use Rattle.vs_cert.proofs.rows.SplitLayers.{split_says, split_begins, split_names}
 use Rattle.vs_cert.proofs.reading.forms.split.Goals as goal
 
 pub returns-then-not-begins_as-clause-none : goal.returns-then-not-begins_as-clause-none

@@ -1,6 +1,6 @@
 use Rattle.std.proofs.Common.{arith}
 use Rattle.vs_reader.specs.Rows.{row_of}
-use Rattle.vs_cert.proofs.Names.{no_trips_in_row, row_trips_more, row_trips_all}
+use Rattle.vs_cert.proofs.words.Names.{no_trips_in_row, row_trips_more, row_trips_all}
 use Rattle.vs_cert.proofs.reading.forms.trips.Goals as goal
 
 pub returns-in_default-clause-none : goal.returns-in_default-clause-none

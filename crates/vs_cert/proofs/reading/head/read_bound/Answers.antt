@@ -2,9 +2,9 @@ use Rattle.std.proofs.Common.{refl}
 use Rattle.vs_cert.specs.DocumentRows.{BoundRow}
 use Rattle.vs_cert.specs.Places.{AtBound, AtNodes}
 use Rattle.vs_cert.specs.Reading.{IsRefusedAt}
-use Rattle.vs_cert.proofs.ErrorsPass.{err_passes}
-use Rattle.vs_cert.proofs.RefusedRows.{reads_one}
-use Rattle.vs_cert.proofs.BoundBesideCost.{no_bound, no_cost, some_bound, suits}
+use Rattle.vs_cert.proofs.words.ErrorsPass.{err_passes}
+use Rattle.vs_cert.proofs.rows.RefusedRows.{reads_one}
+use Rattle.vs_cert.proofs.rows.BoundBesideCost.{no_bound, no_cost, some_bound, suits}
 use Rattle.vs_cert.proofs.reading.head.read_bound.Goals as goal
 use Rattle.vs_cert.proofs.reading.head.read_bound.Goals.{in-Bound+else-is_none, else-is_none-via-then-is_none+else-is_some, else-is_none-via-else-is_none, in_default}
 

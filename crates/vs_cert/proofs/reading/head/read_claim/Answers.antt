@@ -2,8 +2,8 @@ use Rattle.std.proofs.Common.{◌≢◌, refl, ap, sym, ◌∙◌}
 use Rattle.vs_cert.specs.DocumentRows.{ClaimRow}
 use Rattle.vs_cert.specs.Places.{AtClaim, AtEnd, AtCost}
 use Rattle.vs_cert.specs.Reading.{IsRefusedAt}
-use Rattle.vs_cert.proofs.ErrorsPass.{err_passes}
-use Rattle.vs_cert.proofs.RefusedRows.{reads_one}
+use Rattle.vs_cert.proofs.words.ErrorsPass.{err_passes}
+use Rattle.vs_cert.proofs.rows.RefusedRows.{reads_one}
 use Rattle.vs_cert.proofs.reading.head.read_claim.Goals as goal
 use Rattle.vs_cert.proofs.reading.head.read_claim.Goals.{in-Claim, in_default}
 

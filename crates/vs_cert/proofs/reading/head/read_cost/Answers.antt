@@ -2,8 +2,8 @@ use Rattle.std.proofs.Common.{◌≢◌, refl, ap, sym, ◌∙◌}
 use Rattle.vs_cert.specs.DocumentRows.{CostRow}
 use Rattle.vs_cert.specs.Places.{AtCost, AtEnd, AtBound}
 use Rattle.vs_cert.specs.Reading.{IsRefusedAt}
-use Rattle.vs_cert.proofs.ErrorsPass.{err_passes}
-use Rattle.vs_cert.proofs.RefusedRows.{reads_one}
+use Rattle.vs_cert.proofs.words.ErrorsPass.{err_passes}
+use Rattle.vs_cert.proofs.rows.RefusedRows.{reads_one}
 use Rattle.vs_cert.proofs.reading.head.read_cost.Goals as goal
 use Rattle.vs_cert.proofs.reading.head.read_cost.Goals.{in-Cost, in_default}
 

@@ -2,8 +2,8 @@ use Rattle.std.proofs.Common.{refl, ℤ, Option}
 use Rattle.vs_cert.specs.DocumentRows.{NodesRow}
 use Rattle.vs_cert.specs.Places.{AtNodes, AtBlocks}
 use Rattle.vs_cert.specs.Reading.{IsRefusedAt}
-use Rattle.vs_cert.proofs.ErrorsPass.{err_passes}
-use Rattle.vs_cert.proofs.RefusedRows.{reads_one}
+use Rattle.vs_cert.proofs.words.ErrorsPass.{err_passes}
+use Rattle.vs_cert.proofs.rows.RefusedRows.{reads_one}
 use Rattle.vs_cert.proofs.reading.head.read_nodes.Goals as goal
 use Rattle.vs_cert.proofs.reading.head.read_nodes.Goals.{in-Nodes, in_default}
 

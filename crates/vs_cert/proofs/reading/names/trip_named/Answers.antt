@@ -1,4 +1,4 @@
-use Rattle.vs_cert.proofs.Names.{no_name}
+use Rattle.vs_cert.proofs.words.Names.{no_name}
 use Rattle.vs_cert.proofs.reading.names.trip_named.Goals as goal
 
 pub returns-in-Err-clause-none : goal.returns-in-Err-clause-none

@@ -1,7 +1,7 @@
 use Rattle.std.proofs.Common.{◌≡◌, sym, ◌∙◌, arith, pos, negsuc}
 use Rattle.std.proofs.lemmas.Int.{ints}
 use Rattle.vs_cert.specs.DocumentRows.{IsBetween}
-use Rattle.vs_cert.proofs.Numbers.{same_signed}
+use Rattle.vs_cert.proofs.words.Numbers.{same_signed}
 use Rattle.vs_cert.proofs.reading.numbers.between.Goals as goal
 
 pub returns-in_default-clause-none : goal.returns-in_default-clause-none

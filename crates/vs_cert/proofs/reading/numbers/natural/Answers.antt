@@ -1,6 +1,6 @@
 use Rattle.std.proofs.Common.{◌⊎◌, sym, ◌∙◌, ◌≡◌, ◌<◌, arith, ap, length, inl, inr}
 use Rattle.std.proofs.lemmas.Bool.{eqb-true}
-use Rattle.vs_cert.proofs.Numbers.{starts, few_digits, reads_more, no_digit, leading_zero_of, other_number}
+use Rattle.vs_cert.proofs.words.Numbers.{starts, few_digits, reads_more, no_digit, leading_zero_of, other_number}
 use Rattle.vs_cert.proofs.reading.numbers.natural.Goals as goal
 use Rattle.vs_cert.proofs.reading.numbers.natural.Goals.{else-i-gt0-via-then-i-gt0+else-n-eq0, else-i-gt0-via-else-i-gt0}
 

@@ -1,4 +1,4 @@
-use Rattle.vs_cert.proofs.Numbers.{Reads}
+use Rattle.vs_cert.proofs.words.Numbers.{Reads}
 use Rattle.vs_cert.proofs.reading.numbers.natural.Given as goal
 
 abbrev pub invariant-loop-i : goal.invariant-loop-i

@@ -1,5 +1,5 @@
 use Rattle.std.proofs.Common.{◌≡◌, arith, get_or}
-use Rattle.vs_cert.proofs.Numbers.{no_number_from_zero, no_number_behind_minus}
+use Rattle.vs_cert.proofs.words.Numbers.{no_number_from_zero, no_number_behind_minus}
 use Rattle.vs_cert.proofs.reading.numbers.signed.Goals as goal
 
 pub returns-in_default-natural-clause-none : goal.returns-in_default-natural-clause-none

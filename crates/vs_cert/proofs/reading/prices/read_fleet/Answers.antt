@@ -1,8 +1,8 @@
 use Rattle.std.proofs.Common.{ℕ, List, ◌∷◌}
 use Rattle.vs_cert.specs.Places.{PriceOf, Vehicle, InTable}
 use Rattle.vs_cert.specs.Reading.{IsRefusedAt}
-use Rattle.vs_cert.proofs.ErrorsPass.{err_passes}
-use Rattle.vs_cert.proofs.PriceRows.{fleet_range, fleet_read}
+use Rattle.vs_cert.proofs.words.ErrorsPass.{err_passes}
+use Rattle.vs_cert.proofs.parts.PriceRows.{fleet_range, fleet_read}
 use Rattle.vs_cert.proofs.reading.prices.read_fleet.Goals as goal
 
 pub returns-in_err-layer-clause-refused : goal.returns-in_err-layer-clause-refused

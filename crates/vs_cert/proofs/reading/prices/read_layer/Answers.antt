@@ -1,9 +1,9 @@
 use Rattle.std.proofs.Common.{ℕ, ◌+◌, refl}
 use Rattle.vs_cert.specs.Places.{InTable}
 use Rattle.vs_cert.specs.Reading.{IsRefusedAt, prices_from}
-use Rattle.vs_cert.proofs.ErrorsPass.{err_passes, err_weaker, ok_weaker}
-use Rattle.vs_cert.proofs.LayerReading.{layer_read, layer_refused, layer_refused_behind}
-use Rattle.vs_cert.proofs.PriceReading.{pushed}
+use Rattle.vs_cert.proofs.words.ErrorsPass.{err_passes, err_weaker, ok_weaker}
+use Rattle.vs_cert.proofs.parts.LayerReading.{layer_read, layer_refused, layer_refused_behind}
+use Rattle.vs_cert.proofs.parts.PriceReading.{pushed}
 use Rattle.vs_cert.proofs.reading.prices.read_layer.Goals as goal
 
 pub returns-in_err-price-clause-refused : goal.returns-in_err-price-clause-refused

@@ -1,8 +1,8 @@
 use Rattle.std.proofs.Common.{ℕ, List, ◌∷◌, inl, inr}
 use Rattle.vs_cert.specs.Places.{PriceOf, Trip, InTable}
 use Rattle.vs_cert.specs.Reading.{IsRefusedAt}
-use Rattle.vs_cert.proofs.ErrorsPass.{err_passes}
-use Rattle.vs_cert.proofs.PriceRows.{price_of_another, price_range, price_read}
+use Rattle.vs_cert.proofs.words.ErrorsPass.{err_passes}
+use Rattle.vs_cert.proofs.parts.PriceRows.{price_of_another, price_range, price_read}
 use Rattle.vs_cert.proofs.reading.prices.read_price.Goals as goal
 use Rattle.vs_cert.proofs.reading.prices.read_price.Goals.{then-layer-l-via-then-layer-l, then-layer-l-via-else-layer-l+then-trip-i, in_default-2-via-in-Some+in_default, in_default-2-via-in_default}
 

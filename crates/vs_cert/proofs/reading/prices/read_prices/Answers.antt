@@ -2,8 +2,8 @@ use Rattle.std.proofs.Common.{ℕ, ◌+◌, ◌<◌, length, ◌≡◌, List, []
 use Rattle.vs_cert.specs.DocumentRows.{permitted_trips}
 use Rattle.vs_cert.specs.Places.{PriceOf, Trip, InTable}
 use Rattle.vs_cert.specs.Reading.{IsRefusedAt}
-use Rattle.vs_cert.proofs.ErrorsPass.{err_passes}
-use Rattle.vs_cert.proofs.PriceReading.{prices_with, prices_without, prices_refused, prices_end, is_permitted, not_permitted, pushed, zero_price}
+use Rattle.vs_cert.proofs.words.ErrorsPass.{err_passes}
+use Rattle.vs_cert.proofs.parts.PriceReading.{prices_with, prices_without, prices_refused, prices_end, is_permitted, not_permitted, pushed, zero_price}
 use Rattle.vs_cert.proofs.reading.prices.read_prices.Goals as goal
 use Rattle.vs_cert.proofs.reading.prices.read_prices.Goals.{then-may+in_ok-prices, else-may}
 

@@ -1,4 +1,4 @@
-use Rattle.vs_cert.proofs.PriceReading.{PricesSoFar}
+use Rattle.vs_cert.proofs.parts.PriceReading.{PricesSoFar}
 use Rattle.vs_cert.proofs.reading.prices.read_prices.Given as goal
 
 abbrev pub invariant-loop-i : goal.invariant-loop-i

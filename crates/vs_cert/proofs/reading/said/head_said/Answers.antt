@@ -1,4 +1,4 @@
-use Rattle.vs_cert.proofs.RowKinds.{no_head_row}
+use Rattle.vs_cert.proofs.rows.RowKinds.{no_head_row}
 use Rattle.vs_cert.proofs.reading.said.head_said.Goals as goal
 
 pub returns-in_err-nodes-clause-none : goal.returns-in_err-nodes-clause-none

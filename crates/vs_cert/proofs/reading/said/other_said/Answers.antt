@@ -1,5 +1,5 @@
 use Rattle.std.proofs.Common.{refl}
-use Rattle.vs_cert.proofs.RowKinds.{no_other_row, none_weaker}
+use Rattle.vs_cert.proofs.rows.RowKinds.{no_other_row, none_weaker}
 use Rattle.vs_cert.proofs.reading.said.other_said.Goals as goal
 
 pub returns-in-Some-clause-says : goal.returns-in-Some-clause-says

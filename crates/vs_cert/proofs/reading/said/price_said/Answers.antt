@@ -1,4 +1,4 @@
-use Rattle.vs_cert.proofs.RowKinds.{no_price_row}
+use Rattle.vs_cert.proofs.rows.RowKinds.{no_price_row}
 use Rattle.vs_cert.proofs.reading.said.price_said.Goals as goal
 
 pub returns-in_err-layer-clause-none : goal.returns-in_err-layer-clause-none

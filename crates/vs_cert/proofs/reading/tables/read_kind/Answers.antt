@@ -3,8 +3,8 @@ use Rattle.vs_reader.specs.Rows.{row_of}
 use Rattle.vs_cert.specs.DocumentRows.{TableRow, Says}
 use Rattle.vs_cert.specs.Places.{InTable, prices_of}
 use Rattle.vs_cert.specs.Reading.{ReadsKind}
-use Rattle.vs_cert.proofs.RefusedRows.{bad_row, reads_one, wrong_number}
-use Rattle.vs_cert.proofs.SamePlaces.{no_table}
+use Rattle.vs_cert.proofs.rows.RefusedRows.{bad_row, reads_one, wrong_number}
+use Rattle.vs_cert.proofs.parts.SamePlaces.{no_table}
 use Rattle.vs_cert.proofs.reading.tables.read_kind.Goals as goal
 
 pub returns-in_default-clause-refused : goal.returns-in_default-clause-refused

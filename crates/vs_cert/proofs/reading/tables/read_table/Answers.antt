@@ -1,8 +1,8 @@
 use Rattle.std.proofs.Common.{◌+◌, [], arith}
 use Rattle.vs_cert.specs.Places.{InTable}
 use Rattle.vs_cert.specs.Reading.{IsRefusedAt}
-use Rattle.vs_cert.proofs.ErrorsPass.{err_passes}
-use Rattle.vs_cert.proofs.LayerReading.{layers_more, layers_refused, of_kind, table_read}
+use Rattle.vs_cert.proofs.words.ErrorsPass.{err_passes}
+use Rattle.vs_cert.proofs.parts.LayerReading.{layers_more, layers_refused, of_kind, table_read}
 use Rattle.vs_cert.proofs.reading.tables.read_table.Goals as goal
 
 pub returns-in_err-next-clause-refused : goal.returns-in_err-next-clause-refused

@@ -1,5 +1,5 @@
 use Rattle.std.proofs.Common.{◌+◌}
-use Rattle.vs_cert.proofs.LayerReading.{LayersSoFar}
+use Rattle.vs_cert.proofs.parts.LayerReading.{LayersSoFar}
 use Rattle.vs_cert.proofs.reading.tables.read_table.Given as goal
 
 abbrev pub invariant-loop-l : goal.invariant-loop-l

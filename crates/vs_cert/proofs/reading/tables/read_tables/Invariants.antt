@@ -1,5 +1,5 @@
 use Rattle.std.proofs.Common.{◌-◌, length}
-use Rattle.vs_cert.proofs.TableReading.{TablesSoFar}
+use Rattle.vs_cert.proofs.parts.TableReading.{TablesSoFar}
 use Rattle.vs_cert.proofs.reading.tables.read_tables.Given as goal
 
 abbrev pub invariant-loop-next : goal.invariant-loop-next

@@ -4,9 +4,9 @@ use Rattle.vs_cert.specs.declared.refused.DocWhy.TheVariants.{RowsAfterEnd}
 use Rattle.vs_cert.specs.declared.refused.DocError.TheVariants as error
 use Rattle.vs_cert.specs.Places.{InTree, AtEnd}
 use Rattle.vs_cert.specs.Reading.{IsRefusedAt}
-use Rattle.vs_cert.proofs.ErrorsPass.{err_passes}
-use Rattle.vs_cert.proofs.RefusedRows.{leads_one}
-use Rattle.vs_cert.proofs.TreeReading.{behind_end}
+use Rattle.vs_cert.proofs.words.ErrorsPass.{err_passes}
+use Rattle.vs_cert.proofs.rows.RefusedRows.{leads_one}
+use Rattle.vs_cert.proofs.parts.TreeReading.{behind_end}
 use Rattle.vs_cert.proofs.reading.tree.read_end.Goals as goal
 
 pub returns-in_err-said_at-clause-refused : goal.returns-in_err-said_at-clause-refused

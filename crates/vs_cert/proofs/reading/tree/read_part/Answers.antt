@@ -2,11 +2,11 @@ use Rattle.std.proofs.Common.{ℕ, suc, refl, arith, ap}
 use Rattle.vs_cert.specs.DocumentRows.{LeafRow, SplitRow}
 use Rattle.vs_cert.specs.Places.{InTree}
 use Rattle.vs_cert.specs.Reading.{IsRefusedAt, ReadsPart}
-use Rattle.vs_cert.proofs.ErrorsPass.{err_passes}
-use Rattle.vs_cert.proofs.RefusedRows.{leads_one, says_one, out_of_order, wrong_number}
+use Rattle.vs_cert.proofs.words.ErrorsPass.{err_passes}
+use Rattle.vs_cert.proofs.rows.RefusedRows.{leads_one, says_one, out_of_order, wrong_number}
 use Rattle.vs_cert.specs.RowForms.{row_said}
-use Rattle.vs_cert.proofs.SamePlaces.{tree_order}
-use Rattle.vs_cert.proofs.TreeReading.{leaf_part, split_part}
+use Rattle.vs_cert.proofs.parts.SamePlaces.{tree_order}
+use Rattle.vs_cert.proofs.parts.TreeReading.{leaf_part, split_part}
 use Rattle.vs_cert.proofs.reading.tree.read_part.Goals as goal
 use Rattle.vs_cert.proofs.reading.tree.read_part.Goals.{then-number-eq0-via-then-number-eq0, then-number-eq0-via-else-number-eq0+then-number-tables, in-Split, in-Leaf+else-number-eq0+else-number-tables, in_default}
 

@@ -1,8 +1,8 @@
 use Rattle.std.proofs.Common.{◌≡◌, ℕ, arith, subst}
 use Rattle.vs_cert.specs.Places.{InTree}
 use Rattle.vs_cert.specs.Reading.{IsRefusedAt}
-use Rattle.vs_cert.proofs.ErrorsPass.{err_passes}
-use Rattle.vs_cert.proofs.TreeReading.{TreeSoFar, tree_none, tree_more, tree_done, tree_refused, tree_ends_early}
+use Rattle.vs_cert.proofs.words.ErrorsPass.{err_passes}
+use Rattle.vs_cert.proofs.parts.TreeReading.{TreeSoFar, tree_none, tree_more, tree_done, tree_refused, tree_ends_early}
 use Rattle.vs_cert.proofs.reading.tree.read_tree.Goals as goal
 use Rattle.vs_cert.proofs.reading.tree.read_tree.Goals.{in-Split, in-Leaf}
 

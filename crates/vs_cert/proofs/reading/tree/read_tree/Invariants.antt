@@ -1,4 +1,4 @@
-use Rattle.vs_cert.proofs.TreeReading.{TreeSoFar}
+use Rattle.vs_cert.proofs.parts.TreeReading.{TreeSoFar}
 use Rattle.vs_cert.proofs.reading.tree.read_tree.Given as goal
 
 abbrev pub invariant-loop-row : goal.invariant-loop-row

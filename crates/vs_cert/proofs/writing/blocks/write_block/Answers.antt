@@ -6,7 +6,7 @@ use Rattle.vs_types.specs.declared.numbers.TripNo.{TripNo}
 use Rattle.vs_reader.specs.Rows.{Field}
 use Rattle.vs_reader.specs.Names.{name_of}
 use Rattle.vs_reader.specs.Rows.{more_fields}
-use Rattle.vs_cert.proofs.WrittenRows.{more_fields-map, wrote_all, ended_row}
+use Rattle.vs_cert.proofs.written.WrittenRows.{more_fields-map, wrote_all, ended_row}
 use Rattle.vs_cert.proofs.writing.blocks.write_block.Goals as goal
 
 pub returns : goal.returns

@@ -6,8 +6,8 @@ use Rattle.vs_instance.specs.Plan.{LayerBlock}
 use Rattle.vs_plan.specs.declared.block.Block.{Block}
 use Rattle.vs_reader.specs.Rows.{line}
 use Rattle.vs_cert.specs.DocumentRows.{BlockRow, IsNamedBlock, written_row}
-use Rattle.vs_cert.proofs.WrittenParts.{written-map}
-use Rattle.vs_cert.proofs.WrittenRows.{wrote_all}
+use Rattle.vs_cert.proofs.written.WrittenParts.{written-map}
+use Rattle.vs_cert.proofs.written.WrittenRows.{wrote_all}
 use Rattle.vs_cert.proofs.writing.blocks.write_blocks.Goals as goal
 
 -- a block as a layer and its trips

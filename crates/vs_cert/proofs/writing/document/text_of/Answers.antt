@@ -4,7 +4,7 @@ use Rattle.std.proofs.lemmas.List.{append_assoc}
 use Rattle.vs_plan.specs.Blocks.{blocks_of}
 use Rattle.vs_reader.specs.Rows.{lines}
 use Rattle.vs_cert.specs.DocumentRows.{BlockRow, DocumentRow, EndRow, head_rows, shape_row, tables_rows, written_rows}
-use Rattle.vs_cert.proofs.WrittenParts.{written-append}
+use Rattle.vs_cert.proofs.written.WrittenParts.{written-append}
 use Rattle.vs_cert.proofs.writing.document.text_of.Goals as goal
 
 pub returns : goal.returns

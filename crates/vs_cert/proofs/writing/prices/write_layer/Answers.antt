@@ -14,8 +14,8 @@ use Rattle.vs_prices.specs.Table.{prices_in, into_price, from_price}
 use Rattle.vs_reader.specs.Rows.{Row, line}
 use Rattle.vs_cert.specs.DocumentRows.{DocumentRow, PriceRow, written_row}
 use Rattle.vs_reader.specs.Names.{name_of}
-use Rattle.vs_cert.proofs.WrittenParts.{written-map}
-use Rattle.vs_cert.proofs.WrittenRows.{flat_map-filter, numbered_more, numbered_all, price_read}
+use Rattle.vs_cert.proofs.written.WrittenParts.{written-map}
+use Rattle.vs_cert.proofs.written.WrittenRows.{flat_map-filter, numbered_more, numbered_all, price_read}
 use Rattle.vs_cert.proofs.writing.prices.write_layer.Goals as goal
 use Rattle.vs_cert.proofs.writing.prices.write_layer.Goals.{then-has+in_ok-write_price, else-has}
 

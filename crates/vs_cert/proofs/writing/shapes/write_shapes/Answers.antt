@@ -2,8 +2,8 @@ use Rattle.std.proofs.Common.{◌++◌, sym, ap, ◌∙◌, arith}
 use Rattle.vs_cert.specs.declared.shape.Shape.{Shape}
 use Rattle.vs_reader.specs.Rows.{line}
 use Rattle.vs_cert.specs.DocumentRows.{shape_row, written_row}
-use Rattle.vs_cert.proofs.WrittenParts.{written-map}
-use Rattle.vs_cert.proofs.WrittenRows.{wrote_all}
+use Rattle.vs_cert.proofs.written.WrittenParts.{written-map}
+use Rattle.vs_cert.proofs.written.WrittenRows.{wrote_all}
 use Rattle.vs_cert.proofs.writing.shapes.write_shapes.Goals as goal
 
 pub returns : goal.returns

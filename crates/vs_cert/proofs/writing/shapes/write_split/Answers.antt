@@ -9,7 +9,7 @@ use Rattle.vs_types.specs.LayerSet.{members, layer_numbers}
 use Rattle.vs_reader.specs.Rows.{Field}
 use Rattle.vs_reader.specs.Names.{name_of}
 use Rattle.vs_reader.specs.Rows.{more_fields}
-use Rattle.vs_cert.proofs.WrittenRows.{more_fields-map, flat_map-filter, numbered_more, numbered_all, ended_row}
+use Rattle.vs_cert.proofs.written.WrittenRows.{more_fields-map, flat_map-filter, numbered_more, numbered_all, ended_row}
 use Rattle.vs_cert.proofs.writing.shapes.write_split.Goals as goal
 use Rattle.vs_cert.proofs.writing.shapes.write_split.Goals.{then-has+in_ok-field-2, else-has}
 

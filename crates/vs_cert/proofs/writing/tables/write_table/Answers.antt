@@ -4,8 +4,8 @@ use Rattle.std.specs.List.{range_with_len}
 use Rattle.std.proofs.lemmas.List.{append_assoc}
 use Rattle.vs_reader.specs.Rows.{Row, line, lines}
 use Rattle.vs_cert.specs.DocumentRows.{layer_rows, written_rows}
-use Rattle.vs_cert.proofs.WrittenParts.{written-flat_map}
-use Rattle.vs_cert.proofs.WrittenRows.{numbered_more, numbered_all}
+use Rattle.vs_cert.proofs.written.WrittenParts.{written-flat_map}
+use Rattle.vs_cert.proofs.written.WrittenRows.{numbered_more, numbered_all}
 use Rattle.vs_cert.proofs.writing.tables.write_table.Goals as goal
 
 pub loop-l-preserved : goal.loop-l-preserved

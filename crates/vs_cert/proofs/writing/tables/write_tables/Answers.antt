@@ -5,8 +5,8 @@ use Rattle.std.proofs.lemmas.List.FromFn.{get_or-enumerate_from, length-enumerat
 use Rattle.vs_prices.specs.declared.table.Table.{Table}
 use Rattle.vs_reader.specs.Rows.{lines}
 use Rattle.vs_cert.specs.DocumentRows.{table_rows, written_rows}
-use Rattle.vs_cert.proofs.WrittenParts.{written-flat_map}
-use Rattle.vs_cert.proofs.WrittenRows.{wrote_more, wrote_all}
+use Rattle.vs_cert.proofs.written.WrittenParts.{written-flat_map}
+use Rattle.vs_cert.proofs.written.WrittenRows.{wrote_more, wrote_all}
 use Rattle.vs_cert.proofs.writing.tables.write_tables.Goals as goal
 
 pub loop-k-preserved : goal.loop-k-preserved

@@ -21,7 +21,7 @@ use Rattle.vs_cert.specs.declared.document.Document.{Document}
 use Rattle.vs_cert.specs.declared.limits.TheConstants.{MAX_COST, MAX_BOUND, MAX_PRINTED_PRICE}
 use Rattle.vs_cert.specs.DocumentRows.{BlockRow, BoundRow, ClaimRow, CostRow, DocumentRow, EndRow, FleetRow, HasForm, IsBetween, IsWithin, LeafRow, NodesRow, PriceRow, SplitRow, TableRow, claim_field, document_rows, kind_field, number_field, rows_of_document, written_row, written_rows}
 use Rattle.vs_cert.specs.DocumentText.{HasText}
-use Rattle.vs_cert.proofs.WrittenForms.{document_forms}
+use Rattle.vs_cert.proofs.written.WrittenForms.{document_forms}
 
 abbrev IsPlainField : Field → Type 0
 IsPlainField field = All IsPlain field

@@ -14,7 +14,7 @@ use Rattle.vs_cert.specs.declared.limits.TheConstants.{MAX_PRINTED_PRICE}
 use Rattle.vs_cert.specs.DocumentRows.{DocumentRow, FleetRow, IsWithin, PriceRow, Says}
 use Rattle.vs_cert.specs.Places.{Place, PriceOf, Trip, Vehicle, InTable, behind}
 use Rattle.vs_cert.specs.Reading.{IsRefusedAt, ReadsFleet, ReadsPrice, SayTo}
-use Rattle.vs_cert.proofs.RefusedRows.{leads_one, no_prices, out_of_order, says_one}
+use Rattle.vs_cert.proofs.rows.RefusedRows.{leads_one, no_prices, out_of_order, says_one}
 
 -- a price as a number of 64 bits
 pub as_word : (a : ℤ) → IsPrice a → to_z w64 (of_z w64 a) ≡ a

@@ -19,8 +19,8 @@ use Rattle.vs_cert.specs.DocumentRefusals.{AreRefusedFrom, IsAccepted, IsRefused
 use Rattle.vs_cert.specs.Places.{Place, AtEnd, AtBlocks, InTable, InTree, HasNumber, HasPrices, SuitsCost, behind}
 use Rattle.vs_cert.specs.Reading.{IsRefusedAt, LeadTo}
 use Rattle.vs_cert.specs.RowForms.{BeginsAs, IsOfKind, row_said}
-use Rattle.vs_cert.proofs.RefusedRows.{ends_early, refused_here, refused_behind}
-use Rattle.vs_cert.proofs.SaysOnce.{first_word, word_of}
+use Rattle.vs_cert.proofs.rows.RefusedRows.{ends_early, refused_here, refused_behind}
+use Rattle.vs_cert.proofs.rows.SaysOnce.{first_word, word_of}
 
 -- what a refusal of no rows, and of some, says at a place before the end
 pub refused_none : (p : Problem) (names : NameLists) (n : ℕ) (place : Place) (at : ℕ) (why : DocWhy) → place ≢ AtEnd

@@ -18,7 +18,7 @@ use Rattle.vs_cert.specs.DocumentRows.{DocumentRow, HasForm, LeafRow, Says, Spli
 use Rattle.vs_cert.specs.Places.{Place, AtEnd, InTree}
 use Rattle.vs_cert.specs.Reading.{IsRefusedAt, LeadTo, ReadsPart, ReadsTo, ReadsTree, SayTo, parts_behind}
 use Rattle.vs_cert.specs.Shapes.{AreTree, IsShapeOf, preorder}
-use Rattle.vs_cert.proofs.RefusedRows.{leads_one, read_on, reads_none, refused_at_the_end, says_one}
+use Rattle.vs_cert.proofs.rows.RefusedRows.{leads_one, read_on, reads_none, refused_at_the_end, says_one}
 
 -- the parts that are read, of a tree of which so many are still to come
 pub record TreeSoFar (input : Input) (at tables row parts : ℕ) (shapes : List Shape) : Type 0 where

@@ -17,7 +17,7 @@ use Rattle.vs_cert.specs.declared.refused.DocError.{DocError}
 use Rattle.vs_cert.specs.DocumentRows.{DocumentRow, PriceRow, SayAll, permitted_trips}
 use Rattle.vs_cert.specs.Places.{PriceOf, Trip, InTable}
 use Rattle.vs_cert.specs.Reading.{IsRefusedAt, LeadTo, ReadsPrice, ReadsPrices, SayTo, price_rows, trips_from}
-use Rattle.vs_cert.proofs.PriceRows.{as_word}
+use Rattle.vs_cert.proofs.parts.PriceRows.{as_word}
 
 abbrev may_run : Problem → ℕ → ℕ → Bool
 may_run p l k = eqb (bit_at (trip_of p k).layers.0 l) 1

@@ -17,10 +17,10 @@ use Rattle.vs_cert.specs.DocumentRows.{DocumentRow, ClaimRow, CostRow, BoundRow,
 use Rattle.vs_cert.specs.DocumentText.{HasText}
 use Rattle.vs_cert.specs.Places.{Place, AtClaim, AtCost, AtBound, AtNodes, AtBlocks, InTable, InTree, AtEnd, PriceOf, Trip, Vehicle, HasNumber, HasPrices, SuitsCost, behind, prices_of}
 use Rattle.vs_cert.specs.Shapes.{IsShapeOf, preorder}
-use Rattle.vs_cert.proofs.BoundBesideCost.{suits}
-use Rattle.vs_cert.proofs.PriceRanges.{price_anywhere, prices_in_all}
-use Rattle.vs_cert.proofs.PriceRows.{fleet_order, price_order}
-use Rattle.vs_cert.proofs.SamePlaces.{number_of_blocks, number_of_tables}
+use Rattle.vs_cert.proofs.rows.BoundBesideCost.{suits}
+use Rattle.vs_cert.proofs.written.PriceRanges.{price_anywhere, prices_in_all}
+use Rattle.vs_cert.proofs.parts.PriceRows.{fleet_order, price_order}
+use Rattle.vs_cert.proofs.parts.SamePlaces.{number_of_blocks, number_of_tables}
 
 -- rows that say this are accepted one by one, from one place to another
 abbrev pub LeadsTo : Problem → Place → List DocumentRow → Place → Type 0

@@ -12,9 +12,9 @@ use Rattle.vs_cert.specs.DocumentRows.{DocumentRow, SayAll, Says, rows_of_docume
 use Rattle.vs_cert.specs.DocumentRefusals.{AreRefused, AreRefusedFrom, IsAccepted, IsRefusal, IsRefusedError, IsRefusedRow, IsRefusedSaying, SaysAt}
 use Rattle.vs_cert.specs.DocumentText.{DocumentText}
 use Rattle.vs_cert.specs.Places.{Place, AtClaim, AtCost, AtBound, AtNodes, AtBlocks, InTable, InTree, AtEnd, HasNumber, HasPrices, SuitsCost, behind}
-use Rattle.vs_cert.proofs.AcceptedRows.{LeadsTo, leads_document}
-use Rattle.vs_cert.proofs.SamePlaces.{refused_none, refused_some}
-use Rattle.vs_cert.proofs.SaysOnce.{says_once}
+use Rattle.vs_cert.proofs.rows.AcceptedRows.{LeadsTo, leads_document}
+use Rattle.vs_cert.proofs.parts.SamePlaces.{refused_none, refused_some}
+use Rattle.vs_cert.proofs.rows.SaysOnce.{says_once}
 
 -- a place is behind the end, or not
 at_end : (place : Place) → (place ≡ AtEnd) ⊎ (place ≢ AtEnd)

@@ -15,8 +15,8 @@ use Rattle.vs_cert.specs.DocumentRows.{DocumentRow, table_rows, tables_rows}
 use Rattle.vs_cert.specs.Places.{InTable, InTree}
 use Rattle.vs_cert.specs.Reading.{ReadsTable, ReadsTables, ReadsTo}
 use Rattle.vs_cert.specs.RowForms.{IsOfKind}
-use Rattle.vs_cert.proofs.RefusedRows.{lead_on, read_on, reads_none}
-use Rattle.vs_cert.proofs.SamePlaces.{tables_end}
+use Rattle.vs_cert.proofs.rows.RefusedRows.{lead_on, read_on, reads_none}
+use Rattle.vs_cert.proofs.parts.SamePlaces.{tables_end}
 
 enumerate-push : {X : Type 0} (n : ℕ) (xs : List X) (x : X)
     → enumerate_from n (xs ++ x ∷ []) ≡ enumerate_from n xs ++ (n + length xs, x) ∷ []

@@ -19,8 +19,8 @@ use Rattle.vs_reader.specs.Names.{NameLists, name_of}
 use Rattle.vs_reader.specs.NameRules.{AreNames}
 use Rattle.vs_cert.specs.declared.limits.TheConstants.{MAX_BOUND, MAX_PRINTED_PRICE}
 use Rattle.vs_cert.specs.DocumentRows.{AreLayersOf, DocumentRow, ClaimRow, CostRow, BoundRow, NodesRow, BlockRow, TableRow, FleetRow, PriceRow, SplitRow, LeafRow, EndRow, HasForm, IsBetween, IsNamedBlock, IsWithin, Says, claim_field, kind_field, number_field, written_row}
-use Rattle.vs_cert.proofs.Names.{name_once, same_trips}
-use Rattle.vs_cert.proofs.Numbers.{digit_of, same_number, same_signed, starts}
+use Rattle.vs_cert.proofs.words.Names.{name_once, same_trips}
+use Rattle.vs_cert.proofs.words.Numbers.{digit_of, same_number, same_signed, starts}
 
 -- the word with which a row begins
 abbrev pub word_of : DocumentRow → Field

@@ -16,7 +16,7 @@ use Rattle.vs_reader.specs.Names.{NameLists, name_of}
 use Rattle.vs_reader.specs.NameRules.{AreNames}
 use Rattle.vs_cert.specs.RowForms.{BeginsAs, NameSet}
 use Rattle.vs_cert.specs.DocumentRows.{AreLayersOf, Says, SplitRow}
-use Rattle.vs_cert.proofs.Names.{name_once}
+use Rattle.vs_cert.proofs.words.Names.{name_once}
 
 module _ (names : List Field) where
   -- no fields name the empty set

@@ -7,7 +7,7 @@ use Rattle.std.proofs.lemmas.Nat.{mul-add-lt}
 use Rattle.std.proofs.lemmas.List.Concat.{flat_map-append}
 use Rattle.std.proofs.lemmas.List.FromFn.{get_or-range_with_len, length-range_with_len}
 use Rattle.vs_reader.specs.Rows.{Field, Row, line, lines, more_fields}
-use Rattle.vs_cert.proofs.LinesAppend.{lines-append}
+use Rattle.vs_cert.proofs.written.LinesAppend.{lines-append}
 
 -- the fields of a row behind its first one
 pub join-cons : (field : Field) (fields : List Field) → join_with_byte 44 (field ∷ fields) ≡ field ++ more_fields fields

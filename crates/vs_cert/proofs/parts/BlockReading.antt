@@ -15,8 +15,8 @@ use Rattle.vs_cert.specs.DocumentRows.{BlockRow, DocumentRow, IsNamedBlock, Says
 use Rattle.vs_cert.specs.Places.{AtBlocks, InTable}
 use Rattle.vs_cert.specs.Reading.{LeadTo, ReadsBlocks, ReadsTo}
 use Rattle.vs_cert.specs.RowForms.{BeginsAs}
-use Rattle.vs_cert.proofs.RefusedRows.{lead_on, read_on, reads_none, reads_one}
-use Rattle.vs_cert.proofs.SamePlaces.{blocks_end}
+use Rattle.vs_cert.proofs.rows.RefusedRows.{lead_on, read_on, reads_none, reads_one}
+use Rattle.vs_cert.proofs.parts.SamePlaces.{blocks_end}
 
 -- the blocks that are read so far
 pub record BlocksSoFar (input : Input) (at : ℕ) (cost : Option ℤ) (row : ℕ) (blocks : List LayerBlock) : Type 0 where

@@ -11,8 +11,8 @@ use Rattle.vs_cert.specs.DocumentRows.{DocumentRow, BoundRow, Says}
 use Rattle.vs_cert.specs.DocumentRefusals.{SaysAt}
 use Rattle.vs_cert.specs.Places.{AtBound, SuitsCost}
 use Rattle.vs_cert.specs.Reading.{IsRefusedAt}
-use Rattle.vs_cert.proofs.RefusedRows.{refused_at}
-use Rattle.vs_cert.proofs.SaysOnce.{first_word, none_is_no_number, word_of}
+use Rattle.vs_cert.proofs.rows.RefusedRows.{refused_at}
+use Rattle.vs_cert.proofs.rows.SaysOnce.{first_word, none_is_no_number, word_of}
 
 -- a row that says that there is no bound says nothing else
 only_none : (names : NameLists) (row : Row) (cost : ℤ) → Says names row (BoundRow None) → (said : DocumentRow)

@@ -26,8 +26,8 @@ use Rattle.vs_cert.specs.declared.shape.Shape.{Shape}
 use Rattle.vs_cert.specs.declared.shape.Shape.TheVariants as shape
 use Rattle.vs_cert.specs.DocumentRows.{DocumentRow, ClaimRow, CostRow, BoundRow, NodesRow, BlockRow, TableRow, FleetRow, PriceRow, SplitRow, LeafRow, EndRow, SayAll, head_rows, layer_rows, permitted_trips, rows_of_document, shape_row, table_rows, tables_rows}
 use Rattle.vs_cert.specs.DocumentText.{Agree, DocumentText}
-use Rattle.vs_cert.proofs.AcceptedRows.{rest_is, rest_of_rows}
-use Rattle.vs_cert.proofs.SaysOnce.{says_once}
+use Rattle.vs_cert.proofs.rows.AcceptedRows.{rest_is, rest_of_rows}
+use Rattle.vs_cert.proofs.rows.SaysOnce.{says_once}
 
 -- of equal lists the fronts of equal length are equal, and so are the rests
 same_fronts : {X : Type 0} (xs ys us vs : List X) → length xs ≡ length us → xs ++ ys ≡ us ++ vs → (xs ≡ us) × (ys ≡ vs)

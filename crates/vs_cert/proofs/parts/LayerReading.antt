@@ -17,7 +17,7 @@ use Rattle.vs_cert.specs.DocumentText.{IsBlankElsewhere}
 use Rattle.vs_cert.specs.DocumentRows.{DocumentRow, FleetRow, SayAll, TableRow, layer_rows, permitted_trips, table_rows}
 use Rattle.vs_cert.specs.Places.{InTable, PriceOf, Trip, Vehicle, prices_of}
 use Rattle.vs_cert.specs.Reading.{IsEmptyTable, IsRefusedAt, LeadTo, ReadsFleet, ReadsKind, ReadsLayer, ReadsPrices, ReadsTable, SayTo, price_rows, prices_from}
-use Rattle.vs_cert.proofs.RefusedRows.{lead_on, say_on}
+use Rattle.vs_cert.proofs.rows.RefusedRows.{lead_on, say_on}
 
 -- the rows of prices from a layer on, and where no layer is left
 pub prices_at : (p : Problem) (l : ℕ) → l < length p.layers

@@ -26,7 +26,7 @@ use Rattle.vs_cert.specs.declared.shape.Shape.TheVariants as shape
 use Rattle.vs_cert.specs.DocumentRows.{AreLayersOf, BlockRow, BoundRow, ClaimRow, CostRow, DocumentRow, EndRow, FleetRow, HasForm, IsNamedBlock, IsWritten, LeafRow, NodesRow, PriceRow, SayAll, SplitRow, TableRow, document_rows, head_rows, layer_rows, permitted_trips, rows_of_document, shape_row, table_rows, tables_rows, written_row, written_rows}
 use Rattle.vs_cert.specs.DocumentText.{DocumentText, HasText}
 use Rattle.vs_cert.specs.Shapes.{IsShapeOf}
-use Rattle.vs_cert.proofs.PriceRanges.{price_anywhere, prices_in_all, printed}
+use Rattle.vs_cert.proofs.written.PriceRanges.{price_anywhere, prices_in_all, printed}
 
 -- numbers of a list of so many are below them
 below : (n : ℕ) → All (λ k. k < n) (range_with_len 0 n)

@@ -1,0 +1,2 @@
+pub mod AlikeDocuments
+pub mod Suiting

@@ -1,0 +1,6 @@
+pub mod LinesAppend
+pub mod WrittenRows
+pub mod WrittenParts
+pub mod PriceRanges
+pub mod WrittenForms
+pub mod WrittenPlain
