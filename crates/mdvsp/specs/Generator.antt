@@ -74,7 +74,8 @@ layer_names set = map layer_name (members set)
 -- `trip`, NAME, FROM, START, TO, END, METRES, and the LAYERs: 3000 metres for each step of the grid
 abbrev pub trip_row : ℕ → Draws → Row
 trip_row i d =
-    codes "trip" ∷ numbered (codes "T") i ∷ stop_name d.from ∷ time_field d.start ∷ stop_name d.to ∷ time_field (end_of d)
+    codes "trip" ∷ numbered (codes "T") i ∷ stop_name d.from ∷ time_field d.start ∷ stop_name d.to ∷ time_field
+    (end_of d)
     ∷ decimal (3000 * distance d.from d.to) ∷ layer_names d.layers
 
 -- Trip i draws the five numbers behind the first 5 i.

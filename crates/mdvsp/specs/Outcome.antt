@@ -97,7 +97,8 @@ Ends run status.SaysNo = Answered run status.SaysNo
 Ends run status.BadWords = Refused run
 Ends run status.BadInput = Answered run status.BadInput
 Ends run status.ReadFault =
-    Rose run.source_faults run.source_faults_after × Unwritten run × TookFew run.left run.left_after × AskToRead run.words
+    Rose run.source_faults run.source_faults_after × Unwritten run × TookFew run.left run.left_after
+    × AskToRead run.words
 Ends run status.WriteFault = Rose run.sink_faults run.sink_faults_after × BrokenOff run
 Ends run status.NoMemory = Unwritten run × TookFew run.left run.left_after
 Ends run status.TooLong = TookTooMany run.left run.left_after × Unwritten run × AskToRead run.words

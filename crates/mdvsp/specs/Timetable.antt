@@ -12,11 +12,13 @@ use Rattle.vs_cert.specs.Fields.{time_field}
 use Rattle.vs_reader.specs.Names.{NameLists, name_of}
 use Rattle.vs_reader.specs.Rows.{Row}
 
--- `vehicle`, NO, LAYER, OUT, IN, COST: when the vehicle of block k, counted from 0, leaves its depot, when it is back, and
+-- `vehicle`, NO, LAYER, OUT, IN, COST: when the vehicle of block k, counted from 0, leaves its depot, when it is
+-- back, and
 -- what it costs
 abbrev pub vehicle_row : Problem → NameLists → ℕ → LayerBlock → Row
 vehicle_row p names k b = codes "vehicle" ∷ decimal (k + 1) ∷ name_of names.layers b.0.0
-    ∷ time_field (pull_out_minute p b.0 b.1) ∷ time_field (pull_in_minute p b.0 b.1) ∷ decimal (block_cost p b.0 b.1) ∷ []
+    ∷ time_field (pull_out_minute p b.0 b.1) ∷ time_field (pull_in_minute p b.0 b.1) ∷ decimal
+    (block_cost p b.0 b.1) ∷ []
 
 -- `run`, NO, TRIP, FROM, START, TO, END
 abbrev pub run_row : Problem → NameLists → ℕ → TripNo → Row

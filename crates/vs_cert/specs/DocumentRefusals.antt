@@ -38,7 +38,8 @@ pub record IsAccepted (p : Problem) (names : NameLists) (place : Place) (row : R
   pub number : HasNumber place said
   pub prices : HasPrices said
 
--- Of these rows, which come at a place and of which the first is record n of the text, the first that is refused is told
+-- Of these rows, which come at a place and of which the first is record n of the text, the first that is refused is
+-- told
 -- and why; else they end before `end`, or one stands behind it.
 abbrev pub AreRefusedFrom : Problem → NameLists → ℕ → Place → List Row → ℕ → DocWhy → Type 0
 AreRefusedFrom p names n AtEnd [] at why = ⊥

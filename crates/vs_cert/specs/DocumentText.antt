@@ -26,7 +26,8 @@ pub record HasText (p : Problem) (d : Document) : Type 0 where
   pub tree : AreTree d.shape.items
   pub shapes : All (IsShapeOf p (length d.tables.items)) d.shape.items
 
--- The rows stand for the document. Prices for trips that a layer may not run aren't printed, so documents that differ in
+-- The rows stand for the document. Prices for trips that a layer may not run aren't printed, so documents that differ
+-- in
 -- nothing else have the same rows.
 pub record DocumentText (p : Problem) (names : NameLists) (rows : List Row) (d : Document) : Type 0 where
   pub has_text : HasText p d

@@ -24,7 +24,8 @@ pub data Place : Type 0 where
   AtBound : Option ℤ → Place
   AtNodes : Option ℤ → Place
   AtBlocks : Option ℤ → Place
-  -- in the table of this number, of which these rows are still to come; where none are, before the next table or the tree
+  -- in the table of this number, of which these rows are still to come; where none are, before the next table or the
+  -- tree
   InTable : ℕ → List PriceOf → Place
   -- in the tree behind so many tables, of which so many parts are still to come
   InTree : ℕ → ℕ → Place

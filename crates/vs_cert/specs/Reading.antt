@@ -47,7 +47,8 @@ pub record LeadTo (input : Input) (at : ℕ) (place : Place) (to : ℕ) (next : 
   pub refused : (e : DocError) → IsRefusedAt input to next e → IsRefusedAt input at place e
 
 -- both
-pub record ReadsTo (input : Input) (at : ℕ) (place : Place) (said : List DocumentRow) (to : ℕ) (next : Place) : Type 0 where
+pub record ReadsTo (input : Input) (at : ℕ) (place : Place) (said : List DocumentRow) (to : ℕ)
+    (next : Place) : Type 0 where
   pub say : SayTo input at said to
   pub lead : LeadTo input at place to next
 
@@ -97,7 +98,8 @@ pub record ReadsLayer (input : Input) (at l to : ℕ) (old new : Table) : Type 0
   pub fleet_is : new.fleet.items ≡ old.fleet.items ++ fleet ∷ []
   pub fleet_price : IsPrice fleet
   pub further : at ≤ to
-  pub say : SayTo input at (FleetRow l fleet ∷ price_rows l (price_of into) (price_of from) (permitted_trips input.instance l)) to
+  pub say : SayTo input at (FleetRow l fleet ∷ price_rows l (price_of into) (price_of from)
+      (permitted_trips input.instance l)) to
   pub lead : (n : ℕ) → LeadTo input at (InTable n (prices_from input.instance l)) to
       (InTable n (prices_from input.instance (l + 1)))
 
@@ -149,7 +151,8 @@ parts_behind parts (shape.Leaf table) = parts
 pub record ReadsPart (input : Input) (at tables : ℕ) (part : Shape) : Type 0 where
   pub is_part : IsShapeOf input.instance tables part
   pub say : SayTo input at (shape_row part ∷ []) (at + 1)
-  pub lead : (parts : ℕ) → LeadTo input at (InTree tables (suc parts)) (at + 1) (InTree tables (parts_behind parts part))
+  pub lead : (parts : ℕ) → LeadTo input at (InTree tables (suc parts)) (at + 1) (InTree tables
+      (parts_behind parts part))
 
 -- the row is `end`, and the last one
 pub record IsLast (input : Input) (at : ℕ) : Type 0 where

@@ -70,7 +70,8 @@ abbrev pub is_proper_part : LayerSet → LayerSet → Bool
 is_proper_part part whole = nat_lt 0 (length (members part)) && (length (members (rest_of part whole)) == 0)
     && nat_lt 0 (length (members (rest_of whole part)))
 
--- Row by row, of a tree whose first row is at this position, where each trip may be run in a layer of these sets. Behind
+-- Row by row, of a tree whose first row is at this position, where each trip may be run in a layer of these sets.
+-- Behind
 -- a split that doesn't share out its trip's set nothing of its parts is told.
 abbrev pub tree_flaws : Problem → List Table → Option ℤ → ℕ → List LayerSet → Tree → List Flaw
 tree_flaws p tables bound position sets (Leaf table) = named_flaws p bound position sets (slice_get tables table)

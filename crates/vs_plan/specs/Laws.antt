@@ -13,4 +13,5 @@ pub record GreedyGivesOneAnswer (p : Problem) : Type 0 where
 
 -- blocks with numbers of the instance have no fault exactly where they are a plan
 abbrev pub FaultlessBlocksArePlans : Problem → Type 0
-FaultlessBlocksArePlans p = (blocks : List LayerBlock) → All (IsOfInstance p) blocks → (faults_of p blocks ≡ []) ↔ IsPlan p blocks
+FaultlessBlocksArePlans p = (blocks : List LayerBlock) → All (IsOfInstance p) blocks
+    → (faults_of p blocks ≡ []) ↔ IsPlan p blocks

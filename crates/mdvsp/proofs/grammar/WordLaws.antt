@@ -49,7 +49,8 @@ never_both words c n a b =
 not_before : (words : List Word) (m n : ℕ) → AreBadAt words m → AreBadAt words n → ¬ (m < n)
 not_before words m n a b less =
     let within : m ≤ length words = let w = b.within in omega arith in
-    a.bad within (subst Begin (take-take m (n - 1) words (omega arith)) (begins_shorter (take (n - 1) words) m b.before))
+    a.bad within (subst Begin (take-take m (n - 1) words (omega arith)) (begins_shorter (take
+    (n - 1) words) m b.before))
 
 pub one_place : (words : List Word) (m n : ℕ) → AreBadAt words m → AreBadAt words n → m ≡ n
 one_place words m n a b =

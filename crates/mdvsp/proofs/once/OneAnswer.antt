@@ -39,7 +39,8 @@ yes_fields claim cost bound = codes "yes" ∷ claim_field claim ∷ number_field
 -- a refusal has one row
 one_refusal_row : (bytes : List ℕ) (r s : List Row) → OwesRefusal bytes r → OwesRefusal bytes s → r ≡ s
 one_refusal_row bytes r s a b =
-    a.rows_are ∙ ap (λ (x : Refused). refusal_row x ∷ []) (one_refusal bytes a.refused b.refused a.is_refused b.is_refused)
+    a.rows_are ∙ ap (λ (x : Refused). refusal_row x ∷ [])
+    (one_refusal bytes a.refused b.refused a.is_refused b.is_refused)
     ∙ sym b.rows_are
 
 -- and a text that is no instance with a document behind it, too

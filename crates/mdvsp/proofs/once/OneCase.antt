@@ -63,7 +63,8 @@ module _ (bytes : List ℕ) where
         same_problem = same.0;
         same_names = same.1;
         alike = alike;
-        judged = judged_alike p d e instance (suits-text p d text.document.has_text) (suits-text p e here.has_text) alike;
+        judged = judged_alike p d e instance (suits-text p d text.document.has_text)
+            (suits-text p e here.has_text) alike;
       }
 
   -- a text that stands for a case isn't refused
@@ -94,7 +95,8 @@ module _ (bytes : List ℕ) where
       here.instance there.instance in
       let have = instance_names bytes p names here.before here.rest here.instance in
       let is =
-      refused_once p names have.layers have.trips here.before here.rest refusal.at other.at refusal.why other.why here.refused
+      refused_once p names have.layers have.trips here.before here.rest refusal.at other.at refusal.why other.why
+      here.refused
       (subst (λ (x : Problem). AreRefused x names here.before here.rest other.at other.why) same.0
       (subst (λ (x : NameLists). AreRefused there.problem x here.before here.rest other.at other.why) same.1
       (subst (λ (x : ℕ). AreRefused there.problem there.names x here.rest other.at other.why) same.2

@@ -48,10 +48,15 @@ module _ (p : Problem) (l : ℕ) (matching : Matching) where
   among a b is_a is_b k within =
       let events : a.events ≡ b.events = one_events p l a.events b.events is_a.events is_b.events in
       let arc = is_b.every (kind_of a k) (arc_of a.graph k)
-      (subst (λ (es : List Event). IsArcOf p l matching es (kind_of a k) (arc_of a.graph k)) events (is_a.only k within)) in
+      (subst (λ (es : List Event). IsArcOf p l matching es (kind_of a k) (arc_of a.graph k)) events
+      (is_a.only k within)) in
       let arc_is : arc_of b.graph arc.0 ≡ arc_of a.graph k = arc.3 in
-      let kind_is : kind_of b arc.0 ≡ kind_of a k = arc.2 in
-      (arc.0, arc.1, ap (λ (x : Arc). (x, kind_of b arc.0)) arc_is ∙ ap (λ (x : ArcKind). (arc_of a.graph k, x)) kind_is)
+      let kind_is : kind_of b arc.0 ≡ kind_of a k = arc.2 in (
+        arc.0,
+        arc.1,
+        ap (λ (x : Arc). (x, kind_of b arc.0)) arc_is
+            ∙ ap (λ (x : ArcKind). (arc_of a.graph k, x)) kind_is,
+      )
 
   -- two nets of a layer have the same counts
   pub one_size : (a b : LayerGraph) → IsNetOf p l matching a → IsNetOf p l matching b → counts_of a ≡ counts_of b
@@ -69,7 +74,8 @@ module _ (p : Problem) (l : ℕ) (matching : Matching) where
   one_row : (layer : Field) (full : ℕ) (r s : Row) → IsNetRow p layer l matching full r
       → IsNetRow p layer l matching full s → r ≡ s
   one_row layer full r s is also =
-      is.row_is ∙ ap (λ c. size_row layer (matching_field matching) c full) (one_size is.net also.net is.is_net also.is_net)
+      is.row_is ∙ ap (λ c. size_row layer (matching_field matching) c full)
+      (one_size is.net also.net is.is_net also.is_net)
       ∙ sym also.row_is
 
 -- the rows of a layer's nets are one list

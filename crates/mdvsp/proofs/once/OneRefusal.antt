@@ -61,7 +61,8 @@ declared_misfits d = misfits_with (length d.names.stops) d.deadheads d.layers d.
 misfits_declared : (d : Declared) (parts : Parts) → ArePartsOf d parts → misfits_of parts ≡ declared_misfits d
 misfits_declared d parts are =
     ap (λ (n : ℕ). misfits_with n parts.deadheads.items parts.layers.items parts.trips.items) are.stops
-    ∙ ap (λ (xs : List Deadhead). misfits_with (length d.names.stops) xs parts.layers.items parts.trips.items) are.deadheads
+    ∙ ap (λ (xs : List Deadhead). misfits_with (length d.names.stops) xs parts.layers.items parts.trips.items)
+    are.deadheads
     ∙ ap (λ (xs : List Layer). misfits_with (length d.names.stops) d.deadheads xs parts.trips.items) are.layers
     ∙ ap (misfits_with (length d.names.stops) d.deadheads d.layers) are.trips
 

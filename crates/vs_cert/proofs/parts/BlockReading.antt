@@ -28,7 +28,8 @@ of_instance : (input : Input) (b : LayerBlock) → HaveCounts input.instance inp
 of_instance input b counts named = record {
   layer = omega (arith, counts.layers, named.layer);
   some_trip = named.some_trip;
-  trips = All-weaker (λ (t : TripNo). t.0 < length input.names.trips) (λ (t : TripNo). t.0 < length input.instance.trips)
+  trips = All-weaker (λ (t : TripNo). t.0 < length input.names.trips) (λ
+      (t : TripNo). t.0 < length input.instance.trips)
       (λ t lt. omega (arith, counts.trips)) b.1 named.trips;
 }
 

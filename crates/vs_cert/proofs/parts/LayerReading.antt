@@ -67,7 +67,8 @@ layer_read input at l to old middle new price lt r into from ray fleet s =
           let later = prices_from input.instance (l + 1) in
           let P : List PriceOf → Type 0 = λ prices. LeadTo input at (InTable n prices) to (InTable n later) in
           subst P (sym here)
-          (lead_on input at (at + 1) to (InTable n (Vehicle l ∷ (map (Trip l) (permitted_trips input.instance l) ++ later)))
+          (lead_on input at (at + 1) to (InTable n (Vehicle l ∷ (map (Trip l) (permitted_trips input.instance l)
+          ++ later)))
           (InTable n (map (Trip l) (permitted_trips input.instance l) ++ later)) (InTable n later)
           (r.lead n (map (Trip l) (permitted_trips input.instance l) ++ later)) (s.lead n later));
     }
@@ -186,7 +187,8 @@ extends_itself table = record {
 }
 
 abbrev extends_more : (old new t : Table) (into from fleet : List ℤ) → new.into.items ≡ old.into.items ++ into
-    → new.from.items ≡ old.from.items ++ from → new.fleet.items ≡ old.fleet.items ++ fleet → Extends new t → Extends old t
+    → new.from.items ≡ old.from.items ++ from → new.fleet.items ≡ old.fleet.items ++ fleet → Extends new t
+    → Extends old t
 extends_more old new t into from fleet a b c s = record {
   into = into ++ s.into;
   from = from ++ s.from;
@@ -215,7 +217,8 @@ pub record LayersSoFar (input : Input) (at l row : ℕ) (ray : Bool) (table : Ta
   pub lead : (n : ℕ) → LeadTo input at (InTable n (prices_from input.instance 0)) row
       (InTable n (prices_from input.instance l))
 
-pub layers_none : (input : Input) (at : ℕ) (ray : Bool) (table : Table) → at ≤ length input.rest → IsEmptyTable ray table
+pub layers_none : (input : Input) (at : ℕ) (ray : Bool) (table : Table) → at ≤ length input.rest
+    → IsEmptyTable ray table
     → LayersSoFar input at 0 at ray table
 layers_none input at ray table within empty =
     let P : List ℤ → Type 0 = λ xs. All IsPrice xs in
@@ -245,7 +248,8 @@ layer_rows_are p t l into from fleet a b c =
     ∙ ap (λ (xs : List ℤ). FleetRow l (price_of t.fleet.items l)
     ∷ price_rows l (of_layer p t.into.items l) (price_of xs) (permitted_trips p l)) (sym b)
 
-pub layers_more : (input : Input) (at l row next : ℕ) (ray : Bool) (old new : Table) → LayersSoFar input at l row ray old
+pub layers_more : (input : Input) (at l row next : ℕ) (ray : Bool) (old new : Table)
+    → LayersSoFar input at l row ray old
     → l < length input.instance.layers → ReadsLayer input row l next old new
     → LayersSoFar input at (l + 1) next ray new
 layers_more input at l row next ray old new s lt r =
@@ -279,11 +283,14 @@ layers_more input at l row next ray old new s lt r =
       further = omega (arith, s.further, r.further);
       within = r.say.within;
       say = λ t more ext rest.
-          let before = extends_more old new t r.into r.from (r.fleet ∷ []) r.adds.into_is r.adds.from_is r.fleet_is ext in
+          let before = extends_more old new t r.into r.from
+          (r.fleet ∷ []) r.adds.into_is r.adds.from_is r.fleet_is ext in
           let into_is : prices_in p l t.into.items ≡ r.into =
-          ap (prices_in p l) before.into_is ∙ prices_in_middle p l old.into.items r.into ext.into s.into_size r.adds.into_size in
+          ap (prices_in p l) before.into_is ∙ prices_in_middle p l old.into.items r.into ext.into s.into_size
+          r.adds.into_size in
           let from_is : prices_in p l t.from.items ≡ r.from =
-          ap (prices_in p l) before.from_is ∙ prices_in_middle p l old.from.items r.from ext.from s.from_size r.adds.from_size in
+          ap (prices_in p l) before.from_is ∙ prices_in_middle p l old.from.items r.from ext.from s.from_size
+          r.adds.from_size in
           let fleet_is : price_of t.fleet.items l ≡ r.fleet =
           ap (λ (xs : List ℤ). price_of xs l) before.fleet_is
           ∙ get_or_at old.fleet.items r.fleet ext.fleet (pos 0) l s.fleet_size in
@@ -302,7 +309,8 @@ layers_more input at l row next ray old new s lt r =
 -- what is refused in a layer that comes next
 pub layers_refused : (input : Input) (at l row n : ℕ) (ray : Bool) (table : Table) (e : DocError)
     → ReadsKind input at n ray → LayersSoFar input (at + 1) l row ray table
-    → ((m : ℕ) → IsRefusedAt input row (InTable m (prices_from input.instance l)) e) → IsRefusedAt input at (InTable n []) e
+    → ((m : ℕ) → IsRefusedAt input row (InTable m (prices_from input.instance l)) e)
+    → IsRefusedAt input at (InTable n []) e
 layers_refused input at l row n ray table e kind s refused =
     let P : List PriceOf → Type 0 = λ prices. IsRefusedAt input (at + 1) (InTable (n + 1) prices) e in
     kind.reads.lead.refused e
@@ -314,7 +322,8 @@ table_read input at l row n ray table kind s all =
     let p = input.instance in
     let Over : List PriceOf → Type 0 = λ prices. LeadTo input (at + 1) (InTable (n + 1) (prices_from p 0)) row
     (InTable (n + 1) prices) in
-    let Begin : List PriceOf → Type 0 = λ prices. LeadTo input (at + 1) (InTable (n + 1) prices) row (InTable (n + 1) []) in
+    let Begin : List PriceOf → Type 0 = λ prices. LeadTo input (at + 1) (InTable (n + 1) prices) row (InTable
+    (n + 1) []) in
     let lead = subst Begin (prices_begin p) (subst Over (prices_over p l (omega arith)) (s.lead (n + 1))) in
     record {
       fits = record {
@@ -333,7 +342,8 @@ table_read input at l row n ray table kind s all =
           within = s.within;
           say = λ more rest.
               let Rest : List DocumentRow → Type 0 = λ rows. SayAll input.names (drop row input.rest) (rows ++ more) in
-              let Whole : List DocumentRow → Type 0 = λ rows. SayAll input.names (drop (at + 1) input.rest) (rows ++ more) in
+              let Whole : List DocumentRow → Type 0 = λ rows. SayAll input.names (drop (at + 1) input.rest) (rows
+              ++ more) in
               let Kind : Bool → Type 0 = λ b. SayAll input.names (drop at input.rest)
               (TableRow (n + 1) b ∷ (flat_map (layer_rows p table) (range_with_len 0 (length p.layers)) ++ more)) in
               subst Kind (sym s.ray_is)

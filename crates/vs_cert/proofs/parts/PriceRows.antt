@@ -61,7 +61,8 @@ module _ (input : Input) (row l : ℕ) (lt : row < length input.rest) where
     here : Says input.names (row_of input.rest row) (FleetRow l price)
     here = let P : ℕ → Type 0 = λ k. Says input.names (row_of input.rest row) (FleetRow k price) in subst P same says
 
-    pub fleet_read : (word : ℤ) → word ≡ wide price → IsPrice (wide price) → ReadsFleet input row l (to_z w64 (of_z w64 word))
+    pub fleet_read : (word : ℤ) → word ≡ wide price → IsPrice (wide price)
+        → ReadsFleet input row l (to_z w64 (of_z w64 word))
     fleet_read word equal is_wide =
         let range = says.form.1 in
         let is_price = narrow price range is_wide in

@@ -103,12 +103,14 @@ pub same_place : (input : Input) (at : ℕ) (place other : Place)
     → AreSameFor input.instance input.names place other (row_of input.rest at) → LeadTo input at place at other
 same_place input at place other same = record { refused = same_errors input at place other same }
 
-pub number_of_blocks : (cost : Option ℤ) (said : DocumentRow) → HasNumber (InTable 0 []) said → HasNumber (AtBlocks cost) said
+pub number_of_blocks : (cost : Option ℤ) (said : DocumentRow) → HasNumber (InTable 0 []) said
+    → HasNumber (AtBlocks cost) said
 number_of_blocks cost (TableRow n ray) is = is
 number_of_blocks cost (LeafRow n) is = is
 number_of_blocks cost _ is = tt
 
-blocks_of_number : (cost : Option ℤ) (said : DocumentRow) → HasNumber (AtBlocks cost) said → HasNumber (InTable 0 []) said
+blocks_of_number : (cost : Option ℤ) (said : DocumentRow) → HasNumber (AtBlocks cost) said
+    → HasNumber (InTable 0 []) said
 blocks_of_number cost (TableRow n ray) is = is
 blocks_of_number cost (LeafRow n) is = is
 blocks_of_number cost _ is = tt

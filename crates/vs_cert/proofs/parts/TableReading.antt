@@ -33,7 +33,8 @@ tables_rows-push p tables table =
     let number : 1 + length tables ≡ length tables + 1 = omega arith in
     ap (flat_map (table_rows p)) (enumerate-push 1 tables table)
     ∙ flat_map-append (table_rows p) (enumerate_from 1 tables) ((1 + length tables, table) ∷ [])
-    ∙ ap (λ (rows : List DocumentRow). tables_rows p tables ++ rows) (append-nil (table_rows p (1 + length tables, table)))
+    ∙ ap (λ (rows : List DocumentRow). tables_rows p tables
+    ++ rows) (append-nil (table_rows p (1 + length tables, table)))
     ∙ ap (λ (k : ℕ). tables_rows p tables ++ table_rows p (k, table)) number
 
 -- the tables that are read so far
@@ -60,7 +61,8 @@ module _ (input : Input) (at : ℕ) where
       let size : length tables + 1 ≡ length (tables ++ table ∷ []) = omega (arith, length_push tables table) in
       let N : ℕ → Type 0 = λ k. ReadsTo input at (InTable 0 []) (tables_rows input.instance (tables ++ table ∷ [])) next
       (InTable k []) in
-      let P : List DocumentRow → Type 0 = λ said. ReadsTo input at (InTable 0 []) said next (InTable (length tables + 1) []) in
+      let P : List DocumentRow → Type 0 = λ said. ReadsTo input at (InTable 0 []) said next (InTable
+      (length tables + 1) []) in
       record {
         fits = All-push (Fits input.instance) tables table s.fits r.fits;
         blank = All-push (IsBlankElsewhere input.instance) tables table s.blank r.blank;
@@ -68,7 +70,8 @@ module _ (input : Input) (at : ℕ) where
         reads = subst N size
             (subst P (sym (tables_rows-push input.instance tables table))
             (read_on input at row next (InTable 0 []) (InTable (length tables) []) (InTable (length tables + 1) [])
-            (tables_rows input.instance tables) (table_rows input.instance (length tables + 1, table)) s.reads r.reads));
+            (tables_rows input.instance tables) (table_rows input.instance
+            (length tables + 1, table)) s.reads r.reads));
       }
 
   pub tables_done : (row : ℕ) (tables : List Table) → TablesSoFar input at row tables
@@ -79,7 +82,8 @@ module _ (input : Input) (at : ℕ) where
     number = s.number;
     reads = record {
       say = s.reads.say;
-      lead = lead_on input at row row (InTable 0 []) (InTable (length tables) []) (InTree (length tables) 1) s.reads.lead
+      lead = lead_on input at row row (InTable 0 []) (InTable (length tables) []) (InTree
+          (length tables) 1) s.reads.lead
           (tables_end input row (length tables) none);
     };
   }

@@ -67,14 +67,16 @@ module _ (input : Input) (at tables : ℕ) where
   }
 
   more : (row q : ℕ) (shapes : List Shape) (part : Shape) → TreeSoFar input at tables row (suc q) shapes
-      → ReadsPart input row tables part → TreeSoFar input at tables (row + 1) (parts_behind q part) (shapes ++ part ∷ [])
+      → ReadsPart input row tables part → TreeSoFar input at tables (row + 1) (parts_behind q part) (shapes
+      ++ part ∷ [])
   more row q shapes part s r =
       let P : List DocumentRow → Type 0 = λ said. ReadsTo input at (InTree tables 1) said (row + 1)
       (InTree tables (parts_behind q part)) in
       record {
         is_part = All-push (IsShapeOf input.instance tables) shapes part s.is_part r.is_part;
         reads = subst P (sym (map_push shape_row shapes part))
-            (read_on input at row (row + 1) (InTree tables 1) (InTree tables (suc q)) (InTree tables (parts_behind q part))
+            (read_on input at row (row + 1) (InTree tables 1) (InTree tables (suc q)) (InTree tables
+            (parts_behind q part))
             (map shape_row shapes) (shape_row part ∷ []) s.reads (record { say = r.say; lead = r.lead q }));
         tree = grows part shapes q s.tree;
         few = few_behind q at row part s.few;
@@ -100,12 +102,14 @@ module _ (input : Input) (at tables : ℕ) where
 
   -- what is refused where a part is still to come
   pub tree_refused : (row parts : ℕ) (shapes : List Shape) (e : DocError) → TreeSoFar input at tables row parts shapes
-      → ¬ (parts ≡ 0) → ((q : ℕ) → IsRefusedAt input row (InTree tables (suc q)) e) → IsRefusedAt input at (InTree tables 1) e
+      → ¬ (parts ≡ 0) → ((q : ℕ) → IsRefusedAt input row (InTree tables (suc q)) e)
+      → IsRefusedAt input at (InTree tables 1) e
   tree_refused row zero shapes e s some refused = absurd (some refl)
   tree_refused row (suc q) shapes e s some refused = s.reads.lead.refused e (refused q)
 
   -- as where no row is left
-  pub tree_ends_early : (row len parts : ℕ) (shapes : List Shape) → TreeSoFar input at tables row parts shapes → 0 < parts
+  pub tree_ends_early : (row len parts : ℕ) (shapes : List Shape) → TreeSoFar input at tables row parts shapes
+      → 0 < parts
       → row ≡ len → len ≡ length input.rest
       → IsRefusedAt input at (InTree tables 1) (error.Refused (input.before + 1 + len) EndsEarly)
   tree_ends_early row len parts shapes s some at_len is =

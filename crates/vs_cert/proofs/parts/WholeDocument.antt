@@ -80,7 +80,8 @@ module _ (input : Input) (is : IsInput input) (head tables : List DocumentRow) (
       omega (
         arith,
         is.counted.few_fields,
-        rows_have_trips input.names input.rest (head ++ map BlockRow blocks ++ tables ++ map shape_row shapes ++ end) say,
+        rows_have_trips input.names input.rest (head ++ map BlockRow blocks ++ tables ++ map shape_row shapes
+            ++ end) say,
         ap length (trips_of_blocks blocks),
         ap length (flat_map-append trips_in (head ++ map BlockRow blocks ++ tables ++ map shape_row shapes) end),
         ap length (flat_map-append trips_in (head ++ map BlockRow blocks ++ tables) (map shape_row shapes)),
@@ -99,7 +100,8 @@ module _ (input : Input) (is : IsInput input) (head tables : List DocumentRow) (
       omega (
         arith,
         is.counted.few_rows,
-        as_many input.names input.rest (head ++ map BlockRow blocks ++ tables ++ map shape_row shapes ++ EndRow ∷ []) say,
+        as_many input.names input.rest (head ++ map BlockRow blocks ++ tables ++ map shape_row shapes
+            ++ EndRow ∷ []) say,
         length-append (head ++ map BlockRow blocks ++ tables ++ map shape_row shapes) (EndRow ∷ []),
         length-append (head ++ map BlockRow blocks ++ tables) (map shape_row shapes),
         length-map shapes shape_row,

@@ -66,7 +66,8 @@ module _ (p : Problem) where
       )
 
   -- where a table comes, the tree comes too
-  at_tables : (n : ℕ) (rows : List DocumentRow) → LeadsTo p (InTree n 1) rows AtEnd → LeadsTo p (InTable n []) rows AtEnd
+  at_tables : (n : ℕ) (rows : List DocumentRow) → LeadsTo p (InTree n 1) rows AtEnd
+      → LeadsTo p (InTable n []) rows AtEnd
   at_tables n [] leads = absurd (cc)
   at_tables n (TableRow number ray ∷ rows) leads = let none = leads.2 in absurd (cc)
   at_tables n (said ∷ rows) leads =
@@ -165,8 +166,10 @@ module _ (p : Problem) where
       let shapes = map shape_row d.shape.items in
       let S : List Shape → Type 0 = λ rows. All (IsShapeOf p n) rows in
       let R : List Shape → Type 0 = λ rows. LeadsTo p (InTree n 1) (map shape_row rows) (InTree n 0) in
-      let tree = subst R (sym text.tree.rows_are) (leads_tree n 0 text.tree.tree (subst S text.tree.rows_are text.shapes)) in
-      let to_end = leads-append (InTree n 1) (InTree n 0) AtEnd shapes (EndRow ∷ []) tree (AtEnd, tt, refl, tt, tt, refl) in
+      let tree = subst R (sym text.tree.rows_are) (leads_tree n 0 text.tree.tree
+      (subst S text.tree.rows_are text.shapes)) in
+      let to_end = leads-append (InTree n 1) (InTree n 0) AtEnd shapes (EndRow ∷ []) tree
+      (AtEnd, tt, refl, tt, tt, refl) in
       let from_tables = leads-append (InTable 0 []) (InTable n []) AtEnd tables (shapes ++ EndRow ∷ [])
       (let P : ℕ → Type 0 = λ k. LeadsTo p (InTable 0 []) tables (InTable k []) in
       let none : 0 + n ≡ n = omega arith in

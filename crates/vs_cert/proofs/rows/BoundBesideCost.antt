@@ -25,7 +25,8 @@ only_none names row cost says said is =
     sym (first_word names row (BoundRow None) says) ∙ first_word names row said is.says in
     omega (arith, ap (λ (bs : List ℕ). get_or bs 0 0) e, ap (λ (bs : List ℕ). get_or bs 1 0) e)
 
-pub no_bound : (input : Input) (cost bound : Option ℤ) → 2 < length input.rest → true ≡ is_some cost → is_some bound ≡ false
+pub no_bound : (input : Input) (cost bound : Option ℤ) → 2 < length input.rest → true ≡ is_some cost
+    → is_some bound ≡ false
     → Says input.names (row_of input.rest 2) (BoundRow bound)
     → IsRefusedAt input 2 (AtBound cost) (error.Refused (input.before + 1 + 2) BadRow)
 no_bound input (Some cost) None lt some none says =

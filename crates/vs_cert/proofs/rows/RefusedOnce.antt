@@ -43,7 +43,8 @@ module _ (p : Problem) (names : NameLists) (layers : AreNames names.layers) (tri
   -- what is accepted at a place isn't refused there
   accepted_saying : (place next : Place) (said : DocumentRow) (why : DocWhy) → behind p place said ≡ Some next
       → HasNumber place said → HasPrices said → IsRefusedSaying p place said why → ⊥
-  accepted_saying place next said why order number prices (inl (none, is)) = no_place next (behind p place said) none order
+  accepted_saying place next said why order number prices (inl (none, is)) = no_place next
+      (behind p place said) none order
   accepted_saying place next said why order number prices (inr (other, same, inl (wrong, is))) = wrong number
   accepted_saying place next said why order number prices (inr (other, same, inr (has, wrong, is))) = wrong prices
 
@@ -159,7 +160,8 @@ module _ (p : Problem) (names : NameLists) (layers : AreNames names.layers) (tri
       (leads_document p d text.has_text) refused
 
   -- rows that are refused stand for no document
-  pub refusal_leaves_none : (before : ℕ) (rows : List Row) (e : DocError) (d : Document) → IsRefusal p names before rows e
+  pub refusal_leaves_none : (before : ℕ) (rows : List Row) (e : DocError) (d : Document)
+      → IsRefusal p names before rows e
       → IsRefusedError e → DocumentText p names rows d → ⊥
   refusal_leaves_none before rows (error.Refused at why) d refused is text =
       document_not_refused before rows d at why text refused

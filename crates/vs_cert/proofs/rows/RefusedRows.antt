@@ -19,7 +19,8 @@ pub ends_early : (p : Problem) (names : NameLists) (n : ℕ) (place : Place) →
 ends_early p names n AtEnd going = absurd (going refl)
 ends_early p names n _ going = (refl, refl)
 
-pub refused_here : (p : Problem) (names : NameLists) (n : ℕ) (place : Place) (row : Row) (rows : List Row) (why : DocWhy)
+pub refused_here : (p : Problem) (names : NameLists) (n : ℕ) (place : Place) (row : Row) (rows : List Row)
+    (why : DocWhy)
     → place ≢ AtEnd → IsRefusedRow p names place row why → AreRefusedFrom p names n place (row ∷ rows) n why
 refused_here p names n AtEnd row rows why going is = absurd (going refl)
 refused_here p names n _ row rows why going is = inl (refl, is)
@@ -37,7 +38,8 @@ module _ (input : Input) (at : ℕ) where
   refused_at_the_end low high place going =
       let P : List Row → Type 0 = λ rows. AreRefusedFrom input.instance input.names (input.before + 1 + at) place rows
       (input.before + 1 + at) EndsEarly in
-      subst P (sym (drop_all at input.rest low)) (ends_early input.instance input.names (input.before + 1 + at) place going)
+      subst P (sym (drop_all at input.rest low)) (ends_early input.instance input.names
+      (input.before + 1 + at) place going)
 
   -- the row is refused
   pub refused_at : at < length input.rest → (place : Place) (why : DocWhy) → place ≢ AtEnd
@@ -98,11 +100,13 @@ module _ (input : Input) (at : ℕ) where
         (record { says = record { says = says; suits = suits }; order = order; number = number; prices = prices })
         (subst N record_number refused))
 
-    pub leads_one : (next : Place) → behind input.instance place said ≡ Some next → HasNumber place said → HasPrices said
+    pub leads_one : (next : Place) → behind input.instance place said ≡ Some next → HasNumber place said
+        → HasPrices said
         → LeadTo input at place (at + 1) next
     leads_one next order number prices = record { refused = goes_on next order number prices }
 
-    pub reads_one : (next : Place) → behind input.instance place said ≡ Some next → HasNumber place said → HasPrices said
+    pub reads_one : (next : Place) → behind input.instance place said ≡ Some next → HasNumber place said
+        → HasPrices said
         → ReadsTo input at place (said ∷ []) (at + 1) next
     reads_one next order number prices = record { say = says_one; lead = leads_one next order number prices }
 

@@ -39,7 +39,8 @@ below n = All-from_get_or (λ k. k < n) (range_with_len 0 n) 0
 members_are : (left : LayerSet) (layers : ℕ) → layers ≤ 16 → ((l : ℕ) → Has left l → l < layers)
     → AreLayersOf left (members left)
 members_are left layers few below_layers = record {
-  once = λ i j d lt within. let less = AllPairs-from_increasing (members left) (IsStrictlyIncreasing-members left) i j d lt
+  once = λ i j d lt within. let less = AllPairs-from_increasing (members left)
+      (IsStrictlyIncreasing-members left) i j d lt
       within in λ same. absurd (omega arith);
   members = λ l. (
     (λ among. eqb-true (bit_at left.0 l) 1
@@ -51,13 +52,15 @@ members_are left layers few below_layers = record {
 
 module _ (p : Problem) (names : NameLists) (instance : IsInstance p) (counts : HaveCounts p names) where
   -- the rows of a layer of a table
-  layer_forms : (table : Table) (l : ℕ) → Fits p table → l < length p.layers → All (HasForm names) (layer_rows p table l)
+  layer_forms : (table : Table) (l : ℕ) → Fits p table → l < length p.layers
+      → All (HasForm names) (layer_rows p table l)
   layer_forms table l fits within =
       let layer : l < length names.layers = omega (arith, counts.layers) in
       let price : ℕ → DocumentRow = λ i. PriceRow l i (into_price p table l i) (from_price p table l i) in
       let numbers = range_with_len 0 (length p.trips) in
       let permitted : All (λ i. i < length p.trips) (permitted_trips p l) =
-      All-filter (λ i. bit_at (trip_of p i).layers.0 l == 1) (λ i. i < length p.trips) numbers (below (length p.trips)) in
+      All-filter (λ i. bit_at (trip_of p i).layers.0 l == 1) (λ i. i < length p.trips) numbers (below
+      (length p.trips)) in
       All-cons (HasForm names) (FleetRow l (vehicle_price table l)) (map price (permitted_trips p l))
       (layer, printed _ (price_anywhere table.fleet.items l fits.fleet))
       (All-map (HasForm names) price (permitted_trips p l)
@@ -76,7 +79,8 @@ module _ (p : Problem) (names : NameLists) (instance : IsInstance p) (counts : H
   tables_forms n [] fits few = All-nil (HasForm names)
   tables_forms n (table ∷ tables) fits few =
       All-append (HasForm names) (table_rows p (n, table)) (flat_map (table_rows p) (enumerate_from (n + 1) tables))
-      (All-cons (HasForm names) (TableRow n table.ray) (flat_map (layer_rows p table) (range_with_len 0 (length p.layers)))
+      (All-cons (HasForm names) (TableRow n table.ray) (flat_map (layer_rows p table) (range_with_len 0
+      (length p.layers)))
       (omega arith)
       (All-numbers (HasForm names) (layer_rows p table) 0 (length p.layers)
       (λ l _ within. layer_forms table l (All-head (Fits p) table tables fits) (omega arith))))
@@ -125,8 +129,12 @@ module _ (p : Problem) (names : NameLists) (instance : IsInstance p) (counts : H
 
   -- what has the form of a row is written so
   is_written : (said : DocumentRow) → HasForm names said → IsWritten names said (written_row names said)
-  is_written (SplitRow trip left) has =
-      (members left, members_are left (length names.layers) (omega (arith, counts.layers, instance.few_layers)) has.2, refl)
+  is_written (SplitRow trip left) has = (
+    members left,
+    members_are left (length names.layers) (omega
+        (arith, counts.layers, instance.few_layers)) has.2,
+    refl,
+  )
   is_written (ClaimRow claim) has = refl
   is_written (CostRow cost) has = refl
   is_written (BoundRow bound) has = refl

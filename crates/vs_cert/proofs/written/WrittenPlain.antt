@@ -171,7 +171,8 @@ module _ (names : NameLists) (layers : AreNames names.layers) (trips : AreNames 
       (one_field (signed_decimal price) (plain_price price has.1)))
   plain_written (PriceRow l i into from) has =
       plain_row (codes "price")
-      (name_of names.layers l ∷ name_of names.trips i ∷ signed_decimal into ∷ signed_decimal from ∷ []) (omega arith) refl
+      (name_of names.layers l ∷ name_of names.trips i ∷ signed_decimal into ∷ signed_decimal from ∷ [])
+      (omega arith) refl
       (All-cons IsPlainField (name_of names.layers l)
       (name_of names.trips i ∷ signed_decimal into ∷ signed_decimal from ∷ []) (layer l)
       (All-cons IsPlainField (name_of names.trips i) (signed_decimal into ∷ signed_decimal from ∷ []) (trip i)

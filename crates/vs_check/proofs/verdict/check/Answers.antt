@@ -30,7 +30,8 @@ returns-in-Some-clause-holds c =
       λ yes. cc,
       λ holds. absurd
           (none-some c.in-Some.flaw
-          (sym (ap first (none_from_holds p c.trips.ensures.instance d holds)) ∙ sym c.in_ok-first_flaw.ensures ∙ c.in-Some.is)),
+          (sym (ap first (none_from_holds p c.trips.ensures.instance d holds)) ∙ sym c.in_ok-first_flaw.ensures
+          ∙ c.in-Some.is)),
     )
 
 pub returns-in-Some-clause-of_instance : goal.returns-in-Some-clause-of_instance

@@ -24,7 +24,8 @@ loop-row-preserved c =
 
 pub returns-then-is_none-clause-found : goal.returns-then-is_none-clause-found
 returns-then-is_none-clause-found c =
-    rw c.new-blocks.ensures.items (blocks_without_cost c.args.input.now c.args.at c.args.cost c.if-is_none.ensures c.requires.row)
+    rw c.new-blocks.ensures.items (blocks_without_cost c.args.input.now c.args.at c.args.cost c.if-is_none.ensures
+    c.requires.row)
 
 pub returns-then-not-begins_as-clause-found : goal.returns-then-not-begins_as-clause-found
 returns-then-not-begins_as-clause-found c =

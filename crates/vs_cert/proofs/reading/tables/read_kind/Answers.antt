@@ -29,6 +29,7 @@ returns-clause-found c =
     let P : ℕ → Type 0 = λ n. Says input.names (row_of input.rest c.args.row) (TableRow n c.in-Some.ray) in
     record {
       number = omega (arith, says.form, same);
-      reads = reads_one input c.args.row c.requires.row (InTable c.args.before []) (TableRow (c.args.before + 1) c.in-Some.ray)
+      reads = reads_one input c.args.row c.requires.row (InTable c.args.before []) (TableRow
+          (c.args.before + 1) c.in-Some.ray)
           (λ e. cc) (subst P same says) tt (InTable (c.args.before + 1) (prices_of input.instance)) refl refl tt;
     }

@@ -18,7 +18,8 @@ pub returns-then-row-len-clause-refused : goal.returns-then-row-len-clause-refus
 returns-then-row-len-clause-refused c =
     let says = rw c.in-End.is at c.in_ok-said_at.ensures.says in
     let lead =
-    leads_one c.args.input.now c.args.row c.in_ok-said_at.ensures.within (InTree c.args.tables 0) EndRow (λ e. cc) says tt
+    leads_one c.args.input.now c.args.row c.in_ok-said_at.ensures.within (InTree c.args.tables 0) EndRow
+    (λ e. cc) says tt
     AtEnd refl tt tt in
     rw c.refusal-then-row-len.ensures
     (lead.refused (error.Refused (c.args.input.now.before + 1 + (c.args.row + 1)) RowsAfterEnd)

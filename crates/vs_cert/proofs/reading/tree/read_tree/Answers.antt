@@ -49,6 +49,7 @@ returns-clause-found c =
       c.len-row-end.ensures,
       c.loop-row.invariant.reads.say.within,
     ) in
-    let P : ℕ → Type 0 = λ n. TreeSoFar c.args.input.now c.args.at c.args.tables n c.loop-row.parts c.loop-row.shape.items in
+    let P : ℕ → Type 0 = λ n. TreeSoFar c.args.input.now c.args.at c.args.tables n c.loop-row.parts
+    c.loop-row.shape.items in
     tree_done c.args.input.now c.args.at c.args.tables c.len-2.result c.loop-row.parts c.loop-row.shape.items
     (subst P at_len c.loop-row.invariant) (omega arith)

@@ -8,4 +8,5 @@ use Rattle.vs_cert.proofs.writing.blocks.write_blocks.Given as goal
 abbrev pub invariant-loop-block : goal.invariant-loop-block
 invariant-loop-block l =
     l.text ≡ l.initial.text
-    ++ flat_map (λ b. line (written_row l.names (BlockRow (b.layer, b.trips.items)))) (take l.block-index l.plan.blocks.items)
+    ++ flat_map (λ b. line (written_row l.names (BlockRow (b.layer, b.trips.items))))
+    (take l.block-index l.plan.blocks.items)

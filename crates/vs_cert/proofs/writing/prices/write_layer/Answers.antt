@@ -24,7 +24,8 @@ loop-i-preserved c =
     let p = c.args.instance.now in let names = c.args.names.now in let table = c.args.table.now in let l = c.args.l.0 in
     let i = c.loop-i.i in let text = c.loop-i.text in
     let n = length p.trips in
-    let bytes : ℕ → List ℕ = λ k. line (written_row names (PriceRow l k (into_price p table l k) (from_price p table l k))) in
+    let bytes : ℕ → List ℕ = λ k. line (written_row names (PriceRow l k (into_price p table l k)
+    (from_price p table l k))) in
     let written : ℕ → List ℕ = λ k. cond (eqb (bit_at (trip_of p k).layers.0 l) 1) (bytes k) [] in
     let bit : bit_at c.trip.result.now.layers.0 l ≡ bit_at (trip_of p i).layers.0 l =
     ap (λ t. bit_at t.layers.0 l) c.trip.ensures in
@@ -69,7 +70,8 @@ returns c =
     let p = c.args.instance.now in let names = c.args.names.now in let table = c.args.table.now in let l = c.args.l.0 in
     let n = length p.trips in
     let has : ℕ → Bool = λ k. eqb (bit_at (trip_of p k).layers.0 l) 1 in
-    let bytes : ℕ → List ℕ = λ k. line (written_row names (PriceRow l k (into_price p table l k) (from_price p table l k))) in
+    let bytes : ℕ → List ℕ = λ k. line (written_row names (PriceRow l k (into_price p table l k)
+    (from_price p table l k))) in
     let trips = filter has (range_with_len 0 n) in
     let price : ℕ → DocumentRow = λ k. PriceRow l k (into_price p table l k) (from_price p table l k) in
     let fleet : Row = codes "fleet" ∷ name_of names.layers l ∷ signed_decimal (price_of table.fleet.items l) ∷ [] in

@@ -7,4 +7,5 @@ use Rattle.vs_cert.proofs.writing.shapes.write_shapes.Given as goal
 -- the rows so far are written
 abbrev pub invariant-loop-shape : goal.invariant-loop-shape
 invariant-loop-shape l =
-    l.text ≡ l.initial.text ++ flat_map (λ s. line (written_row l.names (shape_row s))) (take l.shape-index l.shapes.items)
+    l.text ≡ l.initial.text ++ flat_map (λ s. line (written_row l.names (shape_row s)))
+    (take l.shape-index l.shapes.items)

@@ -30,6 +30,7 @@ pub returns : goal.returns
 returns c =
     let p = c.args.instance.now in let names = c.args.names.now in let tables = c.args.tables.now in
     let numbered = enumerate_from 1 tables.items in
-    wrote_all (λ (e : ℕ × Table). lines (written_rows names (table_rows p e))) c.args.text.now c.loop-k.text numbered c.loop-k.k
+    wrote_all (λ (e : ℕ × Table). lines (written_rows names
+    (table_rows p e))) c.args.text.now c.loop-k.text numbered c.loop-k.k
     (omega (arith, tables.ok.0, length-enumerate_from 1 tables.items)) c.loop-k.invariant
     ∙ ap (λ rest. c.args.text.now ++ rest) (sym (written-flat_map names (table_rows p) numbered))

@@ -8,4 +8,5 @@ use Rattle.vs_cert.proofs.writing.tables.write_tables.Given as goal
 -- the tables so far are written
 abbrev pub invariant-loop-k : goal.invariant-loop-k
 invariant-loop-k l = l.text ≡ l.initial.text
-    ++ flat_map (λ e. lines (written_rows l.names (table_rows l.instance e))) (take l.k (enumerate_from 1 l.tables.items))
+    ++ flat_map (λ e. lines (written_rows l.names (table_rows l.instance e))) (take l.k
+    (enumerate_from 1 l.tables.items))
