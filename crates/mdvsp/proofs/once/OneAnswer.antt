@@ -1,5 +1,5 @@
 -- What is owed for the same words and bytes is one thing.
-use Rattle.std.proofs.Common.{◌≡◌, ℕ, ◌⊎◌, inl, inr, List, [], ◌∷◌, Option, Some, None, IfSome, IsSome, codes, ℤ, refl, sym, ap, ◌∙◌, subst}
+use Rattle.std.proofs.Common.{◌≡◌, ℕ, inl, inr, List, [], ◌∷◌, Option, Some, None, IfSome, IsSome, codes, ℤ, refl, sym, ap, ◌∙◌, subst}
 use Rattle.std.proofs.lemmas.Option.{same_Some}
 use Rattle.vs_instance.specs.Problem.{Problem}
 use Rattle.vs_reader.specs.Names.{NameLists}

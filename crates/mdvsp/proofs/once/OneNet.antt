@@ -1,5 +1,5 @@
 -- A layer has one net by each matching, and so one row that tells its size.
-use Rattle.std.proofs.Common.{◌≡◌, ℕ, zero, suc, ◌<◌, ◌⊎◌, inl, inr, List, [], ◌∷◌, ◌++◌, length, get_or, refl, sym, ap, ◌∙◌, subst, arith}
+use Rattle.std.proofs.Common.{◌≡◌, ℕ, zero, suc, ◌<◌, List, [], ◌∷◌, ◌++◌, length, sym, ap, ◌∙◌, subst, arith}
 use Rattle.std.proofs.lemmas.List.{ext_get_or}
 use Rattle.vs_instance.specs.Problem.{Problem}
 use Rattle.vs_layer.specs.declared.arc.Arc.{Arc}
@@ -9,14 +9,14 @@ use Rattle.vs_match.specs.declared.arc_kind.ArcKind.TheVariants.{Return}
 use Rattle.vs_match.specs.declared.event.Event.{Event}
 use Rattle.vs_match.specs.declared.matching.Matching.{Matching}
 use Rattle.vs_match.specs.declared.matching.Matching.TheVariants.{First, Latest}
-use Rattle.vs_match.specs.Events.{AreEvents, IsBefore, IsEvent}
+use Rattle.vs_match.specs.Events.{AreEvents, IsBefore}
 use Rattle.vs_match.specs.NetArcs.{IsArcBefore, IsArcOf}
 use Rattle.vs_match.specs.LayerGraph.{LayerGraph, IsNetOf, kind_of}
 use Rattle.vs_match.specs.Sizes.{counts_from, counts_of, full_count_of}
 use Rattle.vs_reader.specs.Names.{NameLists, name_of}
 use Rattle.vs_reader.specs.Rows.{Field, Row}
 use Rattle.mdvsp.specs.Network.{AreRowsBelow, IsNetRow, matching_field, size_row}
-use Rattle.mdvsp.proofs.once.OneOrder.{AreAmong, AreInOrder, IsStrict, one_list, same_length, same_value}
+use Rattle.mdvsp.proofs.once.OneOrder.{AreAmong, IsStrict, one_list, same_length, same_value}
 
 events_strict : IsStrict IsBefore
 events_strict = record { one_way = λ a b less more. omega arith }

@@ -1,5 +1,5 @@
 -- A text is refused in one way.
-use Rattle.std.proofs.Common.{◌≡◌, ℕ, ◌+◌, ◌⊎◌, inl, inr, List, [], ◌∷◌, ◌++◌, length, Some, refl, sym, ap, ◌∙◌, subst}
+use Rattle.std.proofs.Common.{◌≡◌, ℕ, ◌+◌, inl, inr, List, [], ◌∷◌, ◌++◌, length, Some, sym, ap, ◌∙◌, subst}
 use Rattle.std.proofs.lemmas.Option.{same_Some}
 use Rattle.vs_instance.specs.declared.parts.Parts.{Parts}
 use Rattle.vs_instance.specs.declared.misfit.Misfit.{Misfit}
@@ -12,7 +12,7 @@ use Rattle.vs_reader.specs.declared.refused.Why.{Why}
 use Rattle.vs_reader.specs.declared.refused.Why.TheVariants.{Misfit as misfit_why}
 use Rattle.vs_reader.specs.Rows.{Row}
 use Rattle.vs_reader.specs.Names.{NameLists}
-use Rattle.vs_reader.specs.InstanceText.{Declared, AddAll, nothing_yet, instance_records}
+use Rattle.vs_reader.specs.InstanceText.{Declared, nothing_yet, instance_records}
 use Rattle.vs_reader.specs.Rules.{Rule, AreKept, BreaksFirst, rules, with_row}
 use Rattle.vs_reader.specs.Refusals.{ArePartsOf, BreaksRule, HasMisfit, IsRefusal, misfit_row}
 use Rattle.vs_reader.specs.Texts.{IsRefused}
