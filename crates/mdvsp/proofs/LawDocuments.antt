@@ -9,8 +9,8 @@ use Rattle.vs_reader.specs.NameRules.{AreNames}
 use Rattle.vs_reader.specs.Names.{IsName, NameLists}
 use Rattle.vs_reader.specs.Rows.{Field, Row, lines}
 use Rattle.vs_reader.specs.Texts.{HasRows, StandsFor, EndsInLine}
-use Rattle.vs_reader.proofs.LineLemmas.{stands_behind}
-use Rattle.vs_reader.proofs.TextLemmas.{stands_counts}
+use Rattle.vs_reader.proofs.texts.LineLemmas.{stands_behind}
+use Rattle.vs_reader.proofs.texts.TextLemmas.{stands_counts}
 use Rattle.vs_cert.specs.DocumentRows.{document_rows}
 use Rattle.vs_cert.proofs.written.WrittenForms.{stands as stands_for}
 use Rattle.vs_cert.proofs.written.WrittenPlain.{plain_document}

@@ -14,7 +14,7 @@ use Rattle.vs_reader.specs.NameRules.{AreNames}
 use Rattle.vs_reader.specs.Names.{HaveCounts, NameLists}
 use Rattle.vs_reader.specs.Rows.{Row}
 use Rattle.vs_reader.specs.Texts.{StandsFor}
-use Rattle.vs_reader.proofs.TextLemmas.{one_reading, refused_none, stands_counts}
+use Rattle.vs_reader.proofs.texts.TextLemmas.{one_reading, refused_none, stands_counts}
 use Rattle.vs_tree.specs.declared.claim.Claim.{Claim}
 use Rattle.vs_cert.specs.Alike.{AreAlike}
 use Rattle.vs_cert.specs.DocumentRefusals.{AreRefused}

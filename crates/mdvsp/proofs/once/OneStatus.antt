@@ -17,7 +17,7 @@ use Rattle.vs_prices.specs.declared.table.Table.{Table}
 use Rattle.vs_prices.proofs.Worths.{worth_is}
 use Rattle.vs_reader.specs.Names.{NameLists}
 use Rattle.vs_reader.specs.Rows.{Row}
-use Rattle.vs_reader.proofs.TextLemmas.{one_reading, refused_none}
+use Rattle.vs_reader.proofs.texts.TextLemmas.{one_reading, refused_none}
 use Rattle.vs_cert.specs.declared.document.Document.{Document}
 use Rattle.vs_check.proofs.AgreeingTables.{same_worth}
 use Rattle.mdvsp.specs.declared.status.Status.{Status}

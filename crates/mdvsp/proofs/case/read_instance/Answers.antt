@@ -1,7 +1,7 @@
 use Rattle.std.proofs.Common.{subst, sym}
 use Rattle.vs_reader.specs.ReadErrors.{RefusesAs}
 use Rattle.vs_reader.specs.Texts.{IsRefused}
-use Rattle.vs_reader.proofs.TextLemmas.{stands_counts}
+use Rattle.vs_reader.proofs.texts.TextLemmas.{stands_counts}
 use Rattle.mdvsp.specs.Answered.{RefusesCase}
 use Rattle.mdvsp.proofs.owing.OwedAnswers.{refusal_case}
 use Rattle.mdvsp.proofs.case.read_instance.Goals as goal

@@ -1,7 +1,7 @@
 use Rattle.std.proofs.Common.{subst}
 use Rattle.vs_reader.specs.ReadErrors.{RefusesAs}
 use Rattle.vs_reader.specs.Texts.{IsRefused}
-use Rattle.vs_reader.proofs.TextLemmas.{stands_counts}
+use Rattle.vs_reader.proofs.texts.TextLemmas.{stands_counts}
 use Rattle.mdvsp.proofs.owing.OwedAnswers.{solve_refusal_owed, document_owed}
 use Rattle.mdvsp.proofs.solving.answer_solve.Goals as goal
 

@@ -1,5 +1,5 @@
 use Rattle.std.specs.Str.{IsValidUpTo, valid_up_to}
-use Rattle.vs_reader.proofs.NameLemmas.{name_from_utf8}
+use Rattle.vs_reader.proofs.naming.NameLemmas.{name_from_utf8}
 use Rattle.vs_reader.proofs.name.name.Goals as goal
 
 pub returns : goal.returns

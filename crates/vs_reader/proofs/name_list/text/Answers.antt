@@ -1,4 +1,4 @@
-use Rattle.vs_reader.proofs.NameLemmas.{IsUtf8-name}
+use Rattle.vs_reader.proofs.naming.NameLemmas.{IsUtf8-name}
 use Rattle.vs_reader.proofs.name_list.text.Goals as goal
 
 pub unreachable-requires : goal.unreachable-requires

@@ -1,6 +1,6 @@
 use Rattle.std.proofs.Common.{refl, ◌∙◌}
 use Rattle.vs_reader.specs.Drafts.{declared_of}
-use Rattle.vs_reader.proofs.DeclaredParts.{are_parts}
+use Rattle.vs_reader.proofs.declaring.DeclaredParts.{are_parts}
 use Rattle.vs_reader.proofs.reading.made.Goals as goal
 
 pub new-requires : goal.new-requires

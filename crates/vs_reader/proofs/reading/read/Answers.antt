@@ -8,9 +8,9 @@ use Rattle.vs_reader.specs.Kinds.{before_result}
 use Rattle.vs_reader.specs.InstanceText.{nothing_yet}
 use Rattle.vs_reader.specs.Drafts.{declared_of}
 use Rattle.vs_reader.specs.Left.{GivesNext}
-use Rattle.vs_reader.proofs.RowBuilderLemmas.{weight_of-append}
-use Rattle.vs_reader.proofs.DeclaredLemmas.{IsSound-nothing, IsSound-AddAll, few_deadheads}
-use Rattle.vs_reader.proofs.TextLemmas.{has_rows, weight_of-rows, length-rows, header_refused, header_none, rule_refused, rule_none, misfit_refused, misfit_none, stands_for, stands_only}
+use Rattle.vs_reader.proofs.places.RowBuilderLemmas.{weight_of-append}
+use Rattle.vs_reader.proofs.declaring.DeclaredLemmas.{IsSound-nothing, IsSound-AddAll, few_deadheads}
+use Rattle.vs_reader.proofs.texts.TextLemmas.{has_rows, weight_of-rows, length-rows, header_refused, header_none, rule_refused, rule_none, misfit_refused, misfit_none, stands_for, stands_only}
 use Rattle.vs_reader.proofs.reading.read.Goals as goal
 
 pub returns-then-not-branch-clause-refused : goal.returns-then-not-branch-clause-refused

@@ -7,9 +7,9 @@ use Rattle.vs_reader.specs.Left.{GivesNext}
 use Rattle.vs_reader.specs.Drafts.{declared_of, IsSound, AddsRecord}
 use Rattle.vs_reader.specs.Kinds.{is_result}
 use Rattle.vs_reader.specs.Rules.{AreKept, rules}
-use Rattle.vs_reader.proofs.CsvRecords.{length-records}
-use Rattle.vs_reader.proofs.Progress.{IsProgress-start, IsProgress-more, refused_next, declared_there, ends_none, add_refuses}
-use Rattle.vs_reader.proofs.DeclaredLemmas.{IsSound-nothing, IsSound-Adds}
+use Rattle.vs_reader.proofs.texts.CsvRecords.{length-records}
+use Rattle.vs_reader.proofs.texts.Progress.{IsProgress-start, IsProgress-more, refused_next, declared_there, ends_none, add_refuses}
+use Rattle.vs_reader.proofs.declaring.DeclaredLemmas.{IsSound-nothing, IsSound-Adds}
 use Rattle.vs_reader.proofs.reading.read_declarations.Goals as goal
 use Rattle.vs_reader.proofs.reading.read_declarations.Goals.{then-not-found-via-then-not-found, then-not-found-via-else-not-found+then-is_result}
 

@@ -1,6 +1,6 @@
 use Rattle.std.proofs.Common.{subst, Bool}
 use Rattle.vs_reader.specs.Left.{GivesNext}
-use Rattle.vs_reader.proofs.HeaderLemmas.{header_read, no_header}
+use Rattle.vs_reader.proofs.texts.HeaderLemmas.{header_read, no_header}
 use Rattle.vs_reader.proofs.reading.read_header.Goals as goal
 
 pub returns-then-branch : goal.returns-then-branch

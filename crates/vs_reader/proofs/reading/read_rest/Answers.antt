@@ -5,8 +5,8 @@ use Rattle.vs_reader.specs.Rows.{Row, all_fields}
 use Rattle.vs_reader.specs.RowEnds.{weight_of}
 use Rattle.vs_reader.specs.RowBuilding.{built}
 use Rattle.vs_reader.specs.Left.{GivesNext, IsOpen}
-use Rattle.vs_reader.proofs.CsvRecords.{length-records, weight_of-push}
-use Rattle.vs_reader.proofs.RowBuilderLemmas.{weight_of-append, few_fields}
+use Rattle.vs_reader.proofs.texts.CsvRecords.{length-records, weight_of-push}
+use Rattle.vs_reader.proofs.places.RowBuilderLemmas.{weight_of-append, few_fields}
 use Rattle.vs_reader.proofs.reading.read_rest.Goals as goal
 
 pub into_rows-requires-then-not-branch : goal.into_rows-requires-then-not-branch

@@ -1,7 +1,7 @@
 use Rattle.std.proofs.Common.{Bor, ap, ◌∙◌, refl}
 use Rattle.csv.specs.Records.{fields_of}
 use Rattle.vs_reader.specs.Rows.{Field}
-use Rattle.vs_reader.proofs.RecordFields.{field_or_empty}
+use Rattle.vs_reader.proofs.places.RecordFields.{field_or_empty}
 use Rattle.vs_reader.proofs.record.field.Goals as goal
 
 pub returns : goal.returns

@@ -2,7 +2,7 @@ use Rattle.std.proofs.Common.{rules, Contains, ◌∙◌, sym, arith, ◌<◌, l
 use Rattle.vs_instance.specs.declared.limits.TheConstants.{MAX_LAYERS}
 use Rattle.csv.specs.Records.{fields_of}
 use Rattle.vs_reader.specs.Rows.{field_of}
-use Rattle.vs_reader.proofs.RecordFields.{seven_fields}
+use Rattle.vs_reader.proofs.places.RecordFields.{seven_fields}
 use Rattle.vs_reader.proofs.records.layer.Goals as goal
 
 pub returns : goal.returns

@@ -6,8 +6,8 @@ use Rattle.csv.specs.Records.{fields_of}
 use Rattle.vs_reader.specs.Rows.{field_of}
 use Rattle.vs_reader.specs.Rules.{IsNoneOf, known_name}
 use Rattle.vs_reader.specs.declared.refused.Why.TheVariants.{NameTwice}
-use Rattle.vs_reader.proofs.RuleLemmas.{AreKept-append, BreaksFirst-skip, BreaksFirst-stop}
-use Rattle.vs_reader.proofs.NamedLayers.{next_layer, among_earlier, not_among_earlier, breaks_at, kept_at}
+use Rattle.vs_reader.proofs.declaring.RuleLemmas.{AreKept-append, BreaksFirst-skip, BreaksFirst-stop}
+use Rattle.vs_reader.proofs.naming.NamedLayers.{next_layer, among_earlier, not_among_earlier, breaks_at, kept_at}
 use Rattle.vs_reader.proofs.records.named_layers.Goals as goal
 
 pub returns-in_err-l : goal.returns-in_err-l

@@ -6,8 +6,8 @@ use Rattle.csv.specs.Records.{fields_of}
 use Rattle.vs_reader.specs.Rows.{field_of}
 use Rattle.vs_reader.specs.Rules.{WritesNumber, WritesTime, HasRoom, known_name, layer_names}
 use Rattle.vs_reader.specs.declared.refused.Why.TheVariants.{TooMany}
-use Rattle.vs_reader.proofs.RecordFields.{long_row}
-use Rattle.vs_reader.proofs.RuleLemmas.{AreKept-append, BreaksFirst-skip, BreaksFirst-stop, after_start, after_to, after_end}
+use Rattle.vs_reader.proofs.places.RecordFields.{long_row}
+use Rattle.vs_reader.proofs.declaring.RuleLemmas.{AreKept-append, BreaksFirst-skip, BreaksFirst-stop, after_start, after_to, after_end}
 use Rattle.vs_reader.proofs.records.trip.Goals as goal
 
 pub returns-in_err-start : goal.returns-in_err-start

@@ -1,4 +1,4 @@
-use Rattle.vs_reader.proofs.RuleLemmas.{judged_time}
+use Rattle.vs_reader.proofs.declaring.RuleLemmas.{judged_time}
 use Rattle.vs_reader.proofs.records.written_time.Goals as goal
 
 pub returns : goal.returns

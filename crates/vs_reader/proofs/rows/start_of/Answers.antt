@@ -1,6 +1,6 @@
 use Rattle.std.proofs.Common.{◌≡◌, suc, ◌-◌, take, sym, ap, ◌∙◌, arith}
 use Rattle.vs_reader.specs.RowEnds.{end_of}
-use Rattle.vs_reader.proofs.ListParts.{end_of-take}
+use Rattle.vs_reader.proofs.places.ListParts.{end_of-take}
 use Rattle.vs_reader.proofs.rows.start_of.Goals as goal
 
 pub returns-else-k-eq0 : goal.returns-else-k-eq0

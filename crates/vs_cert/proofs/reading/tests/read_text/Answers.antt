@@ -1,4 +1,4 @@
-use Rattle.vs_reader.proofs.TextLemmas.{stands_counts}
+use Rattle.vs_reader.proofs.texts.TextLemmas.{stands_counts}
 use Rattle.vs_cert.proofs.reading.tests.read_text.Goals as goal
 
 pub read-requires-in-Ok : goal.read-requires-in-Ok

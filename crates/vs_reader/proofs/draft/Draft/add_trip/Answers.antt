@@ -1,7 +1,7 @@
 use Rattle.std.proofs.Common.{refl, rules}
 use Rattle.csv.specs.Records.{fields_of}
 use Rattle.vs_reader.specs.Rows.{field_of}
-use Rattle.vs_reader.proofs.RuleLemmas.{trip_room}
+use Rattle.vs_reader.proofs.declaring.RuleLemmas.{trip_room}
 use Rattle.vs_reader.proofs.draft.Draft.add_trip.Goals as goal
 
 pub add_trip-requires-clause-room : goal.add_trip-requires-clause-room

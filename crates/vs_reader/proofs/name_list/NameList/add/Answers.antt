@@ -6,8 +6,8 @@ use Rattle.std.specs.String.{string_bytes, string_cmp, string_eq}
 use Rattle.indexmap.specs.IndexSet.{insert_key}
 use Rattle.std.proofs.lemmas.List.{map_push, length-map}
 use Rattle.vs_reader.specs.Rows.{Field}
-use Rattle.vs_reader.proofs.NameLemmas.{insert_key-new}
-use Rattle.vs_reader.proofs.NumberedNames.{AreNumbers-push, AreNames-push}
+use Rattle.vs_reader.proofs.naming.NameLemmas.{insert_key-new}
+use Rattle.vs_reader.proofs.naming.NumberedNames.{AreNumbers-push, AreNames-push}
 use Rattle.vs_reader.proofs.name_list.NameList.add.Goals as goal
 
 pub invariant_of-self-2 : goal.invariant_of-self-2

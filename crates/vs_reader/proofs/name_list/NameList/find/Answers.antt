@@ -4,7 +4,7 @@ use Rattle.std.specs.String.{string_bytes}
 use Rattle.vs_reader.specs.Rows.{Field}
 use Rattle.vs_reader.specs.Names.{Names}
 use Rattle.vs_reader.specs.NameRules.{AreNames}
-use Rattle.vs_reader.proofs.NumberedNames.{found_number, found_within, found_only}
+use Rattle.vs_reader.proofs.naming.NumberedNames.{found_number, found_within, found_only}
 use Rattle.vs_reader.proofs.name_list.NameList.find.Goals as goal
 
 pub returns-clause-found : goal.returns-clause-found

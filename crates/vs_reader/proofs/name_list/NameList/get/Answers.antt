@@ -6,7 +6,7 @@ use Rattle.std.proofs.lemmas.List.{get_or-map, length-map}
 use Rattle.std.proofs.lemmas.Option.{slice_get-get_or}
 use Rattle.vs_reader.specs.Rows.{Field}
 use Rattle.vs_reader.specs.NameRules.{AreNames}
-use Rattle.vs_reader.proofs.NameLemmas.{same_number}
+use Rattle.vs_reader.proofs.naming.NameLemmas.{same_number}
 use Rattle.vs_reader.proofs.name_list.NameList.get.Goals as goal
 
 pub returns-clause-name : goal.returns-clause-name

@@ -3,7 +3,7 @@ use Rattle.std.proofs.lemmas.List.{take_more, take_all}
 use Rattle.csv.specs.Records.{fields_of}
 use Rattle.vs_reader.specs.declared.rows.RowBuilder.{RowBuilder}
 use Rattle.vs_reader.specs.Rows.{Field, Row}
-use Rattle.vs_reader.proofs.RowBuilderLemmas.{HasFields, HasFields-nothing, HasFields-push, row_weight-take, built-push, IsWhole-push}
+use Rattle.vs_reader.proofs.places.RowBuilderLemmas.{HasFields, HasFields-nothing, HasFields-push, row_weight-take, built-push, IsWhole-push}
 use Rattle.vs_reader.proofs.rows.RowBuilder.push.Goals as goal
 use Rattle.vs_reader.proofs.rows.RowBuilder.push.Goals.{In_ok-push}
 

@@ -1,7 +1,7 @@
 use Rattle.std.proofs.Common.{◌≡◌, ℕ, ◌+◌, ◌<◌, ◌≤◌, List, [], length, take, get_or, ap, ◌∙◌, arith}
 use Rattle.std.specs.Prelude.{slice_range}
 use Rattle.vs_reader.specs.RowEnds.{end_of, rows_of}
-use Rattle.vs_reader.proofs.RowPlaces.{length-rows, place_within, field_start_before, field_within, field_is}
+use Rattle.vs_reader.proofs.places.RowPlaces.{length-rows, place_within, field_start_before, field_within, field_is}
 use Rattle.vs_reader.proofs.rows.Rows.field.Goals as goal
 use Rattle.vs_reader.proofs.rows.Rows.field.Goals.{After-deref, After-start_of, After-deref-3, After-row_known-1}
 

@@ -1,6 +1,6 @@
 use Rattle.std.proofs.Common.{◌≡◌, ℕ, ◌<◌, List, [], length, take, get_or, ap, ◌∙◌, arith}
 use Rattle.vs_reader.specs.RowEnds.{end_of}
-use Rattle.vs_reader.proofs.RowPlaces.{length-rows, length-row, row_start_before}
+use Rattle.vs_reader.proofs.places.RowPlaces.{length-rows, length-row, row_start_before}
 use Rattle.vs_reader.proofs.rows.Rows.fields.Goals as goal
 use Rattle.vs_reader.proofs.rows.Rows.fields.Goals.{After-self}
 

@@ -1,5 +1,5 @@
 use Rattle.std.proofs.Common.{length, ap, arith}
-use Rattle.vs_reader.proofs.RowPlaces.{length-rows}
+use Rattle.vs_reader.proofs.places.RowPlaces.{length-rows}
 use Rattle.vs_reader.proofs.rows.Rows.len.Goals as goal
 
 pub returns : goal.returns

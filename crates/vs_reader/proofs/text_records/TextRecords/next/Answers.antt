@@ -1,4 +1,4 @@
-use Rattle.vs_reader.proofs.LeftLemmas.{gives_next}
+use Rattle.vs_reader.proofs.texts.LeftLemmas.{gives_next}
 use Rattle.vs_reader.proofs.text_records.TextRecords.next.Goals as goal
 
 pub returns : goal.returns

@@ -24,9 +24,9 @@ use Rattle.vs_reader.specs.RecordNumbers.{HasNumbers}
 use Rattle.vs_reader.specs.Drafts.{declared_of}
 use Rattle.vs_reader.specs.Texts.{HasRows, StandsFor, IsRefused}
 use Rattle.vs_reader.specs.ReadErrors.{RefusesAs, IsRefusedError}
-use Rattle.vs_reader.proofs.CsvRecords.{has_records, same_records, weight_of-records, length-records}
-use Rattle.vs_reader.proofs.DeclaredLemmas.{IsSound-nothing, IsSound-AddAll, one_AddAll}
-use Rattle.vs_reader.proofs.RefusedLemmas.{AreAllNames-nothing, breaks_refutes}
+use Rattle.vs_reader.proofs.texts.CsvRecords.{has_records, same_records, weight_of-records, length-records}
+use Rattle.vs_reader.proofs.declaring.DeclaredLemmas.{IsSound-nothing, IsSound-AddAll, one_AddAll}
+use Rattle.vs_reader.proofs.declaring.RefusedLemmas.{AreAllNames-nothing, breaks_refutes}
 
 -- a text has one list of rows
 pub has_rows : (bytes : List ℕ) → (rows : List Row) × HasRows bytes rows

@@ -24,8 +24,8 @@ use Rattle.vs_reader.specs.RecordNumbers.{HasNumbers, with_number}
 use Rattle.vs_reader.specs.Drafts.{declared_of, AddsRecord}
 use Rattle.vs_reader.specs.Left.{AreLeft, GivesNext}
 use Rattle.vs_reader.specs.Declarations.{AreDeclared}
-use Rattle.vs_reader.proofs.DeclaredLemmas.{AddAll-push}
-use Rattle.vs_reader.proofs.KindLemmas.{names_after}
+use Rattle.vs_reader.proofs.declaring.DeclaredLemmas.{AddAll-push}
+use Rattle.vs_reader.proofs.declaring.KindLemmas.{names_after}
 
 -- one record more, of the kind or not
 enumerate_from-push : (n : ℕ) (rows : List Row) (row : Row)

@@ -12,8 +12,8 @@ use Rattle.vs_reader.specs.Names.{Names}
 use Rattle.vs_reader.specs.InstanceText.{NameLayers}
 use Rattle.vs_reader.specs.declared.refused.Why.{Why}
 use Rattle.vs_reader.specs.Rules.{Rule, IsNoneOf, AreKept, BreaksFirst, known_name, layer_names}
-use Rattle.vs_reader.proofs.RuleLemmas.{AreKept-append, BreaksFirst-skip, BreaksFirst-stop, layer_names-append}
-use Rattle.vs_reader.proofs.NameLemmas.{Contains-Names}
+use Rattle.vs_reader.proofs.declaring.RuleLemmas.{AreKept-append, BreaksFirst-skip, BreaksFirst-stop, layer_names-append}
+use Rattle.vs_reader.proofs.naming.NameLemmas.{Contains-Names}
 
 -- no fields
 pub NameLayers-nil : (names : List Field) → NameLayers names [] (record { 0 = 0 })

@@ -13,9 +13,9 @@ use Rattle.vs_reader.specs.InstanceText.{Declared, AddsStop, AddsDeadhead, AddsL
 use Rattle.vs_reader.specs.Rules.{AreKept, HasRoom, rules, rules_of_kind, stop_rules, deadhead_rules, layer_rules, trip_rules, layer_names}
 use Rattle.vs_reader.specs.Refusals.{BreaksRule}
 use Rattle.vs_instance.specs.declared.limits.TheConstants.{MAX_TRIPS}
-use Rattle.vs_reader.proofs.NameLemmas.{Contains-Names}
-use Rattle.vs_reader.proofs.RuleLemmas.{AreKept-append, broken_not_kept}
-use Rattle.vs_reader.proofs.KindLemmas.{AddsOfKind, adds_by_kind, names_after}
+use Rattle.vs_reader.proofs.naming.NameLemmas.{Contains-Names}
+use Rattle.vs_reader.proofs.declaring.RuleLemmas.{AreKept-append, broken_not_kept}
+use Rattle.vs_reader.proofs.declaring.KindLemmas.{AddsOfKind, adds_by_kind, names_after}
 
 -- the element behind a list
 element_behind : (xs ys : List Field) (f d : Field) → get_or (xs ++ f ∷ ys) (length xs) d ≡ f

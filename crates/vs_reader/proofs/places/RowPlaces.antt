@@ -5,7 +5,7 @@ use Rattle.std.proofs.lemmas.List.{get_or-take, get_or-drop}
 use Rattle.std.proofs.lemmas.List.Edits.{length-between}
 use Rattle.vs_reader.specs.Rows.{Row}
 use Rattle.vs_reader.specs.RowEnds.{parts_from, rows_of, end_of, AreEnds}
-use Rattle.vs_reader.proofs.ListParts.{length-parts_from, get_or-parts_from, starts_before}
+use Rattle.vs_reader.proofs.places.ListParts.{length-parts_from, get_or-parts_from, starts_before}
 
 module _ (bytes field_ends row_ends : List ℕ) (ends : AreEnds bytes field_ends row_ends) where
   pub length-rows : length (rows_of bytes field_ends row_ends) ≡ length row_ends

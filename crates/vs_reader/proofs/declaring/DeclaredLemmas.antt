@@ -14,12 +14,12 @@ use Rattle.vs_reader.specs.declared.kind.Kind.{Kind}
 use Rattle.vs_reader.specs.declared.kind.Kind.TheVariants as kind
 use Rattle.vs_reader.specs.Rows.{Field, Row, field_of}
 use Rattle.vs_reader.specs.Kinds.{kind_of}
-use Rattle.vs_reader.proofs.KindLemmas.{AddsOfKind, adds_by_kind}
+use Rattle.vs_reader.proofs.declaring.KindLemmas.{AddsOfKind, adds_by_kind}
 use Rattle.vs_reader.specs.Numbers.{IsTime}
 use Rattle.vs_reader.specs.InstanceText.{Declared, nothing_yet, IsNew, AddsStop, AddsDeadhead, AddsLayer, AddsTrip, Adds, AddAll, NameLayers}
 use Rattle.vs_reader.specs.Drafts.{AreApart, IsSound}
-use Rattle.vs_reader.proofs.NameLemmas.{Names-Contains}
-use Rattle.vs_reader.proofs.RowsSayOne.{same_field, one_deadhead, one_layer, one_trip}
+use Rattle.vs_reader.proofs.naming.NameLemmas.{Names-Contains}
+use Rattle.vs_reader.proofs.declaring.RowsSayOne.{same_field, one_deadhead, one_layer, one_trip}
 
 AreApart-push : (names : List Field) (f : Field) → AreApart names → IsNew names f → AreApart (names ++ f ∷ [])
 AreApart-push names f apart new =

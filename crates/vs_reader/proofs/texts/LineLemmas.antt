@@ -19,7 +19,7 @@ use Rattle.vs_reader.specs.Kinds.{HasHeader, header, is_result, before_result}
 use Rattle.vs_reader.specs.InstanceText.{AddAll, nothing_yet, instance_records}
 use Rattle.vs_reader.specs.RowEnds.{row_weight, weight_of}
 use Rattle.vs_reader.specs.Texts.{HasRows, StandsFor, EndsInLine, state_after, is_between}
-use Rattle.vs_reader.proofs.TextLemmas.{weight_of-rows}
+use Rattle.vs_reader.proofs.texts.TextLemmas.{weight_of-rows}
 
 some_none : {X : Type 0} {x : X} → Some x ≡ None → ⊥
 some_none e = cc

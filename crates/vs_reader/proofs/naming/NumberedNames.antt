@@ -17,7 +17,7 @@ use Rattle.std.proofs.lemmas.Bool.{false≢true}
 use Rattle.vs_reader.specs.Rows.{Field}
 use Rattle.vs_reader.specs.Names.{IsName, Names}
 use Rattle.vs_reader.specs.NameRules.{AreNames, AreNumbers}
-use Rattle.vs_reader.proofs.NameLemmas.{Contains-Names, Names-Contains, same_number}
+use Rattle.vs_reader.proofs.naming.NameLemmas.{Contains-Names, Names-Contains, same_number}
 
 -- a numbered name of a longer list is one of the shorter list, or the last
 Names-push_cases : (names : List Field) (f g : Field) (k : ℕ) → Names (names ++ f ∷ []) g k → Names names g k

@@ -8,8 +8,8 @@ use Rattle.vs_reader.specs.declared.rows.RowBuilder.{RowBuilder}
 use Rattle.vs_reader.specs.Rows.{Field, Row, all_fields, field_of}
 use Rattle.vs_reader.specs.RowEnds.{parts_from, end_of, row_weight, weight_of}
 use Rattle.vs_reader.specs.RowBuilding.{built, size_of, IsWhole}
-use Rattle.vs_reader.proofs.ListParts.{parts_from-push, parts_from-append, end_of-push, in_order-push, range_to_end, length-parts_from}
-use Rattle.vs_reader.proofs.CsvRecords.{row_weight-push}
+use Rattle.vs_reader.proofs.places.ListParts.{parts_from-push, parts_from-append, end_of-push, in_order-push, range_to_end, length-parts_from}
+use Rattle.vs_reader.proofs.texts.CsvRecords.{row_weight-push}
 
 -- a row and more fields
 pub row_weight-append : (row more : Row) → row_weight (row ++ more) ≡ row_weight row + row_weight more

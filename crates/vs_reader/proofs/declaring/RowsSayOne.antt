@@ -14,7 +14,7 @@ use Rattle.vs_reader.specs.Names.{NameLists, Names}
 use Rattle.vs_reader.specs.Numbers.{IsNumber, IsTime}
 use Rattle.vs_reader.specs.InstanceText.{DeadheadRow, LayerRow, TripRow, NameLayers}
 use Rattle.vs_reader.specs.Drafts.{AreApart}
-use Rattle.vs_reader.proofs.NameLemmas.{same_number}
+use Rattle.vs_reader.proofs.naming.NameLemmas.{same_number}
 
 -- the field at one place of two ways to write a row
 pub same_field : (row a b : Row) (k : ℕ) → row ≡ a → row ≡ b → field_of a k ≡ field_of b k

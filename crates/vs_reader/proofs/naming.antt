@@ -1,0 +1,3 @@
+pub mod NameLemmas
+pub mod NumberedNames
+pub mod NamedLayers

@@ -1,0 +1,4 @@
+pub mod ListParts
+pub mod RowPlaces
+pub mod RowBuilderLemmas
+pub mod RecordFields
