@@ -110,9 +110,9 @@ root-none keys count v t none =
     go (key_at (drop count keys) v) (let P : Option ℤ → Type 0 = λ a. IsNotAfter a (key_at (drop count keys) v) in
     subst P none (root-first keys count v t))
   where
-  go : (b : Option ℤ) → IsNotAfter None b → b ≡ None
-  go None h = refl
-  go (Some b) h = absurd h
+    go : (b : Option ℤ) → IsNotAfter None b → b ≡ None
+    go None h = refl
+    go (Some b) h = absurd h
 
 -- the leaf that has the root's key is the least
 pub root-least : (keys : Keys) (count v : ℕ) (key : ℤ) → IsTournament count keys → key_at keys 1 ≡ Some key

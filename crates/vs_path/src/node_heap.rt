@@ -36,10 +36,7 @@ impl NodeHeap {
         ensures { IfOk result (λ heap. heap ≡ replicate count None) }
     {
         let keys = vec![in alloc; None; 2 * count as usize]?;
-        Ok(NodeHeap {
-            count,
-            keys,
-        })
+        Ok(NodeHeap { count, keys })
     }
 
     /// The key of a node, None where it isn't in the heap.
@@ -56,7 +53,12 @@ impl NodeHeap {
         requires lower { IsNotAfter (Some key) (key_at self.old node) }
         ensures { self.new ≡ set self.old node (Some key) }
     {
-        put(&mut self.keys, self.count as usize, node as usize, Some(key));
+        put(
+            &mut self.keys,
+            self.count as usize,
+            node as usize,
+            Some(key),
+        );
     }
 
     /// Takes out a node with the least key. None where the heap is empty.
@@ -78,3 +80,6 @@ impl NodeHeap {
         while let Some(_) = self.take() {}
     }
 }
+
+#[cfg(test)]
+mod tests;

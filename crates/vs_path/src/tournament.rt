@@ -7,13 +7,7 @@ fn first_of(left: Option<i64>, right: Option<i64>) -> Option<i64>
     ensures { IsFirstOf result left right }
 {
     match (left, right) {
-        (Some(a), Some(b)) => {
-            if a <= b {
-                left
-            } else {
-                right
-            }
-        }
+        (Some(a), Some(b)) => { if a <= b { left } else { right } }
         (Some(_), None) => left,
         (None, _) => right,
     }
