@@ -52,13 +52,18 @@ module _ (p : Problem) where
       (InTree n parts, tt, refl, (omega arith, omega arith), tt, refl)
   leads_tree n parts (Split trip left lower upper) is =
       let parts_are = All-tail (IsShapeOf p n) (shape.Split trip left) (preorder lower ++ preorder upper) is in
-      let P : List DocumentRow → Type 0 = λ rows. LeadsTo p (InTree n (suc (suc parts))) rows (InTree n parts) in
-      (InTree n (suc (suc parts)), tt, refl, tt, tt,
-          subst P (sym (map-append shape_row (preorder lower) (preorder upper)))
-          (leads-append (InTree n (suc (suc parts))) (InTree n (suc parts)) (InTree n parts)
-          (map shape_row (preorder lower)) (map shape_row (preorder upper))
-          (leads_tree n (suc parts) lower (All-left (IsShapeOf p n) (preorder lower) (preorder upper) parts_are))
-          (leads_tree n parts upper (All-right (IsShapeOf p n) (preorder lower) (preorder upper) parts_are))))
+      let P : List DocumentRow → Type 0 = λ rows. LeadsTo p (InTree n (suc (suc parts))) rows (InTree n parts) in (
+        InTree n (suc (suc parts)),
+        tt,
+        refl,
+        tt,
+        tt,
+        subst P (sym (map-append shape_row (preorder lower) (preorder upper)))
+            (leads-append (InTree n (suc (suc parts))) (InTree n (suc parts)) (InTree n parts)
+            (map shape_row (preorder lower)) (map shape_row (preorder upper))
+            (leads_tree n (suc parts) lower (All-left (IsShapeOf p n) (preorder lower) (preorder upper) parts_are))
+            (leads_tree n parts upper (All-right (IsShapeOf p n) (preorder lower) (preorder upper) parts_are))),
+      )
 
   -- where a table comes, the tree comes too
   at_tables : (n : ℕ) (rows : List DocumentRow) → LeadsTo p (InTree n 1) rows AtEnd → LeadsTo p (InTable n []) rows AtEnd
@@ -87,24 +92,33 @@ module _ (p : Problem) where
         → LeadsTo p (InTable n (map (Trip l) trips ++ later))
         (map (λ i. PriceRow l i (into_price p table l i) (from_price p table l i)) trips) (InTable n later)
     leads_trips l [] later = refl
-    leads_trips l (i ∷ trips) later =
-        (InTable n (map (Trip l) trips ++ later), tt,
-        price_order p n l i (map (Trip l) trips ++ later) (into_price p table l i) (from_price p table l i), tt,
-        (price_anywhere _ i (prices_in_all p l table.into.items fits.into),
-        price_anywhere _ i (prices_in_all p l table.from.items fits.from)), leads_trips l trips later)
+    leads_trips l (i ∷ trips) later = (
+      InTable n (map (Trip l) trips ++ later),
+      tt,
+      price_order p n l i (map (Trip l) trips ++ later) (into_price p table l i) (from_price p table l i),
+      tt,
+      (
+        price_anywhere _ i (prices_in_all p l table.into.items fits.into),
+        price_anywhere _ i (prices_in_all p l table.from.items fits.from),
+      ),
+      leads_trips l trips later,
+    )
 
     leads_layers : (layers : List ℕ)
         → LeadsTo p (InTable n (flat_map (λ l. Vehicle l ∷ map (Trip l) (permitted_trips p l)) layers))
         (flat_map (layer_rows p table) layers) (InTable n [])
     leads_layers [] = refl
     leads_layers (l ∷ layers) =
-        let later : List PriceOf = flat_map (λ k. Vehicle k ∷ map (Trip k) (permitted_trips p k)) layers in
-        (InTable n (map (Trip l) (permitted_trips p l) ++ later), tt,
-        fleet_order p n l (map (Trip l) (permitted_trips p l) ++ later) (vehicle_price table l), tt,
-        price_anywhere table.fleet.items l fits.fleet,
-        leads-append (InTable n (map (Trip l) (permitted_trips p l) ++ later)) (InTable n later) (InTable n [])
-        (map (λ i. PriceRow l i (into_price p table l i) (from_price p table l i)) (permitted_trips p l))
-        (flat_map (layer_rows p table) layers) (leads_trips l (permitted_trips p l) later) (leads_layers layers))
+        let later : List PriceOf = flat_map (λ k. Vehicle k ∷ map (Trip k) (permitted_trips p k)) layers in (
+          InTable n (map (Trip l) (permitted_trips p l) ++ later),
+          tt,
+          fleet_order p n l (map (Trip l) (permitted_trips p l) ++ later) (vehicle_price table l),
+          tt,
+          price_anywhere table.fleet.items l fits.fleet,
+          leads-append (InTable n (map (Trip l) (permitted_trips p l) ++ later)) (InTable n later) (InTable n [])
+              (map (λ i. PriceRow l i (into_price p table l i) (from_price p table l i)) (permitted_trips p l))
+              (flat_map (layer_rows p table) layers) (leads_trips l (permitted_trips p l) later) (leads_layers layers),
+        )
 
   leads_tables : (n m : ℕ) (tables : List Table) → All (Fits p) tables → m ≡ n + 1
       → LeadsTo p (InTable n []) (flat_map (table_rows p) (enumerate_from m tables)) (InTable (n + length tables) [])
@@ -112,13 +126,18 @@ module _ (p : Problem) where
   leads_tables n m (table ∷ tables) fits is =
       let P : ℕ → Type 0 = λ k. LeadsTo p (InTable (n + 1) [])
       (flat_map (table_rows p) (enumerate_from (m + 1) tables)) (InTable k []) in
-      let place : n + 1 + length tables ≡ n + suc (length tables) = omega arith in
-      (InTable (n + 1) (prices_of p), tt, refl, is, tt,
-      leads-append (InTable (n + 1) (prices_of p)) (InTable (n + 1) []) (InTable (n + suc (length tables)) [])
-      (flat_map (layer_rows p table) (range_with_len 0 (length p.layers)))
-      (flat_map (table_rows p) (enumerate_from (m + 1) tables))
-      (leads_layers table (All-head (Fits p) table tables fits) (n + 1) (range_with_len 0 (length p.layers)))
-      (subst P place (leads_tables (n + 1) (m + 1) tables (All-tail (Fits p) table tables fits) (omega arith))))
+      let place : n + 1 + length tables ≡ n + suc (length tables) = omega arith in (
+        InTable (n + 1) (prices_of p),
+        tt,
+        refl,
+        is,
+        tt,
+        leads-append (InTable (n + 1) (prices_of p)) (InTable (n + 1) []) (InTable (n + suc (length tables)) [])
+            (flat_map (layer_rows p table) (range_with_len 0 (length p.layers)))
+            (flat_map (table_rows p) (enumerate_from (m + 1) tables))
+            (leads_layers table (All-head (Fits p) table tables fits) (n + 1) (range_with_len 0 (length p.layers)))
+            (subst P place (leads_tables (n + 1) (m + 1) tables (All-tail (Fits p) table tables fits) (omega arith))),
+      )
 
   -- the rows of a document behind its head, from the left
   abbrev pub rest_of_rows : Document → List DocumentRow
@@ -156,7 +175,25 @@ module _ (p : Problem) where
       (tables ++ (shapes ++ EndRow ∷ [])) (leads_blocks d.cost (blocks_of d.plan) text.no_blocks)
       (at_blocks d.cost (tables ++ (shapes ++ EndRow ∷ [])) from_tables) in
       let P : List DocumentRow → Type 0 = λ rows. LeadsTo p AtClaim rows AtEnd in
-      subst P (sym (rest_is d))
-      (AtCost, tt, refl, tt, tt, (AtBound d.cost, tt, refl, tt, tt,
-      (AtNodes d.cost, suits d.cost d.bound (cost_beside d.bound d.cost text.no_cost), refl, tt, tt,
-      (AtBlocks d.cost, tt, refl, tt, tt, from_blocks))))
+      subst P (sym (rest_is d)) (
+        AtCost,
+        tt,
+        refl,
+        tt,
+        tt,
+        (
+          AtBound d.cost,
+          tt,
+          refl,
+          tt,
+          tt,
+          (
+            AtNodes d.cost,
+            suits d.cost d.bound (cost_beside d.bound d.cost text.no_cost),
+            refl,
+            tt,
+            tt,
+            (AtBlocks d.cost, tt, refl, tt, tt, from_blocks),
+          ),
+        ),
+      )

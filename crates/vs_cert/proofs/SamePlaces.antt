@@ -54,11 +54,17 @@ module _ (p : Problem) (names : NameLists) (n : ℕ) (place other : Place) where
   same_row row why same (inr (said, says, inl (order, is))) =
       inr (said, record { says = says.says; suits = same.suits said }, inl (same.order said says.says ∙ order, is))
   same_row row why same (inr (said, says, inr (next, order, inl (number, is)))) =
-      inr (said, record { says = says.says; suits = same.suits said },
-      inr (next, same.order said says.says ∙ order, inl ((λ has. number (same.other_number said has)), is)))
+      inr (
+        said,
+        record { says = says.says; suits = same.suits said },
+        inr (next, same.order said says.says ∙ order, inl ((λ has. number (same.other_number said has)), is)),
+      )
   same_row row why same (inr (said, says, inr (next, order, inr (number, prices, is)))) =
-      inr (said, record { says = says.says; suits = same.suits said },
-      inr (next, same.order said says.says ∙ order, inr (same.number said number, prices, is)))
+      inr (
+        said,
+        record { says = says.says; suits = same.suits said },
+        inr (next, same.order said says.says ∙ order, inr (same.number said number, prices, is)),
+      )
 
   same_rows : (rows : List Row) (at : ℕ) (why : DocWhy) → AreSameFor p names place other (get_or rows 0 [])
       → AreRefusedFrom p names n other rows at why → AreRefusedFrom p names n place rows at why
@@ -112,8 +118,12 @@ pub block_begins : (names : NameLists) (row : Row) (b : LayerBlock) → Says nam
     → BeginsAs (codes "block") row
 block_begins names row b says = record {
   kind_is = ap (λ (r : Row). get_or r 0 []) says.written;
-  many = omega (arith, says.form.some_trip, ap length says.written,
-      length-map b.1 (λ (t : TripNo). name_of names.trips t.0));
+  many = omega (
+    arith,
+    says.form.some_trip,
+    ap length says.written,
+    length-map b.1 (λ (t : TripNo). name_of names.trips t.0),
+  );
 }
 
 order_of_blocks : (p : Problem) (names : NameLists) (cost : Option ℤ) (row : Row)

@@ -68,9 +68,11 @@ module _ (names : List Field) where
       → (k < length s.layers) × (get_or s.layers k 0 < length names)
       × (get_or fields k [] ≡ name_of names (get_or s.layers k 0))
   layer_at fields set s k lt =
-      let within : k < length s.layers = omega (arith, ap length s.fields_are, length-map s.layers (name_of names)) in
-      (within, s.layers_are k 0 within,
-          ap (λ (fs : List Field). get_or fs k []) s.fields_are ∙ get_or-map (name_of names) s.layers k 0 [] within)
+      let within : k < length s.layers = omega (arith, ap length s.fields_are, length-map s.layers (name_of names)) in (
+        within,
+        s.layers_are k 0 within,
+        ap (λ (fs : List Field). get_or fs k []) s.fields_are ∙ get_or-map (name_of names) s.layers k 0 [] within,
+      )
 
   -- a field that names no layer
   pub no_layer : (fields : List Field) (k : ℕ) → k < length fields
@@ -160,13 +162,19 @@ split_says names row trip left field begins is name lt s few =
     omega (arith, begins.many, ap length s.fields_are, length-map s.layers (name_of names.layers), length-drop 2 row) in
     let first = (s.set_is.members (get_or s.layers 0 0)).0 (Contains-get_or s.layers 0 0 some) in
     record {
-      form = (lt, members-some left (get_or s.layers 0 0) (omega (arith, few, s.layers_are 0 0 some)) first,
-          λ l has. All-contains (λ k. k < length names.layers) s.layers l s.layers_are ((s.set_is.members l).1 has));
-      written = (s.layers, s.set_is,
-          two_fields row begins.many
-              ∙ ap (λ (f : Field). f ∷ field_of row 1 ∷ drop 2 row) begins.kind_is
-              ∙ ap (λ (f : Field). codes "split" ∷ f ∷ drop 2 row) (sym is ∙ name)
-              ∙ ap (λ (fs : List Field). codes "split" ∷ name_of names.trips trip.0 ∷ fs) s.fields_are);
+      form = (
+        lt,
+        members-some left (get_or s.layers 0 0) (omega (arith, few, s.layers_are 0 0 some)) first,
+        λ l has. All-contains (λ k. k < length names.layers) s.layers l s.layers_are ((s.set_is.members l).1 has),
+      );
+      written = (
+        s.layers,
+        s.set_is,
+        two_fields row begins.many
+            ∙ ap (λ (f : Field). f ∷ field_of row 1 ∷ drop 2 row) begins.kind_is
+            ∙ ap (λ (f : Field). codes "split" ∷ f ∷ drop 2 row) (sym is ∙ name)
+            ∙ ap (λ (fs : List Field). codes "split" ∷ name_of names.trips trip.0 ∷ fs) s.fields_are,
+      );
     }
 
 -- a row that says a split begins as one

@@ -32,8 +32,8 @@ use Rattle.vs_cert.proofs.PriceRanges.{price_anywhere, prices_in_all, printed}
 below : (n : ℕ) → All (λ k. k < n) (range_with_len 0 n)
 below n = All-from_get_or (λ k. k < n) (range_with_len 0 n) 0
     (λ i within.
-        let i_below : i < n = omega (arith, length-range_with_len 0 n) in
-        omega (arith, get_or-range_with_len 0 n i 0 i_below))
+    let i_below : i < n = omega (arith, length-range_with_len 0 n) in
+    omega (arith, get_or-range_with_len 0 n i 0 i_below))
 
 -- the members of a set whose layers are below so many, each once
 members_are : (left : LayerSet) (layers : ℕ) → layers ≤ 16 → ((l : ℕ) → Has left l → l < layers)
@@ -45,7 +45,7 @@ members_are left layers few below_layers = record {
     (λ among. eqb-true (bit_at left.0 l) 1
         (All-contains (λ k. (bit_at left.0 k == 1) ≡ true) (members left) l
         (filter_passes (λ k. bit_at left.0 k == 1) layer_numbers) among)),
-    (λ has. Contains-members_below left l (omega (arith, below_layers l has)) has)
+    (λ has. Contains-members_below left l (omega (arith, below_layers l has)) has),
   );
 }
 
@@ -62,9 +62,12 @@ module _ (p : Problem) (names : NameLists) (instance : IsInstance p) (counts : H
       (layer, printed _ (price_anywhere table.fleet.items l fits.fleet))
       (All-map (HasForm names) price (permitted_trips p l)
       (All-weaker (λ i. i < length p.trips) (λ i. HasForm names (price i))
-      (λ i i_within. (layer, omega (arith, counts.trips),
-          printed _ (price_anywhere _ i (prices_in_all p l table.into.items fits.into)),
-          printed _ (price_anywhere _ i (prices_in_all p l table.from.items fits.from))))
+      (λ i i_within. (
+        layer,
+        omega (arith, counts.trips),
+        printed _ (price_anywhere _ i (prices_in_all p l table.into.items fits.into)),
+        printed _ (price_anywhere _ i (prices_in_all p l table.from.items fits.from)),
+      ))
       (permitted_trips p l) permitted))
 
   -- of tables numbered from n on

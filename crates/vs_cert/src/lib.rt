@@ -11,8 +11,10 @@ mod text;
 mod writing;
 
 pub use document::Document;
-pub use laws::{documents_are_not_refused, documents_of_rows_are_alike, rows_are_refused_once};
-pub use laws::written_rows_stand_for_their_document;
+pub use laws::{
+    documents_are_not_refused, documents_of_rows_are_alike, rows_are_refused_once,
+    written_rows_stand_for_their_document,
+};
 pub use reading::read;
 pub use refused::{DocError, DocWhy};
 pub use shape::Shape;

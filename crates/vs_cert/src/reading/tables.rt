@@ -15,11 +15,7 @@ use vs_reader::Input;
 use vs_types::{LayerNo, Memory};
 
 /// The tables that stand from a row on, and the row behind them.
-pub fn read_tables(
-    alloc: Global,
-    input: &Input,
-    at: usize,
-) -> Result<(Vec<Table>, usize), DocError>
+pub fn read_tables(alloc: Global, input: &Input, at: usize) -> Result<(Vec<Table>, usize), DocError>
     requires input { IsInput input.now }
     requires row { at ≤ length input.now.rest }
     ensures found { IfOk result (λ r. ReadsTables input.now at r.1 r.0.items) }

@@ -86,7 +86,12 @@ fn head_and_plan_refused(rt: HostRuntime) {
         (2, "bound,none", 16, DocWhy::BadRow),
         (2, "bound,100000000000000000001", 16, DocWhy::BadRow),
         (3, "nodes,18446744073709551616", 17, DocWhy::BadRow),
-        (3, "nodes,340282366920938463463374607431768211456", 17, DocWhy::BadRow),
+        (
+            3,
+            "nodes,340282366920938463463374607431768211456",
+            17,
+            DocWhy::BadRow,
+        ),
         (4, "block,L1", 18, DocWhy::BadRow),
         (4, "block,L1,t3", 18, DocWhy::BadRow),
         (4, "bound,none", 18, DocWhy::OutOfOrder),
@@ -104,7 +109,12 @@ fn tables_refused(rt: HostRuntime) {
         (5, "table,-1,cost", 19, DocWhy::BadRow),
         (6, "fleet,L1,1000000000000000001", 20, DocWhy::PriceRange),
         (6, "fleet,L1,10000000000000000000", 20, DocWhy::BadRow),
-        (7, "price,L1,t1,1000000000000000001,0", 21, DocWhy::PriceRange),
+        (
+            7,
+            "price,L1,t1,1000000000000000001,0",
+            21,
+            DocWhy::PriceRange,
+        ),
         (7, "price,L1,t1,1000000000000000001,-0", 21, DocWhy::BadRow),
         (7, "price,L1,t2,0,-10000", 21, DocWhy::OutOfOrder),
     ];
@@ -142,7 +152,10 @@ fn other_forms_accepted(rt: HostRuntime) -> Result<(), Fail> {
     let cases = [
         (0, "\"result\",1,\"optimal\"\r"),
         (6, "fleet,L1,1000000000000000000"),
-        (9, "table,2,ray\nfleet,L1,0\nprice,L1,t1,0,0\nprice,L1,t2,0,0\nleaf,1"),
+        (
+            9,
+            "table,2,ray\nfleet,L1,0\nprice,L1,t1,0,0\nprice,L1,t2,0,0\nleaf,1",
+        ),
         (9, "split,t2,L1\nleaf,1\nleaf,1"),
     ];
     for (place, rows) in cases {

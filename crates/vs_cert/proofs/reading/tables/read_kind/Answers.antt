@@ -11,7 +11,7 @@ pub returns-in_default-clause-refused : goal.returns-in_default-clause-refused
 returns-in_default-clause-refused c =
     rw c.refusal.ensures
     (bad_row c.args.input.now c.args.row c.requires.row
-    (no_table c.args.input.now.names _ c.requires.kind (c.in_default.ensures.none c.args.input.now.names))
+    (no_table c.args.input.now.names _ c.requires.kind (λ n ray. c.in_default.ensures.none n ray c.args.input.now.names))
     (InTable c.args.before []) (λ e. cc))
 
 pub returns-then-number-before-clause-refused : goal.returns-then-number-before-clause-refused
