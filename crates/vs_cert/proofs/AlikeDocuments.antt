@@ -1,5 +1,5 @@
 -- Documents that the same rows stand for say the same.
-use Rattle.std.proofs.Common.{◌≡◌, ◌≢◌, ℕ, zero, suc, ◌+◌, ◌<◌, ◌≤◌, Bool, true, List, [], ◌∷◌, ◌++◌, length, get_or, map, flat_map, filter, drop, take, refl, sym, ap, ◌∙◌, subst, arith, ℤ, pos, All, eqb, Option, append_assoc, length-append}
+use Rattle.std.proofs.Common.{◌≡◌, ℕ, zero, suc, ◌+◌, ◌<◌, Bool, List, [], ◌∷◌, ◌++◌, length, get_or, map, flat_map, drop, take, refl, sym, ap, ◌∙◌, subst, arith, ℤ, pos, All, eqb, Option, append_assoc, length-append}
 use Rattle.std.specs.Prelude.{Contains}
 use Rattle.std.specs.List.{AllZip, enumerate_from, range_with_len}
 use Rattle.std.specs.Int.{bit_at}
@@ -24,9 +24,9 @@ use Rattle.vs_cert.specs.Alike.{AreAlike}
 use Rattle.vs_cert.specs.declared.document.Document.{Document}
 use Rattle.vs_cert.specs.declared.shape.Shape.{Shape}
 use Rattle.vs_cert.specs.declared.shape.Shape.TheVariants as shape
-use Rattle.vs_cert.specs.DocumentRows.{DocumentRow, ClaimRow, CostRow, BoundRow, NodesRow, BlockRow, TableRow, FleetRow, PriceRow, SplitRow, LeafRow, EndRow, SayAll, head_rows, layer_rows, permitted_trips, rows_of_document, shape_row, table_rows, tables_rows}
+use Rattle.vs_cert.specs.DocumentRows.{DocumentRow, ClaimRow, CostRow, BoundRow, NodesRow, BlockRow, TableRow, FleetRow, PriceRow, SplitRow, LeafRow, EndRow, SayAll, layer_rows, permitted_trips, rows_of_document, shape_row, table_rows, tables_rows}
 use Rattle.vs_cert.specs.DocumentText.{Agree, DocumentText}
-use Rattle.vs_cert.proofs.AcceptedRows.{rest_is, rest_of_rows}
+use Rattle.vs_cert.proofs.AcceptedRows.{rest_is}
 use Rattle.vs_cert.proofs.SaysOnce.{says_once}
 
 -- of equal lists the fronts of equal length are equal, and so are the rests

@@ -1,5 +1,5 @@
 -- The prices of a table that are read layer by layer.
-use Rattle.std.proofs.Common.{◌≡◌, ℕ, zero, suc, ◌+◌, ◌-◌, ◌*◌, ◌<◌, ◌≤◌, Bool, List, [], ◌∷◌, ◌++◌, length, get_or, map, drop, take, refl, sym, ap, ◌∙◌, subst, inl, inr, arith, ℤ, pos, All, flat_map, length-append}
+use Rattle.std.proofs.Common.{◌≡◌, ℕ, suc, ◌+◌, ◌-◌, ◌*◌, ◌<◌, ◌≤◌, Bool, List, [], ◌∷◌, ◌++◌, length, map, drop, take, sym, ap, ◌∙◌, subst, inl, inr, arith, ℤ, pos, All, flat_map, length-append}
 use Rattle.std.specs.List.{range_with_len}
 use Rattle.std.proofs.lemmas.Bool.{cases_lt}
 use Rattle.std.proofs.lemmas.List.{get_or_at, length_push, append-nil, append_assoc, drop_at, take_at, drop-append-le, take-append-le, length-drop}
@@ -9,14 +9,12 @@ use Rattle.vs_instance.specs.Problem.{Problem}
 use Rattle.vs_instance.specs.Ways.{Permitted}
 use Rattle.vs_instance.specs.HoldingTable.{price_of}
 use Rattle.vs_prices.specs.declared.table.Table.{Table}
-use Rattle.vs_prices.specs.Table.{IsPrice, Fits, prices_in}
+use Rattle.vs_prices.specs.Table.{IsPrice, prices_in}
 use Rattle.vs_reader.specs.declared.input.Input.{Input}
 use Rattle.vs_cert.specs.declared.refused.DocError.{DocError}
-use Rattle.vs_cert.specs.declared.limits.TheConstants.{MAX_NUMBER}
-use Rattle.vs_cert.specs.DocumentText.{IsBlankElsewhere}
-use Rattle.vs_cert.specs.DocumentRows.{DocumentRow, FleetRow, SayAll, TableRow, layer_rows, permitted_trips, table_rows}
+use Rattle.vs_cert.specs.DocumentRows.{DocumentRow, FleetRow, SayAll, TableRow, layer_rows, permitted_trips}
 use Rattle.vs_cert.specs.Places.{InTable, PriceOf, Trip, Vehicle, prices_of}
-use Rattle.vs_cert.specs.Reading.{IsEmptyTable, IsRefusedAt, LeadTo, ReadsFleet, ReadsKind, ReadsLayer, ReadsPrices, ReadsTable, SayTo, price_rows, prices_from}
+use Rattle.vs_cert.specs.Reading.{IsEmptyTable, IsRefusedAt, LeadTo, ReadsFleet, ReadsKind, ReadsLayer, ReadsPrices, ReadsTable, price_rows, prices_from}
 use Rattle.vs_cert.proofs.RefusedRows.{lead_on, say_on}
 
 -- the rows of prices from a layer on, and where no layer is left

@@ -1,5 +1,5 @@
 -- The prices of a layer that are read trip by trip.
-use Rattle.std.proofs.Common.{◌≡◌, ◌≢◌, ℕ, zero, suc, ◌+◌, ◌-◌, ◌<◌, ◌≤◌, Bool, true, false, cond, List, [], ◌∷◌, ◌++◌, length, get_or, map, drop, refl, sym, ap, ◌∙◌, subst, inl, inr, arith, ℤ, pos, All, eqb, filter, rules, ◌↔◌, to_z, of_z, w64}
+use Rattle.std.proofs.Common.{◌≡◌, ℕ, suc, ◌+◌, ◌-◌, ◌<◌, ◌≤◌, Bool, true, false, cond, List, [], ◌∷◌, ◌++◌, length, map, drop, refl, sym, ap, ◌∙◌, subst, inl, inr, arith, ℤ, pos, All, eqb, filter, rules, ◌↔◌, to_z, of_z, w64}
 use Rattle.std.specs.Int.{bit_at}
 use Rattle.std.specs.List.{range_with_len}
 use Rattle.std.proofs.lemmas.Bool.{cases_lt, eq-eqb, ne_eqb, false≢true}
@@ -16,7 +16,7 @@ use Rattle.vs_reader.specs.declared.input.Input.{Input}
 use Rattle.vs_cert.specs.declared.refused.DocError.{DocError}
 use Rattle.vs_cert.specs.DocumentRows.{DocumentRow, PriceRow, SayAll, permitted_trips}
 use Rattle.vs_cert.specs.Places.{PriceOf, Trip, InTable}
-use Rattle.vs_cert.specs.Reading.{IsRefusedAt, LeadTo, ReadsPrice, ReadsPrices, SayTo, price_rows, trips_from}
+use Rattle.vs_cert.specs.Reading.{IsRefusedAt, LeadTo, ReadsPrice, ReadsPrices, price_rows, trips_from}
 use Rattle.vs_cert.proofs.PriceRows.{as_word}
 
 abbrev may_run : Problem → ℕ → ℕ → Bool

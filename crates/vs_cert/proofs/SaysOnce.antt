@@ -1,6 +1,5 @@
 -- A row says one thing.
-use Rattle.std.proofs.Common.{◌≡◌, ◌≢◌, ℕ, zero, suc, ◌+◌, ◌<◌, ◌≤◌, Bool, true, false, List, [], ◌∷◌, length, get_or, map, drop, refl, sym, ap, ◌∙◌, subst, inl, inr, arith, All, Option, Some, None, ℤ, pos, negsuc, codes, ◌↔◌}
-use Rattle.std.specs.Prelude.{Contains}
+use Rattle.std.proofs.Common.{◌≡◌, ℕ, ◌<◌, ◌≤◌, Bool, true, false, List, [], ◌∷◌, length, get_or, map, drop, refl, sym, ap, ◌∙◌, subst, inl, inr, arith, All, Option, Some, None, ℤ, pos, negsuc, codes}
 use Rattle.std.specs.Fmt.{signed_decimal}
 use Rattle.std.specs.Int.{bit_at}
 use Rattle.std.proofs.lemmas.Bool.{cases_eq}
@@ -18,7 +17,7 @@ use Rattle.vs_reader.specs.Rows.{Field, Row, field_of}
 use Rattle.vs_reader.specs.Names.{NameLists, name_of}
 use Rattle.vs_reader.specs.NameRules.{AreNames}
 use Rattle.vs_cert.specs.declared.limits.TheConstants.{MAX_BOUND, MAX_PRINTED_PRICE}
-use Rattle.vs_cert.specs.DocumentRows.{AreLayersOf, DocumentRow, ClaimRow, CostRow, BoundRow, NodesRow, BlockRow, TableRow, FleetRow, PriceRow, SplitRow, LeafRow, EndRow, HasForm, IsBetween, IsNamedBlock, IsWithin, Says, claim_field, kind_field, number_field, written_row}
+use Rattle.vs_cert.specs.DocumentRows.{AreLayersOf, DocumentRow, ClaimRow, CostRow, BoundRow, NodesRow, BlockRow, TableRow, FleetRow, PriceRow, SplitRow, LeafRow, EndRow, HasForm, IsWithin, Says, claim_field, kind_field, number_field, written_row}
 use Rattle.vs_cert.proofs.Names.{name_once, same_trips}
 use Rattle.vs_cert.proofs.Numbers.{digit_of, same_number, same_signed, starts}
 

@@ -1,6 +1,6 @@
 -- The fields that name the layers of a split.
 use Rattle.std.proofs.Common.{◌≡◌, ◌≢◌, true, codes, ℕ, ◌+◌, ◌-◌, ◌/◌, ◌%◌, ◌^◌, ◌<◌, ◌≤◌, List, [], ◌∷◌, ◌++◌, length, get_or, map, take, drop, refl, sym, ap, ◌∙◌, subst, inl, inr, arith, All, ◌↔◌, ◌⊎◌}
-use Rattle.std.specs.Prelude.{AllPairs, Contains, ◌==◌}
+use Rattle.std.specs.Prelude.{Contains, ◌==◌}
 use Rattle.std.specs.Int.{bit_at}
 use Rattle.std.proofs.lemmas.Bool.{eqb-true}
 use Rattle.std.proofs.lemmas.List.{get_or-map, map_push, length-map, take_all, take_more, get_or-drop, get_or-take, length-drop, length-take}
@@ -15,7 +15,7 @@ use Rattle.vs_reader.specs.Rows.{Field, Row, field_of}
 use Rattle.vs_reader.specs.Names.{NameLists, name_of}
 use Rattle.vs_reader.specs.NameRules.{AreNames}
 use Rattle.vs_cert.specs.RowForms.{BeginsAs, NameSet}
-use Rattle.vs_cert.specs.DocumentRows.{AreLayersOf, Says, SplitRow}
+use Rattle.vs_cert.specs.DocumentRows.{Says, SplitRow}
 use Rattle.vs_cert.proofs.Names.{name_once}
 
 module _ (names : List Field) where

@@ -10,7 +10,6 @@ use Rattle.vs_prices.specs.declared.table.Table.{Table}
 use Rattle.vs_reader.specs.declared.input.Input.{Input}
 use Rattle.vs_reader.specs.Names.{HaveCounts}
 use Rattle.vs_reader.specs.Rows.{AreCounted, row_of}
-use Rattle.vs_cert.specs.declared.refused.DocWhy.{DocWhy}
 use Rattle.vs_cert.specs.declared.refused.DocError.{DocError}
 use Rattle.vs_cert.specs.declared.refused.DocError.TheVariants as error
 use Rattle.vs_instance.specs.Plan.{LayerBlock}

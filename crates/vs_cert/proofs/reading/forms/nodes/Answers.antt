@@ -1,4 +1,4 @@
-use Rattle.std.proofs.Common.{arith, pos, List, ap, get_or, ◌∙◌, []}
+use Rattle.std.proofs.Common.{arith, pos, ap, get_or, ◌∙◌, []}
 use Rattle.std.proofs.lemmas.Int.{ints}
 use Rattle.vs_reader.specs.Rows.{Row}
 use Rattle.vs_cert.proofs.reading.forms.nodes.Goals as goal

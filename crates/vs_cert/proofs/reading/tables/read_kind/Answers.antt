@@ -1,8 +1,7 @@
-use Rattle.std.proofs.Common.{◌≡◌, ℕ, ◌+◌, [], ◌∷◌, refl, arith, subst, sym}
+use Rattle.std.proofs.Common.{◌≡◌, ℕ, ◌+◌, [], refl, arith, subst}
 use Rattle.vs_reader.specs.Rows.{row_of}
 use Rattle.vs_cert.specs.DocumentRows.{TableRow, Says}
 use Rattle.vs_cert.specs.Places.{InTable, prices_of}
-use Rattle.vs_cert.specs.Reading.{ReadsKind}
 use Rattle.vs_cert.proofs.RefusedRows.{bad_row, reads_one, wrong_number}
 use Rattle.vs_cert.proofs.SamePlaces.{no_table}
 use Rattle.vs_cert.proofs.reading.tables.read_kind.Goals as goal
