@@ -1,5 +1,5 @@
 -- The rows of a document: what each says, and how it is written.
-use Rattle.std.specs.Prelude.{◌≡◌, ◌≢◌, ℕ, ◌+◌, ◌<◌, ◌≤◌, Bool, if◌then◌else◌, List, [], ◌∷◌, ◌++◌, length, map, filter, flat_map, All, AllPairs, Contains, codes, decimal, ◌==◌, ◌↔◌, ℤ, pos, neg_ℤ, ◌≤ℤ◌, Option, Some, None, IfSome, ◌^◌}
+use Rattle.std.specs.Prelude.{◌≡◌, ◌≢◌, ℕ, ◌+◌, ◌<◌, ◌≤◌, Bool, if◌then◌else◌, List, [], ◌∷◌, ◌++◌, length, map, filter, flat_map, All, AllPairs, Contains, codes, decimal, ◌==◌, ◌↔◌, ℤ, pos, neg_ℤ, ◌≤ℤ◌, Option, Some, None, IfSome}
 use Rattle.std.specs.Fmt.{signed_decimal}
 use Rattle.std.specs.Int.{bit_at}
 use Rattle.std.specs.List.{enumerate_from, range_with_len}

@@ -1,5 +1,5 @@
 -- The documents that rows stand for.
-use Rattle.std.specs.Prelude.{◌≡◌, ℕ, ◌<◌, ◌≤◌, List, [], length, All, ℤ, pos, IfSome, IfNone, None}
+use Rattle.std.specs.Prelude.{◌≡◌, ℕ, ◌<◌, ◌≤◌, List, [], length, All, pos, IfSome, IfNone, None}
 use Rattle.vs_instance.specs.Problem.{Problem}
 use Rattle.vs_instance.specs.Ways.{Permitted}
 use Rattle.vs_plan.specs.Blocks.{IsOfInstance, blocks_of}

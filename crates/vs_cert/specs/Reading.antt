@@ -1,5 +1,5 @@
 -- How far the rows of a document have been read.
-use Rattle.std.specs.Prelude.{ℕ, suc, ◌+◌, Bool, ◌<◌, ◌≤◌, ◌-◌, ◌==◌, ◌++◌, List, [], ◌∷◌, length, map, drop, filter, flat_map, ◌≡◌, All, ℤ, pos, Option, None, IfSome, IfNone}
+use Rattle.std.specs.Prelude.{ℕ, suc, ◌+◌, Bool, ◌<◌, ◌≤◌, ◌-◌, ◌==◌, ◌++◌, List, [], ◌∷◌, length, map, drop, filter, flat_map, ◌≡◌, ◌≢◌, All, ℤ, pos, Option, None, IfSome, IfNone}
 use Rattle.std.specs.Int.{bit_at}
 use Rattle.std.specs.List.{range_with_len}
 use Rattle.vs_instance.specs.Problem.{Problem}
@@ -10,20 +10,20 @@ use Rattle.vs_prices.specs.declared.table.Table.{Table}
 use Rattle.vs_reader.specs.declared.input.Input.{Input}
 use Rattle.vs_reader.specs.Names.{HaveCounts}
 use Rattle.vs_reader.specs.Rows.{AreCounted, row_of}
-use Rattle.vs_cert.specs.declared.refused.DocWhy.{DocWhy}
 use Rattle.vs_cert.specs.declared.refused.DocError.{DocError}
 use Rattle.vs_cert.specs.declared.refused.DocError.TheVariants as error
 use Rattle.vs_instance.specs.Plan.{LayerBlock}
 use Rattle.vs_plan.specs.Blocks.{IsOfInstance}
+use Rattle.vs_cert.specs.declared.document.Document.{Document}
 use Rattle.vs_cert.specs.declared.limits.TheConstants.{MAX_COST, MAX_BOUND, MAX_NODES, MAX_NUMBER}
 use Rattle.vs_cert.specs.declared.reading.head.Head.{Head}
 use Rattle.vs_cert.specs.declared.shape.Shape.{Shape}
 use Rattle.vs_cert.specs.declared.shape.Shape.TheVariants as shape
-use Rattle.vs_cert.specs.DocumentText.{IsBlankElsewhere}
+use Rattle.vs_cert.specs.DocumentText.{DocumentText, IsBlankElsewhere}
 use Rattle.vs_cert.specs.Shapes.{AreTree, IsShapeOf}
 use Rattle.vs_cert.specs.DocumentRows.{DocumentRow, ClaimRow, CostRow, BoundRow, NodesRow, BlockRow, TableRow, EndRow, Says, FleetRow, PriceRow, SayAll, permitted_trips, table_rows, tables_rows, shape_row, IsBetween, IsWithin}
-use Rattle.vs_cert.specs.DocumentRefusals.{AreRefusedFrom}
-use Rattle.vs_cert.specs.Places.{Place, AtClaim, AtBlocks, InTree, PriceOf, Vehicle, Trip, InTable, prices_of}
+use Rattle.vs_cert.specs.DocumentRefusals.{AreRefusedFrom, IsRefusal}
+use Rattle.vs_cert.specs.Places.{Place, AtEnd, AtClaim, AtBlocks, InTree, PriceOf, Vehicle, Trip, InTable, prices_of}
 
 -- the names are the instance's, and 32 bits count the records
 pub record IsInput (input : Input) : Type 0 where
@@ -35,6 +35,14 @@ abbrev pub IsRefusedAt : Input → ℕ → Place → DocError → Type 0
 IsRefusedAt input at place (error.Refused row why) =
     AreRefusedFrom input.instance input.names (input.before + 1 + at) place (drop at input.rest) row why
 IsRefusedAt input at place error.Memory = Unit {0}
+
+-- it is so wherever that row comes
+abbrev pub IsRefusedAnywhere : Input → ℕ → DocError → Type 0
+IsRefusedAnywhere input at e = (place : Place) → place ≢ AtEnd → IsRefusedAt input at place e
+
+-- in a tree of which some part is still to come
+abbrev pub IsRefusedInTree : Input → ℕ → ℕ → DocError → Type 0
+IsRefusedInTree input at tables e = (parts : ℕ) → IsRefusedAt input at (InTree tables (suc parts)) e
 
 -- the rows from one on to before another say this
 pub record SayTo (input : Input) (at : ℕ) (said : List DocumentRow) (to : ℕ) : Type 0 where
@@ -170,6 +178,25 @@ pub record ReadsBlocks (input : Input) (at : ℕ) (cost : Option ℤ) (to : ℕ)
   pub of_instance : All (IsOfInstance input.instance) blocks
   pub no_blocks : IfNone cost (blocks ≡ [])
   pub reads : ReadsTo input at (AtBlocks cost) (map BlockRow blocks) to (InTable 0 [])
+
+-- one row says this, and leads to another place
+abbrev pub ReadsRow : Input → ℕ → Place → DocumentRow → Place → Type 0
+ReadsRow input at place said next = ReadsTo input at place (said ∷ []) (at + 1) next
+
+-- the rows stand for the document, and are refused so
+abbrev pub IsDocumentOf : Input → Document → Type 0
+IsDocumentOf input d = DocumentText input.instance input.names input.rest d
+
+abbrev pub IsRefusalOf : Input → DocError → Type 0
+IsRefusalOf input e = IsRefusal input.instance input.names input.before input.rest e
+
+-- in the rows of layer l, and in those of its trips
+abbrev pub IsRefusedInLayer : Input → ℕ → ℕ → DocError → Type 0
+IsRefusedInLayer input at l e = (n : ℕ) → IsRefusedAt input at (InTable n (prices_from input.instance l)) e
+
+abbrev pub IsRefusedInTrips : Input → ℕ → ℕ → DocError → Type 0
+IsRefusedInTrips input at l e = (n : ℕ) (later : List PriceOf)
+    → IsRefusedAt input at (InTable n (map (Trip l) (permitted_trips input.instance l) ++ later)) e
 
 -- the first four rows are these
 pub record ReadsHead (input : Input) (head : Head) : Type 0 where

@@ -3,11 +3,12 @@ use Rattle.std.specs.Prelude.{◌≡◌, ℕ, ◌<◌, ◌≤◌, List, length, 
 use Rattle.vs_types.specs.declared.layer_set.LayerSet.{LayerSet}
 use Rattle.vs_types.specs.declared.numbers.TripNo.{TripNo}
 use Rattle.vs_plan.specs.Blocks.{pair_of}
-use Rattle.vs_reader.specs.Rows.{Field, Row, field_of}
-use Rattle.vs_reader.specs.Names.{name_of}
+use Rattle.vs_reader.specs.Rows.{Field, Row, field_of, row_of}
+use Rattle.vs_reader.specs.Names.{NameLists, name_of}
+use Rattle.vs_reader.specs.declared.input.Input.{Input}
 use Rattle.vs_cert.specs.declared.reading.said.Said.{Said}
 use Rattle.vs_cert.specs.declared.reading.said.Said.TheVariants as said
-use Rattle.vs_cert.specs.DocumentRows.{DocumentRow, ClaimRow, CostRow, BoundRow, NodesRow, BlockRow, TableRow, FleetRow, PriceRow, SplitRow, LeafRow, EndRow, AreLayersOf}
+use Rattle.vs_cert.specs.DocumentRows.{DocumentRow, ClaimRow, CostRow, BoundRow, NodesRow, BlockRow, TableRow, FleetRow, PriceRow, SplitRow, LeafRow, EndRow, AreLayersOf, Says}
 
 -- what the row says
 abbrev pub row_said : Said → DocumentRow
@@ -22,6 +23,24 @@ row_said (said.Price layer trip into from) = PriceRow layer.0 trip.0 into from
 row_said (said.Split trip left) = SplitRow trip left
 row_said (said.Leaf number) = LeafRow number
 row_said said.End = EndRow
+
+-- row k says this, whatever the names are, or never does
+abbrev pub Tells : List Row → ℕ → DocumentRow → Type 0
+Tells rows k said = (names : NameLists) → Says names (row_of rows k) said
+
+abbrev pub NeverTells : List Row → ℕ → DocumentRow → Type 0
+NeverTells rows k said = (names : NameLists) → ¬ (Says names (row_of rows k) said)
+
+-- row k of the input's rest says this
+abbrev pub SaysThere : Input → ℕ → DocumentRow → Type 0
+SaysThere input k said = Says input.names (row_of input.rest k) said
+
+-- the field is the name of this number, and of none
+abbrev pub IsNameOf : List Field → Field → ℕ → Type 0
+IsNameOf names field k = (k < length names) × (field ≡ name_of names k)
+
+abbrev pub IsNoName : List Field → Field → Type 0
+IsNoName names field = (k : ℕ) → k < length names → ¬ (field ≡ name_of names k)
 
 -- a row of so many fields, of which the first says its kind
 pub record IsOfKind (kind : Field) (fields : ℕ) (row : Row) : Type 0 where

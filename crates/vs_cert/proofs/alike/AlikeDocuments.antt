@@ -1,5 +1,5 @@
 -- Documents that the same rows stand for say the same.
-use Rattle.std.proofs.Common.{◌≡◌, ◌≢◌, ℕ, zero, suc, ◌+◌, ◌<◌, ◌≤◌, Bool, true, List, [], ◌∷◌, ◌++◌, length, get_or, map, flat_map, filter, drop, take, refl, sym, ap, ◌∙◌, subst, arith, ℤ, pos, All, eqb, Option, append_assoc, length-append}
+use Rattle.std.proofs.Common.{◌≡◌, ℕ, zero, suc, ◌+◌, ◌<◌, Bool, List, [], ◌∷◌, ◌++◌, length, get_or, map, flat_map, drop, take, refl, sym, ap, ◌∙◌, subst, arith, ℤ, pos, All, eqb, Option, append_assoc, length-append}
 use Rattle.std.specs.Prelude.{Contains}
 use Rattle.std.specs.List.{AllZip, enumerate_from, range_with_len}
 use Rattle.std.specs.Int.{bit_at}
@@ -24,9 +24,9 @@ use Rattle.vs_cert.specs.Alike.{AreAlike}
 use Rattle.vs_cert.specs.declared.document.Document.{Document}
 use Rattle.vs_cert.specs.declared.shape.Shape.{Shape}
 use Rattle.vs_cert.specs.declared.shape.Shape.TheVariants as shape
-use Rattle.vs_cert.specs.DocumentRows.{DocumentRow, ClaimRow, CostRow, BoundRow, NodesRow, BlockRow, TableRow, FleetRow, PriceRow, SplitRow, LeafRow, EndRow, SayAll, head_rows, layer_rows, permitted_trips, rows_of_document, shape_row, table_rows, tables_rows}
+use Rattle.vs_cert.specs.DocumentRows.{DocumentRow, ClaimRow, CostRow, BoundRow, NodesRow, BlockRow, TableRow, FleetRow, PriceRow, SplitRow, LeafRow, EndRow, SayAll, layer_rows, permitted_trips, rows_of_document, shape_row, table_rows, tables_rows}
 use Rattle.vs_cert.specs.DocumentText.{Agree, DocumentText}
-use Rattle.vs_cert.proofs.rows.AcceptedRows.{rest_is, rest_of_rows}
+use Rattle.vs_cert.proofs.rows.AcceptedRows.{rest_is}
 use Rattle.vs_cert.proofs.rows.SaysOnce.{says_once}
 
 -- of equal lists the fronts of equal length are equal, and so are the rests
@@ -114,7 +114,7 @@ same_shapes (s ∷ ss) [] e =
     absurd (no_end s (same_first (shape_row s) EndRow (map shape_row ss ++ EndRow ∷ []) [] e).0)
 same_shapes (s ∷ ss) (t ∷ ts) e =
     let parts = same_first (shape_row s) (shape_row t) (map shape_row ss ++ EndRow ∷ []) (map shape_row ts
-    ++ EndRow ∷ []) e in
+        ++ EndRow ∷ []) e in
     ap (λ (x : Shape). x ∷ ss) (same_shape s t parts.0) ∙ ap (λ (x : List Shape). t ∷ x) (same_shapes ss ts parts.1)
 
 -- equal rows for each of some numbers are equal one by one
@@ -202,7 +202,7 @@ module _ (p : Problem) where
       let parts = same_fronts (table_rows p (n, t)) (more_t ++ xs) (table_rows p (n, u)) (more_u ++ ys) size
       (sym (append_assoc (table_rows p (n, t)) more_t xs) ∙ e ∙ append_assoc (table_rows p (n, u)) more_u ys) in
       let rest = same_tables (n + 1) ts us xs ys (All-tail (Fits p) t ts a) (All-tail
-      (Fits p) u us b) no_x no_y parts.1 in
+          (Fits p) u us b) no_x no_y parts.1 in
       ((same_table p t u n (All-head (Fits p) t ts a) (All-head (Fits p) u us b) parts.0, rest.0), rest.1)
 
   end_no_block : (ss : List Shape) → NoBlock (map shape_row ss ++ EndRow ∷ [])
@@ -236,7 +236,7 @@ module _ (p : Problem) where
       → DocumentText p names rows d → DocumentText p names rows e → AreAlike p d e
   alike names rows d e layers trips one two =
       let same = say_once names layers trips rows (rows_of_document p d)
-      (rows_of_document p e) one.rows_say two.rows_say in
+          (rows_of_document p e) one.rows_say two.rows_say in
       let all = sym (rest_is p d) ∙ same ∙ rest_is p e in
       let claim = same_first (ClaimRow d.claim) (ClaimRow e.claim) _ _ all in
       let cost = same_first (CostRow d.cost) (CostRow e.cost) _ _ claim.1 in

@@ -13,7 +13,7 @@ use Rattle.vs_reader.specs.Names.{HaveCounts}
 use Rattle.vs_reader.specs.declared.input.Input.{Input}
 use Rattle.vs_cert.specs.DocumentRows.{BlockRow, DocumentRow, IsNamedBlock, Says}
 use Rattle.vs_cert.specs.Places.{AtBlocks, InTable}
-use Rattle.vs_cert.specs.Reading.{LeadTo, ReadsBlocks, ReadsTo}
+use Rattle.vs_cert.specs.Reading.{ReadsBlocks, ReadsTo}
 use Rattle.vs_cert.specs.RowForms.{BeginsAs}
 use Rattle.vs_cert.proofs.rows.RefusedRows.{lead_on, read_on, reads_none, reads_one}
 use Rattle.vs_cert.proofs.parts.SamePlaces.{blocks_end}

@@ -11,9 +11,9 @@ use Rattle.vs_reader.specs.declared.input.Input.{Input}
 use Rattle.vs_cert.specs.declared.refused.DocWhy.TheVariants.{OutOfOrder, PriceRange}
 use Rattle.vs_cert.specs.declared.refused.DocError.TheVariants as error
 use Rattle.vs_cert.specs.declared.limits.TheConstants.{MAX_PRINTED_PRICE}
-use Rattle.vs_cert.specs.DocumentRows.{DocumentRow, FleetRow, IsWithin, PriceRow, Says}
-use Rattle.vs_cert.specs.Places.{Place, PriceOf, Trip, Vehicle, InTable, behind}
-use Rattle.vs_cert.specs.Reading.{IsRefusedAt, ReadsFleet, ReadsPrice, SayTo}
+use Rattle.vs_cert.specs.DocumentRows.{FleetRow, IsWithin, PriceRow, Says}
+use Rattle.vs_cert.specs.Places.{PriceOf, Trip, Vehicle, InTable, behind}
+use Rattle.vs_cert.specs.Reading.{IsRefusedAt, ReadsFleet, ReadsPrice}
 use Rattle.vs_cert.proofs.rows.RefusedRows.{leads_one, no_prices, out_of_order, says_one}
 
 -- a price as a number of 64 bits

@@ -1,5 +1,5 @@
 -- Places at which the same rows come.
-use Rattle.std.proofs.Common.{◌≡◌, ◌≢◌, ℕ, suc, ◌+◌, ◌<◌, List, [], ◌∷◌, length, drop, get_or, refl, sym, ap, ◌∙◌, subst, inl, inr, ◌⊎◌, Some, None, Option, ℤ, arith, codes, IsSome, Bool}
+use Rattle.std.proofs.Common.{◌≡◌, ◌≢◌, ℕ, suc, ◌+◌, List, [], ◌∷◌, length, drop, get_or, refl, sym, ap, ◌∙◌, subst, inl, inr, ◌⊎◌, Some, None, Option, ℤ, arith, codes, IsSome, Bool}
 use Rattle.vs_instance.specs.Problem.{Problem}
 use Rattle.vs_instance.specs.Plan.{LayerBlock}
 use Rattle.std.proofs.lemmas.List.{get_or-drop, length-map}
@@ -15,8 +15,8 @@ use Rattle.vs_cert.specs.declared.refused.DocError.TheVariants as error
 use Rattle.vs_cert.specs.declared.reading.said.Said.{Said}
 use Rattle.vs_cert.specs.declared.reading.said.Said.TheVariants as said
 use Rattle.vs_cert.specs.DocumentRows.{DocumentRow, BlockRow, TableRow, LeafRow, Says}
-use Rattle.vs_cert.specs.DocumentRefusals.{AreRefusedFrom, IsAccepted, IsRefusedRow, SaysAt}
-use Rattle.vs_cert.specs.Places.{Place, AtEnd, AtBlocks, InTable, InTree, HasNumber, HasPrices, SuitsCost, behind}
+use Rattle.vs_cert.specs.DocumentRefusals.{AreRefusedFrom, IsAccepted, IsRefusedRow}
+use Rattle.vs_cert.specs.Places.{Place, AtEnd, AtBlocks, InTable, InTree, HasNumber, SuitsCost, behind}
 use Rattle.vs_cert.specs.Reading.{IsRefusedAt, LeadTo}
 use Rattle.vs_cert.specs.RowForms.{BeginsAs, IsOfKind, row_said}
 use Rattle.vs_cert.proofs.rows.RefusedRows.{ends_early, refused_here, refused_behind}

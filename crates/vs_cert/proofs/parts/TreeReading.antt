@@ -1,5 +1,5 @@
 -- A tree that is read part by part.
-use Rattle.std.proofs.Common.{◌≡◌, ◌≢◌, ℕ, zero, suc, ◌+◌, ◌-◌, ◌<◌, ◌≤◌, List, [], ◌∷◌, ◌++◌, length, map, flat_map, drop, refl, sym, ap, ◌∙◌, subst, arith, All, append_assoc, append-nil}
+use Rattle.std.proofs.Common.{◌≡◌, ℕ, zero, suc, ◌+◌, ◌-◌, ◌<◌, ◌≤◌, List, [], ◌∷◌, ◌++◌, length, map, flat_map, refl, sym, ap, ◌∙◌, subst, arith, All, append_assoc, append-nil}
 use Rattle.std.proofs.lemmas.List.{drop_more, map_push}
 use Rattle.std.proofs.lemmas.List.Elements.{All-push, All-nil}
 use Rattle.vs_types.specs.declared.layer_set.LayerSet.{LayerSet}
@@ -15,8 +15,8 @@ use Rattle.vs_cert.specs.declared.shape.Shape.{Shape}
 use Rattle.vs_cert.specs.declared.shape.Shape.TheVariants as shape
 use Rattle.vs_cert.specs.DocumentRefusals.{AreRefusedFrom}
 use Rattle.vs_cert.specs.DocumentRows.{DocumentRow, HasForm, LeafRow, Says, SplitRow, shape_row}
-use Rattle.vs_cert.specs.Places.{Place, AtEnd, InTree}
-use Rattle.vs_cert.specs.Reading.{IsRefusedAt, LeadTo, ReadsPart, ReadsTo, ReadsTree, SayTo, parts_behind}
+use Rattle.vs_cert.specs.Places.{AtEnd, InTree}
+use Rattle.vs_cert.specs.Reading.{IsRefusedAt, ReadsPart, ReadsTo, ReadsTree, SayTo, parts_behind}
 use Rattle.vs_cert.specs.Shapes.{AreTree, IsShapeOf, preorder}
 use Rattle.vs_cert.proofs.rows.RefusedRows.{leads_one, read_on, reads_none, refused_at_the_end, says_one}
 

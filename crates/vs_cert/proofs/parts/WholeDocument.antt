@@ -8,7 +8,7 @@ use Rattle.vs_reader.specs.Names.{NameLists, name_of}
 use Rattle.vs_reader.specs.Rows.{Row, all_fields, row_of}
 use Rattle.vs_reader.specs.declared.input.Input.{Input}
 use Rattle.vs_cert.specs.declared.shape.Shape.{Shape}
-use Rattle.vs_cert.specs.DocumentRows.{DocumentRow, ClaimRow, CostRow, BoundRow, NodesRow, BlockRow, TableRow, FleetRow, PriceRow, SplitRow, LeafRow, EndRow, SayAll, Says, shape_row}
+use Rattle.vs_cert.specs.DocumentRows.{DocumentRow, BlockRow, EndRow, SayAll, Says, shape_row}
 use Rattle.vs_cert.specs.Reading.{IsInput, IsLast, ReadsTree, SayTo}
 
 -- the last row says `end`

@@ -1,5 +1,5 @@
 -- The rows of a document lead from its claim to behind its end.
-use Rattle.std.proofs.Common.{◌≡◌, ◌≢◌, ℕ, zero, suc, ◌+◌, ◌<◌, ◌≤◌, List, [], ◌∷◌, ◌++◌, length, map, flat_map, refl, sym, ap, ◌∙◌, subst, arith, ℤ, All, Some, None, Option, append_assoc, length-append}
+use Rattle.std.proofs.Common.{◌≡◌, ℕ, suc, ◌+◌, ◌<◌, List, [], ◌∷◌, ◌++◌, length, map, flat_map, refl, sym, ap, ◌∙◌, subst, arith, ℤ, All, Some, None, Option, append_assoc, length-append}
 use Rattle.std.specs.Prelude.{IfNone}
 use Rattle.std.specs.List.{enumerate_from, range_with_len}
 use Rattle.std.proofs.lemmas.List.{get_or_append_left, map-append}
@@ -7,13 +7,13 @@ use Rattle.std.proofs.lemmas.List.Elements.{All-head, All-tail}
 use Rattle.vs_instance.specs.Plan.{LayerBlock}
 use Rattle.vs_instance.specs.Problem.{Problem}
 use Rattle.vs_plan.specs.Blocks.{blocks_of}
-use Rattle.vs_prices.specs.Table.{Fits, IsPrice, into_price, from_price, vehicle_price}
+use Rattle.vs_prices.specs.Table.{Fits, into_price, from_price, vehicle_price}
 use Rattle.vs_prices.specs.declared.table.Table.{Table}
 use Rattle.vs_tree.specs.Tree.{Tree, Leaf, Split}
 use Rattle.vs_cert.specs.declared.document.Document.{Document}
 use Rattle.vs_cert.specs.declared.shape.Shape.{Shape}
 use Rattle.vs_cert.specs.declared.shape.Shape.TheVariants as shape
-use Rattle.vs_cert.specs.DocumentRows.{DocumentRow, ClaimRow, CostRow, BoundRow, NodesRow, BlockRow, TableRow, FleetRow, PriceRow, SplitRow, LeafRow, EndRow, head_rows, layer_rows, permitted_trips, rows_of_document, shape_row, table_rows, tables_rows}
+use Rattle.vs_cert.specs.DocumentRows.{DocumentRow, BlockRow, TableRow, PriceRow, EndRow, head_rows, layer_rows, permitted_trips, rows_of_document, shape_row, table_rows, tables_rows}
 use Rattle.vs_cert.specs.DocumentText.{HasText}
 use Rattle.vs_cert.specs.Places.{Place, AtClaim, AtCost, AtBound, AtNodes, AtBlocks, InTable, InTree, AtEnd, PriceOf, Trip, Vehicle, HasNumber, HasPrices, SuitsCost, behind, prices_of}
 use Rattle.vs_cert.specs.Shapes.{IsShapeOf, preorder}

@@ -2,7 +2,7 @@
 use Rattle.std.proofs.Common.{◌≡◌, ◌<◌, List, [], ℕ, ◌+◌, ℤ, Option, Some, None, get_or, sym, ap, ◌∙◌, arith, length, inl, refl, true, false}
 use Rattle.std.specs.Option.{is_some}
 use Rattle.std.proofs.lemmas.Bool.{false≢true}
-use Rattle.vs_reader.specs.Rows.{Row, field_of, row_of}
+use Rattle.vs_reader.specs.Rows.{Row, row_of}
 use Rattle.vs_reader.specs.Names.{NameLists}
 use Rattle.vs_reader.specs.declared.input.Input.{Input}
 use Rattle.vs_cert.specs.declared.refused.DocWhy.TheVariants.{BadRow}

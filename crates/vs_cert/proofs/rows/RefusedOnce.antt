@@ -8,10 +8,10 @@ use Rattle.vs_cert.specs.declared.document.Document.{Document}
 use Rattle.vs_cert.specs.declared.refused.DocWhy.{DocWhy}
 use Rattle.vs_cert.specs.declared.refused.DocError.{DocError}
 use Rattle.vs_cert.specs.declared.refused.DocError.TheVariants as error
-use Rattle.vs_cert.specs.DocumentRows.{DocumentRow, SayAll, Says, rows_of_document}
-use Rattle.vs_cert.specs.DocumentRefusals.{AreRefused, AreRefusedFrom, IsAccepted, IsRefusal, IsRefusedError, IsRefusedRow, IsRefusedSaying, SaysAt}
+use Rattle.vs_cert.specs.DocumentRows.{DocumentRow, SayAll, rows_of_document}
+use Rattle.vs_cert.specs.DocumentRefusals.{AreRefused, AreRefusedFrom, IsAccepted, IsRefusal, IsRefusedError, IsRefusedRow, IsRefusedSaying}
 use Rattle.vs_cert.specs.DocumentText.{DocumentText}
-use Rattle.vs_cert.specs.Places.{Place, AtClaim, AtCost, AtBound, AtNodes, AtBlocks, InTable, InTree, AtEnd, HasNumber, HasPrices, SuitsCost, behind}
+use Rattle.vs_cert.specs.Places.{Place, AtClaim, AtCost, AtBound, AtNodes, AtBlocks, InTable, InTree, AtEnd, HasNumber, HasPrices, behind}
 use Rattle.vs_cert.proofs.rows.AcceptedRows.{LeadsTo, leads_document}
 use Rattle.vs_cert.proofs.parts.SamePlaces.{refused_none, refused_some}
 use Rattle.vs_cert.proofs.rows.SaysOnce.{says_once}

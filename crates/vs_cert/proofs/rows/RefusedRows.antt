@@ -1,17 +1,17 @@
 -- Rows that are refused, or accepted, at a place.
-use Rattle.std.proofs.Common.{◌≡◌, ◌≢◌, ℕ, ◌+◌, ◌<◌, ◌≤◌, List, [], ◌∷◌, ◌++◌, length, drop, get_or, refl, sym, ap, ◌∙◌, subst, inl, inr, Some, None, Option, arith, append_assoc}
+use Rattle.std.proofs.Common.{◌≡◌, ◌≢◌, ℕ, ◌+◌, ◌<◌, ◌≤◌, List, [], ◌∷◌, ◌++◌, length, drop, refl, sym, subst, inl, inr, Some, None, arith, append_assoc}
 use Rattle.std.proofs.lemmas.List.{drop_all, drop_more}
 use Rattle.vs_instance.specs.Problem.{Problem}
 use Rattle.vs_reader.specs.Rows.{Row, row_of}
 use Rattle.vs_reader.specs.Names.{NameLists}
 use Rattle.vs_reader.specs.declared.input.Input.{Input}
 use Rattle.vs_cert.specs.declared.refused.DocWhy.{DocWhy}
-use Rattle.vs_cert.specs.declared.refused.DocWhy.TheVariants.{BadRow, OutOfOrder, TableNumber, EndsEarly, RowsAfterEnd, PriceRange}
+use Rattle.vs_cert.specs.declared.refused.DocWhy.TheVariants.{BadRow, OutOfOrder, TableNumber, EndsEarly, PriceRange}
 use Rattle.vs_cert.specs.declared.refused.DocError.{DocError}
 use Rattle.vs_cert.specs.declared.refused.DocError.TheVariants as error
 use Rattle.vs_cert.specs.DocumentRows.{DocumentRow, SayAll, Says}
-use Rattle.vs_cert.specs.DocumentRefusals.{AreRefusedFrom, IsAccepted, IsRefusedRow, SaysAt}
-use Rattle.vs_cert.specs.Places.{Place, AtClaim, AtCost, AtBound, AtNodes, AtBlocks, AtEnd, HasNumber, HasPrices, SuitsCost, behind}
+use Rattle.vs_cert.specs.DocumentRefusals.{AreRefusedFrom, IsAccepted, IsRefusedRow}
+use Rattle.vs_cert.specs.Places.{Place, AtEnd, HasNumber, HasPrices, SuitsCost, behind}
 use Rattle.vs_cert.specs.Reading.{IsRefusedAt, LeadTo, ReadsTo, SayTo}
 
 pub ends_early : (p : Problem) (names : NameLists) (n : ℕ) (place : Place) → place ≢ AtEnd

@@ -1,6 +1,5 @@
 -- A row says one thing.
-use Rattle.std.proofs.Common.{◌≡◌, ◌≢◌, ℕ, zero, suc, ◌+◌, ◌<◌, ◌≤◌, Bool, true, false, List, [], ◌∷◌, length, get_or, map, drop, refl, sym, ap, ◌∙◌, subst, inl, inr, arith, All, Option, Some, None, ℤ, pos, negsuc, codes, ◌↔◌}
-use Rattle.std.specs.Prelude.{Contains}
+use Rattle.std.proofs.Common.{◌≡◌, ℕ, ◌<◌, ◌≤◌, Bool, true, false, List, [], ◌∷◌, length, get_or, map, drop, refl, sym, ap, ◌∙◌, subst, inl, inr, arith, All, Option, Some, None, ℤ, pos, negsuc, codes}
 use Rattle.std.specs.Fmt.{signed_decimal}
 use Rattle.std.specs.Int.{bit_at}
 use Rattle.std.proofs.lemmas.Bool.{cases_eq}
@@ -18,7 +17,7 @@ use Rattle.vs_reader.specs.Rows.{Field, Row, field_of}
 use Rattle.vs_reader.specs.Names.{NameLists, name_of}
 use Rattle.vs_reader.specs.NameRules.{AreNames}
 use Rattle.vs_cert.specs.declared.limits.TheConstants.{MAX_BOUND, MAX_PRINTED_PRICE}
-use Rattle.vs_cert.specs.DocumentRows.{AreLayersOf, DocumentRow, ClaimRow, CostRow, BoundRow, NodesRow, BlockRow, TableRow, FleetRow, PriceRow, SplitRow, LeafRow, EndRow, HasForm, IsBetween, IsNamedBlock, IsWithin, Says, claim_field, kind_field, number_field, written_row}
+use Rattle.vs_cert.specs.DocumentRows.{AreLayersOf, DocumentRow, ClaimRow, CostRow, BoundRow, NodesRow, BlockRow, TableRow, FleetRow, PriceRow, SplitRow, LeafRow, EndRow, HasForm, IsWithin, Says, claim_field, kind_field, number_field, written_row}
 use Rattle.vs_cert.proofs.words.Names.{name_once, same_trips}
 use Rattle.vs_cert.proofs.words.Numbers.{digit_of, same_number, same_signed, starts}
 
@@ -152,7 +151,7 @@ module _ (names : NameLists) (row : Row) (layers : AreNames names.layers) (trips
       let e : written_row names (BlockRow b) ≡ written_row names (BlockRow c) = sym p.written ∙ q.written in
       let layer : b.0.0 ≡ c.0.0 =
       name_once names.layers b.0.0 c.0.0 layers p.form.layer q.form.layer (ap (λ
-      (fs : List Field). get_or fs 1 []) e) in
+          (fs : List Field). get_or fs 1 []) e) in
       let one : b.0 ≡ c.0 = ap (λ (n : ℕ). record { 0 = n }) layer in
       let rest : b.1 ≡ c.1 = same_trips names.trips b.1 c.1 trips p.form.trips q.form.trips (ap (drop 2) e) in
       ap (λ (x : LayerNo). (x, b.1)) one ∙ ap (λ (xs : List TripNo). (c.0, xs)) rest

@@ -1,6 +1,6 @@
 -- The fields that name the layers of a split.
 use Rattle.std.proofs.Common.{◌≡◌, ◌≢◌, true, codes, ℕ, ◌+◌, ◌-◌, ◌/◌, ◌%◌, ◌^◌, ◌<◌, ◌≤◌, List, [], ◌∷◌, ◌++◌, length, get_or, map, take, drop, refl, sym, ap, ◌∙◌, subst, inl, inr, arith, All, ◌↔◌, ◌⊎◌}
-use Rattle.std.specs.Prelude.{AllPairs, Contains, ◌==◌}
+use Rattle.std.specs.Prelude.{Contains, ◌==◌}
 use Rattle.std.specs.Int.{bit_at}
 use Rattle.std.proofs.lemmas.Bool.{eqb-true}
 use Rattle.std.proofs.lemmas.List.{get_or-map, map_push, length-map, take_all, take_more, get_or-drop, get_or-take, length-drop, length-take}
@@ -15,7 +15,7 @@ use Rattle.vs_reader.specs.Rows.{Field, Row, field_of}
 use Rattle.vs_reader.specs.Names.{NameLists, name_of}
 use Rattle.vs_reader.specs.NameRules.{AreNames}
 use Rattle.vs_cert.specs.RowForms.{BeginsAs, NameSet}
-use Rattle.vs_cert.specs.DocumentRows.{AreLayersOf, Says, SplitRow}
+use Rattle.vs_cert.specs.DocumentRows.{Says, SplitRow}
 use Rattle.vs_cert.proofs.words.Names.{name_once}
 
 module _ (names : List Field) where
@@ -88,23 +88,17 @@ module _ (names : List Field) where
       let before = (so_far.set_is.members l).1 has in
       let j : ℕ = before.0 in
       let j_few : j < k =
-      omega (
-        arith,
-        before.1,
-        ap length so_far.fields_are,
-        length-map so_far.layers
-            (name_of names),
-        length-take k fields,
-      ) in
+      omega (arith, before.1, ap length so_far.fields_are, length-map so_far.layers
+          (name_of names), length-take k fields) in
       let at_k = layer_at fields set s k lt in
       let at_j = layer_at fields set s j (omega arith) in
       let name_j : get_or fields j [] ≡ name_of names l =
       sym (get_or-take k fields j [] j_few) ∙ ap (λ (fs : List Field). get_or fs j []) so_far.fields_are
       ∙ get_or-map (name_of names) so_far.layers j l [] before.1 ∙ ap (name_of names) before.2 in
       let same_j : get_or s.layers j 0 ≡ l = name_once names (get_or s.layers j 0) l are at_j.1 below (sym at_j.2
-      ∙ name_j) in
+          ∙ name_j) in
       let same_k : get_or s.layers k 0 ≡ l = name_once names (get_or s.layers k 0) l are at_k.1 below (sym at_k.2
-      ∙ e) in
+          ∙ e) in
       s.set_is.once j k 0 j_few at_k.0 (same_j ∙ sym same_k)
 
   module _ (row : List Field) where

@@ -1,6 +1,6 @@
 -- The rows as which a document is written have the form of its rows, and say them.
-use Rattle.std.proofs.Common.{◌≡◌, ◌≢◌, ℕ, zero, suc, ◌+◌, ◌<◌, ◌≤◌, List, [], ◌∷◌, ◌++◌, length, map, refl, true, arith}
-use Rattle.std.specs.Prelude.{filter, flat_map, ◌==◌, ◌↔◌, All, AllPairs, Contains}
+use Rattle.std.proofs.Common.{◌≡◌, ℕ, ◌+◌, ◌<◌, ◌≤◌, List, [], ◌∷◌, ◌++◌, length, map, refl, true, arith}
+use Rattle.std.specs.Prelude.{flat_map, ◌==◌, All}
 use Rattle.std.specs.List.{enumerate_from, range_with_len}
 use Rattle.std.specs.Int.{bit_at}
 use Rattle.std.proofs.lemmas.List.Elements.{All-append, All-contains, All-cons, All-filter, All-from_get_or, All-head, All-map, All-nil, All-tail, All-weaker, filter_passes}

@@ -1,10 +1,10 @@
 ghost use Rattle.std.specs.Prelude.{All, IfOk, IfErr};
 ghost use Rattle.vs_cert.specs.declared.document.Document.{Document as DocumentOf};
 ghost use Rattle.vs_cert.specs.Alike.{AreAlike};
-ghost use Rattle.vs_cert.specs.DocumentRefusals.{IsRefusal, IsRefusedError};
-ghost use Rattle.vs_cert.specs.DocumentText.{DocumentText, IsBlankElsewhere};
+ghost use Rattle.vs_cert.specs.DocumentRefusals.{IsRefusedError};
+ghost use Rattle.vs_cert.specs.DocumentText.{IsBlankElsewhere};
 ghost use Rattle.vs_cert.specs.Form.{IsReadFor};
-ghost use Rattle.vs_cert.specs.Reading.{IsInput};
+ghost use Rattle.vs_cert.specs.Reading.{IsDocumentOf, IsInput, IsRefusalOf};
 
 use crate::document::Document;
 use crate::reading::blocks::read_blocks;
@@ -21,14 +21,14 @@ use vs_reader::Input;
 /// Prices for trips that a layer may not run, which no row tells, are 0.
 pub fn read(alloc: Global, input: &Input) -> Result<Document, DocError>
     requires { IsInput input.now }
-    ensures found { IfOk result (DocumentText input.now.instance input.now.names input.now.rest) }
+    ensures found { IfOk result (IsDocumentOf input.now) }
     ensures blank { IfOk result (λ d. All (IsBlankElsewhere input.now.instance) d.tables.items) }
     ensures read_for { IfOk result (IsReadFor input.now.instance) }
     ensures only { IfOk result (λ d. (other : DocumentOf)
-        → DocumentText input.now.instance input.now.names input.now.rest other → AreAlike input.now.instance d other) }
-    ensures refused { IfErr result (IsRefusal input.now.instance input.now.names input.now.before input.now.rest) }
+        → IsDocumentOf input.now other → AreAlike input.now.instance d other) }
+    ensures refused { IfErr result (IsRefusalOf input.now) }
     ensures none { IfErr result (λ e. IsRefusedError e
-        → (d : DocumentOf) → ¬ (DocumentText input.now.instance input.now.names input.now.rest d)) }
+        → (d : DocumentOf) → ¬ (IsDocumentOf input.now d)) }
 {
     // Names are apart, and so a row says one thing.
     let _names = (input.names.layers(), input.names.trips());
@@ -38,10 +38,10 @@ pub fn read(alloc: Global, input: &Input) -> Result<Document, DocError>
 /// The document for which the rows stand; else the first row that is refused.
 fn read_rows(alloc: Global, input: &Input) -> Result<Document, DocError>
     requires { IsInput input.now }
-    ensures found { IfOk result (DocumentText input.now.instance input.now.names input.now.rest) }
+    ensures found { IfOk result (IsDocumentOf input.now) }
     ensures blank { IfOk result (λ d. All (IsBlankElsewhere input.now.instance) d.tables.items) }
     ensures read_for { IfOk result (IsReadFor input.now.instance) }
-    ensures refused { IfErr result (IsRefusal input.now.instance input.now.names input.now.before input.now.rest) }
+    ensures refused { IfErr result (IsRefusalOf input.now) }
 {
     if input.rest.len() == 0 {
         return Err(refusal(input, 0, DocWhy::NoResult));

@@ -5,12 +5,11 @@ ghost use Rattle.vs_types.specs.declared.layer_set.LayerSet.{LayerSet as SetOf};
 ghost use Rattle.vs_types.specs.declared.numbers.TripNo.{TripNo as TripOf};
 ghost use Rattle.vs_instance.specs.Plan.{LayerBlock};
 ghost use Rattle.vs_plan.specs.Blocks.{pair_of};
-ghost use Rattle.vs_reader.specs.Names.{NameLists};
 ghost use Rattle.vs_reader.specs.Rows.{row_of};
 ghost use Rattle.vs_tree.specs.declared.claim.Claim.{Claim as ClaimOf};
-ghost use Rattle.vs_cert.specs.DocumentRows.{ClaimRow, CostRow, BoundRow, NodesRow, BlockRow, TableRow, FleetRow, PriceRow, SplitRow, LeafRow, EndRow, Says, claim_field, kind_field, number_field, IsWithin, IsBetween};
+ghost use Rattle.vs_cert.specs.DocumentRows.{ClaimRow, CostRow, BoundRow, NodesRow, BlockRow, TableRow, FleetRow, PriceRow, SplitRow, LeafRow, EndRow, claim_field, kind_field, number_field, IsWithin, IsBetween};
 ghost use Rattle.vs_cert.specs.Reading.{IsInput};
-ghost use Rattle.vs_cert.specs.RowForms.{NameSet, NameTrips};
+ghost use Rattle.vs_cert.specs.RowForms.{NameSet, NameTrips, NeverTells, SaysThere, Tells};
 
 use crate::limits::{MAX_BOUND, MAX_COST, MAX_NODES, MAX_NUMBER, MAX_PRINTED_PRICE};
 use crate::reading::fields::{begins_as, is_of_kind, is_text};
@@ -25,8 +24,8 @@ use vs_types::{LayerNo, LayerSet, Memory, TripNo};
 /// The claim of a row `result`, `1` and a claim.
 pub fn claim(rows: &Rows, row: usize) -> Option<Claim>
     requires { row < length rows.now }
-    ensures found { IfSome result (λ claim. (names : NameLists) → Says names (row_of rows.now row) (ClaimRow claim)) }
-    ensures none { IfNone result ((names : NameLists) (claim : ClaimOf) → ¬ (Says names (row_of rows.now row) (ClaimRow claim))) }
+    ensures found { IfSome result (λ claim. Tells rows.now row (ClaimRow claim)) }
+    ensures none { IfNone result ((claim : ClaimOf) → NeverTells rows.now row (ClaimRow claim)) }
 {
     if !is_of_kind(rows, row, "result", 3) || !is_text(rows.field(row, 1), "1") {
         return None;
@@ -54,8 +53,8 @@ fn claim_of(field: &[u8]) -> Option<Claim>
 /// The cost of a row `cost` and a number or `none`.
 pub fn cost(rows: &Rows, row: usize) -> Option<Option<i64>>
     requires { row < length rows.now }
-    ensures found { IfSome result (λ cost. (names : NameLists) → Says names (row_of rows.now row) (CostRow cost)) }
-    ensures none { IfNone result ((names : NameLists) (cost : Option ℤ) → ¬ (Says names (row_of rows.now row) (CostRow cost))) }
+    ensures found { IfSome result (λ cost. Tells rows.now row (CostRow cost)) }
+    ensures none { IfNone result ((cost : Option ℤ) → NeverTells rows.now row (CostRow cost)) }
 {
     if !is_of_kind(rows, row, "cost", 2) {
         return None;
@@ -67,8 +66,8 @@ pub fn cost(rows: &Rows, row: usize) -> Option<Option<i64>>
 /// The bound of a row `bound` and a number or `none`.
 pub fn bound(rows: &Rows, row: usize) -> Option<Option<i128>>
     requires { row < length rows.now }
-    ensures found { IfSome result (λ bound. (names : NameLists) → Says names (row_of rows.now row) (BoundRow bound)) }
-    ensures none { IfNone result ((names : NameLists) (bound : Option ℤ) → ¬ (Says names (row_of rows.now row) (BoundRow bound))) }
+    ensures found { IfSome result (λ bound. Tells rows.now row (BoundRow bound)) }
+    ensures none { IfNone result ((bound : Option ℤ) → NeverTells rows.now row (BoundRow bound)) }
 {
     if !is_of_kind(rows, row, "bound", 2) {
         return None;
@@ -92,8 +91,8 @@ fn amount(field: &[u8], low: i128, high: i128) -> Option<Option<i128>>
 /// The count of a row `nodes` and a number.
 pub fn nodes(rows: &Rows, row: usize) -> Option<u64>
     requires { row < length rows.now }
-    ensures found { IfSome result (λ n. (names : NameLists) → Says names (row_of rows.now row) (NodesRow n)) }
-    ensures none { IfNone result ((names : NameLists) (n : ℕ) → ¬ (Says names (row_of rows.now row) (NodesRow n))) }
+    ensures found { IfSome result (λ n. Tells rows.now row (NodesRow n)) }
+    ensures none { IfNone result ((n : ℕ) → NeverTells rows.now row (NodesRow n)) }
 {
     if !is_of_kind(rows, row, "nodes", 2) {
         return None;
@@ -105,8 +104,8 @@ pub fn nodes(rows: &Rows, row: usize) -> Option<u64>
 /// The block of a row `block`, a layer and some trips.
 pub fn block(alloc: Global, input: &Input, row: usize) -> Result<Option<Block>, Memory>
     requires { row < length input.now.rest }
-    ensures found { IfOk result (λ r. IfSome r (λ b. Says input.now.names (row_of input.now.rest row) (BlockRow (pair_of b)))) }
-    ensures none { IfOk result (λ r. IfNone r ((b : LayerBlock) → ¬ (Says input.now.names (row_of input.now.rest row) (BlockRow b)))) }
+    ensures found { IfOk result (λ r. IfSome r (λ b. SaysThere input.now row (BlockRow (pair_of b)))) }
+    ensures none { IfOk result (λ r. IfNone r ((b : LayerBlock) → ¬ (SaysThere input.now row (BlockRow b)))) }
 {
     if !begins_as(&input.rest, row, "block") {
         return Ok(None);
@@ -143,8 +142,8 @@ fn trips(alloc: Global, input: &Input, row: usize) -> Result<Option<Vec<TripNo>>
 /// The number and the kind of a row `table`, a number and a kind.
 pub fn table(rows: &Rows, row: usize) -> Option<(u32, bool)>
     requires { row < length rows.now }
-    ensures found { IfSome result (λ r. (names : NameLists) → Says names (row_of rows.now row) (TableRow r.0 r.1)) }
-    ensures none { IfNone result ((names : NameLists) (n : ℕ) (ray : Bool) → ¬ (Says names (row_of rows.now row) (TableRow n ray))) }
+    ensures found { IfSome result (λ r. Tells rows.now row (TableRow r.0 r.1)) }
+    ensures none { IfNone result ((n : ℕ) (ray : Bool) → NeverTells rows.now row (TableRow n ray)) }
 {
     if !is_of_kind(rows, row, "table", 3) {
         return None;
@@ -169,8 +168,8 @@ fn table_number(field: &[u8]) -> Option<u32>
 /// The layer and the price of a row `fleet`, a layer and a price.
 pub fn fleet(input: &Input, row: usize, likely: Likely) -> Option<(LayerNo, i128)>
     requires { row < length input.now.rest }
-    ensures found { IfSome result (λ r. Says input.now.names (row_of input.now.rest row) (FleetRow r.0.0 r.1)) }
-    ensures none { IfNone result ((l : ℕ) (price : ℤ) → ¬ (Says input.now.names (row_of input.now.rest row) (FleetRow l price))) }
+    ensures found { IfSome result (λ r. SaysThere input.now row (FleetRow r.0.0 r.1)) }
+    ensures none { IfNone result ((l : ℕ) (price : ℤ) → ¬ (SaysThere input.now row (FleetRow l price))) }
 {
     let rows = &input.rest;
     if !is_of_kind(rows, row, "fleet", 3) {
@@ -184,8 +183,8 @@ pub fn fleet(input: &Input, row: usize, likely: Likely) -> Option<(LayerNo, i128
 /// The layer, the trip, and the prices for entering and for leaving it, of a row `price`.
 pub fn price(input: &Input, row: usize, likely: Likely) -> Option<(LayerNo, TripNo, i128, i128)>
     requires { row < length input.now.rest }
-    ensures found { IfSome result (λ r. Says input.now.names (row_of input.now.rest row) (PriceRow r.0.0 r.1.0 r.2 r.3)) }
-    ensures none { IfNone result ((l i : ℕ) (into from : ℤ) → ¬ (Says input.now.names (row_of input.now.rest row) (PriceRow l i into from))) }
+    ensures found { IfSome result (λ r. SaysThere input.now row (PriceRow r.0.0 r.1.0 r.2 r.3)) }
+    ensures none { IfNone result ((l i : ℕ) (into from : ℤ) → ¬ (SaysThere input.now row (PriceRow l i into from))) }
 {
     let rows = &input.rest;
     if !is_of_kind(rows, row, "price", 5) {
@@ -210,8 +209,8 @@ fn price_of(field: &[u8]) -> Option<i128>
 pub fn split(input: &Input, row: usize) -> Option<(TripNo, LayerSet)>
     requires input { IsInput input.now }
     requires row { row < length input.now.rest }
-    ensures found { IfSome result (λ r. Says input.now.names (row_of input.now.rest row) (SplitRow r.0 r.1)) }
-    ensures none { IfNone result ((trip : TripOf) (left : SetOf) → ¬ (Says input.now.names (row_of input.now.rest row) (SplitRow trip left))) }
+    ensures found { IfSome result (λ r. SaysThere input.now row (SplitRow r.0 r.1)) }
+    ensures none { IfNone result ((trip : TripOf) (left : SetOf) → ¬ (SaysThere input.now row (SplitRow trip left))) }
 {
     if !begins_as(&input.rest, row, "split") {
         return None;
@@ -247,8 +246,8 @@ fn layers(input: &Input, row: usize) -> Option<LayerSet>
 /// The number of a row `leaf` and a number.
 pub fn leaf(rows: &Rows, row: usize) -> Option<u32>
     requires { row < length rows.now }
-    ensures found { IfSome result (λ n. (names : NameLists) → Says names (row_of rows.now row) (LeafRow n)) }
-    ensures none { IfNone result ((names : NameLists) (n : ℕ) → ¬ (Says names (row_of rows.now row) (LeafRow n))) }
+    ensures found { IfSome result (λ n. Tells rows.now row (LeafRow n)) }
+    ensures none { IfNone result ((n : ℕ) → NeverTells rows.now row (LeafRow n)) }
 {
     if !is_of_kind(rows, row, "leaf", 2) {
         return None;
@@ -259,8 +258,8 @@ pub fn leaf(rows: &Rows, row: usize) -> Option<u32>
 /// Whether a row is `end`.
 pub fn is_end(rows: &Rows, row: usize) -> bool
     requires { row < length rows.now }
-    ensures found { IsTrue result → (names : NameLists) → Says names (row_of rows.now row) EndRow }
-    ensures none { result ≡ false → (names : NameLists) → ¬ (Says names (row_of rows.now row) EndRow) }
+    ensures found { IsTrue result → Tells rows.now row EndRow }
+    ensures none { result ≡ false → NeverTells rows.now row EndRow }
 {
     is_of_kind(rows, row, "end", 1)
 }

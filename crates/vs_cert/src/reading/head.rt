@@ -1,8 +1,8 @@
-ghost use Rattle.std.specs.Prelude.{◌≡◌, ◌≤◌, [], ◌∷◌, ℤ, pos, Option, None, length, IfOk, IfErr, IfSome, IfNone};
+ghost use Rattle.std.specs.Prelude.{◌≡◌, ◌≤◌, ℤ, pos, Option, None, length, IfOk, IfErr, IfSome, IfNone};
 ghost use Rattle.vs_cert.specs.declared.limits.TheConstants.{MAX_COST, MAX_BOUND, MAX_NODES};
 ghost use Rattle.vs_cert.specs.DocumentRows.{ClaimRow, CostRow, BoundRow, NodesRow, IsBetween, IsWithin};
 ghost use Rattle.vs_cert.specs.Places.{AtClaim, AtCost, AtBound, AtNodes, AtBlocks};
-ghost use Rattle.vs_cert.specs.Reading.{IsInput, IsRefusedAt, ReadsTo, ReadsHead};
+ghost use Rattle.vs_cert.specs.Reading.{IsInput, IsRefusedAt, ReadsRow, ReadsHead};
 
 use crate::reading::names::Likely;
 use crate::reading::refusal::refusal;
@@ -45,7 +45,7 @@ pub fn read_head(alloc: Global, input: &Input) -> Result<Head, DocError>
 /// The claim of the first row.
 fn read_claim(alloc: Global, input: &Input) -> Result<Claim, DocError>
     requires { IsInput input.now }
-    ensures found { IfOk result (λ claim. ReadsTo input.now 0 AtClaim (ClaimRow claim ∷ []) 1 AtCost) }
+    ensures found { IfOk result (λ claim. ReadsRow input.now 0 AtClaim (ClaimRow claim) AtCost) }
     ensures refused { IfErr result (IsRefusedAt input.now 0 AtClaim) }
 {
     match said_at(alloc, input, 0, Likely::first())? {
@@ -58,7 +58,7 @@ fn read_claim(alloc: Global, input: &Input) -> Result<Claim, DocError>
 fn read_cost(alloc: Global, input: &Input) -> Result<Option<i64>, DocError>
     requires input { IsInput input.now }
     requires row { 1 ≤ length input.now.rest }
-    ensures found { IfOk result (λ cost. ReadsTo input.now 1 AtCost (CostRow cost ∷ []) 2 (AtBound cost)) }
+    ensures found { IfOk result (λ cost. ReadsRow input.now 1 AtCost (CostRow cost) (AtBound cost)) }
     ensures range { IfOk result (λ cost. IfSome cost (IsBetween (pos 0) MAX_COST)) }
     ensures refused { IfErr result (IsRefusedAt input.now 1 AtCost) }
 {
@@ -72,7 +72,7 @@ fn read_cost(alloc: Global, input: &Input) -> Result<Option<i64>, DocError>
 fn read_bound(alloc: Global, input: &Input, cost: Option<i64>) -> Result<Option<i128>, DocError>
     requires input { IsInput input.now }
     requires row { 2 ≤ length input.now.rest }
-    ensures found { IfOk result (λ bound. ReadsTo input.now 2 (AtBound cost) (BoundRow bound ∷ []) 3 (AtNodes cost)) }
+    ensures found { IfOk result (λ bound. ReadsRow input.now 2 (AtBound cost) (BoundRow bound) (AtNodes cost)) }
     ensures range { IfOk result (λ bound. IfSome bound (IsWithin MAX_BOUND)) }
     ensures no_cost { IfOk result (λ bound. IfNone bound (cost ≡ None)) }
     ensures refused { IfErr result (IsRefusedAt input.now 2 (AtBound cost)) }
@@ -92,7 +92,7 @@ fn read_bound(alloc: Global, input: &Input, cost: Option<i64>) -> Result<Option<
 fn read_nodes(alloc: Global, input: &Input) -> Result<u64, DocError>
     requires input { IsInput input.now }
     requires row { 3 ≤ length input.now.rest }
-    ensures found { IfOk result (λ n. (cost : Option ℤ) → ReadsTo input.now 3 (AtNodes cost) (NodesRow n ∷ []) 4 (AtBlocks cost)) }
+    ensures found { IfOk result (λ n. (cost : Option ℤ) → ReadsRow input.now 3 (AtNodes cost) (NodesRow n) (AtBlocks cost)) }
     ensures range { IfOk result (λ n. n ≤ MAX_NODES) }
     ensures refused { IfErr result (λ e. (cost : Option ℤ) → IsRefusedAt input.now 3 (AtNodes cost) e) }
 {

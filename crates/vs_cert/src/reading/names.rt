@@ -1,6 +1,6 @@
-ghost use Rattle.std.specs.Prelude.{◌≡◌, ℕ, ◌<◌, length, IfSome, IfNone};
+ghost use Rattle.std.specs.Prelude.{IfSome, IfNone};
 ghost use Rattle.vs_reader.specs.NameRules.{AreNames};
-ghost use Rattle.vs_reader.specs.Names.{name_of};
+ghost use Rattle.vs_cert.specs.RowForms.{IsNameOf, IsNoName};
 
 use crate::reading::fields::is_text;
 use vs_reader::Names;
@@ -25,8 +25,8 @@ impl Likely {
 
 /// The layer that a field names.
 pub fn layer_named(names: &Names, field: &[u8], likely: LayerNo) -> Option<LayerNo>
-    ensures found { IfSome result (λ l. (l.0 < length names.now.layers) × (field.now ≡ name_of names.now.layers l.0)) }
-    ensures none { IfNone result ((l : ℕ) → l < length names.now.layers → ¬ (field.now ≡ name_of names.now.layers l)) }
+    ensures found { IfSome result (λ l. IsNameOf names.now.layers field.now l.0) }
+    ensures none { IfNone result (IsNoName names.now.layers field.now) }
     ensures names { AreNames names.now.layers }
 {
     let layers = names.layers();
@@ -41,8 +41,8 @@ pub fn layer_named(names: &Names, field: &[u8], likely: LayerNo) -> Option<Layer
 
 /// The trip that a field names.
 pub fn trip_named(names: &Names, field: &[u8], likely: TripNo) -> Option<TripNo>
-    ensures found { IfSome result (λ i. (i.0 < length names.now.trips) × (field.now ≡ name_of names.now.trips i.0)) }
-    ensures none { IfNone result ((i : ℕ) → i < length names.now.trips → ¬ (field.now ≡ name_of names.now.trips i)) }
+    ensures found { IfSome result (λ i. IsNameOf names.now.trips field.now i.0) }
+    ensures none { IfNone result (IsNoName names.now.trips field.now) }
     ensures names { AreNames names.now.trips }
 {
     let trips = names.trips();

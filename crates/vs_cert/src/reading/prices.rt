@@ -1,8 +1,8 @@
-ghost use Rattle.std.specs.Prelude.{◌≤◌, ◌<◌, ◌++◌, ℕ, List, ◌∷◌, length, map, IfOk, IfErr, SomeIff};
+ghost use Rattle.std.specs.Prelude.{◌≤◌, ◌<◌, ℕ, List, ◌∷◌, length, IfOk, IfErr, SomeIff};
 ghost use Rattle.vs_prices.specs.Table.{IsPrice};
 ghost use Rattle.vs_cert.specs.Places.{InTable, PriceOf, Trip, Vehicle};
-ghost use Rattle.vs_cert.specs.DocumentRows.{permitted_trips};
-ghost use Rattle.vs_cert.specs.Reading.{IsInput, IsRefusedAt, ReadsFleet, ReadsPrice, ReadsLayer, ReadsPrices, prices_from};
+ghost use Rattle.vs_cert.specs.Reading.{IsInput, IsRefusedAt, IsRefusedInLayer, IsRefusedInTrips};
+ghost use Rattle.vs_cert.specs.Reading.{ReadsFleet, ReadsPrice, ReadsLayer, ReadsPrices};
 
 use crate::reading::names::Likely;
 use crate::reading::refusal::refusal;
@@ -26,7 +26,7 @@ pub fn read_layer(
     requires row { at ≤ length input.now.rest }
     requires layer { l.0 < length input.now.instance.layers }
     ensures found { IfOk result (λ next. ReadsLayer input.now at l.0 next table.old table.new) }
-    ensures refused { IfErr result (λ e. (n : ℕ) → IsRefusedAt input.now at (InTable n (prices_from input.now.instance l.0)) e) }
+    ensures refused { IfErr result (IsRefusedInLayer input.now at l.0) }
 {
     let price = read_fleet(alloc, input, at, l)?;
     table.fleet.push(price)?;
@@ -46,8 +46,7 @@ fn read_prices(
     requires row { at ≤ length input.now.rest }
     requires layer { l.0 < length input.now.instance.layers }
     ensures found { IfOk result (λ next. ReadsPrices input.now at l.0 next table.old table.new) }
-    ensures refused { IfErr result (λ e. (n : ℕ) (later : List PriceOf)
-        → IsRefusedAt input.now at (InTable n (map (Trip l.0) (permitted_trips input.now.instance l.0) ++ later)) e) }
+    ensures refused { IfErr result (IsRefusedInTrips input.now at l.0) }
 {
     let mut next = at;
     for i in 0..input.instance.trips() {

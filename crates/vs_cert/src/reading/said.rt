@@ -1,10 +1,7 @@
-ghost use Rattle.std.specs.Prelude.{◌≡◌, ◌≢◌, ◌<◌, ◌≤◌, length, IfOk, IfErr, IfSome, IfNone};
-ghost use Rattle.vs_reader.specs.Rows.{row_of};
-ghost use Rattle.vs_cert.specs.DocumentRows.{DocumentRow, Says};
-ghost use Rattle.vs_cert.specs.Places.{Place, AtEnd};
-ghost use Rattle.vs_cert.specs.Reading.{IsInput, IsRefusedAt};
-ghost use Rattle.vs_reader.specs.Names.{NameLists};
-ghost use Rattle.vs_cert.specs.RowForms.{row_said, IsPriceRow, IsOtherRow, IsHeadRow};
+ghost use Rattle.std.specs.Prelude.{◌≡◌, ◌<◌, ◌≤◌, length, IfOk, IfErr, IfSome, IfNone};
+ghost use Rattle.vs_cert.specs.DocumentRows.{DocumentRow};
+ghost use Rattle.vs_cert.specs.Reading.{IsInput, IsRefusedAnywhere};
+ghost use Rattle.vs_cert.specs.RowForms.{row_said, IsPriceRow, IsOtherRow, IsHeadRow, NeverTells, SaysThere, Tells};
 
 use crate::reading::forms;
 use crate::reading::names::Likely;
@@ -58,8 +55,8 @@ pub fn said_at(alloc: Global, input: &Input, row: usize, likely: Likely) -> Resu
     requires input { IsInput input.now }
     requires row { row ≤ length input.now.rest }
     ensures within { IfOk result (λ _. row < length input.now.rest) }
-    ensures says { IfOk result (λ said. Says input.now.names (row_of input.now.rest row) (row_said said)) }
-    ensures refused { IfErr result (λ e. (place : Place) → place ≢ AtEnd → IsRefusedAt input.now row place e) }
+    ensures says { IfOk result (λ said. SaysThere input.now row (row_said said)) }
+    ensures refused { IfErr result (IsRefusedAnywhere input.now row) }
 {
     if row >= input.rest.len() {
         return Err(refusal(input, row, DocWhy::EndsEarly));
@@ -79,9 +76,9 @@ pub fn said_at(alloc: Global, input: &Input, row: usize, likely: Likely) -> Resu
 /// What a row of a table's prices says. None where it has not the form of one.
 fn price_said(input: &Input, row: usize, likely: Likely) -> Option<Said>
     requires { row < length input.now.rest }
-    ensures says { IfSome result (λ said. Says input.now.names (row_of input.now.rest row) (row_said said)) }
+    ensures says { IfSome result (λ said. SaysThere input.now row (row_said said)) }
     ensures none { IfNone result ((said : DocumentRow) → IsPriceRow said
-        → ¬ (Says input.now.names (row_of input.now.rest row) said)) }
+        → ¬ (SaysThere input.now row said)) }
 {
     if let Some((layer, trip, into, from)) = forms::price(input, row, likely) {
         return Some(Said::Price {
@@ -99,9 +96,9 @@ fn price_said(input: &Input, row: usize, likely: Likely) -> Option<Said>
 fn other_said(input: &Input, row: usize) -> Option<Said>
     requires input { IsInput input.now }
     requires row { row < length input.now.rest }
-    ensures says { IfSome result (λ said. Says input.now.names (row_of input.now.rest row) (row_said said)) }
+    ensures says { IfSome result (λ said. SaysThere input.now row (row_said said)) }
     ensures none { IfNone result ((said : DocumentRow) → IsOtherRow said
-        → ¬ (Says input.now.names (row_of input.now.rest row) said)) }
+        → ¬ (SaysThere input.now row said)) }
 {
     if let Some(number) = forms::leaf(&input.rest, row) {
         return Some(Said::Leaf { number });
@@ -121,9 +118,9 @@ fn other_said(input: &Input, row: usize) -> Option<Said>
 /// What one of the first four rows says. None where it has not the form of one.
 fn head_said(rows: &Rows, row: usize) -> Option<Said>
     requires { row < length rows.now }
-    ensures says { IfSome result (λ said. (names : NameLists) → Says names (row_of rows.now row) (row_said said)) }
-    ensures none { IfNone result ((names : NameLists) (said : DocumentRow) → IsHeadRow said
-        → ¬ (Says names (row_of rows.now row) said)) }
+    ensures says { IfSome result (λ said. Tells rows.now row (row_said said)) }
+    ensures none { IfNone result ((said : DocumentRow) → IsHeadRow said
+        → NeverTells rows.now row said) }
 {
     if let Some(claim) = forms::claim(rows, row) {
         return Some(Said::Claim(claim));

@@ -1,7 +1,7 @@
-ghost use Rattle.std.specs.Prelude.{◌≡◌, ◌+◌, ◌≤◌, ◌<◌, ℕ, suc, length, IfOk, IfErr};
+ghost use Rattle.std.specs.Prelude.{◌≡◌, ◌+◌, ◌≤◌, ◌<◌, length, IfOk, IfErr};
 ghost use Rattle.vs_cert.specs.declared.limits.TheConstants.{MAX_NUMBER};
 ghost use Rattle.vs_cert.specs.Places.{InTree};
-ghost use Rattle.vs_cert.specs.Reading.{IsInput, IsLast, IsRefusedAt, ReadsPart, ReadsTree};
+ghost use Rattle.vs_cert.specs.Reading.{IsInput, IsLast, IsRefusedAt, IsRefusedInTree, ReadsPart, ReadsTree};
 
 use crate::reading::names::Likely;
 use crate::reading::refusal::refusal;
@@ -50,7 +50,7 @@ fn read_part(alloc: Global, input: &Input, row: usize, tables: usize) -> Result<
     requires row { row ≤ length input.now.rest }
     requires tables { tables ≤ MAX_NUMBER }
     ensures found { IfOk result (ReadsPart input.now row tables) }
-    ensures refused { IfErr result (λ e. (parts : ℕ) → IsRefusedAt input.now row (InTree tables (suc parts)) e) }
+    ensures refused { IfErr result (IsRefusedInTree input.now row tables) }
 {
     match said_at(alloc, input, row, Likely::first())? {
         Said::Split { trip, left } => Ok(Shape::Split { trip, left }),

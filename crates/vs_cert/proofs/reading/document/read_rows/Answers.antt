@@ -1,6 +1,5 @@
 use Rattle.std.proofs.Common.{◌≡◌, ◌∷◌, [], arith, length, map}
 use Rattle.vs_plan.specs.Blocks.{pairs_of}
-use Rattle.vs_reader.specs.declared.input.Input.{Input}
 use Rattle.vs_cert.specs.DocumentRows.{ClaimRow, CostRow, BoundRow, NodesRow, BlockRow, shape_row, tables_rows}
 use Rattle.vs_cert.proofs.parts.WholeDocument.{all_say, few_shapes, few_trips, tree_of}
 use Rattle.vs_cert.proofs.reading.document.read_rows.Goals as goal

@@ -1,6 +1,6 @@
-use Rattle.std.proofs.Common.{◌≢◌, refl, ap, sym, ◌∙◌}
+use Rattle.std.proofs.Common.{refl}
 use Rattle.vs_cert.specs.DocumentRows.{CostRow}
-use Rattle.vs_cert.specs.Places.{AtCost, AtEnd, AtBound}
+use Rattle.vs_cert.specs.Places.{AtCost, AtBound}
 use Rattle.vs_cert.specs.Reading.{IsRefusedAt}
 use Rattle.vs_cert.proofs.words.ErrorsPass.{err_passes}
 use Rattle.vs_cert.proofs.rows.RefusedRows.{reads_one}

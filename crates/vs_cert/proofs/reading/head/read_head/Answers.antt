@@ -1,7 +1,7 @@
 use Rattle.std.proofs.Common.{[], ◌∷◌}
 use Rattle.vs_cert.specs.DocumentRows.{ClaimRow, CostRow, BoundRow, NodesRow}
 use Rattle.vs_cert.specs.Places.{AtClaim, AtCost, AtBound, AtNodes, AtBlocks}
-use Rattle.vs_cert.specs.Reading.{IsRefusedAt, ReadsTo}
+use Rattle.vs_cert.specs.Reading.{IsRefusedAt}
 use Rattle.vs_cert.proofs.words.ErrorsPass.{err_passes}
 use Rattle.vs_cert.proofs.rows.RefusedRows.{read_on}
 use Rattle.vs_cert.proofs.reading.head.read_head.Goals as goal

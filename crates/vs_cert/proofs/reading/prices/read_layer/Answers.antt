@@ -1,4 +1,4 @@
-use Rattle.std.proofs.Common.{ℕ, ◌+◌, refl}
+use Rattle.std.proofs.Common.{ℕ, refl}
 use Rattle.vs_cert.specs.Places.{InTable}
 use Rattle.vs_cert.specs.Reading.{IsRefusedAt, prices_from}
 use Rattle.vs_cert.proofs.words.ErrorsPass.{err_passes, err_weaker, ok_weaker}

@@ -1,4 +1,4 @@
-use Rattle.std.proofs.Common.{ℕ, ◌+◌, ◌<◌, length, ◌≡◌, List, [], ◌∷◌, ◌++◌, map, refl, arith, pos, ℤ, subst, sym, ap, ◌∙◌}
+use Rattle.std.proofs.Common.{ℕ, ◌<◌, length, List, ◌++◌, map, refl, arith, pos, ℤ, ap}
 use Rattle.vs_cert.specs.DocumentRows.{permitted_trips}
 use Rattle.vs_cert.specs.Places.{PriceOf, Trip, InTable}
 use Rattle.vs_cert.specs.Reading.{IsRefusedAt}

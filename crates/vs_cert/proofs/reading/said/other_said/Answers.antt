@@ -14,7 +14,7 @@ returns-then-is_end-clause-says c = c.if-is_end.ensures.found refl c.args.input.
 pub returns-clause-none : goal.returns-clause-none
 returns-clause-none c =
     none_weaker _ _ _ c.head_said.ensures.none
-    (λ head. no_other_row c.args.input.now.names _ (c.in_default.ensures.none c.args.input.now.names)
+    (λ head. no_other_row c.args.input.now.names _ (λ n. c.in_default.ensures.none n c.args.input.now.names)
     c.in_default-split.ensures.none
-    (c.in_default-table.ensures.none c.args.input.now.names)
-    (c.if-is_end.ensures.none refl c.args.input.now.names) (head c.args.input.now.names))
+    (λ n ray. c.in_default-table.ensures.none n ray c.args.input.now.names)
+    (c.if-is_end.ensures.none refl c.args.input.now.names) (λ said is. head said is c.args.input.now.names))

@@ -1,8 +1,7 @@
-use Rattle.std.proofs.Common.{◌≡◌, ℕ, ◌+◌, [], ◌∷◌, refl, arith, subst, sym}
+use Rattle.std.proofs.Common.{◌≡◌, ℕ, ◌+◌, [], refl, arith, subst}
 use Rattle.vs_reader.specs.Rows.{row_of}
 use Rattle.vs_cert.specs.DocumentRows.{TableRow, Says}
 use Rattle.vs_cert.specs.Places.{InTable, prices_of}
-use Rattle.vs_cert.specs.Reading.{ReadsKind}
 use Rattle.vs_cert.proofs.rows.RefusedRows.{bad_row, reads_one, wrong_number}
 use Rattle.vs_cert.proofs.parts.SamePlaces.{no_table}
 use Rattle.vs_cert.proofs.reading.tables.read_kind.Goals as goal
@@ -11,7 +10,8 @@ pub returns-in_default-clause-refused : goal.returns-in_default-clause-refused
 returns-in_default-clause-refused c =
     rw c.refusal.ensures
     (bad_row c.args.input.now c.args.row c.requires.row
-    (no_table c.args.input.now.names _ c.requires.kind (c.in_default.ensures.none c.args.input.now.names))
+    (no_table c.args.input.now.names _ c.requires.kind
+        (λ n ray. c.in_default.ensures.none n ray c.args.input.now.names))
     (InTable c.args.before []) (λ e. cc))
 
 pub returns-then-number-before-clause-refused : goal.returns-then-number-before-clause-refused

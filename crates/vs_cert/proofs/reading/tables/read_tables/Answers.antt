@@ -1,7 +1,7 @@
-use Rattle.std.proofs.Common.{◌≡◌, [], ap, arith, length, sym, ◌∙◌}
+use Rattle.std.proofs.Common.{[], ap, arith, length, sym, ◌∙◌}
 use Rattle.std.proofs.lemmas.Bool.{false≢true}
 use Rattle.std.proofs.lemmas.List.{get_or_past}
-use Rattle.vs_cert.proofs.parts.TableReading.{tables_none, tables_more, tables_done}
+use Rattle.vs_cert.proofs.parts.TableReading.{tables_more, tables_done}
 use Rattle.vs_cert.proofs.reading.tables.read_tables.Goals as goal
 use Rattle.vs_cert.proofs.reading.tables.read_tables.Goals.{then-loop-next-test+else-is_of_kind, else-loop-next-test}
 

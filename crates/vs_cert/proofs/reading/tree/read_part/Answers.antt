@@ -1,7 +1,7 @@
-use Rattle.std.proofs.Common.{ℕ, suc, refl, arith, ap}
+use Rattle.std.proofs.Common.{ℕ, suc, refl, arith}
 use Rattle.vs_cert.specs.DocumentRows.{LeafRow, SplitRow}
 use Rattle.vs_cert.specs.Places.{InTree}
-use Rattle.vs_cert.specs.Reading.{IsRefusedAt, ReadsPart}
+use Rattle.vs_cert.specs.Reading.{IsRefusedAt}
 use Rattle.vs_cert.proofs.words.ErrorsPass.{err_passes}
 use Rattle.vs_cert.proofs.rows.RefusedRows.{leads_one, says_one, out_of_order, wrong_number}
 use Rattle.vs_cert.specs.RowForms.{row_said}
