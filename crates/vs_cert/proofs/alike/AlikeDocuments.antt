@@ -114,7 +114,7 @@ same_shapes (s ∷ ss) [] e =
     absurd (no_end s (same_first (shape_row s) EndRow (map shape_row ss ++ EndRow ∷ []) [] e).0)
 same_shapes (s ∷ ss) (t ∷ ts) e =
     let parts = same_first (shape_row s) (shape_row t) (map shape_row ss ++ EndRow ∷ []) (map shape_row ts
-        ++ EndRow ∷ []) e in
+    ++ EndRow ∷ []) e in
     ap (λ (x : Shape). x ∷ ss) (same_shape s t parts.0) ∙ ap (λ (x : List Shape). t ∷ x) (same_shapes ss ts parts.1)
 
 -- equal rows for each of some numbers are equal one by one
@@ -202,7 +202,7 @@ module _ (p : Problem) where
       let parts = same_fronts (table_rows p (n, t)) (more_t ++ xs) (table_rows p (n, u)) (more_u ++ ys) size
       (sym (append_assoc (table_rows p (n, t)) more_t xs) ∙ e ∙ append_assoc (table_rows p (n, u)) more_u ys) in
       let rest = same_tables (n + 1) ts us xs ys (All-tail (Fits p) t ts a) (All-tail
-          (Fits p) u us b) no_x no_y parts.1 in
+      (Fits p) u us b) no_x no_y parts.1 in
       ((same_table p t u n (All-head (Fits p) t ts a) (All-head (Fits p) u us b) parts.0, rest.0), rest.1)
 
   end_no_block : (ss : List Shape) → NoBlock (map shape_row ss ++ EndRow ∷ [])
@@ -236,7 +236,7 @@ module _ (p : Problem) where
       → DocumentText p names rows d → DocumentText p names rows e → AreAlike p d e
   alike names rows d e layers trips one two =
       let same = say_once names layers trips rows (rows_of_document p d)
-          (rows_of_document p e) one.rows_say two.rows_say in
+      (rows_of_document p e) one.rows_say two.rows_say in
       let all = sym (rest_is p d) ∙ same ∙ rest_is p e in
       let claim = same_first (ClaimRow d.claim) (ClaimRow e.claim) _ _ all in
       let cost = same_first (CostRow d.cost) (CostRow e.cost) _ _ claim.1 in

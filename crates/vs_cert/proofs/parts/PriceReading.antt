@@ -165,7 +165,7 @@ module _ (input : Input) (at l i row : ℕ) (old table new : Table) (s : PricesS
         within = s.within;
         say = λ f g more gives_f gives_g rest.
             let P : List ℕ → Type 0 = λ trips. SayAll input.names (drop row input.rest) (price_rows l f g trips
-                ++ more) in
+            ++ more) in
             s.say f g more (gives_push i f s.into (pos 0) s.into_size gives_f).0
             (gives_push i g s.from (pos 0) s.from_size gives_g).0 (subst P (sym here) rest);
         lead = λ n later.
@@ -202,9 +202,9 @@ module _ (input : Input) (at l i row : ℕ) (old table new : Table) (s : PricesS
             let A : ℤ → Type 0 = λ x. SayAll input.names (drop row input.rest) (PriceRow l i x b ∷ rows) in
             let B : ℤ → Type 0 = λ x. SayAll input.names (drop row input.rest) (PriceRow l i (f i) x ∷ rows) in
             let P : List ℕ → Type 0 = λ trips. SayAll input.names (drop row input.rest) (price_rows l f g trips
-                ++ more) in
+            ++ more) in
             s.say f g more fs.0 gs.0 (subst P (sym here) (subst B (sym gs.1) (subst A (sym fs.1)
-                (r.say.say rows rest))));
+            (r.say.say rows rest))));
         lead = λ n later.
             let P : List ℕ → Type 0 = λ trips.
             LeadTo input at (InTable n (map (Trip l) (trips_from input.instance l 0) ++ later)) row
@@ -252,9 +252,9 @@ prices_end input at l i row old new s all =
             let f = price_of s.into in
             let g = price_of s.from in
             let P : List ℕ → Type 0 = λ trips. SayAll input.names (drop row input.rest) (price_rows l f g trips
-                ++ more) in
+            ++ more) in
             let Q : List ℕ → Type 0 = λ trips. SayAll input.names (drop at input.rest) (price_rows l f g trips
-                ++ more) in
+            ++ more) in
             subst Q begin
             (s.say f g more (gives_itself i s.into) (gives_itself i s.from) (subst P (sym none) rest));
       };

@@ -151,7 +151,7 @@ module _ (names : NameLists) (row : Row) (layers : AreNames names.layers) (trips
       let e : written_row names (BlockRow b) ≡ written_row names (BlockRow c) = sym p.written ∙ q.written in
       let layer : b.0.0 ≡ c.0.0 =
       name_once names.layers b.0.0 c.0.0 layers p.form.layer q.form.layer (ap (λ
-          (fs : List Field). get_or fs 1 []) e) in
+      (fs : List Field). get_or fs 1 []) e) in
       let one : b.0 ≡ c.0 = ap (λ (n : ℕ). record { 0 = n }) layer in
       let rest : b.1 ≡ c.1 = same_trips names.trips b.1 c.1 trips p.form.trips q.form.trips (ap (drop 2) e) in
       ap (λ (x : LayerNo). (x, b.1)) one ∙ ap (λ (xs : List TripNo). (c.0, xs)) rest

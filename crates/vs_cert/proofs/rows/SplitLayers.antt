@@ -88,17 +88,23 @@ module _ (names : List Field) where
       let before = (so_far.set_is.members l).1 has in
       let j : ℕ = before.0 in
       let j_few : j < k =
-      omega (arith, before.1, ap length so_far.fields_are, length-map so_far.layers
-          (name_of names), length-take k fields) in
+      omega (
+        arith,
+        before.1,
+        ap length so_far.fields_are,
+        length-map so_far.layers
+            (name_of names),
+        length-take k fields,
+      ) in
       let at_k = layer_at fields set s k lt in
       let at_j = layer_at fields set s j (omega arith) in
       let name_j : get_or fields j [] ≡ name_of names l =
       sym (get_or-take k fields j [] j_few) ∙ ap (λ (fs : List Field). get_or fs j []) so_far.fields_are
       ∙ get_or-map (name_of names) so_far.layers j l [] before.1 ∙ ap (name_of names) before.2 in
       let same_j : get_or s.layers j 0 ≡ l = name_once names (get_or s.layers j 0) l are at_j.1 below (sym at_j.2
-          ∙ name_j) in
+      ∙ name_j) in
       let same_k : get_or s.layers k 0 ≡ l = name_once names (get_or s.layers k 0) l are at_k.1 below (sym at_k.2
-          ∙ e) in
+      ∙ e) in
       s.set_is.once j k 0 j_few at_k.0 (same_j ∙ sym same_k)
 
   module _ (row : List Field) where

@@ -11,7 +11,7 @@ returns-in_default-clause-refused c =
     rw c.refusal.ensures
     (bad_row c.args.input.now c.args.row c.requires.row
     (no_table c.args.input.now.names _ c.requires.kind
-        (λ n ray. c.in_default.ensures.none n ray c.args.input.now.names))
+    (λ n ray. c.in_default.ensures.none n ray c.args.input.now.names))
     (InTable c.args.before []) (λ e. cc))
 
 pub returns-then-number-before-clause-refused : goal.returns-then-number-before-clause-refused
