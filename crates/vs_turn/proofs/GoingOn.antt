@@ -1,7 +1,7 @@
 -- What a holder adds, for callers of `release`.
-use Rattle.std.proofs.Common.{◌≡◌, ℕ, true, List, [], ◌∷◌, ◌++◌, length, sym, ap, ◌∙◌, append-nil, append_assoc}
+use Rattle.std.proofs.Common.{◌≡◌, ℕ, true, List, [], ◌∷◌, ◌++◌, length, ap, ◌∙◌, append-nil}
 use Rattle.std.proofs.Math.Seq.{drop-append_seam, drop-length}
-use Rattle.vs_turn.specs.Calls.{maker, has_ticket, AreCalls, GoOn, numbered, new_calls}
+use Rattle.vs_turn.specs.Calls.{maker, has_ticket, GoOn, numbered, new_calls}
 
 -- nothing was added
 pub adds_none : (tickets : List ℕ) (before after : List (List ℕ)) → before ≡ after → GoOn tickets before after

@@ -139,13 +139,12 @@ impl<S: Kept> Turn<S> {
         let mut place: Place<S> = badge.into_seat();
         let highest = tickets::split_highest(&mut tickets);
         let other = self.table.shared.split_seat::<HandOn>(&mut place);
-        let first = Seat {
-            tickets,
-            badge: place.into_badge(),
-        };
+        let badge = place.into_badge();
+        let other_badge = other.into_badge();
+        let first = Seat { tickets, badge };
         let second = Seat {
             tickets: highest,
-            badge: other.into_badge(),
+            badge: other_badge,
         };
         (first, second)
     }

@@ -10,7 +10,7 @@ use Rattle.vs_turn.proofs.TicketLists.{has_take, has_drop, rise_take, rise_drop}
 use Rattle.vs_turn.proofs.CallLists.{fewer_calls_of}
 use Rattle.vs_turn.proofs.Splitting.{splits}
 use Rattle.vs_turn.proofs.turn.Turn.split.Goals as goal
-use Rattle.vs_turn.proofs.turn.Turn.split.Goals.{After-into_badge-2}
+use Rattle.vs_turn.proofs.turn.Turn.split.Goals.{After-into_badge-other_badge}
 
 pub split_seat-other-requires : goal.split_seat-other-requires
 split_seat-other-requires g c =
@@ -42,7 +42,7 @@ invariant_of-first g c =
     let none_made = ap (λ (s : SeatModel). s.mine) seat ∙ c.requires.none_made in
     record {
       view = keeping v;
-      one = c.into_badge.ensures.2 ∙ ap (λ (m : Me (Option g.row.S.Denot) View). m.0 ∷ [])
+      one = c.into_badge-badge.ensures.2 ∙ ap (λ (m : Me (Option g.row.S.Denot) View). m.0 ∷ [])
           c.split_seat-other.ensures.2;
       at_rest = rest.rests;
       numbers = ap without_highest rest.numbers ∙ sym kept;
@@ -68,7 +68,7 @@ invariant_of-second g c =
     let few = c.seat.invariant.few in
     record {
       view = handed v;
-      one = c.into_badge-2.ensures.2 ∙ ap (λ (m : Me (Option g.row.S.Denot) View). m.0 ∷ [])
+      one = c.into_badge-other_badge.ensures.2 ∙ ap (λ (m : Me (Option g.row.S.Denot) View). m.0 ∷ [])
           c.split_seat-other.ensures.4;
       at_rest = rest.rests;
       numbers = ap only_highest rest.numbers ∙ sym highest;
@@ -82,5 +82,5 @@ invariant_of-second g c =
 
 pub returns-clause-knows : goal.returns-clause-knows
 returns-clause-knows g c =
-    let p = (goal.at.returns-clause-knows g c).After-into_badge-2 in
+    let p = (goal.at.returns-clause-knows g c).After-into_badge-other_badge in
     (knows_calls _ _ _ (invariant_of-first g p), knows_calls _ _ _ (invariant_of-second g p))
