@@ -3,7 +3,7 @@ use Rattle.std.proofs.Common.{◌≡◌, ℕ, suc, ◌+◌, ◌-◌, ◌*◌, �
 use Rattle.std.specs.List.{range_with_len}
 use Rattle.std.proofs.lemmas.Bool.{cases_lt}
 use Rattle.std.proofs.lemmas.List.{get_or_at, length_push, append-nil, append_assoc, drop_at, take_at, drop-append-le, take-append-le, length-drop}
-use Rattle.std.proofs.lemmas.List.Elements.{All-push, All-append, All-nil}
+use Rattle.std.proofs.lemmas.List.Elements.{All-push, All-append}
 use Rattle.std.proofs.lemmas.Nat.{row_fits}
 use Rattle.vs_instance.specs.Problem.{Problem}
 use Rattle.vs_instance.specs.Ways.{Permitted}
@@ -14,7 +14,7 @@ use Rattle.vs_reader.specs.declared.input.Input.{Input}
 use Rattle.vs_cert.specs.declared.refused.DocError.{DocError}
 use Rattle.vs_cert.specs.DocumentRows.{DocumentRow, FleetRow, SayAll, TableRow, layer_rows, permitted_trips}
 use Rattle.vs_cert.specs.Places.{InTable, PriceOf, Trip, Vehicle, prices_of}
-use Rattle.vs_cert.specs.Reading.{IsEmptyTable, IsRefusedAt, LeadTo, ReadsFleet, ReadsKind, ReadsLayer, ReadsPrices, ReadsTable, price_rows, prices_from}
+use Rattle.vs_cert.specs.Reading.{IsRefusedAt, LeadTo, ReadsFleet, ReadsKind, ReadsLayer, ReadsPrices, ReadsTable, price_rows, prices_from}
 use Rattle.vs_cert.proofs.rows.RefusedRows.{lead_on, say_on}
 
 -- the rows of prices from a layer on, and where no layer is left
@@ -214,26 +214,6 @@ pub record LayersSoFar (input : Input) (at l row : ℕ) (ray : Bool) (table : Ta
       → SayAll input.names (drop at input.rest) (layers_rows input.instance t 0 ++ more)
   pub lead : (n : ℕ) → LeadTo input at (InTable n (prices_from input.instance 0)) row
       (InTable n (prices_from input.instance l))
-
-pub layers_none : (input : Input) (at : ℕ) (ray : Bool) (table : Table) → at ≤ length input.rest
-    → IsEmptyTable ray table
-    → LayersSoFar input at 0 at ray table
-layers_none input at ray table within empty =
-    let P : List ℤ → Type 0 = λ xs. All IsPrice xs in
-    record {
-      into_size = omega (arith, ap length empty.into);
-      from_size = omega (arith, ap length empty.from);
-      fleet_size = ap length empty.fleet;
-      into_prices = subst P (sym empty.into) (All-nil IsPrice);
-      from_prices = subst P (sym empty.from) (All-nil IsPrice);
-      fleet_prices = subst P (sym empty.fleet) (All-nil IsPrice);
-      blank = λ k i lt. absurd (omega arith);
-      ray_is = empty.ray_is;
-      further = omega arith;
-      within = within;
-      say = λ t more _ rest. rest;
-      lead = λ n. record { refused = λ e is. is };
-    }
 
 -- the rows of a layer by the prices that were read for it
 layer_rows_are : (p : Problem) (t : Table) (l : ℕ) (into from : List ℤ) (fleet : ℤ) → prices_in p l t.into.items ≡ into

@@ -3,8 +3,8 @@ use Rattle.std.proofs.Common.{◌≡◌, ℕ, suc, ◌+◌, ◌-◌, ◌<◌, �
 use Rattle.std.specs.Int.{bit_at}
 use Rattle.std.specs.List.{range_with_len}
 use Rattle.std.proofs.lemmas.Bool.{cases_lt, eq-eqb, ne_eqb, false≢true}
-use Rattle.std.proofs.lemmas.List.{get_or_append_left, get_or_push, length_push, append-nil, append_assoc}
-use Rattle.std.proofs.lemmas.List.Elements.{All-push, All-nil}
+use Rattle.std.proofs.lemmas.List.{get_or_append_left, get_or_push, length_push, append_assoc}
+use Rattle.std.proofs.lemmas.List.Elements.{All-push}
 use Rattle.vs_types.specs.LayerSet.{Has}
 use Rattle.vs_instance.specs.declared.trip.Trip.{Trip as TripOf}
 use Rattle.vs_instance.specs.Problem.{Problem}
@@ -120,26 +120,6 @@ blank_push p l i into from a b into_size from_size blank last k lt may_not = eli
       let h = last (subst P here may_not) in
       (get_or_push into a (pos 0) k (omega arith) ∙ h.0, get_or_push from b (pos 0) k (omega arith) ∙ h.1)
 ]
-
-pub prices_none : (input : Input) (at l : ℕ) (table : Table) → at ≤ length input.rest
-    → PricesSoFar input at l 0 at table table
-prices_none input at l table within = record {
-  into = [];
-  from = [];
-  into_is = sym (append-nil table.into.items);
-  from_is = sym (append-nil table.from.items);
-  fleet_is = refl;
-  ray_is = refl;
-  into_size = refl;
-  from_size = refl;
-  into_prices = All-nil IsPrice;
-  from_prices = All-nil IsPrice;
-  blank = λ k lt. absurd (omega arith);
-  further = omega arith;
-  within = within;
-  say = λ f g more _ _ rest. rest;
-  lead = λ n later. record { refused = λ e is. is };
-}
 
 module _ (input : Input) (at l i row : ℕ) (old table new : Table) (s : PricesSoFar input at l i row old table)
     (lt : i < length input.instance.trips) where

@@ -3,7 +3,7 @@ use Rattle.std.proofs.Common.{◌≡◌, ℕ, ◌+◌, ◌-◌, ◌<◌, ◌≤�
 use Rattle.std.specs.Str.{IsUtf8, IsAscii}
 use Rattle.std.proofs.lemmas.Bool.{cases_lt, cases_order}
 use Rattle.std.proofs.lemmas.List.{get_or_past, get_or-map, map_push, length-map, take_all, take_more, get_or-drop, length-drop}
-use Rattle.std.proofs.lemmas.List.Elements.{All-push, All-nil, All-head, All-tail}
+use Rattle.std.proofs.lemmas.List.Elements.{All-push, All-head, All-tail}
 use Rattle.std.proofs.lemmas.Str.{IsUtf8-from_ascii}
 use Rattle.vs_types.specs.declared.numbers.TripNo.{TripNo}
 use Rattle.vs_reader.specs.Rows.{Field}
@@ -29,9 +29,6 @@ pub no_name : (names : List Field) (field : Field) → AreNames names → ¬ (Is
     → ¬ (field ≡ name_of names k)
 no_name names field are wrong k lt e = let P : List ℕ → Type 0 =
     λ f. IsUtf8 f in wrong (subst P (sym e) (utf8_name names k are lt))
-
-pub name_trips_none : (names : List Field) → NameTrips names [] []
-name_trips_none names = record { fields_are = refl; trips_are = All-nil (λ t. t.0 < length names) }
 
 pub name_trips_more : (names fields : List Field) (field : Field) (trips : List TripNo) (t : TripNo)
     → NameTrips names fields trips

@@ -132,9 +132,6 @@ other_number digits (suc i) n m all within large r few e =
     let whole : digits ≡ decimal n = sym (take_all (suc i) digits all) ∙ r.some (omega arith) in
     omega (arith, same_number m n (omega arith) (omega (arith, r.few)) (sym e ∙ whole))
 
-pub reads_all : (digits : List ℕ) (n : ℕ) → 0 < length digits → Reads digits (length digits) n → digits ≡ decimal n
-reads_all digits n some r = sym (take_all (length digits) digits (omega arith)) ∙ r.some some
-
 -- no number within -10^20 and 10^20 is written so
 abbrev pub IsNoNumber : List ℕ → Type 0
 IsNoNumber field =
@@ -158,11 +155,6 @@ pub no_number_from_zero : (field : List ℕ) (n : ℕ) → get_or field 0 0 ≡ 
 no_number_from_zero field n first none e =
     no_number_behind_minus field first
     (λ m some few f. absurd (omega (arith, same_number m n (omega arith) (omega arith) (sym f ∙ e))))
-
-pub no_plain_number : (field : List ℕ) → ¬ (get_or field 0 0 ≡ 45)
-    → ((n : ℕ) → n ≤ 100000000000000000000 → ¬ (field ≡ decimal n)) → IsNoNumber field
-no_plain_number field plain none (pos m) range e = none m (omega (arith, ints, range.1)) e
-no_plain_number field plain none (negsuc m) range e = plain (ap (λ (ds : List ℕ). get_or ds 0 0) e)
 
 pub same_signed : (y z : ℤ) → IsBetween (negsuc 99999999999999999999) (pos 100000000000000000000) y
     → IsBetween (negsuc 99999999999999999999) (pos 100000000000000000000) z

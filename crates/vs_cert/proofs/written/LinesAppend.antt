@@ -1,11 +1,7 @@
 -- The lines of rows, part by part.
-use Rattle.std.proofs.Common.{◌≡◌, List, [], ◌∷◌, ◌++◌}
-use Rattle.std.proofs.lemmas.List.{append-nil}
+use Rattle.std.proofs.Common.{◌≡◌, List, ◌++◌}
 use Rattle.std.proofs.lemmas.List.Concat.{flat_map-append}
 use Rattle.vs_reader.specs.Rows.{Row, line, lines}
 
 pub lines-append : (rows others : List Row) → lines (rows ++ others) ≡ lines rows ++ lines others
 lines-append rows others = flat_map-append line rows others
-
-pub lines-one : (row : Row) → lines (row ∷ []) ≡ line row
-lines-one row = append-nil (line row)

@@ -60,9 +60,6 @@ pub wrote_all : {X : Type 0} (f : X → List ℕ) (start now : List ℕ) (xs : L
     → now ≡ start ++ flat_map f (take i xs) → now ≡ start ++ flat_map f xs
 wrote_all f start now xs i past so_far = so_far ∙ ap (λ ys. start ++ flat_map f ys) (take_all i xs past)
 
-pub wrote_none : {X : Type 0} (f : X → List ℕ) (start : List ℕ) (xs : List X) → start ≡ start ++ flat_map f (take 0 xs)
-wrote_none f start xs = sym (append-nil start)
-
 -- the same over numbers from 0 on
 pub numbered_more : (f : ℕ → List ℕ) (start before after : List ℕ) (n i : ℕ) → i < n
     → before ≡ start ++ flat_map f (take i (range_with_len 0 n)) → after ≡ before ++ f i
