@@ -25,57 +25,61 @@ const LAYER: &str = ",D,2,1000,1,0\n";
 
 const TRIP: &str = ",P,8:00,Q,8:30,0,L1\n";
 
+/// A text, and the record at which it is refused, and why.
+const SMALL_TEXTS: [(&[u8], u64, Why); 12] = [
+    (b"", 1, Why::NoHeader),
+    (b"instance,2\n", 1, Why::NoHeader),
+    (b"instance,1\nbus,D\n", 2, Why::UnknownKind),
+    (b"instance,1\nstop,D\nstop,D\n", 3, Why::NameTwice),
+    (b"instance,1\nstop,\0\n", 2, Why::BadName),
+    (b"instance,1\nstop,\xff\n", 2, Why::BadName),
+    (b"instance,1\nstop,\"D\nstop,P\n", 2, Why::BadName),
+    (b"instance,1\nstop,D,P\n", 2, Why::FieldCount),
+    (
+        b"instance,1\nstop,D\nlayer,L1,X,2,1,1,0\n",
+        3,
+        Why::UnknownName,
+    ),
+    (
+        b"instance,1\nstop,D\nlayer,L1,D,-1,1,1,0\n",
+        3,
+        Why::BadNumber,
+    ),
+    (
+        b"instance,1\nstop,D\nlayer,L1,D,2001,1,1,0\n",
+        3,
+        Why::Misfit(Misfit::Range(Field::Fleet, Place::Layer(LayerNo(0)))),
+    ),
+    (
+        b"instance,1\nstop,P\nstop,Q\nstop,R\ndeadhead,P,Q,15,0\ndeadhead,Q,R,5,0\n",
+        0,
+        Why::Misfit(Misfit::NotClosed(StopNo(0), StopNo(1), StopNo(2))),
+    ),
+];
+
 #[test]
 fn refuses_small_texts(rt: HostRuntime) {
-    let cases: [(&[u8], u64, Why); 12] = [
-        (b"", 1, Why::NoHeader),
-        (b"instance,2\n", 1, Why::NoHeader),
-        (b"instance,1\nbus,D\n", 2, Why::UnknownKind),
-        (b"instance,1\nstop,D\nstop,D\n", 3, Why::NameTwice),
-        (b"instance,1\nstop,\0\n", 2, Why::BadName),
-        (b"instance,1\nstop,\xff\n", 2, Why::BadName),
-        (b"instance,1\nstop,\"D\nstop,P\n", 2, Why::BadName),
-        (b"instance,1\nstop,D,P\n", 2, Why::FieldCount),
-        (
-            b"instance,1\nstop,D\nlayer,L1,X,2,1,1,0\n",
-            3,
-            Why::UnknownName,
-        ),
-        (
-            b"instance,1\nstop,D\nlayer,L1,D,-1,1,1,0\n",
-            3,
-            Why::BadNumber,
-        ),
-        (
-            b"instance,1\nstop,D\nlayer,L1,D,2001,1,1,0\n",
-            3,
-            Why::Misfit(Misfit::Range(Field::Fleet, Place::Layer(LayerNo(0)))),
-        ),
-        (
-            b"instance,1\nstop,P\nstop,Q\nstop,R\ndeadhead,P,Q,15,0\ndeadhead,Q,R,5,0\n",
-            0,
-            Why::Misfit(Misfit::NotClosed(StopNo(0), StopNo(1), StopNo(2))),
-        ),
-    ];
-    for (text, row, why) in cases {
+    for (text, row, why) in SMALL_TEXTS {
         assert_eq!(rt; refusal(rt.alloc(), text), Some((row, why)));
     }
 }
 
+/// The fields of a trip behind its name, and why they are refused.
+const TRIPS: [(&str, Why); 6] = [
+    (",P,8:00,Q,48:00,0,L1\n", Why::BadTime),
+    (",P,8:00,Q,8:60,0,L1\n", Why::BadTime),
+    (",P,8:00,Q,8:30,0,L1,L1\n", Why::NameTwice),
+    (",P,8:00,Q,8:30,0\n", Why::FieldCount),
+    (",P,8:00,Q,8:30,12345678901,L1\n", Why::BadNumber),
+    (
+        ",P,8:00,Q,8:00,0,L1\n",
+        Why::Misfit(Misfit::EndNotAfterStart(TripNo(0))),
+    ),
+];
+
 #[test]
 fn refuses_trips(rt: HostRuntime) -> Result<(), Fail> {
-    let cases = [
-        (",P,8:00,Q,48:00,0,L1\n", Why::BadTime),
-        (",P,8:00,Q,8:60,0,L1\n", Why::BadTime),
-        (",P,8:00,Q,8:30,0,L1,L1\n", Why::NameTwice),
-        (",P,8:00,Q,8:30,0\n", Why::FieldCount),
-        (",P,8:00,Q,8:30,12345678901,L1\n", Why::BadNumber),
-        (
-            ",P,8:00,Q,8:00,0,L1\n",
-            Why::Misfit(Misfit::EndNotAfterStart(TripNo(0))),
-        ),
-    ];
-    for (trip, why) in cases {
+    for (trip, why) in TRIPS {
         let text = format!(in rt.alloc(); "{STOPS}layer,L1{LAYER}trip,t1{trip}")?;
         assert_eq!(rt; refusal(rt.alloc(), text.as_bytes()), Some((6, why)));
     }
