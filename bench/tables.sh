@@ -30,4 +30,4 @@ awk 'BEGIN {
 }' > "$work/both"
 
 echo "check on $(wc -l < "$work/both") records, $(wc -c < "$work/both") bytes:"
-/usr/bin/time -f "%e seconds, %M kB" bin/mdvsp check < "$work/both"
+/usr/bin/time -f "%e seconds (%U of the processor), %M kB" bin/mdvsp check < "$work/both"
