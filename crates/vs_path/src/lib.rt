@@ -2,6 +2,10 @@
 #![tactic(auto)]
 
 mod node_heap;
+mod residual;
+mod step;
 mod tournament;
 
 pub use node_heap::NodeHeap;
+pub use residual::{Costs, Residual, MAX_COST, MAX_PRICE};
+pub use step::Step;
