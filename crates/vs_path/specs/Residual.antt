@@ -1,5 +1,5 @@
 -- Steps along the arcs of a net on which units can still be sent or taken back.
-use Rattle.std.specs.Prelude.{◌≡◌, ◌≢◌, ℕ, ◌+◌, ◌<◌, ◌≤◌, List, [], ◌∷◌, length, slice_index, slice_index_or, ℤ, pos, neg_ℤ, ◌+ℤ◌, ◌-ℤ◌, ◌≤ℤ◌}
+use Rattle.std.specs.Prelude.{◌≡◌, ◌≢◌, ℕ, ◌<◌, ◌≤◌, List, [], ◌∷◌, length, slice_index, slice_index_or, ℤ, pos, neg_ℤ, ◌+ℤ◌, ◌-ℤ◌, ◌≤ℤ◌}
 use Rattle.vs_layer.specs.Graph.{Graph, IsNet, arc_of}
 use Rattle.vs_path.specs.declared.step.Step.{Step}
 use Rattle.vs_path.specs.declared.step.Step.TheVariants.{Forward, Back}

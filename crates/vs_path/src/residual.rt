@@ -1,10 +1,13 @@
 ghost use Rattle.std.specs.Prelude.{◌≡◌, ◌<◌, ◌≤◌, ◌↔◌, length, IsTrue};
-ghost use Rattle.vs_layer.specs.Graph.{arc_of};
+ghost use Rattle.vs_layer.specs.Graph.{leaving, reaching};
 ghost use Rattle.vs_path.specs.Residual.{IsResidual, IsOpen, IsWithin, AllWithin, arc_no, from_of, to_of, cost_of, reduced, price_at};
 
 use crate::step::Step;
 use std::marker::Model;
 use vs_layer::{Flow, Net};
+
+/// How many nodes a net has at most in a search by prices: two for each trip, and the two of the depot.
+pub const MAX_NODES: u32 = 4_002;
 
 /// The greatest cost of an arc in a search by prices, either way.
 pub const MAX_COST: i64 = 120_000_000_000_000;
@@ -120,5 +123,21 @@ impl<'a> Residual<'a> {
         let from = prices[self.from(step) as usize];
         let to = prices[self.to(step) as usize];
         self.cost(step) + from - to
+    }
+
+    /// The numbers of the arcs that leave a node, in order.
+    pub fn leaving(&self, node: u32) -> &[u32]
+        requires { node < self.now.graph.nodes }
+        ensures { result.now ≡ leaving self.now.graph node }
+    {
+        self.net.leaving(node)
+    }
+
+    /// The numbers of the arcs that reach a node, in order.
+    pub fn reaching(&self, node: u32) -> &[u32]
+        requires { node < self.now.graph.nodes }
+        ensures { result.now ≡ reaching self.now.graph node }
+    {
+        self.net.reaching(node)
     }
 }

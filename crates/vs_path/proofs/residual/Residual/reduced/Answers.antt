@@ -1,6 +1,6 @@
-use Rattle.std.proofs.Common.{◌≡◌, ◌∙◌, ◌+ℤ◌, ◌-ℤ◌, ap, arith, ℕ, ℤ, pos}
+use Rattle.std.proofs.Common.{◌≡◌, ap, arith}
 use Rattle.std.proofs.lemmas.Int.{ints}
-use Rattle.vs_path.specs.Residual.{cost_of, from_of, to_of, price_at}
+use Rattle.vs_path.specs.Residual.{from_of, to_of, price_at}
 use Rattle.vs_path.proofs.residual.Residual.reduced.Goals as goal
 
 pub returns : goal.returns
