@@ -1,3 +1,5 @@
 pub mod Matches
 pub mod Waiting
 pub mod Lowering
+pub mod ArcsOfNode
+pub mod Settling

@@ -235,6 +235,30 @@ module _ (r : ResidualNet) (prices : List ℤ) (l : Lists) (labels : AreLabels r
 pub lowered-same : (l : Lists) → IsLowered l l
 lowered-same l = record { settled = refl; order = refl; covers = λ v bound covers. covers }
 
+pub lowered-on : (a b c : Lists) → IsLowered a b → IsLowered b c → IsLowered a c
+lowered-on a b c ab bc = record {
+  settled = bc.settled ∙ ab.settled;
+  order = bc.order ∙ ab.order;
+  covers = λ v bound covers. bc.covers v bound (ab.covers v bound covers);
+}
+
+-- what is settled stays so
+pub lowered-settled : (old new : Lists) (v : ℕ) (distance : ℤ) → IsLowered old new → IsSettledAt old v distance
+    → IsSettledAt new v distance
+lowered-settled old new v distance low is =
+    (is.0, ap (λ (settled : List (Option Settled)). get_or settled v None) low.settled ∙ is.1, is.2)
+
+pub lowered-farthest : (old new : Lists) (distance : ℤ) → IsLowered old new → IsFarthest old distance
+    → IsFarthest new distance
+lowered-farthest old new distance low farthest v a is =
+    farthest v a (ap (λ (settled : List (Option Settled)). get_or settled v None) (sym low.settled) ∙ is)
+
+-- a step that is relaxed stays so
+pub lowered-relaxed : (r : ResidualNet) (prices : List ℤ) (old new : Lists) (u : ℕ) (distance : ℤ) (s : Step)
+    → IsLowered old new → IsRelaxed r prices old u distance s → IsRelaxed r prices new u distance s
+lowered-relaxed r prices old new u distance s low relaxed is_open from =
+    low.covers (to_of r s) (distance +ℤ reduced r prices s) (relaxed is_open from)
+
 -- a read of what may be there
 pub read_at : {X : Type 0} (xs : List (Option X)) (i : ℕ) (o : Option X) → i < length xs → o ≡ get_or xs i o
     → get_or xs i None ≡ o

@@ -1,5 +1,5 @@
 -- What a search for least paths knows while it goes on.
-use Rattle.std.specs.Prelude.{◌≡◌, ◌≢◌, ℕ, ◌+◌, ◌*◌, ◌<◌, ◌≤◌, List, [], ◌∷◌, length, set, slice_index, slice_index_or, Option, Some, None, ℤ, pos, ◌+ℤ◌, ◌-ℤ◌, ◌≤ℤ◌, ◌<ℤ◌, nat_abs}
+use Rattle.std.specs.Prelude.{◌≡◌, ◌≢◌, ℕ, ◌+◌, ◌*◌, ◌<◌, ◌≤◌, List, [], ◌∷◌, ◌++◌, length, set, slice_index, slice_index_or, Option, Some, None, ℤ, pos, ◌+ℤ◌, ◌-ℤ◌, ◌≤ℤ◌, ◌<ℤ◌, nat_abs}
 use Rattle.vs_path.specs.declared.residual.TheConstants.{MAX_COST, MAX_NODES, MAX_PRICE}
 use Rattle.vs_path.specs.declared.step.Step.{Step}
 use Rattle.vs_path.specs.declared.labels.Settled.{Settled}
@@ -73,6 +73,15 @@ lowered l v label step = record {
   waiting = set l.waiting v (Some label);
   steps = set l.steps v (Some step);
   order = l.order;
+}
+
+-- once node v is settled at this distance
+abbrev pub settle_in : Lists → ℕ → ℤ → Lists
+settle_in l v distance = record {
+  settled = set l.settled v (Some (record { distance = distance; place = length l.order }));
+  waiting = set l.waiting v None;
+  steps = l.steps;
+  order = l.order ++ v ∷ [];
 }
 
 -- node v is settled at this distance

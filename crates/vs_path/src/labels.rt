@@ -106,4 +106,40 @@ impl Labels {
     {
         distance + residual.reduced(prices, step)
     }
+
+    /// Relaxes the steps forward from a node that is settled at this distance, the farthest so far.
+    fn relax_forward(&mut self, residual: &Residual, prices: &[i64], node: u32, distance: i64)
+        requires small { IsSmall residual.now prices.now }
+        requires sign_rule { HasSignRule residual.now prices.now }
+        requires labels { AreLabels residual.now prices.now (lists_of self.old) }
+        requires node { node < residual.now.graph.nodes }
+        requires from { IsSettledAt (lists_of self.old) node distance }
+        requires farthest { IsFarthest (lists_of self.old) distance }
+        ensures labels { AreLabels residual.now prices.now (lists_of self.new) }
+        ensures lowered { IsLowered (lists_of self.old) (lists_of self.new) }
+        ensures relaxed { (k : ℕ) → IsRelaxed residual.now prices.now (lists_of self.new) node distance (Step.Forward k) }
+        ensures order { self.new.order ≡ self.old.order }
+    {
+        for k in residual.leaving(node) {
+            self.relax(residual, prices, distance, Step::Forward(*k));
+        }
+    }
+
+    /// Relaxes the steps back from a node that is settled at this distance, the farthest so far.
+    fn relax_back(&mut self, residual: &Residual, prices: &[i64], node: u32, distance: i64)
+        requires small { IsSmall residual.now prices.now }
+        requires sign_rule { HasSignRule residual.now prices.now }
+        requires labels { AreLabels residual.now prices.now (lists_of self.old) }
+        requires node { node < residual.now.graph.nodes }
+        requires from { IsSettledAt (lists_of self.old) node distance }
+        requires farthest { IsFarthest (lists_of self.old) distance }
+        ensures labels { AreLabels residual.now prices.now (lists_of self.new) }
+        ensures lowered { IsLowered (lists_of self.old) (lists_of self.new) }
+        ensures relaxed { (k : ℕ) → IsRelaxed residual.now prices.now (lists_of self.new) node distance (Step.Back k) }
+        ensures order { self.new.order ≡ self.old.order }
+    {
+        for k in residual.reaching(node) {
+            self.relax(residual, prices, distance, Step::Back(*k));
+        }
+    }
 }

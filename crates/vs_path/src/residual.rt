@@ -128,7 +128,8 @@ impl<'a> Residual<'a> {
     /// The numbers of the arcs that leave a node, in order.
     pub fn leaving(&self, node: u32) -> &[u32]
         requires { node < self.now.graph.nodes }
-        ensures { result.now ≡ leaving self.now.graph node }
+        ensures arcs { result.now ≡ leaving self.now.graph node }
+        ensures residual { IsResidual self.now }
     {
         self.net.leaving(node)
     }
@@ -136,7 +137,8 @@ impl<'a> Residual<'a> {
     /// The numbers of the arcs that reach a node, in order.
     pub fn reaching(&self, node: u32) -> &[u32]
         requires { node < self.now.graph.nodes }
-        ensures { result.now ≡ reaching self.now.graph node }
+        ensures arcs { result.now ≡ reaching self.now.graph node }
+        ensures residual { IsResidual self.now }
     {
         self.net.reaching(node)
     }
