@@ -3,3 +3,4 @@ pub mod Waiting
 pub mod Lowering
 pub mod ArcsOfNode
 pub mod Settling
+pub mod Exploring

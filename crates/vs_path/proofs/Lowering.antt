@@ -243,20 +243,20 @@ lowered-on a b c ab bc = record {
 }
 
 -- what is settled stays so
-pub lowered-settled : (old new : Lists) (v : ℕ) (distance : ℤ) → IsLowered old new → IsSettledAt old v distance
-    → IsSettledAt new v distance
-lowered-settled old new v distance low is =
+pub lowered-settled : (old after : Lists) (v : ℕ) (distance : ℤ) → IsLowered old after → IsSettledAt old v distance
+    → IsSettledAt after v distance
+lowered-settled old after v distance low is =
     (is.0, ap (λ (settled : List (Option Settled)). get_or settled v None) low.settled ∙ is.1, is.2)
 
-pub lowered-farthest : (old new : Lists) (distance : ℤ) → IsLowered old new → IsFarthest old distance
-    → IsFarthest new distance
-lowered-farthest old new distance low farthest v a is =
+pub lowered-farthest : (old after : Lists) (distance : ℤ) → IsLowered old after → IsFarthest old distance
+    → IsFarthest after distance
+lowered-farthest old after distance low farthest v a is =
     farthest v a (ap (λ (settled : List (Option Settled)). get_or settled v None) (sym low.settled) ∙ is)
 
 -- a step that is relaxed stays so
-pub lowered-relaxed : (r : ResidualNet) (prices : List ℤ) (old new : Lists) (u : ℕ) (distance : ℤ) (s : Step)
-    → IsLowered old new → IsRelaxed r prices old u distance s → IsRelaxed r prices new u distance s
-lowered-relaxed r prices old new u distance s low relaxed is_open from =
+pub lowered-relaxed : (r : ResidualNet) (prices : List ℤ) (old after : Lists) (u : ℕ) (distance : ℤ) (s : Step)
+    → IsLowered old after → IsRelaxed r prices old u distance s → IsRelaxed r prices after u distance s
+lowered-relaxed r prices old after u distance s low relaxed is_open from =
     low.covers (to_of r s) (distance +ℤ reduced r prices s) (relaxed is_open from)
 
 -- a read of what may be there

@@ -1,5 +1,5 @@
 -- What is known of the nodes stays known where the one that waits with the least key is settled.
-use Rattle.std.proofs.Common.{◌≡◌, ◌≢◌, ℕ, zero, suc, ◌+◌, ◌<◌, ◌≤◌, ◌∙◌, List, [], ◌∷◌, length, set, get_or, refl, sym, ap, subst, arith, inl, inr, Option, Some, None, ℤ, ◌≤ℤ◌, length-set, length-append}
+use Rattle.std.proofs.Common.{◌≡◌, ◌≢◌, ℕ, zero, suc, ◌+◌, ◌<◌, ◌≤◌, ◌∙◌, List, [], ◌∷◌, length, set, get_or, refl, sym, ap, subst, arith, inl, inr, Option, Some, None, ℤ, pos, ◌≤ℤ◌, length-set, length-append}
 use Rattle.std.proofs.Math.ListN.{get_or-append}
 use Rattle.std.proofs.lemmas.Bool.{cases_eq, cases_lt}
 use Rattle.std.proofs.lemmas.Int.{ints}
@@ -8,7 +8,7 @@ use Rattle.vs_path.specs.declared.step.Step.{Step}
 use Rattle.vs_path.specs.declared.labels.Settled.{Settled}
 use Rattle.vs_path.specs.Keys.{IsLeast}
 use Rattle.vs_path.specs.Residual.{ResidualNet, from_of, to_of}
-use Rattle.vs_path.specs.Labels.{Lists, AreLabels, IsArrival, IsFarthest, IsNear, IsRelaxed, count_settled, label_of, label_at, settle_in, settled_at, source_of, waiting_at}
+use Rattle.vs_path.specs.Labels.{Lists, AreLabels, AreListed, IsArrival, IsFarthest, IsNear, IsRelaxed, count_settled, label_of, label_at, settle_in, settled_at, source_of, waiting_at}
 
 -- one more is settled
 pub count_settled-set : (settled : List (Option Settled)) (v : ℕ) (a : Settled) → v < length settled
@@ -31,10 +31,10 @@ module _ (r : ResidualNet) (prices : List ℤ) (l : Lists) (labels : AreLabels r
   unsettled : settled_at l v ≡ None
   unsettled = labels.unsettled v key least.has
 
-  settled_here : settled_at new v ≡ Some own
+  pub settled_here : settled_at new v ≡ Some own
   settled_here = get_or-set_same l.settled v (Some own) None (omega (arith, labels.are_listed.settled))
 
-  settled_other : (w : ℕ) → w ≢ v → settled_at new w ≡ settled_at l w
+  pub settled_other : (w : ℕ) → w ≢ v → settled_at new w ≡ settled_at l w
   settled_other w ne = get_or-set_other l.settled v w (Some own) None (λ e. ne e)
 
   waiting_here : waiting_at new v ≡ None
@@ -49,7 +49,7 @@ module _ (r : ResidualNet) (prices : List ℤ) (l : Lists) (labels : AreLabels r
   still : (w : ℕ) (a : Settled) → settled_at l w ≡ Some a → settled_at new w ≡ Some a
   still w a is = settled_other w (apart w a is) ∙ is
 
-  source_same : source_of new ≡ source_of l
+  pub source_same : source_of new ≡ source_of l
   source_same = get_or-append l.order (v ∷ []) 0 0 labels.some
 
   arrival_kept : (place w : ℕ) (d : ℤ) → IsArrival r prices l place w d → IsArrival r prices new place w d
@@ -188,3 +188,17 @@ module _ (r : ResidualNet) (prices : List ℤ) (l : Lists) (labels : AreLabels r
         has = label_same (to_of r s) ∙ covers.has;
         no_more = covers.no_more;
       }
+
+count_settled-≤ : (settled : List (Option Settled)) → count_settled settled ≤ length settled
+count_settled-≤ [] = omega arith
+count_settled-≤ (None ∷ settled) = omega (arith, count_settled-≤ settled)
+count_settled-≤ (Some a ∷ settled) = omega (arith, count_settled-≤ settled)
+
+-- where a node isn't settled, fewer are than there are
+pub room-left : (nodes : ℕ) (l : Lists) → AreListed nodes l → (v : ℕ) → settled_at l v ≡ None → v < nodes
+    → length l.order < nodes
+room-left nodes l listed v empty within =
+    let a : Settled = record { distance = pos 0; place = 0 } in
+    let more = count_settled-set l.settled v a (omega (arith, listed.settled)) empty in
+    let all = count_settled-≤ (set l.settled v (Some a)) in
+    omega (arith, more, all, listed.count, listed.settled, length-set l.settled v (Some a))

@@ -1,10 +1,10 @@
 -- What a search for least paths knows while it goes on.
-use Rattle.std.specs.Prelude.{◌≡◌, ◌≢◌, ℕ, ◌+◌, ◌*◌, ◌<◌, ◌≤◌, List, [], ◌∷◌, ◌++◌, length, set, slice_index, slice_index_or, Option, Some, None, ℤ, pos, ◌+ℤ◌, ◌-ℤ◌, ◌≤ℤ◌, ◌<ℤ◌, nat_abs}
+use Rattle.std.specs.Prelude.{◌≡◌, ◌≢◌, ℕ, ◌+◌, ◌*◌, ◌<◌, ◌≤◌, List, [], ◌∷◌, ◌++◌, length, set, replicate, slice_index, slice_index_or, Option, Some, None, ℤ, pos, ◌+ℤ◌, ◌-ℤ◌, ◌≤ℤ◌, ◌<ℤ◌, nat_abs}
 use Rattle.vs_path.specs.declared.residual.TheConstants.{MAX_COST, MAX_NODES, MAX_PRICE}
 use Rattle.vs_path.specs.declared.step.Step.{Step}
 use Rattle.vs_path.specs.declared.labels.Settled.{Settled}
 use Rattle.vs_path.specs.declared.labels.Labels.{Labels}
-use Rattle.vs_path.specs.Keys.{Keys, key_at}
+use Rattle.vs_path.specs.Keys.{Keys, IsEmpty, key_at}
 use Rattle.vs_path.specs.Residual.{ResidualNet, IsOpen, IsWithin, AllWithin, from_of, to_of, reduced, price_at}
 
 -- by node: the least distance and the place in the order, where it is settled; the key, where it waits; and the last
@@ -154,3 +154,37 @@ AreRelaxedBut r prices l but = (u : ℕ) (a : Settled) (s : Step) → settled_at
 -- so are all
 abbrev pub AreRelaxed : ResidualNet → List ℤ → Lists → Type 0
 AreRelaxed r prices l = (u : ℕ) (a : Settled) (s : Step) → settled_at l u ≡ Some a → IsRelaxed r prices l u a.distance s
+
+-- less comes into the node than goes out
+abbrev pub Lacks : List ℤ → ℕ → Type 0
+Lacks surplus v = slice_index_or surplus v (pos 0) <ℤ pos 0
+
+-- what is there to settle, where nothing is settled yet
+pub record AreFresh (nodes : ℕ) (l : Lists) : Type 0 where
+  pub settled : l.settled ≡ replicate nodes None
+  pub waiting : l.waiting ≡ replicate nodes None
+  pub steps : length l.steps ≡ nodes
+  pub order : l.order ≡ []
+
+-- the search goes on: all that is settled is relaxed, and none of it lacks a unit
+pub record IsUnderWay (r : ResidualNet) (prices surplus : List ℤ) (source : ℕ) (l : Lists) : Type 0 where
+  pub labels : AreLabels r prices l
+  pub relaxed : AreRelaxed r prices l
+  pub from : source_of l ≡ source
+  pub no_lack : (v : ℕ) (a : Settled) → settled_at l v ≡ Some a → ¬ (Lacks surplus v)
+
+-- the search has settled a node that lacks a unit, as the last
+pub record IsReached (r : ResidualNet) (prices surplus : List ℤ) (source : ℕ) (l : Lists) (goal : ℕ) : Type 0 where
+  pub labels : AreLabels r prices l
+  pub relaxed : AreRelaxedBut r prices l goal
+  pub from : source_of l ≡ source
+  pub lacks : Lacks surplus goal
+  pub no_lack : (v : ℕ) (a : Settled) → settled_at l v ≡ Some a → v ≢ goal → ¬ (Lacks surplus v)
+  pub goal_is : Settled
+  pub settled : settled_at l goal ≡ Some goal_is
+  pub farthest : IsFarthest l goal_is.distance
+
+-- nothing is left to settle
+pub record IsOver (r : ResidualNet) (prices surplus : List ℤ) (source : ℕ) (l : Lists) : Type 0 where
+  pub under_way : IsUnderWay r prices surplus source l
+  pub none_waits : IsEmpty l.waiting
