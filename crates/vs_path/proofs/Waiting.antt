@@ -1,6 +1,6 @@
 -- How many nodes wait.
-use Rattle.std.proofs.Common.{◌≡◌, ℕ, zero, suc, ◌<◌, [], ◌∷◌, length, set, replicate, refl, arith, Some, None, ℤ}
-use Rattle.vs_path.specs.Keys.{Keys, IsEmpty, key_at}
+use Rattle.std.proofs.Common.{◌≡◌, ℕ, zero, suc, ◌<◌, Option, List, [], ◌∷◌, length, set, get_or, replicate, refl, arith, Some, None, ℤ}
+use Rattle.vs_path.specs.Keys.{Keys, key_at}
 
 abbrev pub waiting : Keys → ℕ
 waiting [] = 0
@@ -15,10 +15,11 @@ waiting-taken (Some key ∷ keys) zero key' has = omega arith
 waiting-taken (None ∷ keys) (suc v) key has = waiting-taken keys v key has
 waiting-taken (Some other ∷ keys) (suc v) key has = omega (arith, waiting-taken keys v key has)
 
--- where none waits, all keys are none
-pub none-waits : (keys : Keys) → IsEmpty keys → keys ≡ replicate (length keys) None
-none-waits [] empty = refl
-none-waits (key ∷ keys) empty =
-    let first : key ≡ None = empty 0 in
-    let rest : keys ≡ replicate (length keys) None = none-waits keys (λ v. empty (suc v)) in
+-- a list of nothing
+pub all-none : {X : Type 0} (xs : List (Option X)) → ((i : ℕ) → get_or xs i None ≡ None)
+    → xs ≡ replicate (length xs) None
+all-none [] none = refl
+all-none (x ∷ xs) none =
+    let first : x ≡ None = none 0 in
+    let rest : xs ≡ replicate (length xs) None = all-none xs (λ i. none (suc i)) in
     cc

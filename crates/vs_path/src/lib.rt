@@ -1,7 +1,12 @@
 //! Least paths along the arcs of a net on which units can still be sent or taken back.
 #![tactic(auto)]
 
+mod labels;
 mod node_heap;
+mod residual;
+mod step;
 mod tournament;
 
 pub use node_heap::NodeHeap;
+pub use residual::{Costs, Residual, MAX_COST, MAX_NODES, MAX_PRICE};
+pub use step::Step;

@@ -1,5 +1,5 @@
 use Rattle.std.proofs.Common.{◌∙◌, ap, replicate, None}
-use Rattle.vs_path.proofs.Waiting.{waiting-taken, none-waits}
+use Rattle.vs_path.proofs.Waiting.{waiting-taken, all-none}
 use Rattle.vs_path.proofs.node_heap.NodeHeap.clear.Goals as goal
 
 pub loop-smaller : goal.loop-smaller
@@ -10,4 +10,4 @@ loop-smaller c =
 pub returns : goal.returns
 returns c =
     let t = c.in_default.ensures in
-    t.left ∙ none-waits c.loop.self t.taken ∙ ap (λ n. replicate n None) c.loop.invariant
+    t.left ∙ all-none c.loop.self t.taken ∙ ap (λ n. replicate n None) c.loop.invariant

@@ -1,0 +1,35 @@
+use Rattle.std.proofs.Common.{◌≡◌, ◌<◌, ◌∙◌, ℕ, List, length, get_or, sym, ap, arith, inl, inr, Option, Some, None}
+use Rattle.std.proofs.lemmas.Bool.{cases_lt}
+use Rattle.std.proofs.lemmas.List.{get_or_past}
+use Rattle.vs_path.specs.declared.labels.Settled.{Settled}
+use Rattle.vs_path.specs.Labels.{lists_of, settled_at}
+use Rattle.vs_path.proofs.labels.Labels.clear.Goals as goal
+
+-- what is there stands within the list
+some_within : {X : Type 0} (xs : List (Option X)) (i : ℕ) (x : X) → get_or xs i None ≡ Some x → i < length xs
+some_within xs i x is =
+    elim (cases_lt i (length xs)) [
+      | inl within ↦ within
+      | inr past ↦ let e : None ≡ Some x = sym (get_or_past xs i None past) ∙ is in absurd (cc)
+    ]
+
+pub forget-requires-clause-within : goal.forget-requires-clause-within
+forget-requires-clause-within c = λ i inside.
+    let l = lists_of c.args.self.now in
+    let is = c.requires.listed i (omega (arith, inside, ap length c.deref.ensures.value)) in
+    let within = some_within l.settled (get_or l.order i 0) is.0 is.1 in
+    let same : get_or c.deref.result.now i 0 ≡ get_or l.order i 0 =
+    ap (λ (xs : List ℕ). get_or xs i 0) c.deref.ensures.value in
+    omega (arith, within, same, ap length c.deref_mut.ensures.value)
+
+pub forget-requires-clause-all : goal.forget-requires-clause-all
+forget-requires-clause-all c = λ v a is.
+    let l = lists_of c.args.self.now in
+    let same : settled_at l v ≡ Some a =
+    ap (λ (xs : List (Option Settled)). get_or xs v None) (sym c.deref_mut.ensures.value) ∙ is in
+    let at = c.requires.placed v a same in
+    (
+      a.place,
+      omega (arith, at.0, ap length c.deref.ensures.value),
+      ap (λ (xs : List ℕ). get_or xs a.place 0) c.deref.ensures.value ∙ at.1,
+    )

@@ -1,0 +1,95 @@
+use Rattle.std.proofs.Common.{◌≡◌, ◌<◌, ◌∙◌, ◌+ℤ◌, refl, ap, sym, subst, arith, rules, ℕ, Some, None, true, false, length, SFits, w64}
+use Rattle.std.proofs.lemmas.Int.{to_z-of_z}
+use Rattle.vs_path.specs.Residual.{to_of, reduced}
+use Rattle.vs_path.specs.Labels.{Lists, IsBetter, Relaxes, lists_of, lowered, settled_at, waiting_at, label_of}
+use Rattle.vs_path.proofs.Lowering.{not-better, relaxed_already, settled_already, relaxes_lowered, lowered-same, read_at, when_some, when_none}
+use Rattle.vs_path.proofs.labels.Labels.relax.Goals as goal
+
+-- the node is settled
+pub returns-then-is_some-clause-relaxes : goal.returns-then-is_some-clause-relaxes
+returns-then-is_some-clause-relaxes c =
+    let r = c.args.residual.now in
+    let p = c.args.prices.now in
+    let l = lists_of c.args.self.now in
+    let s = c.args.step in
+    let within : c.to-node.result < length l.settled =
+    omega (arith, c.to-node.ensures.of_net, c.requires.labels.are_listed.settled) in
+    let some = when_some c.index.result.now (sym c.is_some.ensures ∙ c.if-is_some.true) in
+    let is : settled_at l (to_of r s) ≡ Some some.0 =
+    ap (settled_at l) (sym c.to-node.ensures.node) ∙ read_at l.settled c.to-node.result c.index.result.now within c.index.ensures
+    ∙ some.1 in
+    record {
+      labels = c.requires.labels;
+      lowered = lowered-same l;
+      relaxed = λ is_open from.
+          settled_already r p l c.requires.labels c.requires.sign_rule s c.args.distance
+          (c.args.distance +ℤ reduced r p s) c.requires.from c.requires.farthest is_open refl some.0 is is_open refl;
+    }
+
+-- no unit can take the step
+pub returns-then-not-is_open-clause-relaxes : goal.returns-then-not-is_open-clause-relaxes
+returns-then-not-is_open-clause-relaxes c =
+    let l = lists_of c.args.self.now in
+    record {
+      labels = c.requires.labels;
+      lowered = lowered-same l;
+      relaxed = λ is_open from. let e : false ≡ true = c.if-not-is_open.ensures.1 is_open in absurd (cc);
+    }
+
+-- the label is a better one
+pub returns-then-is_better-clause-relaxes : goal.returns-then-is_better-clause-relaxes
+returns-then-is_better-clause-relaxes c =
+    let r = c.args.residual.now in
+    let p = c.args.prices.now in
+    let l = lists_of c.args.self.now in
+    let s = c.args.step in
+    let label = c.along-label.result in
+    let fits : SFits w64 c.args.distance = search rules in
+    let fits_too : SFits w64 label = search rules in
+    let sum = simp to_z-of_z at c.along-label.ensures in
+    let given = simp to_z-of_z at c.lower.ensures.lists in
+    let lists : lists_of c.lower.new.self ≡ lowered l (to_of r s) label s =
+    given ∙ ap (λ (v : ℕ). lowered l v label s) c.to-node.ensures.node in
+    let within : c.to-node.result < length l.settled =
+    omega (arith, c.to-node.ensures.of_net, c.requires.labels.are_listed.settled) in
+    let unsettled : settled_at l (to_of r s) ≡ None =
+    ap (settled_at l) (sym c.to-node.ensures.node) ∙ read_at l.settled c.to-node.result c.index.result.now within c.index.ensures
+    ∙ when_none c.index.result.now (sym c.is_some.ensures ∙ c.if-is_some.false) in
+    let given_better = simp to_z-of_z at (c.if-is_better.ensures.0 refl) in
+    let better : IsBetter l (to_of r s) label =
+    subst (λ (v : ℕ). IsBetter l v label) c.to-node.ensures.node given_better in
+    let inside : to_of r s < r.graph.nodes =
+    subst (λ (v : ℕ). v < r.graph.nodes) c.to-node.ensures.node c.to-node.ensures.of_net in
+    let P : Lists → Type 0 = Relaxes r p s c.args.distance l in
+    subst P (sym lists)
+    (relaxes_lowered r p l c.requires.labels c.requires.sign_rule s c.args.distance label
+    c.requires.from c.requires.farthest (c.if-not-is_open.ensures.0 refl) sum c.requires.small inside unsettled better)
+
+-- it is not
+pub returns-else-is_better-clause-relaxes : goal.returns-else-is_better-clause-relaxes
+returns-else-is_better-clause-relaxes c =
+    let r = c.args.residual.now in
+    let p = c.args.prices.now in
+    let l = lists_of c.args.self.now in
+    let s = c.args.step in
+    let label = c.along-label.result in
+    let fits : SFits w64 c.args.distance = search rules in
+    let fits_too : SFits w64 label = search rules in
+    let sum = simp to_z-of_z at c.along-label.ensures in
+    let within : c.to-node.result < length l.settled =
+    omega (arith, c.to-node.ensures.of_net, c.requires.labels.are_listed.settled) in
+    let unsettled : settled_at l (to_of r s) ≡ None =
+    ap (settled_at l) (sym c.to-node.ensures.node) ∙ read_at l.settled c.to-node.result c.index.result.now within c.index.ensures
+    ∙ when_none c.index.result.now (sym c.is_some.ensures ∙ c.if-is_some.false) in
+    let given_worse = simp to_z-of_z at c.if-is_better.ensures.1 in
+    let known = not-better l (to_of r s) label
+    (λ better.
+        let e : false ≡ true = given_worse (subst (λ (v : ℕ). IsBetter l v label) (sym c.to-node.ensures.node) better) in
+        cc) in
+    record {
+      labels = c.requires.labels;
+      lowered = lowered-same l;
+      relaxed = relaxed_already r p l c.requires.labels c.requires.sign_rule s c.args.distance label c.requires.from
+          c.requires.farthest (c.if-not-is_open.ensures.0 refl) sum known.0
+          (ap (λ a. label_of a (waiting_at l (to_of r s))) unsettled ∙ known.1) known.2;
+    }

@@ -1,0 +1,245 @@
+ghost use Rattle.std.specs.Prelude.{◌≡◌, ℕ, ℤ, IfSome, ◌<◌, ◌≤◌, ◌↔◌, ◌++◌, ◌∷◌, [], ◌+ℤ◌, ◌<ℤ◌, pos, length, set, replicate, IsTrue, IfOk, MatchOption, Some, None, vec_capacity, slice_index, slice_index_or};
+ghost use Rattle.vs_path.specs.Residual.{IsOpen, HasSignRule, arc_no, from_of, to_of, reduced};
+ghost use Rattle.vs_path.specs.declared.labels.Settled.{Settled};
+ghost use Rattle.vs_path.specs.declared.step.Step.{Step};
+ghost use Rattle.vs_path.specs.Keys.{IsEmpty, IsLeast};
+ghost use Rattle.vs_path.specs.Labels.{AreLabels, AreFresh, AreListed, Covers, IsBetter, IsFarthest, IsLowered, IsOver, IsReached, IsRelaxed, IsSettledAt, IsSmall, Lacks, Relaxes, lists_of, lowered, settle_in, settled_at, waiting_at};
+
+use crate::node_heap::NodeHeap;
+use crate::residual::{Residual, MAX_NODES};
+use crate::step::Step;
+use std::alloc::Global;
+use vs_types::Memory;
+
+/// A node whose least distance is known.
+#[derive(Clone, Copy, Debug)]
+pub struct Settled {
+    pub distance: i64,
+    /// Its place among the settled nodes, in the order in which they were settled.
+    pub place: u32,
+}
+
+/// What a search for least paths (Dijkstra 1959) knows of the nodes of a net.
+#[derive(Drop)]
+pub struct Labels {
+    /// By node, where it is settled.
+    pub settled: Vec<Option<Settled>>,
+    /// The nodes that were reached and aren't settled, by the least distance found so far.
+    pub waiting: NodeHeap,
+    /// By node, the last step of a least path found so far.
+    pub steps: Vec<Option<Step>>,
+    /// The settled nodes in order.
+    pub order: Vec<u32>,
+}
+
+impl Labels {
+    /// Nothing known of so many nodes.
+    pub fn new(alloc: Global, nodes: u32) -> Result<Labels, Memory>
+        requires { 0 < nodes }
+        ensures fresh { IfOk result (λ labels. AreFresh nodes (lists_of labels)) }
+        ensures space { IfOk result (λ labels. vec_capacity labels.order ≡ nodes) }
+    {
+        Ok(Labels {
+            settled: vec![in alloc; None; nodes as usize]?,
+            waiting: NodeHeap::new(alloc, nodes)?,
+            steps: vec![in alloc; None; nodes as usize]?,
+            order: Vec::with_capacity(alloc, nodes as usize)?,
+        })
+    }
+
+    /// Forgets all, at a cost of what is known.
+    pub fn clear(&mut self)
+        requires { AreListed (length self.old.settled.items) (lists_of self.old) }
+        ensures fresh { AreFresh (length self.old.settled.items) (lists_of self.new) }
+        ensures space { vec_capacity self.new.order ≡ vec_capacity self.old.order }
+    {
+        forget(&mut self.settled, &self.order);
+        self.order.clear();
+        self.waiting.clear();
+    }
+
+    /// Settles nodes from the source on, the nearest first, up to the first that lacks a unit. None where there is
+    /// none that can be reached.
+    pub fn explore(&mut self, residual: &Residual, prices: &[i64], surplus: &[i64], source: u32) -> Option<u32>
+        requires small { IsSmall residual.now prices.now }
+        requires sign_rule { HasSignRule residual.now prices.now }
+        requires each_node { length surplus.now ≡ residual.now.graph.nodes }
+        requires source { source < residual.now.graph.nodes }
+        requires has_enough { ¬ (Lacks surplus.now source) }
+        requires fresh { AreFresh residual.now.graph.nodes (lists_of self.old) }
+        requires space { residual.now.graph.nodes ≤ vec_capacity self.old.order }
+        ensures found { MatchOption result (IsOver residual.now prices.now surplus.now source (lists_of self.new))
+            (IsReached residual.now prices.now surplus.now source (lists_of self.new)) }
+        ensures node { IfSome result (λ goal. goal < residual.now.graph.nodes) }
+        ensures space { vec_capacity self.old.order ≤ vec_capacity self.new.order }
+    {
+        self.settle(source, 0);
+        self.expand(residual, prices, source, 0);
+        while let Some((node, distance)) = self.settle_next() {
+            if surplus[node as usize] < 0 {
+                return Some(node);
+            }
+            self.expand(residual, prices, node, distance);
+        }
+        None
+    }
+
+    /// Settles the nearest node that waits, and gives it and its distance.
+    fn settle_next(&mut self) -> Option<(u32, i64)>
+        requires listed { AreListed (length self.old.waiting) (lists_of self.old) }
+        requires few { length self.old.waiting ≤ MAX_NODES }
+        requires space { length self.old.waiting ≤ vec_capacity self.old.order }
+        requires unsettled { (v : ℕ) (key : ℤ) → waiting_at (lists_of self.old) v ≡ Some key
+            → settled_at (lists_of self.old) v ≡ None }
+        ensures next { MatchOption result (IsEmpty self.old.waiting) (λ t. IsLeast self.old.waiting t.0 t.1) }
+        ensures lists { MatchOption result (lists_of self.new ≡ lists_of self.old)
+            (λ t. lists_of self.new ≡ settle_in (lists_of self.old) t.0 t.1) }
+        ensures node { IfSome result (λ t. t.0 < length self.old.waiting) }
+        ensures space { vec_capacity self.old.order ≤ vec_capacity self.new.order }
+    {
+        let (node, distance) = self.waiting.take()?;
+        self.settle(node, distance);
+        Some((node, distance))
+    }
+
+    /// Settles a node at a distance.
+    fn settle(&mut self, node: u32, distance: i64)
+        requires node { node < length self.old.settled.items }
+        requires few { length self.old.order.items < MAX_NODES }
+        requires space { length self.old.order.items < vec_capacity self.old.order }
+        ensures settled { self.new.settled.items ≡ set self.old.settled.items node
+            (Some (record { distance = distance; place = length self.old.order.items })) }
+        ensures order { self.new.order.items ≡ self.old.order.items ++ node ∷ [] }
+        ensures waiting { self.new.waiting ≡ self.old.waiting }
+        ensures steps { self.new.steps.items ≡ self.old.steps.items }
+        ensures space { vec_capacity self.old.order ≤ vec_capacity self.new.order }
+    {
+        let place = self.order.len() as u32;
+        self.settled[node as usize] = Some(Settled { distance, place });
+        let _ = self.order.push(node);
+    }
+
+    /// Relaxes all steps from a node that is settled at this distance, the farthest so far.
+    fn expand(&mut self, residual: &Residual, prices: &[i64], node: u32, distance: i64)
+        requires small { IsSmall residual.now prices.now }
+        requires sign_rule { HasSignRule residual.now prices.now }
+        requires labels { AreLabels residual.now prices.now (lists_of self.old) }
+        requires node { node < residual.now.graph.nodes }
+        requires from { IsSettledAt (lists_of self.old) node distance }
+        requires farthest { IsFarthest (lists_of self.old) distance }
+        ensures labels { AreLabels residual.now prices.now (lists_of self.new) }
+        ensures lowered { IsLowered (lists_of self.old) (lists_of self.new) }
+        ensures relaxed { (s : Step) → IsRelaxed residual.now prices.now (lists_of self.new) node distance s }
+        ensures order { self.new.order ≡ self.old.order }
+    {
+        self.relax_forward(residual, prices, node, distance);
+        self.relax_back(residual, prices, node, distance);
+    }
+
+    /// Whether a node has no distance yet, or a greater one.
+    fn is_better(&self, node: u32, label: i64) -> bool
+        requires { node < length self.now.waiting }
+        ensures { IsTrue result ↔ IsBetter (lists_of self.now) node label }
+    {
+        match self.waiting.key(node) {
+            None => true,
+            Some(known) => label < known,
+        }
+    }
+
+    /// The node that a step reaches from one at this distance is given the distance along it, where that is less
+    /// than what it has.
+    fn relax(&mut self, residual: &Residual, prices: &[i64], distance: i64, step: Step)
+        requires arc { arc_no step < length residual.now.graph.arcs }
+        requires small { IsSmall residual.now prices.now }
+        requires sign_rule { HasSignRule residual.now prices.now }
+        requires labels { AreLabels residual.now prices.now (lists_of self.old) }
+        requires from { IsSettledAt (lists_of self.old) (from_of residual.now step) distance }
+        requires farthest { IsFarthest (lists_of self.old) distance }
+        ensures relaxes { Relaxes residual.now prices.now step distance (lists_of self.old) (lists_of self.new) }
+        ensures order { self.new.order ≡ self.old.order }
+    {
+        let node = residual.to(step);
+        if self.settled[node as usize].is_some() {
+            return;
+        }
+        if !residual.is_open(step) {
+            return;
+        }
+        let label = self.along(residual, prices, distance, step);
+        if self.is_better(node, label) {
+            self.lower(node, label, step);
+        }
+    }
+
+    /// Gives a node a lesser distance, along this step.
+    fn lower(&mut self, node: u32, label: i64, step: Step)
+        requires node { node < length self.old.waiting }
+        requires each_node { length self.old.steps.items ≡ length self.old.waiting }
+        requires better { IsBetter (lists_of self.old) node label }
+        ensures lists { lists_of self.new ≡ lowered (lists_of self.old) node label step }
+        ensures order { self.new.order ≡ self.old.order }
+    {
+        self.waiting.lower(node, label);
+        self.steps[node as usize] = Some(step);
+    }
+
+    /// The distance along a step from a node at this distance.
+    fn along(&self, residual: &Residual, prices: &[i64], distance: i64, step: Step) -> i64
+        requires arc { arc_no step < length residual.now.graph.arcs }
+        requires small { IsSmall residual.now prices.now }
+        requires labels { AreLabels residual.now prices.now (lists_of self.now) }
+        requires from { IsSettledAt (lists_of self.now) (from_of residual.now step) distance }
+        ensures { result ≡ distance +ℤ reduced residual.now prices.now step }
+    {
+        distance + residual.reduced(prices, step)
+    }
+
+    /// Relaxes the steps forward from a node that is settled at this distance, the farthest so far.
+    fn relax_forward(&mut self, residual: &Residual, prices: &[i64], node: u32, distance: i64)
+        requires small { IsSmall residual.now prices.now }
+        requires sign_rule { HasSignRule residual.now prices.now }
+        requires labels { AreLabels residual.now prices.now (lists_of self.old) }
+        requires node { node < residual.now.graph.nodes }
+        requires from { IsSettledAt (lists_of self.old) node distance }
+        requires farthest { IsFarthest (lists_of self.old) distance }
+        ensures labels { AreLabels residual.now prices.now (lists_of self.new) }
+        ensures lowered { IsLowered (lists_of self.old) (lists_of self.new) }
+        ensures relaxed { (k : ℕ) → IsRelaxed residual.now prices.now (lists_of self.new) node distance (Step.Forward k) }
+        ensures order { self.new.order ≡ self.old.order }
+    {
+        for k in residual.leaving(node) {
+            self.relax(residual, prices, distance, Step::Forward(*k));
+        }
+    }
+
+    /// Relaxes the steps back from a node that is settled at this distance, the farthest so far.
+    fn relax_back(&mut self, residual: &Residual, prices: &[i64], node: u32, distance: i64)
+        requires small { IsSmall residual.now prices.now }
+        requires sign_rule { HasSignRule residual.now prices.now }
+        requires labels { AreLabels residual.now prices.now (lists_of self.old) }
+        requires node { node < residual.now.graph.nodes }
+        requires from { IsSettledAt (lists_of self.old) node distance }
+        requires farthest { IsFarthest (lists_of self.old) distance }
+        ensures labels { AreLabels residual.now prices.now (lists_of self.new) }
+        ensures lowered { IsLowered (lists_of self.old) (lists_of self.new) }
+        ensures relaxed { (k : ℕ) → IsRelaxed residual.now prices.now (lists_of self.new) node distance (Step.Back k) }
+        ensures order { self.new.order ≡ self.old.order }
+    {
+        for k in residual.reaching(node) {
+            self.relax(residual, prices, distance, Step::Back(*k));
+        }
+    }
+}
+
+/// Empties the places of these nodes, which are all that aren't empty.
+fn forget(settled: &mut [Option<Settled>], nodes: &[u32])
+    requires within { (i : ℕ) → i < length nodes.now → slice_index nodes.now i < length settled.old }
+    requires all { (v : ℕ) (a : Settled) → slice_index_or settled.old v None ≡ Some a
+        → (i : ℕ) × (i < length nodes.now) × (slice_index nodes.now i ≡ v) }
+    ensures { settled.new ≡ replicate (length settled.old) None }
+{
+    for node in nodes {
+        settled[*node as usize] = None;
+    }
+}

@@ -1,0 +1,145 @@
+ghost use Rattle.std.specs.Prelude.{◌≡◌, ◌<◌, ◌≤◌, ◌↔◌, length, IsTrue};
+ghost use Rattle.vs_layer.specs.Graph.{leaving, reaching};
+ghost use Rattle.vs_path.specs.Residual.{IsResidual, IsOpen, IsWithin, AllWithin, arc_no, from_of, to_of, cost_of, reduced, price_at};
+
+use crate::step::Step;
+use std::marker::Model;
+use vs_layer::{Flow, Net};
+
+/// How many nodes a net has at most in a search by prices: two for each trip, and the two of the depot.
+pub const MAX_NODES: u32 = 4_002;
+
+/// The greatest cost of an arc in a search by prices, either way.
+pub const MAX_COST: i64 = 120_000_000_000_000;
+
+/// The greatest price of a node in a search by prices, either way.
+pub const MAX_PRICE: i64 = 4_000_000_000_000_000_000;
+
+/// What a unit costs on each arc of a net, and how many units each has room for, in the order of the arcs.
+#[derive(Debug, Drop)]
+pub struct Costs {
+    /// In 1/1000 of a cost unit.
+    pub cost: Vec<i64>,
+    pub room: Vec<u32>,
+}
+
+/// A net whose arcs carry units: which steps a unit more can take, and what they cost.
+#[derive(Drop)]
+pub struct Residual<'a> {
+    net: &'a Net,
+    flow: &'a Flow,
+    costs: &'a Costs,
+    /// How many arcs may be used, from the first.
+    arcs: u32,
+}
+
+impl<'a> Model for Residual<'a> {
+    ghost use Rattle.vs_path.specs.Residual.{ResidualNet, IsResidual};
+
+    ghost Value = { ResidualNet };
+
+    ghost view = { λ r. record { graph = r.net.now; units = r.flow.now.units.items; cost = r.costs.now.cost.items;
+        room = r.costs.now.room.items; arcs = r.arcs } };
+
+    ghost invariant = { λ r. IsResidual (record { graph = r.net.now; units = r.flow.now.units.items;
+        cost = r.costs.now.cost.items; room = r.costs.now.room.items; arcs = r.arcs }) };
+}
+
+impl<'a> Residual<'a> {
+    /// The net with these units on its arcs, of which the first so many may be used.
+    pub fn new(net: &'a Net, flow: &'a Flow, costs: &'a Costs, arcs: u32) -> Residual<'a>
+        requires arcs { arcs ≤ length net.now.arcs }
+        requires units { length flow.now.units.items ≡ length net.now.arcs }
+        requires cost { length costs.now.cost.items ≡ length net.now.arcs }
+        requires room { length costs.now.room.items ≡ length net.now.arcs }
+        ensures { result ≡ record { graph = net.entry.now; units = flow.entry.now.units.items;
+            cost = costs.entry.now.cost.items; room = costs.entry.now.room.items; arcs = arcs } }
+    {
+        let _ = net.nodes();
+        Residual {
+            net,
+            flow,
+            costs,
+            arcs,
+        }
+    }
+
+    /// The node that a step leaves.
+    pub fn from(&self, step: Step) -> u32
+        requires { arc_no step < length self.now.graph.arcs }
+        ensures node { result ≡ from_of self.now step }
+        ensures of_net { result < self.now.graph.nodes }
+    {
+        match step {
+            Step::Forward(k) => self.net.arc(k).from,
+            Step::Back(k) => self.net.arc(k).to,
+        }
+    }
+
+    /// The node that a step reaches.
+    pub fn to(&self, step: Step) -> u32
+        requires { arc_no step < length self.now.graph.arcs }
+        ensures node { result ≡ to_of self.now step }
+        ensures of_net { result < self.now.graph.nodes }
+    {
+        match step {
+            Step::Forward(k) => self.net.arc(k).to,
+            Step::Back(k) => self.net.arc(k).from,
+        }
+    }
+
+    /// Whether a unit may take a step.
+    pub fn is_open(&self, step: Step) -> bool
+        requires { arc_no step < length self.now.graph.arcs }
+        ensures { IsTrue result ↔ IsOpen self.now step }
+    {
+        match step {
+            Step::Forward(k) => k < self.arcs && self.flow.units[k as usize] < self.costs.room[k as usize],
+            Step::Back(k) => k < self.arcs && 0 < self.flow.units[k as usize],
+        }
+    }
+
+    /// What a step costs.
+    fn cost(&self, step: Step) -> i64
+        requires arc { arc_no step < length self.now.graph.arcs }
+        requires cost { AllWithin MAX_COST self.now.cost }
+        ensures cost { result ≡ cost_of self.now step }
+        ensures few { IsWithin MAX_COST result }
+    {
+        match step {
+            Step::Forward(k) => self.costs.cost[k as usize],
+            Step::Back(k) => -self.costs.cost[k as usize],
+        }
+    }
+
+    /// What a step costs, with the price of the node that it leaves, less that of the node that it reaches.
+    pub fn reduced(&self, prices: &[i64], step: Step) -> i64
+        requires arc { arc_no step < length self.now.graph.arcs }
+        requires cost { AllWithin MAX_COST self.now.cost }
+        requires each_node { length prices.now ≡ self.now.graph.nodes }
+        requires prices { AllWithin MAX_PRICE prices.now }
+        ensures { result ≡ reduced self.now prices.now step }
+    {
+        let from = prices[self.from(step) as usize];
+        let to = prices[self.to(step) as usize];
+        self.cost(step) + from - to
+    }
+
+    /// The numbers of the arcs that leave a node, in order.
+    pub fn leaving(&self, node: u32) -> &[u32]
+        requires { node < self.now.graph.nodes }
+        ensures arcs { result.now ≡ leaving self.now.graph node }
+        ensures residual { IsResidual self.now }
+    {
+        self.net.leaving(node)
+    }
+
+    /// The numbers of the arcs that reach a node, in order.
+    pub fn reaching(&self, node: u32) -> &[u32]
+        requires { node < self.now.graph.nodes }
+        ensures arcs { result.now ≡ reaching self.now.graph node }
+        ensures residual { IsResidual self.now }
+    {
+        self.net.reaching(node)
+    }
+}
