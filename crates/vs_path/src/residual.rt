@@ -64,6 +64,14 @@ impl<'a> Residual<'a> {
         }
     }
 
+    /// How many arcs may be used, from the first.
+    pub fn arcs(&self) -> u32
+        ensures count { result ≡ self.now.arcs }
+        ensures residual { IsResidual self.now }
+    {
+        self.arcs
+    }
+
     /// The node that a step leaves.
     pub fn from(&self, step: Step) -> u32
         requires { arc_no step < length self.now.graph.arcs }
