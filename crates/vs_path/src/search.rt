@@ -78,3 +78,6 @@ impl Search {
         &self.labels.order
     }
 }
+
+#[cfg(test)]
+mod tests;
