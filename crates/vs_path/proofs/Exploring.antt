@@ -7,7 +7,7 @@ use Rattle.vs_path.specs.declared.step.Step.{Step}
 use Rattle.vs_path.specs.declared.labels.Settled.{Settled}
 use Rattle.vs_path.specs.Keys.{Keys, IsLeast}
 use Rattle.vs_path.specs.Residual.{ResidualNet}
-use Rattle.vs_path.specs.Labels.{Lists, AreLabels, AreFresh, AreRelaxedBut, IsFarthest, IsLowered, IsNear, IsReached, IsRelaxed, IsSettledAt, IsUnderWay, Lacks, count_settled, settle_in, settled_at, source_of, waiting_at}
+use Rattle.vs_path.specs.Labels.{Lists, AreLabels, AreListed, AreFresh, AreRelaxedBut, IsFarthest, IsLowered, IsNear, IsReached, IsRelaxed, IsSettledAt, IsUnderWay, Lacks, count_settled, settle_in, settled_at, source_of, waiting_at}
 use Rattle.vs_path.proofs.Lowering.{lowered-relaxed, lowered-settled}
 use Rattle.vs_path.proofs.Settling.{count_settled-set, settled_labels, settled_relaxed, settled_farthest, settled_here, settled_other, source_same}
 
@@ -191,3 +191,20 @@ module _ (r : ResidualNet) (prices surplus : List ℤ) (source : ℕ) (l : Lists
     settled = settled_here r prices l way.labels v key least within;
     farthest = next_farthest;
   }
+
+pub fresh_size : (nodes : ℕ) (l : Lists) → AreFresh nodes l → length l.settled ≡ nodes
+fresh_size nodes l fresh = ap length fresh.settled ∙ length-replicate nodes None
+
+-- where nothing is settled, nothing stands in the order
+pub fresh_listed : (nodes : ℕ) (l : Lists) → AreFresh nodes l → AreListed (length l.settled) l
+fresh_listed nodes l fresh = record {
+  settled = refl;
+  waiting = ap length fresh.waiting ∙ length-replicate nodes None ∙ sym (fresh_size nodes l fresh);
+  steps = fresh.steps ∙ sym (fresh_size nodes l fresh);
+  count = ap length fresh.order ∙ sym (count_settled-none nodes) ∙ ap count_settled (sym fresh.settled);
+  listed = λ i inside. let e = ap length fresh.order in absurd (omega (arith, e));
+  placed = λ v a is.
+      let e : None ≡ Some a =
+      sym (get_or-none nodes v) ∙ ap (λ (s : List (Option Settled)). get_or s v None) (sym fresh.settled) ∙ is in
+      absurd (cc);
+}

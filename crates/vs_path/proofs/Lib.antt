@@ -4,3 +4,6 @@ pub mod Lowering
 pub mod ArcsOfNode
 pub mod Settling
 pub mod Exploring
+pub mod Moving
+pub mod Tracing
+pub mod Finding

@@ -202,3 +202,7 @@ room-left nodes l listed v empty within =
     let more = count_settled-set l.settled v a (omega (arith, listed.settled)) empty in
     let all = count_settled-≤ (set l.settled v (Some a)) in
     omega (arith, more, all, listed.count, listed.settled, length-set l.settled v (Some a))
+
+-- no more nodes stand in the order than there are
+pub order-≤ : (nodes : ℕ) (l : Lists) → AreListed nodes l → length l.order ≤ nodes
+order-≤ nodes l listed = omega (arith, count_settled-≤ l.settled, listed.count, listed.settled)

@@ -2,3 +2,5 @@ pub mod Keys
 pub mod Tournament
 pub mod Residual
 pub mod Labels
+pub mod Search
+pub mod Searchable

@@ -2,11 +2,14 @@
 #![tactic(auto)]
 
 mod labels;
+mod least_tree;
 mod node_heap;
 mod residual;
+mod search;
 mod step;
 mod tournament;
 
 pub use node_heap::NodeHeap;
 pub use residual::{Costs, Residual, MAX_COST, MAX_NODES, MAX_PRICE};
+pub use search::Search;
 pub use step::Step;

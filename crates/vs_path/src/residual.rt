@@ -1,6 +1,7 @@
-ghost use Rattle.std.specs.Prelude.{◌≡◌, ◌<◌, ◌≤◌, ◌↔◌, length, IsTrue};
+ghost use Rattle.std.specs.Prelude.{◌≡◌, ◌<◌, ◌≤◌, ◌↔◌, ◌≤ℤ◌, pos, length, IsTrue};
 ghost use Rattle.vs_layer.specs.Graph.{leaving, reaching};
-ghost use Rattle.vs_path.specs.Residual.{IsResidual, IsOpen, IsWithin, AllWithin, arc_no, from_of, to_of, cost_of, reduced, price_at};
+ghost use Rattle.vs_path.specs.Labels.{IsSmall};
+ghost use Rattle.vs_path.specs.Residual.{HasSignRule, IsResidual, IsOpen, IsWithin, AllWithin, arc_no, from_of, to_of, cost_of, reduced, price_at};
 
 use crate::step::Step;
 use std::marker::Model;
@@ -62,6 +63,14 @@ impl<'a> Residual<'a> {
             costs,
             arcs,
         }
+    }
+
+    /// How many arcs may be used, from the first.
+    pub fn arcs(&self) -> u32
+        ensures count { result ≡ self.now.arcs }
+        ensures residual { IsResidual self.now }
+    {
+        self.arcs
     }
 
     /// The node that a step leaves.
@@ -142,4 +151,52 @@ impl<'a> Residual<'a> {
     {
         self.net.reaching(node)
     }
+
+    /// Whether the numbers are small enough for a search by these prices.
+    pub fn is_small(&self, prices: &[i64]) -> bool
+        ensures { IsTrue result → IsSmall self.now prices.now }
+    {
+        self.net.nodes() <= MAX_NODES
+            && prices.len() == self.net.nodes() as usize
+            && all_within(&self.costs.cost, MAX_COST)
+            && all_within(prices, MAX_PRICE)
+    }
+
+    /// Whether no residual step has a negative reduced cost.
+    pub fn keeps_sign_rule(&self, prices: &[i64]) -> bool
+        requires { IsSmall self.now prices.now }
+        ensures { IsTrue result ↔ HasSignRule self.now prices.now }
+    {
+        for k in 0..self.arcs {
+            if !self.is_kept(prices, Step::Forward(k)) {
+                return false;
+            }
+            if !self.is_kept(prices, Step::Back(k)) {
+                return false;
+            }
+        }
+        true
+    }
+
+    /// Whether a step has no negative reduced cost, or no unit may take it.
+    fn is_kept(&self, prices: &[i64], step: Step) -> bool
+        requires arc { arc_no step < length self.now.graph.arcs }
+        requires small { IsSmall self.now prices.now }
+        ensures { IsTrue result ↔ (IsOpen self.now step → pos 0 ≤ℤ reduced self.now prices.now step) }
+    {
+        !self.is_open(step) || 0 <= self.reduced(prices, step)
+    }
+}
+
+/// Whether each number is at most so far from 0.
+fn all_within(numbers: &[i64], bound: i64) -> bool
+    requires { pos 0 ≤ℤ bound }
+    ensures { IsTrue result ↔ AllWithin bound numbers.now }
+{
+    for number in numbers {
+        if *number < -bound || bound < *number {
+            return false;
+        }
+    }
+    true
 }

@@ -1,0 +1,63 @@
+ghost use Rattle.std.specs.Prelude.{◌≡◌, ℕ, ◌<◌, ◌≤◌, ◌-ℤ◌, length, vec_capacity, FitsSigned, Some};
+ghost use mir.Syntax.{w64};
+ghost use Rattle.vs_path.specs.Residual.{IsPath};
+ghost use Rattle.vs_path.specs.Labels.{AreLabels, AreListed, IsSettledAt, lists_of, settled_at, source_of};
+ghost use Rattle.vs_path.specs.Search.{AreMoved, AreTreeSteps, CanMove};
+ghost use Rattle.vs_path.specs.declared.labels.Settled.{Settled};
+
+use crate::labels::{Labels, Settled};
+use crate::residual::Residual;
+use crate::step::Step;
+
+impl Labels {
+    /// Lowers the price of each settled node by how much nearer it is than the goal.
+    pub fn lower_prices(&self, goal: u32, prices: &mut [i64])
+        requires listed { AreListed (length prices.old) (lists_of self.now) }
+        requires goal { goal < length prices.old }
+        requires space { (a : Settled) → settled_at (lists_of self.now) goal ≡ Some a
+            → CanMove (lists_of self.now) a.distance prices.old }
+        ensures { (a : Settled) → settled_at (lists_of self.now) goal ≡ Some a
+            → AreMoved (lists_of self.now) a.distance prices.old prices.new }
+    {
+        let Some(farthest) = self.settled[goal as usize] else {
+            return;
+        };
+        for node in &self.order {
+            if let Some(settled) = self.settled[*node as usize] {
+                let price = prices[*node as usize];
+                prices[*node as usize] = lowered_price(price, &farthest, &settled);
+            }
+        }
+    }
+
+    /// The path that was found to a settled node, its last step first.
+    pub fn trace(&self, residual: &Residual, prices: &[i64], goal: u32, path: &mut Vec<Step>)
+        requires labels { AreLabels residual.now prices.now (lists_of self.now) }
+        requires goal { (a : Settled) × (settled_at (lists_of self.now) goal ≡ Some a) }
+        requires space { residual.now.graph.nodes ≤ vec_capacity path.old }
+        ensures path { IsPath residual.now (source_of (lists_of self.now)) path.new.items goal }
+        ensures tree { AreTreeSteps residual.now prices.now (lists_of self.now) path.new.items }
+        ensures space { vec_capacity path.old ≤ vec_capacity path.new }
+    {
+        let _ = residual.arcs();
+        path.clear();
+        let source = self.order[0];
+        let mut node = goal;
+        while node != source {
+            let Some(step) = self.steps[node as usize] else {
+                return;
+            };
+            let _ = path.push(step);
+            node = residual.from(step);
+        }
+    }
+}
+
+/// The price of a settled node, less what it is nearer than the farthest.
+fn lowered_price(price: i64, farthest: &Settled, settled: &Settled) -> i64
+    requires nearer { FitsSigned w64 (farthest.now.distance -ℤ settled.now.distance) }
+    requires fits { FitsSigned w64 (price -ℤ (farthest.now.distance -ℤ settled.now.distance)) }
+    ensures { result ≡ price -ℤ (farthest.now.distance -ℤ settled.now.distance) }
+{
+    price - (farthest.distance - settled.distance)
+}
