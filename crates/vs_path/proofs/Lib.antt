@@ -7,3 +7,4 @@ pub mod Exploring
 pub mod Moving
 pub mod Tracing
 pub mod Finding
+pub mod LeastCosts

@@ -4,3 +4,4 @@ pub mod Residual
 pub mod Labels
 pub mod Search
 pub mod Searchable
+pub mod LeastPaths

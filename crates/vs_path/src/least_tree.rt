@@ -3,6 +3,7 @@ ghost use mir.Syntax.{w64};
 ghost use Rattle.vs_path.specs.Residual.{IsPath};
 ghost use Rattle.vs_path.specs.Labels.{AreLabels, AreListed, IsSettledAt, lists_of, settled_at, source_of};
 ghost use Rattle.vs_path.specs.Search.{AreMoved, AreTreeSteps, CanMove};
+ghost use Rattle.vs_path.specs.LeastPaths.{AreCosts, CanCost, CanCostTo, cost_to};
 ghost use Rattle.vs_path.specs.declared.labels.Settled.{Settled};
 
 use crate::labels::{Labels, Settled};
@@ -27,6 +28,20 @@ impl Labels {
                 let price = prices[*node as usize];
                 prices[*node as usize] = lowered_price(price, &farthest, &settled);
             }
+        }
+    }
+
+    /// By node what a least path to it costs without the prices, None where it isn't settled.
+    pub fn least_costs(&self, prices: &[i64], source: u32, costs: &mut [Option<i64>])
+        requires source { source < length prices.now }
+        requires settled { length self.now.settled.items ≡ length prices.now }
+        requires costs { length costs.old ≡ length prices.now }
+        requires space { CanCost (lists_of self.now) source prices.now }
+        ensures { AreCosts (lists_of self.now) prices.now source costs.new }
+    {
+        let from = prices[source as usize];
+        for (v, cost) in costs.iter_mut().enumerate() {
+            *cost = cost_to(&self.settled[v], from, prices[v]);
         }
     }
 
@@ -60,4 +75,15 @@ fn lowered_price(price: i64, farthest: &Settled, settled: &Settled) -> i64
     ensures { result ≡ price -ℤ (farthest.now.distance -ℤ settled.now.distance) }
 {
     price - (farthest.distance - settled.distance)
+}
+
+/// What a least path costs without the prices of the nodes where it begins and ends.
+fn cost_to(settled: &Option<Settled>, from: i64, to: i64) -> Option<i64>
+    requires { CanCostTo settled.now from to }
+    ensures { result ≡ cost_to settled.now from to }
+{
+    match settled {
+        None => None,
+        Some(settled) => Some(settled.distance + (to - from)),
+    }
 }

@@ -4,12 +4,14 @@
 mod labels;
 mod least_tree;
 mod node_heap;
+mod paths;
 mod residual;
 mod search;
 mod step;
 mod tournament;
 
 pub use node_heap::NodeHeap;
+pub use paths::Paths;
 pub use residual::{Costs, Residual, MAX_COST, MAX_NODES, MAX_PRICE};
 pub use search::Search;
 pub use step::Step;

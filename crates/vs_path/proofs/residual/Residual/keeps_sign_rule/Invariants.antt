@@ -1,4 +1,4 @@
-use Rattle.std.proofs.Common.{◌≤ℤ◌, ◌<◌, ℕ, pos}
+use Rattle.std.proofs.Common.{◌≤ℤ◌, ◌<◌, pos}
 use Rattle.vs_path.specs.declared.step.Step.{Step}
 use Rattle.vs_path.specs.Residual.{IsOpen, arc_no, reduced}
 use Rattle.vs_path.proofs.residual.Residual.keeps_sign_rule.Given as goal
