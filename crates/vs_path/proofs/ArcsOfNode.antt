@@ -54,25 +54,23 @@ module _ (end : End) (arcs : List Arc) where
     length (first_at end arcs c v),
     omega (arith, length-own end arcs c v own),
     ap (λ (ks : List ℕ). get_or ks (length (first_at end arcs c v)) 0) (first_at-own end arcs c v own)
-    ∙ get_or_push (first_at end arcs c v) c 0 (length (first_at end arcs c v)) refl ∙ sym same,
+        ∙ get_or_push (first_at end arcs c v) c 0 (length (first_at end arcs c v)) refl ∙ sym same,
   )
 
   in_old : (c v k : ℕ) → IsAmong c v k → IsAmong (c + 1) v k
   in_old c v k old =
       elim (cases_eq (end_of end (arc_at arcs c)) v) [
-        | inl at_v ↦
-            (
-              old.0,
-              omega (arith, old.1, length-own end arcs c v at_v),
-              ap (λ (ks : List ℕ). get_or ks old.0 0) (first_at-own end arcs c v at_v)
+        | inl at_v ↦ (
+          old.0,
+          omega (arith, old.1, length-own end arcs c v at_v),
+          ap (λ (ks : List ℕ). get_or ks old.0 0) (first_at-own end arcs c v at_v)
               ∙ get_or-append (first_at end arcs c v) (c ∷ []) 0 old.0 old.1 ∙ old.2,
-              )
-        | inr away ↦
-            (
-              old.0,
-              omega (arith, old.1, length-other end arcs c v away),
-              ap (λ (ks : List ℕ). get_or ks old.0 0) (first_at-other end arcs c v away) ∙ old.2,
-              )
+        )
+        | inr away ↦ (
+          old.0,
+          omega (arith, old.1, length-other end arcs c v away),
+          ap (λ (ks : List ℕ). get_or ks old.0 0) (first_at-other end arcs c v away) ∙ old.2,
+        )
       ]
 
   -- each such arc's number is one of them
@@ -91,7 +89,7 @@ module _ (g : Graph) (v : ℕ) (ks : List ℕ) where
   pub leaving-arc : ks ≡ leaving g v → (i : ℕ) → i < length ks
       → (get_or ks i 0 < length g.arcs) × ((arc_of g (get_or ks i 0)).from ≡ v)
   leaving-arc are i within = let P : List ℕ → Type 0 = λ js. i < length js
-          → (get_or js i 0 < length g.arcs) × ((arc_of g (get_or js i 0)).from ≡ v) in
+      → (get_or js i 0 < length g.arcs) × ((arc_of g (get_or js i 0)).from ≡ v) in
       subst P (sym are) (of_node From g.arcs (length g.arcs) v i) within
 
   pub leaving-all : ks ≡ leaving g v → (k : ℕ) → k < length g.arcs → (arc_of g k).from ≡ v
@@ -103,7 +101,7 @@ module _ (g : Graph) (v : ℕ) (ks : List ℕ) where
   pub reaching-arc : ks ≡ reaching g v → (i : ℕ) → i < length ks
       → (get_or ks i 0 < length g.arcs) × ((arc_of g (get_or ks i 0)).to ≡ v)
   reaching-arc are i within = let P : List ℕ → Type 0 = λ js. i < length js
-          → (get_or js i 0 < length g.arcs) × ((arc_of g (get_or js i 0)).to ≡ v) in
+      → (get_or js i 0 < length g.arcs) × ((arc_of g (get_or js i 0)).to ≡ v) in
       subst P (sym are) (of_node To g.arcs (length g.arcs) v i) within
 
   pub reaching-all : ks ≡ reaching g v → (k : ℕ) → k < length g.arcs → (arc_of g k).to ≡ v

@@ -154,8 +154,8 @@ expanded r prices surplus source l after node distance but from no_lack enough i
       ];
 }
   where
-  old : (v : ℕ) (a : Settled) → settled_at after v ≡ Some a → settled_at l v ≡ Some a
-  old v a at = ap (λ (settled : List (Option Settled)). get_or settled v None) (sym low.settled) ∙ at
+    old : (v : ℕ) (a : Settled) → settled_at after v ≡ Some a → settled_at l v ≡ Some a
+    old v a at = ap (λ (settled : List (Option Settled)). get_or settled v None) (sym low.settled) ∙ at
 
 module _ (r : ResidualNet) (prices surplus : List ℤ) (source : ℕ) (l : Lists)
     (way : IsUnderWay r prices surplus source l) (v : ℕ) (key : ℤ) (least : IsLeast l.waiting v key)

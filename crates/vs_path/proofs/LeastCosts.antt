@@ -17,126 +17,123 @@ follows-leads r steps u v (s ∷ ss) follows =
     (follows.1, follows.2, follows-leads r steps u (from_of r s) ss follows.3)
 
 module _ (r : ResidualNet) (prices surplus : List ℤ) (source : ℕ) (l : Lists) (over : IsOver r prices surplus source l)
-    where
-  -- a node that has a label is settled
-  settled-label : (v : ℕ) (label : ℤ) → label_at l v ≡ Some label → (s : Option Settled) → settled_at l v ≡ s
-      → (a : Settled) × (settled_at l v ≡ Some a) × (a.distance ≡ label)
-  settled-label v label has None e =
-      let waits : waiting_at l v ≡ Some label = ap (λ s. label_of s (waiting_at l v)) (sym e) ∙ has in
-      let none : waiting_at l v ≡ None = over.none_waits v in
-      absurd (cc)
-  settled-label v label has (Some a) e =
-      let same : Some a.distance ≡ Some label = ap (λ s. label_of s (waiting_at l v)) (sym e) ∙ has in
-      let d : a.distance ≡ label = cc in
-      (a, e, d)
+  where
+    -- a node that has a label is settled
+    settled-label : (v : ℕ) (label : ℤ) → label_at l v ≡ Some label → (s : Option Settled) → settled_at l v ≡ s
+        → (a : Settled) × (settled_at l v ≡ Some a) × (a.distance ≡ label)
+    settled-label v label has None e =
+        let waits : waiting_at l v ≡ Some label = ap (λ s. label_of s (waiting_at l v)) (sym e) ∙ has in
+        let none : waiting_at l v ≡ None = over.none_waits v in
+        absurd (cc)
+    settled-label v label has (Some a) e =
+        let same : Some a.distance ≡ Some label = ap (λ s. label_of s (waiting_at l v)) (sym e) ∙ has in
+        let d : a.distance ≡ label = cc in
+        (a, e, d)
 
-  -- what a path leads to is settled, no further than the path
-  pub no-farther : (ss : List Step) (v : ℕ) → Leads r source ss v
-      → (a : Settled) × (settled_at l v ≡ Some a)
-      × (a.distance ≤ℤ ((cost_along r ss +ℤ price_at prices source) -ℤ price_at prices v))
-  no-farther [] v leads =
-      let from = over.under_way.labels.source_is in
-      let at : source_of l ≡ v = over.under_way.from ∙ leads in
-      let same : price_at prices source ≡ price_at prices v = ap (price_at prices) leads in
-      let d = from.2 in
-      (from.0, ap (settled_at l) (sym at) ∙ from.1, omega (arith, ints, same, d))
-  no-farther (s ∷ ss) v leads =
-      let before = no-farther ss (from_of r s) leads.2 in
-      let covers = over.under_way.relaxed (from_of r s) before.0 s before.1 leads.0 refl in
-      let at = settled-label (to_of r s) covers.label covers.has (settled_at l (to_of r s)) refl in
-      let same : price_at prices (to_of r s) ≡ price_at prices v = ap (price_at prices) leads.1 in
-      let less = before.2 in
-      let more = covers.no_more in
-      let d = at.2 in
-      (at.0, ap (settled_at l) (sym leads.1) ∙ at.1, omega (arith, ints, same, less, more, d))
+    -- what a path leads to is settled, no further than the path
+    pub no-farther : (ss : List Step) (v : ℕ) → Leads r source ss v
+        → (a : Settled) × (settled_at l v ≡ Some a)
+        × (a.distance ≤ℤ ((cost_along r ss +ℤ price_at prices source) -ℤ price_at prices v))
+    no-farther [] v leads =
+        let from = over.under_way.labels.source_is in
+        let at : source_of l ≡ v = over.under_way.from ∙ leads in
+        let same : price_at prices source ≡ price_at prices v = ap (price_at prices) leads in
+        let d = from.2 in
+        (from.0, ap (settled_at l) (sym at) ∙ from.1, omega (arith, ints, same, d))
+    no-farther (s ∷ ss) v leads =
+        let before = no-farther ss (from_of r s) leads.2 in
+        let covers = over.under_way.relaxed (from_of r s) before.0 s before.1 leads.0 refl in
+        let at = settled-label (to_of r s) covers.label covers.has (settled_at l (to_of r s)) refl in
+        let same : price_at prices (to_of r s) ≡ price_at prices v = ap (price_at prices) leads.1 in
+        let less = before.2 in
+        let more = covers.no_more in
+        let d = at.2 in
+        (at.0, ap (settled_at l) (sym leads.1) ∙ at.1, omega (arith, ints, same, less, more, d))
 
-  -- the steps followed back from a settled node lead from the source, at its distance
-  pub comes-back : (n v : ℕ) (a : Settled) → settled_at l v ≡ Some a → a.place < n
-      → (ss : List Step) × FollowsBack r l.steps source ss v
-      × (cost_along r ss ≡ a.distance +ℤ (price_at prices v -ℤ price_at prices source))
-  comes-back zero v a is below = absurd (omega arith)
-  comes-back (suc n) v a is below =
-      elim (cases_eq v (source_of l)) [
-        | inl same ↦
-            let from = over.under_way.labels.source_is in
-            let e : Some from.0 ≡ Some a = sym from.1 ∙ ap (settled_at l) (sym same) ∙ is in
-            let k : from.0 ≡ a = cc in
-            let d : a.distance ≡ pos 0 = ap (λ (b : Settled). b.distance) (sym k) ∙ from.2 in
-            let at : source ≡ v = sym over.under_way.from ∙ sym same in
-            let p : price_at prices source ≡ price_at prices v = ap (price_at prices) at in
-            ([], at, omega (arith, ints, d, p))
-        | inr away ↦
-            let arrival = over.under_way.labels.arrived v a is away in
-            let before = arrival.before in
-            let rest = comes-back n (from_of r arrival.step) arrival.from arrival.from_is (omega arith) in
-            let sum = arrival.sum in
-            let cost = rest.2 in
-            let p : price_at prices (to_of r arrival.step) ≡ price_at prices v = ap (price_at prices) arrival.to in
-            (
-              arrival.step ∷ rest.0,
-              (arrival.is, arrival.is_open, arrival.to, rest.1),
-              omega (arith, ints, sum, cost, p),
+    -- the steps followed back from a settled node lead from the source, at its distance
+    pub comes-back : (n v : ℕ) (a : Settled) → settled_at l v ≡ Some a → a.place < n
+        → (ss : List Step) × FollowsBack r l.steps source ss v
+        × (cost_along r ss ≡ a.distance +ℤ (price_at prices v -ℤ price_at prices source))
+    comes-back zero v a is below = absurd (omega arith)
+    comes-back (suc n) v a is below =
+        elim (cases_eq v (source_of l)) [
+          | inl same ↦
+              let from = over.under_way.labels.source_is in
+              let e : Some from.0 ≡ Some a = sym from.1 ∙ ap (settled_at l) (sym same) ∙ is in
+              let k : from.0 ≡ a = cc in
+              let d : a.distance ≡ pos 0 = ap (λ (b : Settled). b.distance) (sym k) ∙ from.2 in
+              let at : source ≡ v = sym over.under_way.from ∙ sym same in
+              let p : price_at prices source ≡ price_at prices v = ap (price_at prices) at in
+              ([], at, omega (arith, ints, d, p))
+          | inr away ↦
+              let arrival = over.under_way.labels.arrived v a is away in
+              let before = arrival.before in
+              let rest = comes-back n (from_of r arrival.step) arrival.from arrival.from_is (omega arith) in
+              let sum = arrival.sum in
+              let cost = rest.2 in
+              let p : price_at prices (to_of r arrival.step) ≡ price_at prices v = ap (price_at prices) arrival.to in (
+                arrival.step ∷ rest.0,
+                (arrival.is, arrival.is_open, arrival.to, rest.1),
+                omega (arith, ints, sum, cost, p),
               )
-      ]
+        ]
 
-  module _ (p : LeastPaths) (size : length p.distances ≡ r.graph.nodes) (size_too : length p.steps ≡ r.graph.nodes)
-      (costs : AreCosts l prices source p.distances) (steps : p.steps ≡ l.steps) where
-    -- the costs are those of least paths
-    least : (v : ℕ) (s : Option Settled) → settled_at l v ≡ s
-        → IsLeastCost r source v (cost_to s (price_at prices source) (price_at prices v))
-    least v None e = λ ss leads.
-        let at = no-farther ss v leads in
-        let wrong : None ≡ Some at.0 = sym e ∙ at.1 in cc
-    least v (Some a) e =
-        let back = comes-back (suc a.place) v a e (omega arith) in
-        (
-          (back.0, follows-leads r l.steps source v back.0 back.1, back.2),
-          λ ss leads.
-              let at = no-farther ss v leads in
-              let one : Some a ≡ Some at.0 = sym e ∙ at.1 in
-              let same : a ≡ at.0 = cc in
-              let d = ap (λ (b : Settled). b.distance) same in
-              let less = at.2 in
-              omega (arith, ints, d, less),
-        )
+    module _ (p : LeastPaths) (size : length p.distances ≡ r.graph.nodes) (size_too : length p.steps ≡ r.graph.nodes)
+        (costs : AreCosts l prices source p.distances) (steps : p.steps ≡ l.steps) where
+      -- the costs are those of least paths
+      least : (v : ℕ) (s : Option Settled) → settled_at l v ≡ s
+          → IsLeastCost r source v (cost_to s (price_at prices source) (price_at prices v))
+      least v None e = λ ss leads.
+          let at = no-farther ss v leads in
+          let wrong : None ≡ Some at.0 = sym e ∙ at.1 in cc
+      least v (Some a) e =
+          let back = comes-back (suc a.place) v a e (omega arith) in (
+            (back.0, follows-leads r l.steps source v back.0 back.1, back.2),
+            λ ss leads.
+                let at = no-farther ss v leads in
+                let one : Some a ≡ Some at.0 = sym e ∙ at.1 in
+                let same : a ≡ at.0 = cc in
+                let d = ap (λ (b : Settled). b.distance) same in
+                let less = at.2 in
+                omega (arith, ints, d, less),
+          )
 
-    back : (v : ℕ) (s : Option Settled) → settled_at l v ≡ s
-        → ComesBack r l.steps source v (cost_to s (price_at prices source) (price_at prices v))
-    back v None e = tt
-    back v (Some a) e = comes-back (suc a.place) v a e (omega arith)
+      back : (v : ℕ) (s : Option Settled) → settled_at l v ≡ s
+          → ComesBack r l.steps source v (cost_to s (price_at prices source) (price_at prices v))
+      back v None e = tt
+      back v (Some a) e = comes-back (suc a.place) v a e (omega arith)
 
-    pub are-least : AreLeastPaths r source p
-    are-least = record {
-      size = size;
-      size_too = size_too;
-      least = λ v within.
-          let P : Option ℤ → Type 0 = IsLeastCost r source v in
-          subst P (sym (costs v)) (least v (settled_at l v) refl);
-      back = λ v within.
-          let P : Option ℤ → Type 0 = λ c. ComesBack r p.steps source v c in
-          let Q : List (Option Step) → Type 0 =
-          λ ks. ComesBack r ks source v (cost_to (settled_at l v) (price_at prices source) (price_at prices v)) in
-          subst P (sym (costs v)) (subst Q (sym steps) (back v (settled_at l v) refl));
-    }
+      pub are-least : AreLeastPaths r source p
+      are-least = record {
+        size = size;
+        size_too = size_too;
+        least = λ v within.
+            let P : Option ℤ → Type 0 = IsLeastCost r source v in
+            subst P (sym (costs v)) (least v (settled_at l v) refl);
+        back = λ v within.
+            let P : Option ℤ → Type 0 = λ c. ComesBack r p.steps source v c in
+            let Q : List (Option Step) → Type 0 =
+            λ ks. ComesBack r ks source v (cost_to (settled_at l v) (price_at prices source) (price_at prices v)) in
+            subst P (sym (costs v)) (subst Q (sym steps) (back v (settled_at l v) refl));
+      }
 
 -- the costs fit
 pub can-cost : (r : ResidualNet) (prices : List ℤ) (l : Lists) → IsSmall r prices → AreLabels r prices l
     → CanCost l (source_of l) prices
 can-cost r prices l small labels v = go (settled_at l v) refl
   where
-  go : (s : Option Settled) → settled_at l v ≡ s → CanCostTo s (price_at prices (source_of l)) (price_at prices v)
-  go None e = tt
-  go (Some a) e =
-      let few = order-≤ r.graph.nodes l labels.are_listed in
-      let nodes = small.nodes in
-      let near = labels.near v a e in
-      let place = (labels.are_listed.placed v a e).0 in
-      let p = small.each_price v in
-      let q = small.each_price (source_of l) in
-      (
-        omega (arith, ints, p.low, p.high, q.low, q.high),
-        omega (arith, ints, near.low, near.high, place, few, nodes),
-      )
+    go : (s : Option Settled) → settled_at l v ≡ s → CanCostTo s (price_at prices (source_of l)) (price_at prices v)
+    go None e = tt
+    go (Some a) e =
+        let few = order-≤ r.graph.nodes l labels.are_listed in
+        let nodes = small.nodes in
+        let near = labels.near v a e in
+        let place = (labels.are_listed.placed v a e).0 in
+        let p = small.each_price v in
+        let q = small.each_price (source_of l) in (
+          omega (arith, ints, p.low, p.high, q.low, q.high),
+          omega (arith, ints, near.low, near.high, place, few, nodes),
+        )
 
 get_or-zero : (n i : ℕ) → get_or (replicate n (pos 0)) i (pos 0) ≡ pos 0
 get_or-zero zero i = refl

@@ -25,12 +25,12 @@ pub not-better : (l : Lists) (v : ℕ) (label : ℤ) → (IsBetter l v label →
     → (key : ℤ) × (waiting_at l v ≡ Some key) × (key ≤ℤ label)
 not-better l v label worse = go (waiting_at l v) refl
   where
-  go : (k : Option ℤ) → waiting_at l v ≡ k → (key : ℤ) × (waiting_at l v ≡ Some key) × (key ≤ℤ label)
-  go None e = absurd (worse (λ key has. absurd (cc)))
-  go (Some key) e =
-      by_lt_z label key
-      (λ less. absurd (worse (λ other has. let same : key ≡ other = cc in subst (λ (k : ℤ). label <ℤ k) same less)))
-      (λ no_less. (key, e, no_less))
+    go : (k : Option ℤ) → waiting_at l v ≡ k → (key : ℤ) × (waiting_at l v ≡ Some key) × (key ≤ℤ label)
+    go None e = absurd (worse (λ key has. absurd (cc)))
+    go (Some key) e =
+        by_lt_z label key
+        (λ less. absurd (worse (λ other has. let same : key ≡ other = cc in subst (λ (k : ℤ). label <ℤ k) same less)))
+        (λ no_less. (key, e, no_less))
 
 -- a step costs no more than an arc can
 pub cost-within : (r : ResidualNet) (s : Step) → AllWithin MAX_COST r.cost → IsWithin MAX_COST (cost_of r s)
@@ -66,11 +66,10 @@ along-fits r prices l s distance small labels from =
     subst (λ (d : ℤ). IsNear prices (source_of l) from.0.place (from_of r s) d) from.2
     (labels.near (from_of r s) from.0 from.1) in
     let less : from.0.place < length l.order = (labels.are_listed.placed (from_of r s) from.0 from.1).0 in
-    let few = count_settled-≤ r.graph.nodes l labels.are_listed in
-    (
+    let few = count_settled-≤ r.graph.nodes l labels.are_listed in (
       near-fits r prices (source_of l) from.0.place (from_of r s) distance small (omega arith) near,
       near-fits r prices (source_of l) (length l.order) (to_of r s) (distance +ℤ reduced r prices s) small few
-      (near-step r prices (source_of l) from.0.place (length l.order) s distance small.cost less near),
+          (near-step r prices (source_of l) from.0.place (length l.order) s distance small.cost less near),
     )
 
 -- a better label is taken no later than the one that is there
@@ -193,9 +192,9 @@ module _ (r : ResidualNet) (prices : List ℤ) (l : Lists) (labels : AreLabels r
           at (λ w key. a.distance ≤ℤ key) (above u a is) (λ w key ne has. labels.ordered u w a key is has) w key has;
     }
       where
-      settled_apart : (w : ℕ) (a : Settled) → settled_at l w ≡ Some a → w ≡ v → ⊥
-      settled_apart w a is same =
-          let e : settled_at l w ≡ None = ap (settled_at l) same ∙ unsettled in cc
+        settled_apart : (w : ℕ) (a : Settled) → settled_at l w ≡ Some a → w ≡ v → ⊥
+        settled_apart w a is same =
+            let e : settled_at l w ≡ None = ap (settled_at l) same ∙ unsettled in cc
 
     label_here : label_at new v ≡ Some label
     label_here = ap (λ s. label_of s (waiting_at new v)) unsettled ∙ here
@@ -215,10 +214,10 @@ module _ (r : ResidualNet) (prices : List ℤ) (l : Lists) (labels : AreLabels r
                   no_more = omega (arith, ints, better covers.label old, covers.no_more);
                 }
             | inr ne ↦ record {
-                label = covers.label;
-                has = ap (λ k. label_of (settled_at l w) k) (other w ne) ∙ covers.has;
-                no_more = covers.no_more;
-              }
+              label = covers.label;
+              has = ap (λ k. label_of (settled_at l w) k) (other w ne) ∙ covers.has;
+              no_more = covers.no_more;
+            }
           ];
     }
 

@@ -20,18 +20,18 @@ pub record AreMovedUpTo (l : Lists) (farthest : ℤ) (count : ℕ) (old now : Li
 pub moved-none : (l : Lists) (farthest : ℤ) (old : List ℤ) → AreMovedUpTo l farthest 0 old old
 moved-none l farthest old = record { size = refl; each = λ v. go (settled_at l v) (price_at old v) }
   where
-  go : (s : Option Settled) (price : ℤ) → moved_before 0 s farthest price price
-  go None price = refl
-  go (Some a) price = (λ below. absurd (omega arith), λ above. refl)
+    go : (s : Option Settled) (price : ℤ) → moved_before 0 s farthest price price
+    go None price = refl
+    go (Some a) price = (λ below. absurd (omega arith), λ above. refl)
 
 pub moved-all : (nodes : ℕ) (l : Lists) (farthest : ℤ) (old now : List ℤ) (count : ℕ) → AreListed nodes l
     → length l.order ≤ count → AreMovedUpTo l farthest count old now → AreMoved l farthest old now
 moved-all nodes l farthest old now count listed all upto v = go (settled_at l v) refl (upto.each v)
   where
-  go : (s : Option Settled) → settled_at l v ≡ s → moved_before count s farthest (price_at old v) (price_at now v)
-      → price_at now v ≡ moved s farthest (price_at old v)
-  go None e is = is
-  go (Some a) e is = let at = (listed.placed v a e).0 in is.0 (omega arith)
+    go : (s : Option Settled) → settled_at l v ≡ s → moved_before count s farthest (price_at old v) (price_at now v)
+        → price_at now v ≡ moved s farthest (price_at old v)
+    go None e is = is
+    go (Some a) e is = let at = (listed.placed v a e).0 in is.0 (omega arith)
 
 place-of : (nodes : ℕ) (l : Lists) (count : ℕ) (a : Settled) → AreListed nodes l → count < length l.order
     → settled_at l (get_or l.order count 0) ≡ Some a → a.place ≡ count
@@ -73,8 +73,7 @@ module _ (nodes : ℕ) (l : Lists) (farthest : ℤ) (old now : List ℤ) (count 
 
   own : moved_before (count + 1) (Some a) farthest (price_at old u) (price_at after u)
   own =
-      let kept = moved-kept nodes l farthest old now count a listed within is upto in
-      (
+      let kept = moved-kept nodes l farthest old now count a listed within is upto in (
         λ below. get_or-set_same now u price (pos 0) inside ∙ price_is ∙ ap (λ (z : ℤ). z -ℤ (farthest -ℤ a.distance)) kept,
         λ above. absurd (omega (arith, place-is)),
       )
@@ -85,8 +84,7 @@ module _ (nodes : ℕ) (l : Lists) (farthest : ℤ) (old now : List ℤ) (count 
   other v None ne e before = get_or-set_other now u v price (pos 0) (λ same. ne same) ∙ before
   other v (Some b) ne e before =
       let apart : b.place ≢ count =
-      λ same. ne (sym (listed.placed v b e).1 ∙ ap (λ (i : ℕ). get_or l.order i 0) same) in
-      (
+      λ same. ne (sym (listed.placed v b e).1 ∙ ap (λ (i : ℕ). get_or l.order i 0) same) in (
         λ below. get_or-set_other now u v price (pos 0) (λ same. ne same) ∙ before.0 (omega arith),
         λ above. get_or-set_other now u v price (pos 0) (λ same. ne same) ∙ before.1 (omega arith),
       )

@@ -122,13 +122,15 @@ module _ (r : ResidualNet) (prices : List ℤ) (l : Lists) (labels : AreLabels r
       placed = at_settled (λ w a. (a.place < length new.order) × (get_or new.order a.place 0 ≡ w))
           (omega (arith, grown), get_or_push l.order v 0 (length l.order) refl)
           (λ w a is.
-              let p = labels.are_listed.placed w a is in
-              (omega (arith, grown, p.0), get_or-append l.order (v ∷ []) 0 a.place p.0 ∙ p.1));
+          let p = labels.are_listed.placed w a is in
+          (omega (arith, grown, p.0), get_or-append l.order (v ∷ []) 0 a.place p.0 ∙ p.1));
     };
     some = omega (arith, grown);
-    source_is = (labels.source_is.0,
-        ap (settled_at new) source_same ∙ still (source_of l) labels.source_is.0 labels.source_is.1,
-        labels.source_is.2);
+    source_is = (
+      labels.source_is.0,
+      ap (settled_at new) source_same ∙ still (source_of l) labels.source_is.0 labels.source_is.1,
+      labels.source_is.2,
+    );
     arrived = at_settled (λ w a. w ≢ source_of new → IsArrival r prices new a.place w a.distance)
         (λ away. arrival_kept (length l.order) v key (labels.arrives v key least.has))
         (λ w a is away. arrival_kept a.place w a.distance (labels.arrived w a is (λ e. away (e ∙ sym source_same))));
@@ -147,17 +149,20 @@ module _ (r : ResidualNet) (prices : List ℤ) (l : Lists) (labels : AreLabels r
         at_settled (λ u a. a.distance ≤ℤ k) (least.least w k old.1) (λ u a is'. labels.ordered u w a k is' old.1) u a is;
   }
     where
-    listed : (i : ℕ) → i < length new.order → (a : Settled) × (settled_at new (get_or new.order i 0) ≡ Some a) × (a.place ≡ i)
-    listed i inside =
-        elim (cases_lt i (length l.order)) [
-          | inl old ↦
-              let is = labels.are_listed.listed i old in
-              (is.0, ap (settled_at new) (get_or-append l.order (v ∷ []) 0 i old)
-              ∙ still (get_or l.order i 0) is.0 is.1, is.2)
-          | inr last ↦
-              let e : length l.order ≡ i = omega (arith, grown, inside) in
-              (own, ap (settled_at new) (get_or_push l.order v 0 i e) ∙ settled_here, e)
-        ]
+      listed : (i : ℕ) → i < length new.order → (a : Settled) × (settled_at new (get_or new.order i 0) ≡ Some a) × (a.place ≡ i)
+      listed i inside =
+          elim (cases_lt i (length l.order)) [
+            | inl old ↦
+                let is = labels.are_listed.listed i old in (
+                  is.0,
+                  ap (settled_at new) (get_or-append l.order (v ∷ []) 0 i old)
+                      ∙ still (get_or l.order i 0) is.0 is.1,
+                  is.2,
+                )
+            | inr last ↦
+                let e : length l.order ≡ i = omega (arith, grown, inside) in
+                (own, ap (settled_at new) (get_or_push l.order v 0 i e) ∙ settled_here, e)
+          ]
 
   -- no label changes
   pub label_same : (w : ℕ) → label_at new w ≡ label_at l w

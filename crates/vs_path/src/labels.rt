@@ -6,7 +6,7 @@ ghost use Rattle.vs_path.specs.Keys.{IsEmpty, IsLeast};
 ghost use Rattle.vs_path.specs.Labels.{AreLabels, AreFresh, AreListed, Covers, IsBetter, IsFarthest, IsLowered, IsOver, IsReached, IsRelaxed, IsSettledAt, IsSmall, Lacks, Relaxes, lists_of, lowered, settle_in, settled_at, waiting_at};
 
 use crate::node_heap::NodeHeap;
-use crate::residual::{Residual, MAX_NODES};
+use crate::residual::{MAX_NODES, Residual};
 use crate::step::Step;
 use std::alloc::Global;
 use vs_types::Memory;
@@ -60,7 +60,13 @@ impl Labels {
 
     /// Settles nodes from the source on, the nearest first, up to the first that lacks a unit. None where there is
     /// none that can be reached.
-    pub fn explore(&mut self, residual: &Residual, prices: &[i64], surplus: &[i64], source: u32) -> Option<u32>
+    pub fn explore(
+        &mut self,
+        residual: &Residual,
+        prices: &[i64],
+        surplus: &[i64],
+        source: u32,
+    ) -> Option<u32>
         requires small { IsSmall residual.now prices.now }
         requires sign_rule { HasSignRule residual.now prices.now }
         requires each_node { length surplus.now ≡ residual.now.graph.nodes }

@@ -12,6 +12,6 @@ mod tournament;
 
 pub use node_heap::NodeHeap;
 pub use paths::Paths;
-pub use residual::{Costs, Residual, MAX_COST, MAX_NODES, MAX_PRICE};
+pub use residual::{Costs, MAX_COST, MAX_NODES, MAX_PRICE, Residual};
 pub use search::Search;
 pub use step::Step;

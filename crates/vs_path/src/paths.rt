@@ -66,3 +66,6 @@ impl Paths {
         self.distances[v as usize]
     }
 }
+
+#[cfg(test)]
+mod tests;

@@ -39,11 +39,21 @@ impl<'a> Model for Residual<'a> {
 
     ghost Value = { ResidualNet };
 
-    ghost view = { λ r. record { graph = r.net.now; units = r.flow.now.units.items; cost = r.costs.now.cost.items;
-        room = r.costs.now.room.items; arcs = r.arcs } };
+    ghost view = { λ r. record {
+      graph = r.net.now;
+      units = r.flow.now.units.items;
+      cost = r.costs.now.cost.items;
+      room = r.costs.now.room.items;
+      arcs = r.arcs;
+    } };
 
-    ghost invariant = { λ r. IsResidual (record { graph = r.net.now; units = r.flow.now.units.items;
-        cost = r.costs.now.cost.items; room = r.costs.now.room.items; arcs = r.arcs }) };
+    ghost invariant = { λ r. IsResidual (record {
+      graph = r.net.now;
+      units = r.flow.now.units.items;
+      cost = r.costs.now.cost.items;
+      room = r.costs.now.room.items;
+      arcs = r.arcs;
+    }) };
 }
 
 impl<'a> Residual<'a> {
@@ -53,8 +63,13 @@ impl<'a> Residual<'a> {
         requires units { length flow.now.units.items ≡ length net.now.arcs }
         requires cost { length costs.now.cost.items ≡ length net.now.arcs }
         requires room { length costs.now.room.items ≡ length net.now.arcs }
-        ensures { result ≡ record { graph = net.entry.now; units = flow.entry.now.units.items;
-            cost = costs.entry.now.cost.items; room = costs.entry.now.room.items; arcs = arcs } }
+        ensures { result ≡ record {
+          graph = net.entry.now;
+          units = flow.entry.now.units.items;
+          cost = costs.entry.now.cost.items;
+          room = costs.entry.now.room.items;
+          arcs = arcs;
+        } }
     {
         let _ = net.nodes();
         Residual {
@@ -103,7 +118,8 @@ impl<'a> Residual<'a> {
         ensures { IsTrue result ↔ IsOpen self.now step }
     {
         match step {
-            Step::Forward(k) => k < self.arcs && self.flow.units[k as usize] < self.costs.room[k as usize],
+            Step::Forward(k) => k < self.arcs
+                && self.flow.units[k as usize] < self.costs.room[k as usize],
             Step::Back(k) => k < self.arcs && 0 < self.flow.units[k as usize],
         }
     }

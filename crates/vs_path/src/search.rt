@@ -45,7 +45,13 @@ impl Search {
     /// Finds the nearest node that lacks a unit (whose surplus is less than 0), and lowers the prices of the nodes
     /// that are nearer, so that the steps to it cost nothing. None where no such node can be reached; then no price
     /// changes. A search costs what it reaches.
-    pub fn find(&mut self, residual: &Residual, surplus: &[i64], source: u32, prices: &mut [i64]) -> Option<u32>
+    pub fn find(
+        &mut self,
+        residual: &Residual,
+        surplus: &[i64],
+        source: u32,
+        prices: &mut [i64],
+    ) -> Option<u32>
         requires nodes { self.old.nodes ≡ residual.now.graph.nodes }
         requires small { IsSmall residual.now prices.old }
         requires sign_rule { HasSignRule residual.now prices.old }

@@ -28,10 +28,23 @@ struct Case {
     reached: usize,
 }
 
-fn search(rt: &impl Abort, alloc: Global, case: &Case, prices: &mut [i64], path: &[Step]) -> Result<(), Fail>
+fn search(
+    rt: &impl Abort,
+    alloc: Global,
+    case: &Case,
+    prices: &mut [i64],
+    path: &[Step],
+) -> Result<(), Fail>
     requires { case.now.source < 4 }
 {
-    let arcs = vec![in alloc; arc(0, 1), arc(0, 2), arc(1, 2), arc(1, 3), arc(2, 3), arc(3, 0)]?;
+    let arcs = vec![in alloc;
+        arc(0, 1),
+        arc(0, 2),
+        arc(1, 2),
+        arc(1, 3),
+        arc(2, 3),
+        arc(3, 0),
+    ]?;
     let net = Net::new(alloc, 4, arcs)?;
     let flow = Flow {
         units: Vec::from_slice(alloc, &case.units)?,
@@ -45,7 +58,10 @@ fn search(rt: &impl Abort, alloc: Global, case: &Case, prices: &mut [i64], path:
     assert!(rt; residual.keeps_sign_rule(prices));
     assert!(rt; case.surplus[case.source as usize] >= 0);
     let mut search = Search::new(alloc, 4)?;
-    assert_eq!(rt; search.find(&residual, &case.surplus, case.source, prices), case.goal);
+    assert_eq!(rt;
+        search.find(&residual, &case.surplus, case.source, prices),
+        case.goal
+    );
     assert_eq!(rt; search.path(), path);
     assert_eq!(rt; search.reached().len(), case.reached);
     Ok(())
@@ -61,7 +77,13 @@ fn finds_the_nearest_node_that_lacks_a_unit(rt: HostRuntime) -> Result<(), Fail>
         reached: 4,
     };
     let mut prices = [0; 4];
-    search(&rt, rt.alloc(), &case, &mut prices, &[Step::Forward(3), Step::Forward(0)])?;
+    search(
+        &rt,
+        rt.alloc(),
+        &case,
+        &mut prices,
+        &[Step::Forward(3), Step::Forward(0)],
+    )?;
     assert_eq!(rt; prices, [-3, -1, 0, 0]);
     Ok(())
 }

@@ -11,11 +11,11 @@ emptied : (old now : List (Option Settled)) (nodes : List ℕ)
     → (v : ℕ) → get_or now v None ≡ None
 emptied old now nodes all kept gone v = go (get_or now v None) refl
   where
-  go : (o : Option Settled) → get_or now v None ≡ o → get_or now v None ≡ None
-  go None e = e
-  go (Some a) e =
-      let at = all v a (kept v a e) in
-      ap (λ (w : ℕ). get_or now w None) (sym at.2) ∙ gone at.0 at.1
+    go : (o : Option Settled) → get_or now v None ≡ o → get_or now v None ≡ None
+    go None e = e
+    go (Some a) e =
+        let at = all v a (kept v a e) in
+        ap (λ (w : ℕ). get_or now w None) (sym at.2) ∙ gone at.0 at.1
 
 pub returns : goal.returns
 returns c =

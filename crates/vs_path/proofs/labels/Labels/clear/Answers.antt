@@ -27,8 +27,7 @@ forget-requires-clause-all c = λ v a is.
     let l = lists_of c.args.self.now in
     let same : settled_at l v ≡ Some a =
     ap (λ (xs : List (Option Settled)). get_or xs v None) (sym c.deref_mut.ensures.value) ∙ is in
-    let at = c.requires.placed v a same in
-    (
+    let at = c.requires.placed v a same in (
       a.place,
       omega (arith, at.0, ap length c.deref.ensures.value),
       ap (λ (xs : List ℕ). get_or xs a.place 0) c.deref.ensures.value ∙ at.1,

@@ -84,8 +84,8 @@ returns-else-is_better-clause-relaxes c =
     let given_worse = simp to_z-of_z at c.if-is_better.ensures.1 in
     let known = not-better l (to_of r s) label
     (λ better.
-        let e : false ≡ true = given_worse (subst (λ (v : ℕ). IsBetter l v label) (sym c.to-node.ensures.node) better) in
-        cc) in
+    let e : false ≡ true = given_worse (subst (λ (v : ℕ). IsBetter l v label) (sym c.to-node.ensures.node) better) in
+    cc) in
     record {
       labels = c.requires.labels;
       lowered = lowered-same l;
