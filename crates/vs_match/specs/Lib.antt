@@ -12,3 +12,5 @@ pub mod Parts
 pub mod ArcsOf
 pub mod Sweep
 pub mod TripIndex
+pub mod LawfulNets
+pub mod Decomposition

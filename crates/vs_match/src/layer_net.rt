@@ -13,6 +13,9 @@ use vs_instance::MAX_TRIPS;
 use vs_layer::{Arc, MAX_ARCS, Net, NetError};
 use vs_types::{Memory, StopNo, TripNo};
 
+/// What an arc of a layer's net costs at most, in 1/1000 of a cost unit.
+pub const MAX_ARC_COST: i64 = 20_000_000_000_000;
+
 /// A layer's net with what its nodes and arcs stand for.
 #[derive(Drop)]
 pub struct LayerNet {

@@ -21,7 +21,7 @@ mod trip_end;
 mod waiting;
 
 pub use arc_kind::ArcKind;
-pub use layer_net::LayerNet;
+pub use layer_net::{LayerNet, MAX_ARC_COST};
 pub use matching::{first_match, latest_first_match};
 pub use sizes::{NetCounts, counts, full_count};
 
