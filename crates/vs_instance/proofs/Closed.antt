@@ -34,7 +34,7 @@ module _ (k s t : ℕ) (a b : Way) where
   none_of_direct (option.Some w) is = none_of_no_longer w is
   none_of_direct option.None is = absurd is
 
-none_of_detour : (k s t : ℕ) (a b o : Option Way)
+pub none_of_detour : (k s t : ℕ) (a b o : Option Way)
     → ((x y : Way) → a ≡ option.Some x → b ≡ option.Some y → IsSomeAnd o (IsNoLonger x y))
     → None (detour_misfits k s t a b o)
 none_of_detour k s t (option.Some x) (option.Some y) o each = none_of_direct k s t x y o (each x y refl refl)
@@ -49,13 +49,17 @@ apart_none k s t a b o ks st kt none =
     or_from _ _ (or_from _ _ (ne_eqb k s ks) (ne_eqb s t st)) (ne_eqb k t kt) in
     subst (λ (x : Bool). None (cond x [] (detour_misfits k s t a b o))) test none
 
-none_of_apart : (k s t : ℕ) (a b o : Option Way) → (k ≢ t → None (detour_misfits k s t a b o))
+pub none_of_apart : (k s t : ℕ) (a b o : Option Way)
+    → (k ≢ s → s ≢ t → k ≢ t → None (detour_misfits k s t a b o))
     → None (apart_misfits k s t a b o)
 none_of_apart k s t a b o each = by_test ((eqb k s || eqb s t) || eqb k t) refl
   where
     by_test : (x : Bool) → ((eqb k s || eqb s t) || eqb k t) ≡ x → None (cond x [] (detour_misfits k s t a b o))
     by_test true is = refl
-    by_test false is = each (eqb-false k t (or_parts _ _ is).1)
+    by_test false is =
+        let last = or_parts _ _ is in
+        let both = or_parts _ _ last.0 in
+        each (eqb-false k s both.0) (eqb-false s t both.1) (eqb-false k t last.1)
 
 module _ (n : ℕ) (given : Map) where
   triple_none : None (closure_misfits n given) → (k s t : ℕ) → k < n → s < n → t < n → None (triple_misfits given k s t)
@@ -90,6 +94,6 @@ module _ (n : ℕ) (given : Map) where
       none_numbers (misfits_from n given) 0 n (λ k _ _.
       none_numbers (misfits_by n given k) 0 n (λ s _ _.
       none_numbers (triple_misfits given k s) 0 n (λ t _ _.
-      none_of_apart k s t (map.get given (k, s)) (map.get given (s, t)) (map.get given (k, t)) (λ apart.
+      none_of_apart k s t (map.get given (k, s)) (map.get given (s, t)) (map.get given (k, t)) (λ _ _ apart.
       none_of_detour k s t (map.get given (k, s)) (map.get given (s, t)) (map.get given (k, t)) (λ a b first second.
       closed k s t a b apart first second)))))

@@ -1,5 +1,5 @@
 -- Parts without a misfit make an instance, and those of an instance have none.
-use Rattle.std.proofs.Common.{◌≡◌, ℕ, ◌<◌, List, ◌++◌, length, get_or, refl, sym, ap, ◌∙◌, arith}
+use Rattle.std.proofs.Common.{◌≡◌, ℕ, ◌<◌, ◌≤◌, List, ◌++◌, length, get_or, refl, sym, ap, ◌∙◌, arith}
 use Rattle.std.specs.FinMap as map
 use Rattle.std.specs.Option.{IfSome}
 use Rattle.std.specs.declared.option.Option.{Option}
@@ -11,6 +11,7 @@ use Rattle.vs_instance.specs.declared.misfit.NewError.{NewError}
 use Rattle.vs_instance.specs.declared.misfit.NewError.TheVariants as error
 use Rattle.vs_instance.specs.declared.parts.Parts.{Parts}
 use Rattle.vs_instance.specs.declared.way.Way.{Way}
+use Rattle.vs_instance.specs.declared.limits.TheConstants.{MAX_MINUTES, MAX_METRES}
 use Rattle.vs_instance.specs.Problem.{pair_cmp}
 use Rattle.vs_instance.specs.Instance.{IsDeadhead}
 use Rattle.vs_instance.specs.Misfits.{AreParts, MakeInstance, problem_of, deadheads_of, has_twin_before, misfits_of, IsFirstOf, IsFirstMisfit, IsMisfit, first_misfit, layer_misfits, trip_misfits, layers_misfits, deadheads_misfits, trips_misfits, closure_misfits}
@@ -39,6 +40,17 @@ fit_deadheads parts none n d within =
     deadhead_fits _ n _
     (each_none (nth_misfits parts.deadheads.items) 0 parts.deadheads.items none.deadheads n n d within
     (omega arith))
+
+-- deadheads without a misfit are no longer than the limits
+pub all_short : (ds : List Deadhead) → None (deadheads_misfits ds) → (k s : ℕ)
+    → IfSome (map.get (deadheads_of ds) (k, s)) (λ w. (w.minutes ≤ MAX_MINUTES) × (w.metres ≤ MAX_METRES))
+all_short ds none k s =
+    if_some (λ w. (w.minutes ≤ MAX_MINUTES) × (w.metres ≤ MAX_METRES)) (map.get (deadheads_of ds) (k, s)) (λ w is.
+    given_all (λ q v. (v.minutes ≤ MAX_MINUTES) × (v.metres ≤ MAX_METRES)) map.empty ds
+    (λ q v here. absurd (none-some v (sym (map.get-empty pair_cmp q) ∙ here)))
+    (λ n d within.
+    let fit = deadhead_fits _ n _ (each_none (nth_misfits ds) 0 ds none n n d within (omega arith)) in
+    (fit.minutes, fit.metres)) (k, s) w is)
 
 all_deadheads : (parts : Parts) → AreParts parts → NoMisfits parts → (q : ℕ × ℕ) (w : Way)
     → map.get (deadheads_of parts.deadheads.items) q ≡ option.Some w → IsDeadhead (problem_of parts) q.0 q.1 w

@@ -9,9 +9,15 @@ pub mod Empty
 pub mod WithinLimits
 pub mod Given
 pub mod Closed
+pub mod Pushed
+pub mod LengthRows
+pub mod ClosedLengths
 pub mod Judged
 pub mod Known
 pub mod PieceLemmas
 pub mod BlockPieces
+pub mod Totals
+pub mod LayerDuality
+pub mod lagrangian
 pub mod PermittedSets
 pub mod Examples

@@ -14,12 +14,16 @@ abbrev pub total : List ℤ → ℤ
 total [] = pos 0
 total (x ∷ rest) = x +ℤ total rest
 
--- blocks of layer l alone, no more than it has vehicles, in which no trip stands twice and each may be run in l
-pub record IsBlockList (p : Problem) (sets : List LayerSet) (l : LayerNo) (blocks : List LayerBlock) : Type 0 where
+-- blocks of layer l alone, no more than it has vehicles, of trips that may be run, in which no trip stands twice
+pub record AreBlocksOf (p : Problem) (l : LayerNo) (May : ℕ → Type 0) (blocks : List LayerBlock) : Type 0 where
   pub each_block : All (λ b. (b.0 ≡ l) × IsBlock p l b.1) blocks
   pub fleet : length blocks ≤ (layer_of p l.0).fleet
   pub at_most_once : (i : ℕ) → i < length p.trips → times_run blocks i ≤ 1
-  pub within : All (λ i. Has (set_of sets i.0) l.0) (all_trips blocks)
+  pub within : All (λ i. May i.0) (all_trips blocks)
+
+-- such blocks, of trips that may still be run in l
+abbrev pub IsBlockList : Problem → List LayerSet → LayerNo → List LayerBlock → Type 0
+IsBlockList p sets l blocks = AreBlocksOf p l (λ i. Has (set_of sets i) l.0) blocks
 
 abbrev pub multiplier_of : List ℤ → ℕ → ℤ
 multiplier_of multipliers i = slice_index_or multipliers i (pos 0)
@@ -34,12 +38,16 @@ abbrev pub reduced_cost : Problem → List ℤ → List LayerBlock → ℤ
 reduced_cost p multipliers blocks =
     pos (1000 * sum_by (λ b. block_cost p b.0 b.1) blocks) -ℤ paid_for multipliers (all_trips blocks)
 
--- low is the least reduced cost of a block list of layer l
-pub record IsLow (p : Problem) (sets : List LayerSet) (multipliers : List ℤ) (l : LayerNo) (low : ℤ) : Type 0 where
+-- low is the least reduced cost of such blocks
+pub record IsLowOf (p : Problem) (l : LayerNo) (May : ℕ → Type 0) (multipliers : List ℤ) (low : ℤ) : Type 0 where
   pub blocks : List LayerBlock
-  pub is_list : IsBlockList p sets l blocks
+  pub are_blocks : AreBlocksOf p l May blocks
   pub cost : low ≡ reduced_cost p multipliers blocks
-  pub least : (others : List LayerBlock) → IsBlockList p sets l others → low ≤ℤ reduced_cost p multipliers others
+  pub least : (others : List LayerBlock) → AreBlocksOf p l May others → low ≤ℤ reduced_cost p multipliers others
+
+-- low is the least reduced cost of a block list of layer l
+abbrev pub IsLow : Problem → List LayerSet → List ℤ → LayerNo → ℤ → Type 0
+IsLow p sets multipliers l low = IsLowOf p l (λ i. Has (set_of sets i) l.0) multipliers low
 
 -- all multipliers and the lows of all layers, added up
 pub record IsLagrangianValue (p : Problem) (sets : List LayerSet) (multipliers : List ℤ) (value : ℤ) : Type 0 where

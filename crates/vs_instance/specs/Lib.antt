@@ -11,4 +11,6 @@ pub mod Plan
 pub mod Restriction
 pub mod HoldingTable
 pub mod Lagrangian
+pub mod Laws
 pub mod Misfits
+pub mod Lengths

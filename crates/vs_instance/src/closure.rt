@@ -1,11 +1,14 @@
-ghost use Rattle.std.specs.Prelude.{◌≡◌, ◌+◌, ◌<◌, ◌↔◌, IsTrue, Some};
+ghost use Rattle.std.specs.Prelude.{◌≡◌, ◌+◌, ◌<◌, ◌↔◌, IfOk, IsTrue, Some};
 ghost use Rattle.std.specs.FinMap as map;
 ghost use Rattle.vs_instance.specs.Misfits.{first_misfit, detour_misfits, apart_misfits, misfits_by, misfits_from, closure_misfits};
+ghost use Rattle.vs_instance.specs.Lengths.{AreShort};
 
+use crate::lengths::{Measure, is_closed_in};
 use crate::misfit::Misfit;
 use crate::way::Way;
 use crate::ways::Ways;
-use vs_types::StopNo;
+use std::alloc::Global;
+use vs_types::{Memory, StopNo};
 
 fn is_longer(direct: u32, first: u32, second: u32) -> bool
     ensures { IsTrue result ↔ (first + second < direct) }
@@ -84,8 +87,23 @@ fn detours_from(ways: &Ways, k: StopNo) -> Option<Misfit>
     None
 }
 
-/// The first misfit of closure, by the numbers of the three stops.
-pub fn closure_misfit(ways: &Ways) -> Option<Misfit>
+/// The first misfit of closure, by the numbers of the three stops. Each three are judged one by one only
+/// where lengths in rows, which are quicker to compare, aren't closed.
+pub fn closure_misfit(alloc: Global, ways: &Ways) -> Result<Option<Misfit>, Memory>
+    requires { AreShort ways.now }
+    ensures { IfOk result (λ found.
+        found ≡ first_misfit (closure_misfits ways.now.stops ways.now.given)) }
+{
+    let in_minutes = is_closed_in(alloc, ways, Measure::Minutes)?;
+    let in_metres = is_closed_in(alloc, ways, Measure::Metres)?;
+    if in_minutes && in_metres {
+        return Ok(None);
+    }
+    Ok(first_detour(ways))
+}
+
+/// The first misfit of closure, each three stops judged one by one.
+fn first_detour(ways: &Ways) -> Option<Misfit>
     ensures { result ≡ first_misfit (closure_misfits ways.now.stops ways.now.given) }
 {
     for k in 0..ways.stops() {

@@ -57,7 +57,8 @@ impl Instance {
         if let Some(misfit) = trips_misfit(&parts.trips) {
             return Err(NewError::Misfit(misfit));
         }
-        if let Some(misfit) = closure_misfit(&ways) {
+        let detour = closure_misfit(alloc, &ways)?;
+        if let Some(misfit) = detour {
             return Err(NewError::Misfit(misfit));
         }
         Ok(Instance {

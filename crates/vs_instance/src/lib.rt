@@ -6,7 +6,9 @@ mod closure;
 mod deadhead;
 mod gather;
 mod instance;
+mod laws;
 mod layer;
+mod lengths;
 mod limits;
 mod misfit;
 mod parts;
@@ -17,6 +19,7 @@ mod ways;
 
 pub use deadhead::Deadhead;
 pub use instance::Instance;
+pub use laws::{lagrangian_values_bound_plans, lagrangian_values_exist, starting_values_exist};
 pub use layer::Layer;
 pub use limits::{
     MAX_FIXED, MAX_FLEET, MAX_LAYERS, MAX_METRES, MAX_MINUTES, MAX_PER_METRE, MAX_PER_MINUTE,

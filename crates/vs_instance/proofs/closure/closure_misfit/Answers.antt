@@ -1,16 +1,9 @@
-use Rattle.std.proofs.Common.{arith}
-use Rattle.vs_instance.specs.Misfits.{misfits_from}
-use Rattle.vs_instance.proofs.Firsts.{first_below-step, first_below-found}
+use Rattle.std.proofs.Common.{ap, sym}
+use Rattle.vs_instance.specs.Misfits.{first_misfit}
+use Rattle.vs_instance.proofs.ClosedLengths.{closed_lengths}
 use Rattle.vs_instance.proofs.closure.closure_misfit.Goals as goal
 
-pub returns-in-Some : goal.returns-in-Some
-returns-in-Some c =
-    first_below-found
-    (misfits_from c.args.ways.now.stops c.args.ways.now.given) c.loop-k.k c.args.ways.now.stops _ c.loop-k.invariant
-    c.in-Some.misfit (omega arith) c.in-Some.ensures
-
-pub loop-k-preserved : goal.loop-k-preserved
-loop-k-preserved c =
-    first_below-step
-    (misfits_from c.args.ways.now.stops c.args.ways.now.given) c.loop-k.k c.args.ways.now.stops _ c.loop-k.invariant
-    (omega arith) c.in_default.ensures
+pub returns-then-in_metres : goal.returns-then-in_metres
+returns-then-in_metres c =
+    sym (ap first_misfit (closed_lengths c.args.ways.now c.requires
+    (c.in_ok-in_minutes.ensures c.if-in_minutes.true) (c.in_ok-in_metres.ensures c.if-in_metres.true)))

@@ -1,11 +1,15 @@
-use Rattle.std.proofs.Common.{◌≡◌, List, sym, ap, ◌∙◌, subst}
+use Rattle.std.proofs.Common.{◌≡◌, ◌≤◌, List, sym, ap, ◌∙◌, subst}
+use Rattle.std.specs.FinMap as map
+use Rattle.std.specs.Option.{IfSome}
 use Rattle.std.proofs.lemmas.Result.{err_from_is_err_and}
 use Rattle.vs_instance.specs.declared.layer.Layer.{Layer}
 use Rattle.vs_instance.specs.declared.deadhead.Deadhead.{Deadhead}
 use Rattle.vs_instance.specs.declared.trip.Trip.{Trip}
 use Rattle.vs_instance.specs.Instance.{IsInstance}
 use Rattle.vs_instance.specs.Misfits.{IsFirstOf, first_misfit, layers_misfits, deadheads_misfits, trips_misfits, closure_misfits, deadheads_of}
-use Rattle.vs_instance.proofs.Judged.{at_layers, at_deadheads, at_trips, at_closure, refuses, refuses_error, made}
+use Rattle.vs_instance.specs.declared.limits.TheConstants.{MAX_MINUTES, MAX_METRES}
+use Rattle.vs_instance.proofs.Gathered.{Map}
+use Rattle.vs_instance.proofs.Judged.{all_short, at_layers, at_deadheads, at_trips, at_closure, refuses, refuses_error, made}
 use Rattle.vs_instance.proofs.instance.Instance.new.Goals as goal
 
 pub returns-in-Some-clause-refused : goal.returns-in-Some-clause-refused
@@ -49,30 +53,39 @@ returns-in-Some-trips_misfit-clause-refused c =
     ∙ ap (λ (ts : List Trip). first_misfit (trips_misfits ts)) c.deref-3.ensures.value) in
     λ _. refuses c.args.parts c.in-Some-trips_misfit.misfit first
 
-pub returns-in-Some-closure_misfit-clause-misfit : goal.returns-in-Some-closure_misfit-clause-misfit
-returns-in-Some-closure_misfit-clause-misfit c =
+pub closure_misfit-requires : goal.closure_misfit-requires
+closure_misfit-requires c = record {
+  each = λ k s.
+      subst (λ (given : Map). IfSome (map.get given (k, s)) (λ w. (w.minutes ≤ MAX_MINUTES) × (w.metres ≤ MAX_METRES)))
+      (sym (c.in_ok-ways.ensures.given.1 ∙ ap deadheads_of c.deref-2.ensures.value))
+      (all_short c.args.parts.deadheads.items (sym (ap deadheads_misfits c.deref-2.ensures.value)
+      ∙ c.in_ok-ways.ensures.fit) k s);
+}
+
+pub returns-in-Some-detour-clause-misfit : goal.returns-in-Some-detour-clause-misfit
+returns-in-Some-detour-clause-misfit c =
     let given : c.in_ok-ways.ways.given ≡ deadheads_of c.args.parts.deadheads.items =
     c.in_ok-ways.ensures.given.1 ∙ ap deadheads_of c.deref-2.ensures.value in
-    at_closure c.args.parts c.in-Some-closure_misfit.misfit
+    at_closure c.args.parts c.in-Some-detour.misfit
     (c.in_default.ensures ∙ ap (λ (ls : List Layer). first_misfit (layers_misfits ls)) c.deref.ensures.value)
     (sym (ap deadheads_misfits c.deref-2.ensures.value) ∙ c.in_ok-ways.ensures.fit)
     (c.in_default-trips_misfit.ensures
     ∙ ap (λ (ts : List Trip). first_misfit (trips_misfits ts)) c.deref-3.ensures.value)
-    (c.in-Some-closure_misfit.ensures
+    (sym c.in-Some-detour.is ∙ c.in_ok-detour.ensures
     ∙ (λ i. first_misfit (closure_misfits (c.in_ok-ways.ensures.given.0 i) (given i))))
 
-pub returns-in-Some-closure_misfit-clause-refused : goal.returns-in-Some-closure_misfit-clause-refused
-returns-in-Some-closure_misfit-clause-refused c =
+pub returns-in-Some-detour-clause-refused : goal.returns-in-Some-detour-clause-refused
+returns-in-Some-detour-clause-refused c =
     let given : c.in_ok-ways.ways.given ≡ deadheads_of c.args.parts.deadheads.items =
     c.in_ok-ways.ensures.given.1 ∙ ap deadheads_of c.deref-2.ensures.value in
-    let first = at_closure c.args.parts c.in-Some-closure_misfit.misfit
+    let first = at_closure c.args.parts c.in-Some-detour.misfit
     (c.in_default.ensures ∙ ap (λ (ls : List Layer). first_misfit (layers_misfits ls)) c.deref.ensures.value)
     (sym (ap deadheads_misfits c.deref-2.ensures.value) ∙ c.in_ok-ways.ensures.fit)
     (c.in_default-trips_misfit.ensures
     ∙ ap (λ (ts : List Trip). first_misfit (trips_misfits ts)) c.deref-3.ensures.value)
-    (c.in-Some-closure_misfit.ensures
+    (sym c.in-Some-detour.is ∙ c.in_ok-detour.ensures
     ∙ (λ i. first_misfit (closure_misfits (c.in_ok-ways.ensures.given.0 i) (given i)))) in
-    λ _. refuses c.args.parts c.in-Some-closure_misfit.misfit first
+    λ _. refuses c.args.parts c.in-Some-detour.misfit first
 
 pub invariant_of-result : goal.invariant_of-result
 invariant_of-result c =
@@ -83,7 +96,7 @@ invariant_of-result c =
     (sym (ap deadheads_misfits c.deref-2.ensures.value) ∙ c.in_ok-ways.ensures.fit)
     (c.in_default-trips_misfit.ensures
     ∙ ap (λ (ts : List Trip). first_misfit (trips_misfits ts)) c.deref-3.ensures.value)
-    (c.in_default-closure_misfit.ensures
+    (sym c.in_default-detour.is ∙ c.in_ok-detour.ensures
     ∙ (λ i. first_misfit (closure_misfits (c.in_ok-ways.ensures.given.0 i) (given i)))) in
     subst IsInstance
     (λ i. record {
@@ -103,5 +116,5 @@ returns-clause-made c =
     (sym (ap deadheads_misfits c.deref-2.ensures.value) ∙ c.in_ok-ways.ensures.fit)
     (c.in_default-trips_misfit.ensures
     ∙ ap (λ (ts : List Trip). first_misfit (trips_misfits ts)) c.deref-3.ensures.value)
-    (c.in_default-closure_misfit.ensures
+    (sym c.in_default-detour.is ∙ c.in_ok-detour.ensures
     ∙ (λ i. first_misfit (closure_misfits (c.in_ok-ways.ensures.given.0 i) (given i))))

@@ -1,7 +1,7 @@
 use Rattle.std.proofs.Common.{◌≡◌}
 use Rattle.vs_instance.specs.Misfits.{first_misfit, misfits_from, closure_misfits}
 use Rattle.vs_instance.proofs.Firsts.{first_below}
-use Rattle.vs_instance.proofs.closure.closure_misfit.Given as goal
+use Rattle.vs_instance.proofs.closure.first_detour.Given as goal
 
 -- the stops from here on have the first misfit of all
 abbrev pub invariant-loop-k : goal.invariant-loop-k
