@@ -16,3 +16,4 @@ pub mod Drafts
 pub mod Left
 pub mod ReadErrors
 pub mod Declarations
+pub mod Ends

@@ -12,7 +12,7 @@ use crate::kind::Kind;
 use crate::names::Names;
 use crate::record::{RecordError, field};
 use crate::record_numbers::RecordNumbers;
-use crate::records;
+use crate::records::{self, Ends};
 use crate::refused::Why;
 use csv::ByteRecord;
 use std::alloc::Global;
@@ -77,7 +77,8 @@ impl Draft {
             (AddsDeadhead (declared_of self.old) (fields_of record.now) (declared_of self.new)
             × NumbersDeadhead number self.old.numbers self.new.numbers) result }
     {
-        let deadhead = records::deadhead(&self.names, record)?;
+        let guess = Ends::after(self.deadheads.last());
+        let deadhead = records::deadhead(&self.names, guess, record)?;
         self.deadheads.push(deadhead)?;
         self.numbers.deadheads.push(number)?;
         Ok(())

@@ -71,6 +71,21 @@ impl NameList {
         self.numbers.get(name).copied()
     }
 
+    /// The number of a name, which is compared with the one of this number before all are searched. None where
+    /// it isn't one of these.
+    pub fn find_near(&self, guess: u32, name: &str) -> Option<u32>
+        ensures found { MatchOption result
+            (¬ (Contains self.now name.now))
+            (λ k. Numbered self.now name.now k) }
+        ensures within { IfSome result (λ k. k < length self.now) }
+        ensures only { IfSome result (λ k. (j : ℕ) → Numbered self.now name.now j → j ≡ k) }
+    {
+        if (guess as usize) < self.len() && self.get(guess) == name {
+            return Some(guess);
+        }
+        self.find(name)
+    }
+
     /// Adds a name as the last one. After an error the list is of no more use.
     pub fn add(&mut self, name: &[u8]) -> Result<(), Memory>
         requires name { IsName name.now }

@@ -101,6 +101,17 @@ impl Names {
         Some(StopNo(self.stops.find(name)?))
     }
 
+    /// The stop of this name, which may well be the one guessed. None where no stop has it.
+    pub(crate) fn stop_near(&self, guess: StopNo, name: &str) -> Option<StopNo>
+        ensures found { MatchOption result
+            (¬ (Contains self.now.stops name.now))
+            (λ k. Numbered self.now.stops name.now k.0) }
+        ensures within { IfSome result (λ k. k.0 < length self.now.stops) }
+        ensures only { IfSome result (λ k. (j : ℕ) → Numbered self.now.stops name.now j → j ≡ k.0) }
+    {
+        Some(StopNo(self.stops.find_near(guess.0, name)?))
+    }
+
     /// The layer of this name. None where no layer has it.
     pub fn layer_of(&self, name: &str) -> Option<LayerNo>
         ensures found { MatchOption result

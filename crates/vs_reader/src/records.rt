@@ -8,6 +8,7 @@ ghost use Rattle.vs_reader.specs.Names.{Names as Numbered};
 ghost use Rattle.vs_reader.specs.InstanceText.{DeadheadRow, LayerRow, TripRow, NameLayers};
 ghost use Rattle.vs_reader.specs.Rules.{WritesName, WritesNumber, WritesTime, new_name, known_name, layer_names, stop_rules, deadhead_rules, layer_rules, trip_rules};
 ghost use Rattle.vs_reader.specs.Judged.{Judged};
+ghost use Rattle.vs_reader.specs.Ends.{ends_rules, NamesEnds};
 
 use crate::name::name;
 use crate::names::Names;
@@ -18,6 +19,29 @@ use crate::time::time;
 use csv::ByteRecord;
 use vs_instance::{Deadhead, Layer, MAX_LAYERS, MAX_STOPS, MAX_TRIPS, Trip};
 use vs_types::{LayerNo, LayerSet, StopNo};
+
+/// The stops that a deadhead leads from and to.
+#[derive(Clone, Copy, Debug, PartialEq, Eq)]
+pub struct Ends {
+    pub from: StopNo,
+    pub to: StopNo,
+}
+
+impl Ends {
+    /// A guess of the next deadhead's from the last one, right in nearly all of a table written row by row.
+    pub fn after(last: Option<&Deadhead>) -> Ends {
+        match last {
+            Some(last) => Ends {
+                from: last.from,
+                to: StopNo(last.to.0.saturating_add(1)),
+            },
+            None => Ends {
+                from: StopNo(0),
+                to: StopNo(0),
+            },
+        }
+    }
+}
 
 /// The name of a stop that a record declares.
 pub fn stop<'r>(names: &Names, record: &'r ByteRecord) -> Result<&'r [u8], Why>
@@ -38,8 +62,8 @@ pub fn stop<'r>(names: &Names, record: &'r ByteRecord) -> Result<&'r [u8], Why>
     Ok(name.as_bytes())
 }
 
-/// The deadhead that a record declares.
-pub fn deadhead(names: &Names, record: &ByteRecord) -> Result<Deadhead, Why>
+/// The deadhead that a record declares, which may well lead between the stops guessed.
+pub fn deadhead(names: &Names, guess: Ends, record: &ByteRecord) -> Result<Deadhead, Why>
     requires kind { field_of (fields_of record.now) 0 ≡ codes "deadhead" }
     ensures { Judged (deadhead_rules names.now (fields_of record.now))
         (DeadheadRow names.now.stops (fields_of record.now)) result }
@@ -47,8 +71,7 @@ pub fn deadhead(names: &Names, record: &ByteRecord) -> Result<Deadhead, Why>
     if record.len() != 5 {
         return Err(Why::FieldCount);
     }
-    let from = known_stop(names, field(record, 1))?;
-    let to = known_stop(names, field(record, 2))?;
+    let Ends { from, to } = known_ends(names, guess, record)?;
     let minutes = written_number(field(record, 3))?;
     let metres = written_number(field(record, 4))?;
     Ok(Deadhead {
@@ -154,6 +177,25 @@ fn known_stop(names: &Names, field: &[u8]) -> Result<StopNo, Why>
 {
     let name = written_name(field)?;
     names.stop_of(name).ok_or(Why::UnknownName)
+}
+
+/// The stops that the two fields of a record after its kind name, which may well be those guessed.
+fn known_ends(names: &Names, guess: Ends, record: &ByteRecord) -> Result<Ends, Why>
+    ensures { Judged (ends_rules names.now (fields_of record.now))
+        (NamesEnds names.now (fields_of record.now)) result }
+{
+    let from = known_stop_near(names, guess.from, field(record, 1))?;
+    let to = known_stop_near(names, guess.to, field(record, 2))?;
+    Ok(Ends { from, to })
+}
+
+/// The stop that a field names, which may well be the one guessed.
+fn known_stop_near(names: &Names, guess: StopNo, field: &[u8]) -> Result<StopNo, Why>
+    ensures { Judged (known_name names.now.stops field.now)
+        (λ k. Numbered names.now.stops field.now k.0) result }
+{
+    let name = written_name(field)?;
+    names.stop_near(guess, name).ok_or(Why::UnknownName)
 }
 
 /// The one layer that a field names.
