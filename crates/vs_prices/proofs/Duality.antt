@@ -18,7 +18,7 @@ use Rattle.vs_prices.specs.declared.table.Table.{Table}
 use Rattle.vs_prices.specs.Table.{HoldingTable}
 use Rattle.vs_prices.specs.Worth.{IsBoundOn, IsRoundedUp, IsWorth, least, least_price, table_value, trip_price}
 use Rattle.vs_prices.specs.Laws.{PricesBoundPlans}
-use Rattle.vs_prices.proofs.Totals.{total-map_le}
+use Rattle.vs_instance.proofs.Totals.{total-map_le}
 use Rattle.vs_prices.proofs.PlanPrices.{over_blocks, once_each, plan_pays}
 
 -- the least of some numbers is no more than any of them

@@ -1,5 +1,3 @@
-pub mod Totals
-pub mod BlockPrices
 pub mod PlanPrices
 pub mod Duality
 pub mod PriceNumbers

@@ -13,10 +13,10 @@ use Rattle.vs_instance.specs.Plan.{LayerBlock, IsPlan, all_trips, plan_cost, tim
 use Rattle.vs_instance.specs.HoldingTable.{scaled}
 use Rattle.vs_instance.specs.Ways.{layer_of}
 use Rattle.vs_prices.specs.declared.table.Table.{Table}
-use Rattle.vs_prices.specs.Table.{HoldingTable, vehicle_price}
+use Rattle.vs_prices.specs.Table.{HoldingTable, prices_in, vehicle_price}
 use Rattle.vs_prices.specs.Worth.{fleet_price, trip_price}
-use Rattle.vs_prices.proofs.Totals.{total-by_count, total-map_append, total-range_le, times_le, times_one}
-use Rattle.vs_prices.proofs.BlockPrices.{block_pays, scaled-add}
+use Rattle.vs_instance.proofs.Totals.{total-by_count, total-map_append, total-range_le, times_le, times_one}
+use Rattle.vs_instance.proofs.LayerDuality.{block_pays, scaled-add, scaled-none}
 
 abbrev IsBlockOf : Problem → LayerBlock → Type 0
 IsBlockOf p b = IsBlock p b.0 b.1
@@ -32,14 +32,12 @@ module _ (p : Problem) (instance : IsInstance p) (table : Table) (holds : Holdin
 
   blocks_pay : (blocks : List LayerBlock) → All (IsBlockOf p) blocks
       → over_blocks (trip_price p table) blocks ≤ℤ (paid_by_vehicles blocks +ℤ scaled table.ray (plan_cost p blocks))
-  blocks_pay [] each = zero_cost table.ray
-    where
-      zero_cost : (ray : Bool) → pos 0 ≤ℤ (pos 0 +ℤ scaled ray 0)
-      zero_cost true = omega (arith, ints)
-      zero_cost false = omega (arith, ints)
+  blocks_pay [] each = let none = scaled-none table.ray in omega (arith, ints, none)
   blocks_pay (b ∷ blocks) each =
       let block = All-head (IsBlockOf p) b blocks each in
-      let here = block_pays p table b.0 instance (holds b.0.0 block.layer) b.1 block in
+      let here =
+      block_pays p b.0 table.ray (prices_in p b.0.0 table.into.items) (prices_in p b.0.0 table.from.items)
+      (vehicle_price table b.0.0) instance (holds b.0.0 block.layer) b.1 block in
       let rest = blocks_pay blocks (All-tail (IsBlockOf p) b blocks each) in
       let cost = sum_by-cons (λ (x : LayerBlock). block_cost p x.0 x.1) b blocks in
       let parts = ap (scaled table.ray) cost ∙ scaled-add table.ray (block_cost p b.0 b.1) (plan_cost p blocks) in

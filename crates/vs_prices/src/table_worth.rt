@@ -38,8 +38,8 @@ fn lesser(least: Option<i64>, price: i64) -> i64
     }
 }
 
-/// What trip i pays in the cheapest layer of its set.
-fn least_price(instance: &Instance, set: LayerSet, table: &Table, i: TripNo) -> i64
+/// What trip i pays in the cheapest layer of a set, in 1/1000 of a cost unit; 0 where the set is empty.
+pub fn least_price(instance: &Instance, set: LayerSet, table: &Table, i: TripNo) -> i64
     requires fits { Fits instance.now table.now }
     requires trip { i.0 < length instance.now.trips }
     requires set { (l : ℕ) → Has set l → l < length instance.now.layers }
