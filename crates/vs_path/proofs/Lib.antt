@@ -1,10 +1,5 @@
-pub mod Matches
-pub mod Waiting
-pub mod Lowering
-pub mod ArcsOfNode
-pub mod Settling
-pub mod Exploring
-pub mod Moving
-pub mod Tracing
-pub mod Finding
-pub mod LeastCosts
+pub mod heap
+pub mod labelling
+pub mod found
+pub mod raised
+pub mod correcting

@@ -1,10 +1,10 @@
 -- Least paths from a node by residual steps.
-use Rattle.std.specs.Prelude.{◌≡◌, ℕ, ◌<◌, List, [], ◌∷◌, length, slice_index_or, Option, Some, None, ℤ, ◌+ℤ◌, ◌-ℤ◌, ◌≤ℤ◌, FitsSigned}
+use Rattle.std.specs.Prelude.{◌≡◌, ◌↔◌, ◌⊎◌, ℕ, ◌<◌, List, [], ◌∷◌, length, slice_index_or, Option, Some, None, ℤ, ◌+ℤ◌, ◌-ℤ◌, ◌≤ℤ◌, FitsSigned}
 use mir.Syntax.{w64}
 use Rattle.vs_path.specs.declared.step.Step.{Step}
 use Rattle.vs_path.specs.declared.labels.Settled.{Settled}
 use Rattle.vs_path.specs.Residual.{ResidualNet, IsOpen, Leads, cost_along, from_of, to_of, price_at}
-use Rattle.vs_path.specs.Labels.{Lists, settled_at}
+use Rattle.vs_path.specs.Labels.{Lists, settled_at, step_at}
 
 -- by node the least cost of a path to it, and the last step of such a path
 pub record LeastPaths : Type 0 where
@@ -35,11 +35,15 @@ abbrev pub ComesBack : ResidualNet → List (Option Step) → ℕ → ℕ → Op
 ComesBack r steps u v None = Unit {0}
 ComesBack r steps u v (Some c) = (ss : List Step) × FollowsBack r steps u ss v × (cost_along r ss ≡ c)
 
+pub record IsSized (nodes : ℕ) (p : LeastPaths) : Type 0 where
+  pub distances : length p.distances ≡ nodes
+  pub steps : length p.steps ≡ nodes
+
 pub record AreLeastPaths (r : ResidualNet) (u : ℕ) (p : LeastPaths) : Type 0 where
-  pub size : length p.distances ≡ r.graph.nodes
-  pub size_too : length p.steps ≡ r.graph.nodes
+  pub size : IsSized r.graph.nodes p
   pub least : (v : ℕ) → v < r.graph.nodes → IsLeastCost r u v (distance_at p v)
   pub back : (v : ℕ) → v < r.graph.nodes → ComesBack r p.steps u v (distance_at p v)
+  pub no_step : (v : ℕ) → v < r.graph.nodes → (last_step p v ≡ None) ↔ ((v ≡ u) ⊎ (distance_at p v ≡ None))
 
 -- what a settled distance is without the prices
 abbrev pub cost_to : Option Settled → ℤ → ℤ → Option ℤ
@@ -49,6 +53,14 @@ cost_to (Some a) from to = Some (a.distance +ℤ (to -ℤ from))
 abbrev pub AreCosts : Lists → List ℤ → ℕ → List (Option ℤ) → Type 0
 AreCosts l prices u costs = (v : ℕ) → slice_index_or costs v None
     ≡ cost_to (settled_at l v) (price_at prices u) (price_at prices v)
+
+-- the last step of a path to a node, where it is settled
+abbrev pub if_settled : Option Settled → Option Step → Option Step
+if_settled None step = None
+if_settled (Some a) step = step
+
+abbrev pub AreSettledSteps : Lists → List (Option Step) → Type 0
+AreSettledSteps l steps = (v : ℕ) → slice_index_or steps v None ≡ if_settled (settled_at l v) (step_at l v)
 
 -- it fits 64 bits
 abbrev pub CanCostTo : Option Settled → ℤ → ℤ → Type 0

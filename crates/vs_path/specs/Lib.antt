@@ -5,3 +5,7 @@ pub mod Labels
 pub mod Search
 pub mod Searchable
 pub mod LeastPaths
+pub mod PathTree
+pub mod Distances
+pub mod Raising
+pub mod Laws

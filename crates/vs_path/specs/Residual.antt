@@ -1,8 +1,10 @@
 -- Steps along the arcs of a net on which units can still be sent or taken back.
 use Rattle.std.specs.Prelude.{◌≡◌, ◌≢◌, ℕ, ◌<◌, ◌≤◌, List, [], ◌∷◌, length, slice_index, slice_index_or, ℤ, pos, neg_ℤ, ◌+ℤ◌, ◌-ℤ◌, ◌≤ℤ◌}
-use Rattle.vs_layer.specs.Graph.{Graph, IsNet, arc_of}
+use Rattle.vs_layer.specs.Graph.{Graph, IsNet, arc_of, leaving, reaching}
 use Rattle.vs_path.specs.declared.step.Step.{Step}
 use Rattle.vs_path.specs.declared.step.Step.TheVariants.{Forward, Back}
+use Rattle.vs_path.specs.declared.step.Way.{Way}
+use Rattle.vs_path.specs.declared.step.Way.TheVariants as way
 
 -- a net, the units that its arcs carry, what a unit costs on each, and how many each has room for; the first so many
 -- arcs may be used
@@ -19,6 +21,16 @@ pub record IsResidual (r : ResidualNet) : Type 0 where
   pub cost : length r.cost ≡ length r.graph.arcs
   pub room : length r.room ≡ length r.graph.arcs
   pub arcs : r.arcs ≤ length r.graph.arcs
+
+-- the step that goes this way along an arc
+abbrev pub step_along : Way → ℕ → Step
+step_along way.Forward k = Forward k
+step_along way.Back k = Back k
+
+-- the numbers of the arcs along which such steps leave node v, in order
+abbrev pub arcs_along : Graph → Way → ℕ → List ℕ
+arcs_along g way.Forward v = leaving g v
+arcs_along g way.Back v = reaching g v
 
 abbrev pub arc_no : Step → ℕ
 arc_no (Forward k) = k

@@ -1,13 +1,13 @@
-ghost use Rattle.std.specs.Prelude.{◌≡◌, ℕ, ℤ, IfSome, ◌<◌, ◌≤◌, ◌↔◌, ◌++◌, ◌∷◌, [], ◌+ℤ◌, ◌<ℤ◌, pos, length, set, replicate, IsTrue, IfOk, MatchOption, Some, None, vec_capacity, slice_index, slice_index_or};
-ghost use Rattle.vs_path.specs.Residual.{IsOpen, HasSignRule, arc_no, from_of, to_of, reduced};
+ghost use Rattle.std.specs.Prelude.{◌≡◌, ℕ, ℤ, IfSome, ◌<◌, ◌≤◌, ◌↔◌, ◌++◌, ◌∷◌, [], ◌+ℤ◌, length, set, replicate, IsTrue, IfOk, MatchOption, Some, None, vec_capacity, slice_index, slice_index_or};
+ghost use Rattle.vs_path.specs.Residual.{IsResidual, HasSignRule, arc_no, from_of, reduced, step_along};
 ghost use Rattle.vs_path.specs.declared.labels.Settled.{Settled};
 ghost use Rattle.vs_path.specs.declared.step.Step.{Step};
 ghost use Rattle.vs_path.specs.Keys.{IsEmpty, IsLeast};
-ghost use Rattle.vs_path.specs.Labels.{AreLabels, AreFresh, AreListed, Covers, IsBetter, IsFarthest, IsLowered, IsOver, IsReached, IsRelaxed, IsSettledAt, IsSmall, Lacks, Relaxes, lists_of, lowered, settle_in, settled_at, waiting_at};
+ghost use Rattle.vs_path.specs.Labels.{AreLabels, AreFresh, AreListed, IsBetter, IsFarthest, IsLowered, IsOver, IsReached, IsRelaxed, IsSettledAt, IsSmall, Lacks, Relaxes, lists_of, lowered, settle_in, settled_at, waiting_at};
 
 use crate::node_heap::NodeHeap;
 use crate::residual::{MAX_NODES, Residual};
-use crate::step::Step;
+use crate::step::{Step, Way};
 use std::alloc::Global;
 use vs_types::Memory;
 
@@ -74,10 +74,12 @@ impl Labels {
         requires has_enough { ¬ (Lacks surplus.now source) }
         requires fresh { AreFresh residual.now.graph.nodes (lists_of self.old) }
         requires space { residual.now.graph.nodes ≤ vec_capacity self.old.order }
-        ensures found { MatchOption result (IsOver residual.now prices.now surplus.now source (lists_of self.new))
+        ensures found { MatchOption result
+            (IsOver residual.now prices.now surplus.now source (lists_of self.new))
             (IsReached residual.now prices.now surplus.now source (lists_of self.new)) }
         ensures node { IfSome result (λ goal. goal < residual.now.graph.nodes) }
         ensures space { vec_capacity self.old.order ≤ vec_capacity self.new.order }
+        ensures residual { IsResidual residual.now }
     {
         self.settle(source, 0);
         self.expand(residual, prices, source, 0);
@@ -97,7 +99,8 @@ impl Labels {
         requires space { length self.old.waiting ≤ vec_capacity self.old.order }
         requires unsettled { (v : ℕ) (key : ℤ) → waiting_at (lists_of self.old) v ≡ Some key
             → settled_at (lists_of self.old) v ≡ None }
-        ensures next { MatchOption result (IsEmpty self.old.waiting) (λ t. IsLeast self.old.waiting t.0 t.1) }
+        ensures next { MatchOption result (IsEmpty self.old.waiting)
+            (λ t. IsLeast self.old.waiting t.0 t.1) }
         ensures lists { MatchOption result (lists_of self.new ≡ lists_of self.old)
             (λ t. lists_of self.new ≡ settle_in (lists_of self.old) t.0 t.1) }
         ensures node { IfSome result (λ t. t.0 < length self.old.waiting) }
@@ -135,11 +138,13 @@ impl Labels {
         requires farthest { IsFarthest (lists_of self.old) distance }
         ensures labels { AreLabels residual.now prices.now (lists_of self.new) }
         ensures lowered { IsLowered (lists_of self.old) (lists_of self.new) }
-        ensures relaxed { (s : Step) → IsRelaxed residual.now prices.now (lists_of self.new) node distance s }
+        ensures relaxed { (s : Step)
+            → IsRelaxed residual.now prices.now (lists_of self.new) node distance s }
         ensures order { self.new.order ≡ self.old.order }
+        ensures residual { IsResidual residual.now }
     {
-        self.relax_forward(residual, prices, node, distance);
-        self.relax_back(residual, prices, node, distance);
+        self.relax_along(residual, prices, node, distance, Way::Forward);
+        self.relax_along(residual, prices, node, distance, Way::Back);
     }
 
     /// Whether a node has no distance yet, or a greater one.
@@ -162,7 +167,8 @@ impl Labels {
         requires labels { AreLabels residual.now prices.now (lists_of self.old) }
         requires from { IsSettledAt (lists_of self.old) (from_of residual.now step) distance }
         requires farthest { IsFarthest (lists_of self.old) distance }
-        ensures relaxes { Relaxes residual.now prices.now step distance (lists_of self.old) (lists_of self.new) }
+        ensures relaxes { Relaxes residual.now prices.now step distance (lists_of self.old)
+            (lists_of self.new) }
         ensures order { self.new.order ≡ self.old.order }
     {
         let node = residual.to(step);
@@ -201,8 +207,15 @@ impl Labels {
         distance + residual.reduced(prices, step)
     }
 
-    /// Relaxes the steps forward from a node that is settled at this distance, the farthest so far.
-    fn relax_forward(&mut self, residual: &Residual, prices: &[i64], node: u32, distance: i64)
+    /// Relaxes the steps that go this way from a node that is settled at this distance, the farthest so far.
+    fn relax_along(
+        &mut self,
+        residual: &Residual,
+        prices: &[i64],
+        node: u32,
+        distance: i64,
+        way: Way,
+    )
         requires small { IsSmall residual.now prices.now }
         requires sign_rule { HasSignRule residual.now prices.now }
         requires labels { AreLabels residual.now prices.now (lists_of self.old) }
@@ -211,36 +224,22 @@ impl Labels {
         requires farthest { IsFarthest (lists_of self.old) distance }
         ensures labels { AreLabels residual.now prices.now (lists_of self.new) }
         ensures lowered { IsLowered (lists_of self.old) (lists_of self.new) }
-        ensures relaxed { (k : ℕ) → IsRelaxed residual.now prices.now (lists_of self.new) node distance (Step.Forward k) }
+        ensures relaxed { (k : ℕ)
+            → IsRelaxed residual.now prices.now (lists_of self.new) node distance
+            (step_along way k) }
         ensures order { self.new.order ≡ self.old.order }
+        ensures residual { IsResidual residual.now }
     {
-        for k in residual.leaving(node) {
-            self.relax(residual, prices, distance, Step::Forward(*k));
-        }
-    }
-
-    /// Relaxes the steps back from a node that is settled at this distance, the farthest so far.
-    fn relax_back(&mut self, residual: &Residual, prices: &[i64], node: u32, distance: i64)
-        requires small { IsSmall residual.now prices.now }
-        requires sign_rule { HasSignRule residual.now prices.now }
-        requires labels { AreLabels residual.now prices.now (lists_of self.old) }
-        requires node { node < residual.now.graph.nodes }
-        requires from { IsSettledAt (lists_of self.old) node distance }
-        requires farthest { IsFarthest (lists_of self.old) distance }
-        ensures labels { AreLabels residual.now prices.now (lists_of self.new) }
-        ensures lowered { IsLowered (lists_of self.old) (lists_of self.new) }
-        ensures relaxed { (k : ℕ) → IsRelaxed residual.now prices.now (lists_of self.new) node distance (Step.Back k) }
-        ensures order { self.new.order ≡ self.old.order }
-    {
-        for k in residual.reaching(node) {
-            self.relax(residual, prices, distance, Step::Back(*k));
+        for k in residual.arcs_along(way, node) {
+            self.relax(residual, prices, distance, Step::along(way, *k));
         }
     }
 }
 
 /// Empties the places of these nodes, which are all that aren't empty.
 fn forget(settled: &mut [Option<Settled>], nodes: &[u32])
-    requires within { (i : ℕ) → i < length nodes.now → slice_index nodes.now i < length settled.old }
+    requires within { (i : ℕ) → i < length nodes.now
+        → slice_index nodes.now i < length settled.old }
     requires all { (v : ℕ) (a : Settled) → slice_index_or settled.old v None ≡ Some a
         → (i : ℕ) × (i < length nodes.now) × (slice_index nodes.now i ≡ v) }
     ensures { settled.new ≡ replicate (length settled.old) None }

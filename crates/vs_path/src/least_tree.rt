@@ -1,16 +1,46 @@
-ghost use Rattle.std.specs.Prelude.{◌≡◌, ℕ, ◌<◌, ◌≤◌, ◌-ℤ◌, length, vec_capacity, FitsSigned, Some};
+ghost use Rattle.std.specs.Prelude.{◌≡◌, ◌<◌, ◌≤◌, ◌-ℤ◌, length, replicate, pos, vec_capacity, FitsSigned, Some};
 ghost use mir.Syntax.{w64};
-ghost use Rattle.vs_path.specs.Residual.{IsPath};
-ghost use Rattle.vs_path.specs.Labels.{AreLabels, AreListed, IsSettledAt, lists_of, settled_at, source_of};
+ghost use Rattle.vs_path.specs.Residual.{HasSignRule, IsPath, IsResidual};
+ghost use Rattle.vs_path.specs.Labels.{AreLabels, AreListed, IsSmall, lists_of, settled_at, source_of};
 ghost use Rattle.vs_path.specs.Search.{AreMoved, AreTreeSteps, CanMove};
-ghost use Rattle.vs_path.specs.LeastPaths.{AreCosts, CanCost, CanCostTo, cost_to};
+ghost use Rattle.vs_path.specs.LeastPaths.{AreCosts, AreLeastPaths, AreSettledSteps, CanCost, CanCostTo, IsSized, cost_to, if_settled};
+ghost use Rattle.vs_path.specs.PathTree.{paths_of};
 ghost use Rattle.vs_path.specs.declared.labels.Settled.{Settled};
 
 use crate::labels::{Labels, Settled};
+use crate::path_tree::PathTree;
 use crate::residual::Residual;
 use crate::step::Step;
 
 impl Labels {
+    /// Finds the least paths from a node to all others, by prices under which no residual step has a negative reduced
+    /// cost. No node lacks a unit by the zeros, so the search goes on to the end.
+    pub fn find_paths(
+        &mut self,
+        residual: &Residual,
+        prices: &[i64],
+        zeros: &[i64],
+        source: u32,
+        tree: &mut PathTree,
+    )
+        requires listed { AreListed residual.now.graph.nodes (lists_of self.old) }
+        requires space { residual.now.graph.nodes ≤ vec_capacity self.old.order }
+        requires small { IsSmall residual.now prices.now }
+        requires sign_rule { HasSignRule residual.now prices.now }
+        requires zeros { zeros.now ≡ replicate residual.now.graph.nodes (pos 0) }
+        requires source { source < residual.now.graph.nodes }
+        requires size { IsSized residual.now.graph.nodes (paths_of tree.old) }
+        ensures paths { AreLeastPaths residual.now source (paths_of tree.new) }
+        ensures listed { AreListed residual.now.graph.nodes (lists_of self.new) }
+        ensures space { residual.now.graph.nodes ≤ vec_capacity self.new.order }
+    {
+        self.clear();
+        let _ = self.explore(residual, prices, zeros, source);
+        self.least_costs(prices, source, &mut tree.distances);
+        self.settled_steps(&mut tree.steps);
+        tree.steps[source as usize] = None;
+    }
+
     /// Lowers the price of each settled node by how much nearer it is than the goal.
     pub fn lower_prices(&self, goal: u32, prices: &mut [i64])
         requires listed { AreListed (length prices.old) (lists_of self.now) }
@@ -45,8 +75,20 @@ impl Labels {
         }
     }
 
+    /// By node the last step of a least path to it, None where it isn't settled.
+    pub fn settled_steps(&self, steps: &mut [Option<Step>])
+        requires settled { length self.now.settled.items ≡ length steps.old }
+        requires steps { length self.now.steps.items ≡ length steps.old }
+        ensures { AreSettledSteps (lists_of self.now) steps.new }
+    {
+        for (v, step) in steps.iter_mut().enumerate() {
+            *step = if_settled(&self.settled[v], self.steps[v]);
+        }
+    }
+
     /// The path that was found to a settled node, its last step first.
     pub fn trace(&self, residual: &Residual, prices: &[i64], goal: u32, path: &mut Vec<Step>)
+        requires residual { IsResidual residual.now }
         requires labels { AreLabels residual.now prices.now (lists_of self.now) }
         requires goal { (a : Settled) × (settled_at (lists_of self.now) goal ≡ Some a) }
         requires space { residual.now.graph.nodes ≤ vec_capacity path.old }
@@ -54,7 +96,6 @@ impl Labels {
         ensures tree { AreTreeSteps residual.now prices.now (lists_of self.now) path.new.items }
         ensures space { vec_capacity path.old ≤ vec_capacity path.new }
     {
-        let _ = residual.arcs();
         path.clear();
         let source = self.order[0];
         let mut node = goal;
@@ -75,6 +116,16 @@ fn lowered_price(price: i64, farthest: &Settled, settled: &Settled) -> i64
     ensures { result ≡ price -ℤ (farthest.now.distance -ℤ settled.now.distance) }
 {
     price - (farthest.distance - settled.distance)
+}
+
+/// The last step of a path to a node, where it is settled.
+fn if_settled(settled: &Option<Settled>, step: Option<Step>) -> Option<Step>
+    ensures { result ≡ if_settled settled.now step }
+{
+    match settled {
+        None => None,
+        Some(_) => step,
+    }
 }
 
 /// What a least path costs without the prices of the nodes where it begins and ends.

@@ -1,4 +1,4 @@
-ghost use Rattle.std.specs.Prelude.{◌≡◌, ℕ, ◌<◌, ◌≤ℤ◌, length, set, replicate, IfOk, IfSome, MatchOption, Some, None};
+ghost use Rattle.std.specs.Prelude.{◌≡◌, ◌<◌, length, set, replicate, IfOk, IfSome, MatchOption, Some, None};
 ghost use Rattle.vs_path.specs.Keys.{IsEmpty, IsLeast, IsNotAfter, key_at};
 
 use crate::tournament::{put, winner};
@@ -64,7 +64,8 @@ impl NodeHeap {
     /// Takes out a node with the least key. None where the heap is empty.
     pub fn take(&mut self) -> Option<(u32, i64)>
         ensures taken { MatchOption result (IsEmpty self.old) (λ t. IsLeast self.old t.0 t.1) }
-        ensures left { MatchOption result (self.new ≡ self.old) (λ t. self.new ≡ set self.old t.0 None) }
+        ensures left { MatchOption result (self.new ≡ self.old)
+            (λ t. self.new ≡ set self.old t.0 None) }
         ensures node { IfSome result (λ t. t.0 < length self.old) }
     {
         let key = self.keys[1]?;

@@ -1,10 +1,12 @@
-ghost use Rattle.std.specs.Prelude.{◌≡◌, ℕ, ◌<◌, length, IfOk};
+ghost use Rattle.std.specs.Prelude.{◌≡◌, ◌<◌, length, IfOk};
 ghost use Rattle.vs_path.specs.Residual.{HasSignRule};
 ghost use Rattle.vs_path.specs.Labels.{IsSmall};
-ghost use Rattle.vs_path.specs.LeastPaths.{AreLeastPaths, distance_at};
+ghost use Rattle.vs_path.specs.LeastPaths.{AreLeastPaths, distance_at, last_step};
+ghost use Rattle.vs_path.specs.PathTree.{CanCorrect};
 
 use crate::labels::Labels;
-use crate::residual::Residual;
+use crate::path_tree::PathTree;
+use crate::residual::{MAX_PRICE, Residual};
 use crate::step::Step;
 use std::alloc::Global;
 use std::marker::Model;
@@ -14,22 +16,26 @@ use vs_types::Memory;
 #[derive(Drop)]
 pub struct Paths {
     labels: Labels,
-    /// By node what a least path to it costs, None where there is no path.
-    distances: Vec<Option<i64>>,
+    /// What was found last.
+    tree: PathTree,
+    /// By node the price that a search from node 0 begins with.
+    prices: Vec<i64>,
     /// By node 0: no node lacks a unit, so a search goes on to the end.
-    surplus: Vec<i64>,
+    zeros: Vec<i64>,
 }
 
 impl Model for Paths {
     ghost use Rattle.std.specs.Prelude.{vec_capacity};
     ghost use Rattle.vs_path.specs.LeastPaths.{LeastPaths};
+    ghost use Rattle.vs_path.specs.PathTree.{paths_of};
     ghost use Rattle.vs_path.specs.Searchable.{CanFindAll};
 
     ghost Value = { LeastPaths };
 
-    ghost view = { λ p. record { distances = p.distances.items; steps = p.labels.steps.items } };
+    ghost view = { λ p. paths_of p.tree };
 
-    ghost invariant = { λ p. CanFindAll p.labels (vec_capacity p.labels.order) p.distances.items p.surplus.items };
+    ghost invariant = { λ p. CanFindAll p.labels (vec_capacity p.labels.order) (paths_of p.tree)
+        p.prices.items p.zeros.items };
 }
 
 impl Paths {
@@ -40,8 +46,9 @@ impl Paths {
     {
         Ok(Paths {
             labels: Labels::new(alloc, nodes)?,
-            distances: vec![in alloc; None; nodes as usize]?,
-            surplus: vec![in alloc; 0; nodes as usize]?,
+            tree: PathTree::new(alloc, nodes)?,
+            prices: vec![in alloc; 0; nodes as usize]?,
+            zeros: vec![in alloc; 0; nodes as usize]?,
         })
     }
 
@@ -53,9 +60,25 @@ impl Paths {
         requires source { source < residual.now.graph.nodes }
         ensures { AreLeastPaths residual.now source self.new }
     {
-        self.labels.clear();
-        let _ = self.labels.explore(residual, prices, &self.surplus, source);
-        self.labels.least_costs(prices, source, &mut self.distances);
+        self.labels
+            .find_paths(residual, prices, &self.zeros, source, &mut self.tree);
+    }
+
+    /// Finds the least paths from node 0: by the costs that were found before as prices, where they still keep the sign
+    /// rule, else by correcting costs along all arcs.
+    pub fn find_from_first(&mut self, residual: &Residual)
+        requires nodes { length self.old.distances ≡ residual.now.graph.nodes }
+        requires some { 0 < residual.now.graph.nodes }
+        requires can { CanCorrect residual.now }
+        ensures { AreLeastPaths residual.now 0 self.new }
+    {
+        if residual.is_small(&self.prices) && residual.keeps_sign_rule(&self.prices) {
+            self.labels
+                .find_paths(residual, &self.prices, &self.zeros, 0, &mut self.tree);
+        } else {
+            self.tree.correct(residual);
+        }
+        keep_costs(&self.tree.distances, &mut self.prices);
     }
 
     /// What a least path to a node costs, None where there is no path.
@@ -63,7 +86,24 @@ impl Paths {
         requires { v < length self.now.distances }
         ensures { result ≡ distance_at self.now v }
     {
-        self.distances[v as usize]
+        self.tree.distances[v as usize]
+    }
+
+    /// The last step of a least path to a node, None where there is no path and where the paths begin. The steps
+    /// followed back from a node come to where the paths begin.
+    pub fn step(&self, v: u32) -> Option<Step>
+        requires { v < length self.now.steps }
+        ensures { result ≡ last_step self.now v }
+    {
+        self.tree.steps[v as usize]
+    }
+}
+
+/// Keeps what nodes cost as their prices. A node that isn't reached gets the greatest price, so that no step from it to
+/// one that is reached breaks the sign rule.
+fn keep_costs(distances: &[Option<i64>], prices: &mut [i64]) {
+    for (price, distance) in prices.iter_mut().zip(distances) {
+        *price = distance.unwrap_or(MAX_PRICE);
     }
 }
 

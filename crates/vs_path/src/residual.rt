@@ -1,9 +1,8 @@
 ghost use Rattle.std.specs.Prelude.{◌≡◌, ◌<◌, ◌≤◌, ◌↔◌, ◌≤ℤ◌, pos, length, IsTrue};
-ghost use Rattle.vs_layer.specs.Graph.{leaving, reaching};
 ghost use Rattle.vs_path.specs.Labels.{IsSmall};
-ghost use Rattle.vs_path.specs.Residual.{HasSignRule, IsResidual, IsOpen, IsWithin, AllWithin, arc_no, from_of, to_of, cost_of, reduced, price_at};
+ghost use Rattle.vs_path.specs.Residual.{HasSignRule, IsResidual, IsOpen, IsWithin, AllWithin, arc_no, arcs_along, from_of, to_of, cost_of, reduced};
 
-use crate::step::Step;
+use crate::step::{Step, Way};
 use std::marker::Model;
 use vs_layer::{Flow, Net};
 
@@ -15,6 +14,12 @@ pub const MAX_COST: i64 = 120_000_000_000_000;
 
 /// The greatest price of a node in a search by prices, either way.
 pub const MAX_PRICE: i64 = 4_000_000_000_000_000_000;
+
+/// How many nodes a net has at most whose least paths are found whatever its prices.
+pub const MAX_PATH_NODES: u32 = 8_000;
+
+/// The greatest cost of an arc on such paths, either way.
+pub const MAX_ARC_COST: i64 = 1_000_000_000_000_000;
 
 /// What a unit costs on each arc of a net, and how many units each has room for, in the order of the arcs.
 #[derive(Debug, Drop)]
@@ -125,11 +130,11 @@ impl<'a> Residual<'a> {
     }
 
     /// What a step costs.
-    fn cost(&self, step: Step) -> i64
+    pub fn cost(&self, step: Step) -> i64
         requires arc { arc_no step < length self.now.graph.arcs }
-        requires cost { AllWithin MAX_COST self.now.cost }
+        requires cost { AllWithin MAX_ARC_COST self.now.cost }
         ensures cost { result ≡ cost_of self.now step }
-        ensures few { IsWithin MAX_COST result }
+        ensures few { IsWithin MAX_ARC_COST result }
     {
         match step {
             Step::Forward(k) => self.costs.cost[k as usize],
@@ -150,32 +155,26 @@ impl<'a> Residual<'a> {
         self.cost(step) + from - to
     }
 
-    /// The numbers of the arcs that leave a node, in order.
-    pub fn leaving(&self, node: u32) -> &[u32]
+    /// The numbers of the arcs along which steps that go this way leave a node, in order.
+    pub fn arcs_along(&self, way: Way, node: u32) -> &[u32]
         requires { node < self.now.graph.nodes }
-        ensures arcs { result.now ≡ leaving self.now.graph node }
+        ensures arcs { result.now ≡ arcs_along self.now.graph way node }
         ensures residual { IsResidual self.now }
     {
-        self.net.leaving(node)
-    }
-
-    /// The numbers of the arcs that reach a node, in order.
-    pub fn reaching(&self, node: u32) -> &[u32]
-        requires { node < self.now.graph.nodes }
-        ensures arcs { result.now ≡ reaching self.now.graph node }
-        ensures residual { IsResidual self.now }
-    {
-        self.net.reaching(node)
+        match way {
+            Way::Forward => self.net.leaving(node),
+            Way::Back => self.net.reaching(node),
+        }
     }
 
     /// Whether the numbers are small enough for a search by these prices.
     pub fn is_small(&self, prices: &[i64]) -> bool
-        ensures { IsTrue result → IsSmall self.now prices.now }
+        ensures { IsTrue result ↔ IsSmall self.now prices.now }
     {
-        self.net.nodes() <= MAX_NODES
-            && prices.len() == self.net.nodes() as usize
-            && all_within(&self.costs.cost, MAX_COST)
-            && all_within(prices, MAX_PRICE)
+        if self.net.nodes() > MAX_NODES || prices.len() != self.net.nodes() as usize {
+            return false;
+        }
+        all_within(&self.costs.cost, MAX_COST) && all_within(prices, MAX_PRICE)
     }
 
     /// Whether no residual step has a negative reduced cost.
@@ -198,7 +197,8 @@ impl<'a> Residual<'a> {
     fn is_kept(&self, prices: &[i64], step: Step) -> bool
         requires arc { arc_no step < length self.now.graph.arcs }
         requires small { IsSmall self.now prices.now }
-        ensures { IsTrue result ↔ (IsOpen self.now step → pos 0 ≤ℤ reduced self.now prices.now step) }
+        ensures { IsTrue result
+            ↔ (IsOpen self.now step → pos 0 ≤ℤ reduced self.now prices.now step) }
     {
         !self.is_open(step) || 0 <= self.reduced(prices, step)
     }

@@ -1,6 +1,7 @@
-ghost use Rattle.std.specs.Prelude.{◌≡◌, ℕ, ◌<◌, ◌≤◌, length, IfOk, MatchOption, vec_capacity};
-ghost use Rattle.vs_path.specs.Residual.{HasSignRule};
+ghost use Rattle.std.specs.Prelude.{◌≡◌, ℕ, ◌<◌, ◌≤◌, ◌≤ℤ◌, pos, length, slice_index, IfOk, MatchOption, vec_capacity};
+ghost use Rattle.vs_path.specs.Residual.{HasSignRule, price_at};
 ghost use Rattle.vs_path.specs.Labels.{IsSmall, Lacks};
+ghost use Rattle.vs_path.specs.Raising.{HasSpan, IsRaised};
 ghost use Rattle.vs_path.specs.Search.{IsCut, IsGoal};
 
 use crate::labels::Labels;
@@ -10,12 +11,20 @@ use std::alloc::Global;
 use std::marker::Model;
 use vs_types::Memory;
 
+/// How far apart two prices that are to be raised lie at most, some eight times as far as a path costs.
+pub const MAX_SPAN: i64 = 4_000_000_000_000_000_000;
+
+/// The most by which a price is raised: `MAX_SPAN`, and what a path costs through as many nodes as a net has at most.
+pub const MOST_RAISED: i64 = 4_500_000_000_000_000_000;
+
 /// Searches from a node for the nearest one that lacks a unit, by reduced costs.
 #[derive(Drop)]
 pub struct Search {
     labels: Labels,
     /// The steps of the path that was found last, the last step first.
     path: Vec<Step>,
+    /// By node 0: no node lacks a unit, so a search goes on to the end.
+    zeros: Vec<i64>,
 }
 
 impl Model for Search {
@@ -27,7 +36,8 @@ impl Model for Search {
 
     ghost view = { λ s. outcome_of s.labels s.path.items };
 
-    ghost invariant = { λ s. CanSearch s.labels (vec_capacity s.labels.order) (vec_capacity s.path) };
+    ghost invariant = { λ s.
+        CanSearch s.labels (vec_capacity s.labels.order) (vec_capacity s.path) s.zeros.items };
 }
 
 impl Search {
@@ -39,6 +49,7 @@ impl Search {
         Ok(Search {
             labels: Labels::new(alloc, nodes)?,
             path: Vec::with_capacity(alloc, nodes as usize)?,
+            zeros: vec![in alloc; 0; nodes as usize]?,
         })
     }
 
@@ -60,7 +71,8 @@ impl Search {
         requires has_enough { ¬ (Lacks surplus.now source) }
         ensures found { MatchOption result (IsCut residual.now surplus.now source self.new.reached)
             (IsGoal residual.now surplus.now source prices.old prices.new self.new.path) }
-        ensures else_same { MatchOption result (prices.new ≡ prices.old) (λ goal. goal < residual.now.graph.nodes) }
+        ensures else_same { MatchOption result (prices.new ≡ prices.old)
+            (λ goal. goal < residual.now.graph.nodes) }
         ensures nodes { self.new.nodes ≡ self.old.nodes }
     {
         self.labels.clear();
@@ -68,6 +80,35 @@ impl Search {
         self.labels.trace(residual, prices, goal, &mut self.path);
         self.labels.lower_prices(goal, prices);
         Some(goal)
+    }
+
+    /// Raises the price of each node that can be reached by its least distance from the source by reduced costs, and
+    /// the price of each other node by `beyond`, or by the greatest distance where that is more. The prices keep the
+    /// sign rule, and those of the nodes that can be reached tell what a least path from the source costs.
+    pub fn raise(&mut self, residual: &Residual, source: u32, beyond: i64, prices: &mut [i64])
+        requires nodes { self.old.nodes ≡ residual.now.graph.nodes }
+        requires small { IsSmall residual.now prices.old }
+        requires span { HasSpan MAX_SPAN prices.old }
+        requires sign_rule { HasSignRule residual.now prices.old }
+        requires source { source < residual.now.graph.nodes }
+        requires some { pos 0 ≤ℤ beyond }
+        requires beyond { beyond ≤ℤ MOST_RAISED }
+        ensures raised { IsRaised residual.now source beyond prices.old prices.new }
+        ensures sign_rule { HasSignRule residual.now prices.new }
+        ensures source { price_at prices.new source ≡ price_at prices.old source }
+        ensures nodes { self.new.nodes ≡ self.old.nodes }
+    {
+        self.labels.clear();
+        let _ = self.labels.explore(residual, prices, &self.zeros, source);
+        let rise = self.labels.greatest_distance(beyond);
+        self.labels.raise_prices(rise, prices);
+    }
+
+    /// How many nodes the nets have in which it searches.
+    pub fn nodes(&self) -> usize
+        ensures { result ≡ self.now.nodes }
+    {
+        self.labels.settled.len()
     }
 
     /// The steps of the path that was found last, the last step first.
@@ -79,7 +120,8 @@ impl Search {
 
     /// The nodes that were reached last, each once, the source first.
     pub fn reached(&self) -> &[u32]
-        ensures { result.now ≡ self.now.reached }
+        ensures reached { result.now ≡ self.now.reached }
+        ensures nodes { (i : ℕ) → i < length result.now → slice_index result.now i < self.now.nodes }
     {
         &self.labels.order
     }

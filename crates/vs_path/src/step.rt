@@ -1,3 +1,6 @@
+ghost use Rattle.std.specs.Prelude.{◌≡◌};
+ghost use Rattle.vs_path.specs.Residual.{step_along};
+
 /// A unit more on an arc, or one less. The arc is named by its number.
 #[derive(Clone, Copy, Debug, PartialEq, Eq)]
 pub enum Step {
@@ -5,4 +8,23 @@ pub enum Step {
     Forward(u32),
     /// A unit less: from the node that the arc reaches to the one that it leaves.
     Back(u32),
+}
+
+/// Which way a step goes along an arc.
+#[derive(Clone, Copy)]
+pub enum Way {
+    Forward,
+    Back,
+}
+
+impl Step {
+    /// The step along an arc.
+    pub fn along(way: Way, arc: u32) -> Step
+        ensures { result ≡ step_along way arc }
+    {
+        match way {
+            Way::Forward => Step::Forward(arc),
+            Way::Back => Step::Back(arc),
+        }
+    }
 }

@@ -1,5 +1,5 @@
-ghost use Rattle.std.specs.Prelude.{◌≡◌, ℕ, ◌+◌, ◌*◌, ◌<◌, ◌≤◌, length, set, drop};
-ghost use Rattle.vs_path.specs.Keys.{IsNotAfter, key_at};
+ghost use Rattle.std.specs.Prelude.{◌≡◌, ◌+◌, ◌*◌, ◌<◌, set, drop};
+ghost use Rattle.vs_path.specs.Keys.{key_at};
 ghost use Rattle.vs_path.specs.Tournament.{IsFirstOf, IsTournament};
 
 /// Of two keys the lesser, None only where both are.

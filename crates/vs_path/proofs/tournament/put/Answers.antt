@@ -2,7 +2,7 @@ use Rattle.std.proofs.Common.{◌≡◌, ◌+◌, ◌/◌, ◌∙◌, sym, arith
 use Rattle.std.proofs.lemmas.Bool.{cases_eq}
 use Rattle.std.proofs.lemmas.List.{drop-set-lt, drop-set-add}
 use Rattle.vs_path.specs.Keys.{key_at}
-use Rattle.vs_path.proofs.Matches.{played-leaf, played-more, same-key}
+use Rattle.vs_path.proofs.heap.Matches.{played-leaf, played-more, same-key}
 use Rattle.vs_path.proofs.tournament.put.Goals as goal
 
 pub loop-place-init : goal.loop-place-init
@@ -41,6 +41,7 @@ loop-place-preserved c =
       size = length-set c.loop-place.keys _ _ ∙ inv.size;
       played = played-more c.loop-place.keys c.args.count (c.loop-place.place / 2) c.first_of-first.result
           (omega arith) (omega arith) inv.size c.first_of-first.ensures inv.played;
-      leaves = drop-set-lt c.args.count c.loop-place.keys (c.loop-place.place / 2) c.first_of-first.result (omega arith)
+      leaves = drop-set-lt c.args.count c.loop-place.keys (c.loop-place.place / 2) c.first_of-first.result
+          (omega arith)
           ∙ inv.leaves;
     }

@@ -1,7 +1,7 @@
 use Rattle.std.proofs.Common.{arith}
 use Rattle.std.proofs.lemmas.Int.{ints}
 use Rattle.vs_path.specs.Labels.{lists_of}
-use Rattle.vs_path.proofs.Lowering.{along-fits}
+use Rattle.vs_path.proofs.labelling.Lowering.{along-fits}
 use Rattle.vs_path.proofs.labels.Labels.along.Goals as goal
 
 pub overflow_add-result : goal.overflow_add-result

@@ -1,17 +1,8 @@
-use Rattle.std.proofs.Common.{◌≡◌, ◌<◌, ◌∙◌, ℕ, List, length, get_or, sym, ap, arith, inl, inr, Option, Some, None}
-use Rattle.std.proofs.lemmas.Bool.{cases_lt}
-use Rattle.std.proofs.lemmas.List.{get_or_past}
+use Rattle.std.proofs.Common.{◌≡◌, ◌∙◌, ℕ, List, length, get_or, sym, ap, arith, Option, Some, None}
 use Rattle.vs_path.specs.declared.labels.Settled.{Settled}
 use Rattle.vs_path.specs.Labels.{lists_of, settled_at}
+use Rattle.vs_path.proofs.labelling.Lowering.{some_within}
 use Rattle.vs_path.proofs.labels.Labels.clear.Goals as goal
-
--- what is there stands within the list
-some_within : {X : Type 0} (xs : List (Option X)) (i : ℕ) (x : X) → get_or xs i None ≡ Some x → i < length xs
-some_within xs i x is =
-    elim (cases_lt i (length xs)) [
-      | inl within ↦ within
-      | inr past ↦ let e : None ≡ Some x = sym (get_or_past xs i None past) ∙ is in absurd (cc)
-    ]
 
 pub forget-requires-clause-within : goal.forget-requires-clause-within
 forget-requires-clause-within c = λ i inside.

@@ -3,8 +3,8 @@ use Rattle.std.proofs.lemmas.Int.{ints, to_z-of_z}
 use Rattle.std.specs.Prelude.{vec_capacity}
 use lib.Signed.{lt_z}
 use Rattle.vs_path.specs.Labels.{Lists, AreLabels, IsReached, IsSettledAt, IsFarthest, IsLowered, Lacks, lists_of, settle_in}
-use Rattle.vs_path.proofs.Settling.{room-left}
-use Rattle.vs_path.proofs.Exploring.{begun_at, is_begun, begun_labels, begun_farthest, begun_settled, begun_relaxed, begun_lack, expanded, next_labels, next_relaxed, next_settled, next_farthest, next_from, next_lack, next_reached}
+use Rattle.vs_path.proofs.labelling.Settling.{room-left}
+use Rattle.vs_path.proofs.labelling.Exploring.{begun_at, is_begun, begun_labels, begun_farthest, begun_settled, begun_relaxed, begun_lack, expanded, next_labels, next_relaxed, next_settled, next_farthest, next_from, next_lack, next_reached}
 use Rattle.vs_path.proofs.labels.Labels.explore.Goals as goal
 
 lt_z-true : (a b : ℤ) → lt_z a b ≡ true → a <ℤ b
@@ -31,7 +31,8 @@ expand-requires-clause-from c =
     is_begun r.graph.nodes c.args.source old (lists_of c.settle.new.self) c.requires.fresh c.settle.ensures.settled
     c.settle.ensures.waiting c.settle.ensures.steps c.settle.ensures.order in
     let P : Lists → Type 0 = λ l. IsSettledAt l c.args.source (pos 0) in
-    subst P (sym e) (begun_settled r c.args.prices.now c.args.source old.steps c.requires.source c.requires.fresh.steps)
+    subst P (sym e) (begun_settled r c.args.prices.now c.args.source old.steps c.requires.source
+    c.requires.fresh.steps)
 
 pub expand-requires-clause-farthest : goal.expand-requires-clause-farthest
 expand-requires-clause-farthest c =
@@ -41,7 +42,8 @@ expand-requires-clause-farthest c =
     is_begun r.graph.nodes c.args.source old (lists_of c.settle.new.self) c.requires.fresh c.settle.ensures.settled
     c.settle.ensures.waiting c.settle.ensures.steps c.settle.ensures.order in
     let P : Lists → Type 0 = λ l. IsFarthest l (pos 0) in
-    subst P (sym e) (begun_farthest r c.args.prices.now c.args.source old.steps c.requires.source c.requires.fresh.steps)
+    subst P (sym e) (begun_farthest r c.args.prices.now c.args.source old.steps c.requires.source
+    c.requires.fresh.steps)
 
 -- the source is settled and its steps are relaxed
 pub loop-node-init : goal.loop-node-init
@@ -79,7 +81,8 @@ returns-then-surplus-node-lt0-clause-found c =
     let lacks : Lacks c.args.surplus.now c.in-Some.node = lt_z-true _ _ test in
     let P : Lists → Type 0 = λ k. IsReached r p c.args.surplus.now c.args.source k c.in-Some.node in
     subst P (sym c.in-Some.ensures.lists)
-    (next_reached r p c.args.surplus.now c.args.source l way c.in-Some.node c.in-Some.distance c.in-Some.ensures.next within lacks)
+    (next_reached r p c.args.surplus.now c.args.source l way c.in-Some.node c.in-Some.distance c.in-Some.ensures.next
+    within lacks)
 
 pub expand-requires-in-Some-clause-labels : goal.expand-requires-in-Some-clause-labels
 expand-requires-in-Some-clause-labels c =
@@ -104,7 +107,8 @@ expand-requires-in-Some-clause-from c =
     let P : Lists → Type 0 = λ k. IsSettledAt k c.in-Some.node c.in-Some.distance in
     simp to_z-of_z
     (subst P (sym c.in-Some.ensures.lists)
-    (next_settled r p c.args.surplus.now c.args.source (lists_of c.loop-node.self) way c.in-Some.node c.in-Some.distance
+    (next_settled r p c.args.surplus.now c.args.source (lists_of c.loop-node.self) way c.in-Some.node
+    c.in-Some.distance
     c.in-Some.ensures.next within))
 
 pub expand-requires-in-Some-clause-farthest : goal.expand-requires-in-Some-clause-farthest
@@ -118,7 +122,8 @@ expand-requires-in-Some-clause-farthest c =
     let P : Lists → Type 0 = λ k. IsFarthest k c.in-Some.distance in
     simp to_z-of_z
     (subst P (sym c.in-Some.ensures.lists)
-    (next_farthest r p c.args.surplus.now c.args.source (lists_of c.loop-node.self) way c.in-Some.node c.in-Some.distance
+    (next_farthest r p c.args.surplus.now c.args.source (lists_of c.loop-node.self) way c.in-Some.node
+    c.in-Some.distance
     c.in-Some.ensures.next within))
 
 pub loop-node-smaller : goal.loop-node-smaller

@@ -2,7 +2,7 @@ use Rattle.std.proofs.Common.{ap, rules, SFits, w64}
 use Rattle.std.proofs.lemmas.Int.{to_z-of_z}
 use Rattle.vs_path.specs.Keys.{Keys, key_at}
 use Rattle.vs_path.specs.Labels.{lists_of, lowered}
-use Rattle.vs_path.proofs.Lowering.{better-not_after}
+use Rattle.vs_path.proofs.labelling.Lowering.{better-not_after}
 use Rattle.vs_path.proofs.labels.Labels.lower.Goals as goal
 
 pub lower-requires-clause-lower : goal.lower-requires-clause-lower
@@ -14,4 +14,5 @@ pub returns-clause-lists : goal.returns-clause-lists
 returns-clause-lists c =
     let fits : SFits w64 c.args.label = search rules in
     let waiting = simp to_z-of_z at c.lower.ensures in
-    ap (λ (w : Keys). record (lowered (lists_of c.args.self.now) c.args.node c.args.label c.args.step) { waiting = w }) waiting
+    ap (λ (w : Keys). record (lowered (lists_of c.args.self.now) c.args.node c.args.label c.args.step)
+    { waiting = w }) waiting

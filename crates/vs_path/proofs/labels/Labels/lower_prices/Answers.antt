@@ -4,8 +4,8 @@ use Rattle.vs_path.specs.declared.labels.Settled.{Settled}
 use Rattle.vs_path.specs.Residual.{price_at}
 use Rattle.vs_path.specs.Labels.{lists_of, settled_at}
 use Rattle.vs_path.specs.Search.{AreMoved}
-use Rattle.vs_path.proofs.Lowering.{read_at}
-use Rattle.vs_path.proofs.Moving.{AreMovedUpTo, moved-all, moved-kept, moved-more, moved-skip, listed-within}
+use Rattle.vs_path.proofs.labelling.Lowering.{read_at}
+use Rattle.vs_path.proofs.found.Moving.{AreMovedUpTo, moved-all, moved-kept, moved-more, moved-skip, listed-within}
 use Rattle.vs_path.proofs.labels.Labels.lower_prices.Goals as goal
 use Rattle.vs_path.proofs.labels.Labels.lower_prices.Goals.{in-Some-index, in_default-index}
 
@@ -16,7 +16,8 @@ index-requires-in-loop-node c =
     let nodes = c.deref-node-items.result.now in
     let inside : i < length l.order =
     omega (arith, c.loop-node-test.true, ap length c.deref-node-items.ensures.value) in
-    let at : get_or nodes i 0 ≡ get_or l.order i 0 = ap (λ (xs : List ℕ). get_or xs i 0) c.deref-node-items.ensures.value in
+    let at : get_or nodes i 0 ≡ get_or l.order i 0 =
+    ap (λ (xs : List ℕ). get_or xs i 0) c.deref-node-items.ensures.value in
     let within = listed-within (length c.args.prices.now) l i c.requires.listed inside in
     omega (arith, at, within, c.requires.listed.settled)
 
@@ -27,7 +28,8 @@ bounds-prices-node c =
     let nodes = c.deref-node-items.result.now in
     let inside : i < length l.order =
     omega (arith, c.loop-node-test.true, ap length c.deref-node-items.ensures.value) in
-    let at : get_or nodes i 0 ≡ get_or l.order i 0 = ap (λ (xs : List ℕ). get_or xs i 0) c.deref-node-items.ensures.value in
+    let at : get_or nodes i 0 ≡ get_or l.order i 0 =
+    ap (λ (xs : List ℕ). get_or xs i 0) c.deref-node-items.ensures.value in
     let within = listed-within (length c.args.prices.now) l i c.requires.listed inside in
     omega (arith, at, within, c.loop-node.invariant.size)
 
@@ -38,7 +40,8 @@ slice_copy_out-price c =
     let nodes = c.deref-node-items.result.now in
     let inside : i < length l.order =
     omega (arith, c.loop-node-test.true, ap length c.deref-node-items.ensures.value) in
-    let at : get_or nodes i 0 ≡ get_or l.order i 0 = ap (λ (xs : List ℕ). get_or xs i 0) c.deref-node-items.ensures.value in
+    let at : get_or nodes i 0 ≡ get_or l.order i 0 =
+    ap (λ (xs : List ℕ). get_or xs i 0) c.deref-node-items.ensures.value in
     let within = listed-within (length c.args.prices.now) l i c.requires.listed inside in
     omega (arith, at, within, c.loop-node.invariant.size)
 
@@ -50,14 +53,17 @@ lowered_price-requires-clause-nearer c =
     let nodes = c.deref-node-items.result.now in
     let inside : i < length l.order =
     omega (arith, c.loop-node-test.true, ap length c.deref-node-items.ensures.value) in
-    let at : get_or nodes i 0 ≡ get_or l.order i 0 = ap (λ (xs : List ℕ). get_or xs i 0) c.deref-node-items.ensures.value in
+    let at : get_or nodes i 0 ≡ get_or l.order i 0 =
+    ap (λ (xs : List ℕ). get_or xs i 0) c.deref-node-items.ensures.value in
     let within = listed-within (length c.args.prices.now) l i c.requires.listed inside in
     let goal_is : settled_at l c.args.goal ≡ Some c.in-Some.farthest =
-    read_at l.settled c.args.goal c.index.result.now (omega (arith, c.requires.goal, c.requires.listed.settled)) c.index.ensures
+    read_at l.settled c.args.goal c.index.result.now (omega (arith, c.requires.goal, c.requires.listed.settled))
+    c.index.ensures
     ∙ c.in-Some.is in
     let is : settled_at l (get_or l.order i 0) ≡ Some a =
     ap (settled_at l) (sym at)
-    ∙ read_at l.settled (get_or nodes i 0) c.index-in-loop-node.result.now (omega (arith, at, within, c.requires.listed.settled))
+    ∙ read_at l.settled (get_or nodes i 0) c.index-in-loop-node.result.now
+    (omega (arith, at, within, c.requires.listed.settled))
     c.index-in-loop-node.ensures ∙ c.in-Some-index.is in
     (c.requires.space c.in-Some.farthest goal_is (get_or l.order i 0) a is).0
 
@@ -69,14 +75,17 @@ lowered_price-requires-clause-fits c =
     let nodes = c.deref-node-items.result.now in
     let inside : i < length l.order =
     omega (arith, c.loop-node-test.true, ap length c.deref-node-items.ensures.value) in
-    let at : get_or nodes i 0 ≡ get_or l.order i 0 = ap (λ (xs : List ℕ). get_or xs i 0) c.deref-node-items.ensures.value in
+    let at : get_or nodes i 0 ≡ get_or l.order i 0 =
+    ap (λ (xs : List ℕ). get_or xs i 0) c.deref-node-items.ensures.value in
     let within = listed-within (length c.args.prices.now) l i c.requires.listed inside in
     let goal_is : settled_at l c.args.goal ≡ Some c.in-Some.farthest =
-    read_at l.settled c.args.goal c.index.result.now (omega (arith, c.requires.goal, c.requires.listed.settled)) c.index.ensures
+    read_at l.settled c.args.goal c.index.result.now (omega (arith, c.requires.goal, c.requires.listed.settled))
+    c.index.ensures
     ∙ c.in-Some.is in
     let is : settled_at l (get_or l.order i 0) ≡ Some a =
     ap (settled_at l) (sym at)
-    ∙ read_at l.settled (get_or nodes i 0) c.index-in-loop-node.result.now (omega (arith, at, within, c.requires.listed.settled))
+    ∙ read_at l.settled (get_or nodes i 0) c.index-in-loop-node.result.now
+    (omega (arith, at, within, c.requires.listed.settled))
     c.index-in-loop-node.ensures ∙ c.in-Some-index.is in
     let kept =
     moved-kept (length c.args.prices.now) l c.in-Some.farthest.distance c.args.prices.now c.loop-node.prices i a
@@ -95,14 +104,16 @@ loop-node-preserved c =
     let nodes = c.deref-node-items.result.now in
     let inside : i < length l.order =
     omega (arith, c.loop-node-test.true, ap length c.deref-node-items.ensures.value) in
-    let at : get_or nodes i 0 ≡ get_or l.order i 0 = ap (λ (xs : List ℕ). get_or xs i 0) c.deref-node-items.ensures.value in
+    let at : get_or nodes i 0 ≡ get_or l.order i 0 =
+    ap (λ (xs : List ℕ). get_or xs i 0) c.deref-node-items.ensures.value in
     let within = listed-within (length c.args.prices.now) l i c.requires.listed inside in
     elim c.match-index-2.branch [
       | in-Some-index w ↦
           let a = w.in-Some-index.settled in
           let is : settled_at l (get_or l.order i 0) ≡ Some a =
           ap (settled_at l) (sym at)
-          ∙ read_at l.settled (get_or nodes i 0) c.index-in-loop-node.result.now (omega (arith, at, within, c.requires.listed.settled))
+          ∙ read_at l.settled (get_or nodes i 0) c.index-in-loop-node.result.now
+          (omega (arith, at, within, c.requires.listed.settled))
           c.index-in-loop-node.ensures ∙ w.in-Some-index.is in
           let fits : SFits w64 (price_at c.loop-node.prices (get_or nodes i 0)) = search rules in
           let fits_too : SFits w64 w.lowered_price.result = search rules in
@@ -122,7 +133,8 @@ loop-node-preserved c =
       | in_default-index w ↦
           let none : settled_at l (get_or l.order i 0) ≡ None =
           ap (settled_at l) (sym at)
-          ∙ read_at l.settled (get_or nodes i 0) c.index-in-loop-node.result.now (omega (arith, at, within, c.requires.listed.settled))
+          ∙ read_at l.settled (get_or nodes i 0) c.index-in-loop-node.result.now
+          (omega (arith, at, within, c.requires.listed.settled))
           c.index-in-loop-node.ensures ∙ w.in_default-index.is in
           absurd (moved-skip (length c.args.prices.now) l i c.requires.listed inside none)
     ]
@@ -131,7 +143,8 @@ pub returns : goal.returns
 returns c = λ a is.
     let l = lists_of c.args.self.now in
     let goal_is : settled_at l c.args.goal ≡ Some c.in-Some.farthest =
-    read_at l.settled c.args.goal c.index.result.now (omega (arith, c.requires.goal, c.requires.listed.settled)) c.index.ensures
+    read_at l.settled c.args.goal c.index.result.now (omega (arith, c.requires.goal, c.requires.listed.settled))
+    c.index.ensures
     ∙ c.in-Some.is in
     let e : Some c.in-Some.farthest ≡ Some a = sym goal_is ∙ is in
     let same : c.in-Some.farthest ≡ a = cc in

@@ -1,5 +1,5 @@
 use Rattle.vs_path.specs.Labels.{lists_of}
-use Rattle.vs_path.proofs.Moving.{AreMovedUpTo}
+use Rattle.vs_path.proofs.found.Moving.{AreMovedUpTo}
 use Rattle.vs_path.proofs.labels.Labels.lower_prices.Given as goal
 
 -- the prices of the nodes that were settled first are moved

@@ -1,8 +1,8 @@
 use Rattle.std.proofs.Common.{◌≡◌, ◌<◌, ◌∙◌, ◌+ℤ◌, refl, ap, sym, subst, arith, rules, ℕ, Some, None, true, false, length, SFits, w64}
 use Rattle.std.proofs.lemmas.Int.{to_z-of_z}
 use Rattle.vs_path.specs.Residual.{to_of, reduced}
-use Rattle.vs_path.specs.Labels.{Lists, IsBetter, Relaxes, lists_of, lowered, settled_at, waiting_at, label_of}
-use Rattle.vs_path.proofs.Lowering.{not-better, relaxed_already, settled_already, relaxes_lowered, lowered-same, read_at, when_some, when_none}
+use Rattle.vs_path.specs.Labels.{Lists, IsBetter, Relaxes, lists_of, lowered, settled_at}
+use Rattle.vs_path.proofs.labelling.Lowering.{relaxed_worse, settled_already, relaxes_lowered, lowered-same, read_at, when_some, when_none}
 use Rattle.vs_path.proofs.labels.Labels.relax.Goals as goal
 
 -- the node is settled
@@ -16,7 +16,8 @@ returns-then-is_some-clause-relaxes c =
     omega (arith, c.to-node.ensures.of_net, c.requires.labels.are_listed.settled) in
     let some = when_some c.index.result.now (sym c.is_some.ensures ∙ c.if-is_some.true) in
     let is : settled_at l (to_of r s) ≡ Some some.0 =
-    ap (settled_at l) (sym c.to-node.ensures.node) ∙ read_at l.settled c.to-node.result c.index.result.now within c.index.ensures
+    ap (settled_at l) (sym c.to-node.ensures.node)
+    ∙ read_at l.settled c.to-node.result c.index.result.now within c.index.ensures
     ∙ some.1 in
     record {
       labels = c.requires.labels;
@@ -53,7 +54,8 @@ returns-then-is_better-clause-relaxes c =
     let within : c.to-node.result < length l.settled =
     omega (arith, c.to-node.ensures.of_net, c.requires.labels.are_listed.settled) in
     let unsettled : settled_at l (to_of r s) ≡ None =
-    ap (settled_at l) (sym c.to-node.ensures.node) ∙ read_at l.settled c.to-node.result c.index.result.now within c.index.ensures
+    ap (settled_at l) (sym c.to-node.ensures.node)
+    ∙ read_at l.settled c.to-node.result c.index.result.now within c.index.ensures
     ∙ when_none c.index.result.now (sym c.is_some.ensures ∙ c.if-is_some.false) in
     let given_better = simp to_z-of_z at (c.if-is_better.ensures.0 refl) in
     let better : IsBetter l (to_of r s) label =
@@ -79,17 +81,17 @@ returns-else-is_better-clause-relaxes c =
     let within : c.to-node.result < length l.settled =
     omega (arith, c.to-node.ensures.of_net, c.requires.labels.are_listed.settled) in
     let unsettled : settled_at l (to_of r s) ≡ None =
-    ap (settled_at l) (sym c.to-node.ensures.node) ∙ read_at l.settled c.to-node.result c.index.result.now within c.index.ensures
+    ap (settled_at l) (sym c.to-node.ensures.node)
+    ∙ read_at l.settled c.to-node.result c.index.result.now within c.index.ensures
     ∙ when_none c.index.result.now (sym c.is_some.ensures ∙ c.if-is_some.false) in
     let given_worse = simp to_z-of_z at c.if-is_better.ensures.1 in
-    let known = not-better l (to_of r s) label
-    (λ better.
-    let e : false ≡ true = given_worse (subst (λ (v : ℕ). IsBetter l v label) (sym c.to-node.ensures.node) better) in
-    cc) in
     record {
       labels = c.requires.labels;
       lowered = lowered-same l;
-      relaxed = relaxed_already r p l c.requires.labels c.requires.sign_rule s c.args.distance label c.requires.from
-          c.requires.farthest (c.if-not-is_open.ensures.0 refl) sum known.0
-          (ap (λ a. label_of a (waiting_at l (to_of r s))) unsettled ∙ known.1) known.2;
+      relaxed = relaxed_worse r p l c.requires.labels c.requires.sign_rule s c.args.distance label c.requires.from
+          c.requires.farthest (c.if-not-is_open.ensures.0 refl) sum unsettled
+          (λ better.
+          let P : ℕ → Type 0 = λ v. IsBetter l v label in
+          let e : false ≡ true = given_worse (subst P (sym c.to-node.ensures.node) better) in
+          cc);
     }

@@ -2,10 +2,10 @@ use Rattle.std.proofs.Common.{rules, ◌≡◌, ◌≢◌, ◌<◌, ◌∙◌, �
 use Rattle.std.proofs.lemmas.List.{get_or_default}
 use Rattle.vs_path.specs.declared.step.Step.{Step}
 use Rattle.vs_path.specs.Labels.{Lists, lists_of, settled_at, source_of, step_at}
-use Rattle.vs_path.proofs.Lowering.{read_at}
-use Rattle.vs_path.proofs.Settling.{order-≤}
-use Rattle.vs_path.proofs.Moving.{node-<}
-use Rattle.vs_path.proofs.Tracing.{IsTraced, place_of, traced-none, traced-path, traced-step, traced-more, step-open, step-from}
+use Rattle.vs_path.proofs.labelling.Lowering.{read_at}
+use Rattle.vs_path.proofs.labelling.Settling.{order-≤}
+use Rattle.vs_path.proofs.found.Moving.{node-<}
+use Rattle.vs_path.proofs.found.Tracing.{IsTraced, place_of, traced-none, traced-path, traced-step, traced-more, step-open, step-from}
 use Rattle.vs_path.proofs.labels.Labels.trace.Goals as goal
 
 pub loop-node-init : goal.loop-node-init
@@ -30,10 +30,14 @@ pub returns-in_default-clause-path : goal.returns-in_default-clause-path
 returns-in_default-clause-path c =
     let l = lists_of c.args.self.now in
     let traced = c.loop-node.invariant.traced in
-    let away = from_source l c.index-source.result.now c.loop-node.node c.requires.labels.some c.index-source.ensures c.loop-node-test.true in
-    let within = node-< c.args.residual.now.graph.nodes l c.loop-node.node traced.at c.requires.labels.are_listed traced.at_is in
+    let away =
+    from_source l c.index-source.result.now c.loop-node.node c.requires.labels.some c.index-source.ensures
+    c.loop-node-test.true in
+    let within =
+    node-< c.args.residual.now.graph.nodes l c.loop-node.node traced.at c.requires.labels.are_listed traced.at_is in
     let none : step_at l c.loop-node.node ≡ None =
-    read_at l.steps c.loop-node.node c.index.result.now (omega (arith, within, c.requires.labels.are_listed.steps)) c.index.ensures
+    read_at l.steps c.loop-node.node c.index.result.now (omega (arith, within, c.requires.labels.are_listed.steps))
+    c.index.ensures
     ∙ c.in_default.is in
     absurd (traced-step c.args.residual.now c.args.prices.now l c.args.goal c.loop-node.node c.loop-node.path.items
     c.requires.labels traced away none)
@@ -43,25 +47,31 @@ from-node-requires c =
     let r = c.args.residual.now in
     let l = lists_of c.args.self.now in
     let traced = c.loop-node.invariant.traced in
-    let away = from_source l c.index-source.result.now c.loop-node.node c.requires.labels.some c.index-source.ensures c.loop-node-test.true in
+    let away =
+    from_source l c.index-source.result.now c.loop-node.node c.requires.labels.some c.index-source.ensures
+    c.loop-node-test.true in
     let within = node-< r.graph.nodes l c.loop-node.node traced.at c.requires.labels.are_listed traced.at_is in
     let is : step_at l c.loop-node.node ≡ Some c.in-Some.step =
-    read_at l.steps c.loop-node.node c.index.result.now (omega (arith, within, c.requires.labels.are_listed.steps)) c.index.ensures
+    read_at l.steps c.loop-node.node c.index.result.now (omega (arith, within, c.requires.labels.are_listed.steps))
+    c.index.ensures
     ∙ c.in-Some.is in
     let open_ =
     step-open r c.args.prices.now l c.args.goal c.loop-node.node c.loop-node.path.items c.requires.labels traced away
     c.in-Some.step is in
-    omega (arith, open_.arc, c.arcs.ensures.residual.arcs)
+    omega (arith, open_.arc, c.requires.residual.arcs)
 
 pub loop-node-smaller : goal.loop-node-smaller
 loop-node-smaller c =
     let r = c.args.residual.now in
     let l = lists_of c.args.self.now in
     let traced = c.loop-node.invariant.traced in
-    let away = from_source l c.index-source.result.now c.loop-node.node c.requires.labels.some c.index-source.ensures c.loop-node-test.true in
+    let away =
+    from_source l c.index-source.result.now c.loop-node.node c.requires.labels.some c.index-source.ensures
+    c.loop-node-test.true in
     let within = node-< r.graph.nodes l c.loop-node.node traced.at c.requires.labels.are_listed traced.at_is in
     let is : step_at l c.loop-node.node ≡ Some c.in-Some.step =
-    read_at l.steps c.loop-node.node c.index.result.now (omega (arith, within, c.requires.labels.are_listed.steps)) c.index.ensures
+    read_at l.steps c.loop-node.node c.index.result.now (omega (arith, within, c.requires.labels.are_listed.steps))
+    c.index.ensures
     ∙ c.in-Some.is in
     let from =
     step-from r c.args.prices.now l c.args.goal c.loop-node.node c.loop-node.path.items c.requires.labels traced away
@@ -77,13 +87,17 @@ loop-node-preserved c =
     let l = lists_of c.args.self.now in
     let path = c.loop-node.path.items in
     let traced = c.loop-node.invariant.traced in
-    let away = from_source l c.index-source.result.now c.loop-node.node c.requires.labels.some c.index-source.ensures c.loop-node-test.true in
+    let away =
+    from_source l c.index-source.result.now c.loop-node.node c.requires.labels.some c.index-source.ensures
+    c.loop-node-test.true in
     let within = node-< r.graph.nodes l c.loop-node.node traced.at c.requires.labels.are_listed traced.at_is in
     let is : step_at l c.loop-node.node ≡ Some c.in-Some.step =
-    read_at l.steps c.loop-node.node c.index.result.now (omega (arith, within, c.requires.labels.are_listed.steps)) c.index.ensures
+    read_at l.steps c.loop-node.node c.index.result.now (omega (arith, within, c.requires.labels.are_listed.steps))
+    c.index.ensures
     ∙ c.in-Some.is in
     let more =
-    traced-more r c.args.prices.now l c.args.goal c.loop-node.node path c.requires.labels traced away c.in-Some.step is in
+    traced-more r c.args.prices.now l c.args.goal c.loop-node.node path c.requires.labels traced away c.in-Some.step
+    is in
     let count = traced.count in
     let few = order-≤ r.graph.nodes l c.requires.labels.are_listed in
     let P : ℕ → Type 0 = λ v. IsTraced r c.args.prices.now l c.args.goal v (path ++ c.in-Some.step ∷ []) in

@@ -1,7 +1,7 @@
 use Rattle.std.proofs.Common.{◌≤◌}
 use Rattle.std.specs.Prelude.{vec_capacity}
 use Rattle.vs_path.specs.Labels.{lists_of, settled_at}
-use Rattle.vs_path.proofs.Tracing.{IsTraced, place_of}
+use Rattle.vs_path.proofs.found.Tracing.{IsTraced, place_of}
 use Rattle.vs_path.proofs.labels.Labels.trace.Given as goal
 
 -- the path so far leads from the node to the goal

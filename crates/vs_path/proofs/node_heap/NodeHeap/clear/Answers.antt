@@ -1,5 +1,5 @@
 use Rattle.std.proofs.Common.{◌∙◌, ap, replicate, None}
-use Rattle.vs_path.proofs.Waiting.{waiting-taken, all-none}
+use Rattle.vs_path.proofs.heap.Waiting.{waiting-taken, all-none}
 use Rattle.vs_path.proofs.node_heap.NodeHeap.clear.Goals as goal
 
 pub loop-smaller : goal.loop-smaller

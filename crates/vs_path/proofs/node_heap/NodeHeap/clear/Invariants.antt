@@ -1,5 +1,5 @@
 use Rattle.std.proofs.Common.{◌≡◌, length}
-use Rattle.vs_path.proofs.Waiting.{waiting}
+use Rattle.vs_path.proofs.heap.Waiting.{waiting}
 use Rattle.vs_path.proofs.node_heap.NodeHeap.clear.Given as goal
 
 abbrev pub invariant-loop : goal.invariant-loop

@@ -7,4 +7,5 @@ returns c =
     let n = c.args.count in
     let rest : 2 * n - n ≡ n = omega arith in
     let none : Option ℤ = None in
-    ap (drop n) (c.in_ok-keys.ensures.items_if_clones_equal (search rules)) ∙ drop-replicate n (2 * n) none ∙ ap (λ (k : ℕ). replicate k none) rest
+    ap (drop n) (c.in_ok-keys.ensures.items_if_clones_equal (search rules)) ∙ drop-replicate n (2 * n) none
+    ∙ ap (λ (k : ℕ). replicate k none) rest

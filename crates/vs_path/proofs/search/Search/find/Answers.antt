@@ -1,5 +1,5 @@
 use Rattle.vs_path.specs.Labels.{lists_of}
-use Rattle.vs_path.proofs.Finding.{is-cut, can-move, is-goal}
+use Rattle.vs_path.proofs.found.Finding.{is-cut, can-move, is-goal}
 use Rattle.vs_path.proofs.search.Search.find.Goals as goal
 
 pub returns-in_err-goal-clause-found : goal.returns-in_err-goal-clause-found
@@ -18,4 +18,5 @@ returns-clause-found c =
     let reached = c.in_ok-goal.ensures.found in
     is-goal c.args.residual.now c.args.prices.now c.args.surplus.now c.args.source (lists_of c.explore.new.self)
     c.in_ok-goal.goal c.lower_prices.new.prices c.requires.sign_rule reached
-    (c.lower_prices.ensures reached.goal_is reached.settled) c.trace.new.path.items c.trace.ensures.path c.trace.ensures.tree
+    (c.lower_prices.ensures reached.goal_is reached.settled) c.trace.new.path.items c.trace.ensures.path
+    c.trace.ensures.tree

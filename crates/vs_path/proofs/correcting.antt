@@ -1,0 +1,4 @@
+pub mod Chains
+pub mod Shortening
+pub mod Corrected
+pub mod SignRule

@@ -1,0 +1,142 @@
+-- Where no step is shorter any more, the paths of the tree are least ones.
+use Rattle.std.proofs.Common.{◌≡◌, ◌≢◌, ◌⊎◌, ℕ, ◌<◌, ◌∙◌, List, [], ◌∷◌, length, set, get_or, replicate, refl, sym, ap, subst, arith, inl, inr, Bool, true, false, ◌||◌, Option, Some, None, ℤ, pos, ◌≤ℤ◌, length-set}
+use Rattle.std.proofs.lemmas.Bool.{cases_eq}
+use Rattle.std.proofs.lemmas.Int.{ints}
+use Rattle.std.proofs.lemmas.List.{get_or-set_same, get_or-set_other, length-replicate}
+use Rattle.vs_path.specs.declared.step.Step.{Step}
+use Rattle.vs_path.specs.Residual.{ResidualNet, Leads, cost_along, from_of}
+use Rattle.vs_path.specs.LeastPaths.{LeastPaths, AreLeastPaths, ComesBack, FollowsBack, IsLeastCost, distance_at, last_step}
+use Rattle.vs_path.specs.PathTree.{IsCorrected, IsNoShorter, IsPathTree, weight}
+use Rattle.vs_path.proofs.labelling.Exploring.{get_or-none}
+use Rattle.vs_path.proofs.found.LeastCosts.{follows-leads}
+use Rattle.vs_path.proofs.correcting.Chains.{descends}
+
+-- of so many nodes node 0 alone is reached
+pub begun-tree : (r : ResidualNet) (p : LeastPaths) (n m : ℕ) → p.distances ≡ set (replicate n None) 0 (Some (pos 0))
+    → p.steps ≡ replicate m None → n ≡ r.graph.nodes → m ≡ r.graph.nodes → 0 < r.graph.nodes → IsPathTree r 0 p
+begun-tree r p n m distances steps size size_too some = record {
+  size = record {
+    distances = ap length distances ∙ length-set (replicate n None) 0 (Some (pos 0)) ∙ length-replicate n None ∙ size;
+    steps = ap length steps ∙ length-replicate m None ∙ size_too;
+  };
+  root = here;
+  no_step = none 0;
+  branch = λ v s is. let e : None ≡ Some s = sym (none v) ∙ is in absurd (cc);
+  back = λ v c is. ([], sym (only v c is).0);
+  few = λ v c is. let zero_there = (only v c is).1 in omega (arith, ints, zero_there);
+}
+  where
+    none : (v : ℕ) → last_step p v ≡ None
+    none v = ap (λ (ss : List (Option Step)). get_or ss v None) steps ∙ get_or-none m v
+
+    here : distance_at p 0 ≡ Some (pos 0)
+    here = ap (λ (ds : List (Option ℤ)). get_or ds 0 None) distances
+        ∙ get_or-set_same (replicate n None) 0 (Some (pos 0)) None
+        (omega (arith, length-replicate {A = Option ℤ} n None))
+
+    other : (v : ℕ) → v ≢ 0 → distance_at p v ≡ None
+    other v ne = ap (λ (ds : List (Option ℤ)). get_or ds v None) distances
+        ∙ get_or-set_other (replicate n None) 0 v (Some (pos 0)) None (λ e. ne e) ∙ get_or-none n v
+
+    only : (v : ℕ) (c : ℤ) → distance_at p v ≡ Some c → (v ≡ 0) × (pos 0 ≡ c)
+    only v c is = elim (cases_eq v 0) [
+      | inl same ↦
+          let e : Some (pos 0) ≡ Some c = sym here ∙ ap (distance_at p) (sym same) ∙ is in
+          let k : pos 0 ≡ c = cc in (same, k)
+      | inr ne ↦ let e : None ≡ Some c = sym (other v ne) ∙ is in absurd (cc)
+    ]
+
+-- two corrections after one another
+pub corrected-both : (r : ResidualNet) (a b c : LeastPaths) (Which Other : Step → Type 0) (one two : Bool)
+    → IsCorrected r a b Which one → IsCorrected r b c Other two
+    → IsCorrected r a c (λ s. Which s ⊎ Other s) (one || two)
+corrected-both r a b c Which Other true true first then = omega arith
+corrected-both r a b c Which Other true false first then =
+    let same = ap weight then.0 in omega arith
+corrected-both r a b c Which Other false true first then =
+    let same = ap weight first.0 in omega arith
+corrected-both r a b c Which Other false false first then = (
+  then.0 ∙ first.0,
+  λ s which. elim which [
+    | inl w ↦ subst (λ (p : LeastPaths). IsNoShorter r p s) (sym then.0) (first.1 s w)
+    | inr o ↦ then.1 s o
+  ],
+)
+
+-- fewer steps are looked at
+pub corrected-less : (r : ResidualNet) (a b : LeastPaths) (Which Other : Step → Type 0) (fell : Bool)
+    → ((s : Step) → Other s → Which s) → IsCorrected r a b Which fell → IsCorrected r a b Other fell
+corrected-less r a b Which Other true less is = is
+corrected-less r a b Which Other false less is = (is.0, λ s o. is.1 s (less s o))
+
+module _ (r : ResidualNet) (u : ℕ) (p : LeastPaths) (tree : IsPathTree r u p)
+    (done : (s : Step) → IsNoShorter r p s) where
+  -- what a path leads to costs no more than the path
+  no-more : (ss : List Step) (v : ℕ) → Leads r u ss v
+      → (d : ℤ) × (distance_at p v ≡ Some d) × (d ≤ℤ cost_along r ss)
+  no-more [] v leads = (pos 0, ap (distance_at p) (sym leads) ∙ tree.root, omega (arith, ints))
+  no-more (s ∷ ss) v leads =
+      let before = no-more ss (from_of r s) leads.2 in
+      let at = done s leads.0 before.0 before.1 in
+      let less = before.2 in
+      let more = at.2 in
+      (at.0, ap (distance_at p) (sym leads.1) ∙ at.1, omega (arith, ints, less, more))
+
+  comes-back : (v : ℕ) (c : ℤ) → distance_at p v ≡ Some c
+      → (ss : List Step) × FollowsBack r p.steps u ss v × (cost_along r ss ≡ c)
+  comes-back v c is =
+      let back = tree.back v c is in
+      let up = descends r u p tree back.0 u v (pos 0) c back.1 tree.root is in
+      let least = no-more back.0 v (follows-leads r p.steps u v back.0 back.1) in
+      let e : Some least.0 ≡ Some c = sym least.1 ∙ is in
+      let same : least.0 ≡ c = cc in
+      let down = least.2 in
+      (back.0, back.1, omega (arith, ints, up, down, same))
+
+  least : (v : ℕ) (o : Option ℤ) → distance_at p v ≡ o → IsLeastCost r u v o
+  least v None e = λ ss leads.
+      let at = no-more ss v leads in
+      let wrong : None ≡ Some at.0 = sym e ∙ at.1 in cc
+  least v (Some c) e =
+      let back = comes-back v c e in (
+        (back.0, follows-leads r p.steps u v back.0 back.1, back.2),
+        λ ss leads.
+            let at = no-more ss v leads in
+            let one : Some at.0 ≡ Some c = sym at.1 ∙ e in
+            let same : at.0 ≡ c = cc in
+            let less = at.2 in
+            omega (arith, ints, same, less),
+      )
+
+  back : (v : ℕ) (o : Option ℤ) → distance_at p v ≡ o → ComesBack r p.steps u v o
+  back v None e = tt
+  back v (Some c) e = comes-back v c e
+
+  no-step : (v : ℕ) → last_step p v ≡ None → (o : Option ℤ) → distance_at p v ≡ o
+      → (v ≡ u) ⊎ (distance_at p v ≡ None)
+  no-step v none None e = inr e
+  no-step v none (Some c) e = first (comes-back v c e).0 (comes-back v c e).1
+    where
+      first : (ss : List Step) → FollowsBack r p.steps u ss v → (v ≡ u) ⊎ (distance_at p v ≡ None)
+      first [] follows = inl (sym follows)
+      first (s ∷ ss) follows = let wrong : None ≡ Some s = sym none ∙ follows.0 in absurd (cc)
+
+  no-step-back : (v : ℕ) → (v ≡ u) ⊎ (distance_at p v ≡ None) → (o : Option Step) → last_step p v ≡ o
+      → last_step p v ≡ None
+  no-step-back v at None e = e
+  no-step-back v (inl same) (Some s) e =
+      let wrong : None ≡ Some s = sym tree.no_step ∙ ap (last_step p) (sym same) ∙ e in absurd (cc)
+  no-step-back v (inr none) (Some s) e =
+      let b = tree.branch v s e in
+      let wrong : None ≡ Some b.to_cost = sym none ∙ b.to_is in absurd (cc)
+
+  pub tree-least : AreLeastPaths r u p
+  tree-least = record {
+    size = tree.size;
+    least = λ v within. least v (distance_at p v) refl;
+    back = λ v within. back v (distance_at p v) refl;
+    no_step = λ v within. (
+      λ none. no-step v none (distance_at p v) refl,
+      λ at. no-step-back v at (last_step p v) refl,
+    );
+  }

@@ -1,0 +1,4 @@
+pub mod Moving
+pub mod Tracing
+pub mod Finding
+pub mod LeastCosts

@@ -1,0 +1,4 @@
+pub mod ArcsOfNode
+pub mod Lowering
+pub mod Settling
+pub mod Exploring

@@ -1,0 +1,2 @@
+pub mod RaisingUpTo
+pub mod RaisedPrices
