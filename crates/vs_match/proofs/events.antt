@@ -3,4 +3,5 @@ pub mod EventLists
 pub mod StayLists
 pub mod Places
 pub mod AtStop
+pub mod ByStop
 pub mod LeastTrips

@@ -3,3 +3,4 @@ pub mod StrictOrders
 pub mod KindOrder
 pub mod ArcOrder
 pub mod RightArcs
+pub mod SortedKeys

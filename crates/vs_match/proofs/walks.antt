@@ -3,3 +3,4 @@ pub mod WalkBounds
 pub mod WaitingChains
 pub mod Matched
 pub mod WalkLaws
+pub mod Lawful

@@ -12,5 +12,8 @@ pub mod Parts
 pub mod ArcsOf
 pub mod Sweep
 pub mod TripIndex
+pub mod Keys
 pub mod LawfulNets
 pub mod Decomposition
+pub mod Underway
+pub mod Aggregation

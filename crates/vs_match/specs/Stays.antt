@@ -1,5 +1,5 @@
 -- Nodes that stand for events, by their stops.
-use Rattle.std.specs.Prelude.{◌≡◌, ℕ, ◌<◌, ◌⊎◌, List, Contains, AllPairs}
+use Rattle.std.specs.Prelude.{◌≡◌, ℕ, ◌<◌, ◌⊎◌, ◌↔◌, List, [], length, slice_index_or, Contains, AllPairs}
 use Rattle.vs_match.specs.declared.event.Event.{Event}
 use Rattle.vs_match.specs.declared.stay.Stay.{Stay}
 use Rattle.vs_match.specs.Events.{HasPlace}
@@ -20,3 +20,10 @@ pub record AreStays (events : List Event) (Such : Event → Type 0) (stays : Lis
   pub only : (s : Stay) → Contains stays s → HasPlace events s.node (event_of s) × Such (event_of s)
   pub every : (s : Stay) → HasPlace events s.node (event_of s) → Such (event_of s) → Contains stays s
   pub ordered : AllPairs IsStayBefore stays
+
+-- the nodes at each of so many stops
+pub record AreByStop (stops : ℕ) (stays : List Stay) (groups : List (List Stay)) : Type 0 where
+  pub count : length groups ≡ stops
+  pub same : (k : ℕ) → k < stops → (s : Stay)
+      → Contains (slice_index_or groups k []) s ↔ (Contains stays s × (s.stop ≡ record { 0 = k }))
+  pub rising : (k : ℕ) → k < stops → IsRising (slice_index_or groups k [])

@@ -1,5 +1,6 @@
 -- Which arc is a trip's.
-use Rattle.std.specs.Prelude.{ℕ, ◌<◌, List, Option, None, MatchOption, slice_index_or}
+use Rattle.std.specs.Prelude.{ℕ, ◌+◌, ◌*◌, ◌<◌, ◌≤◌, List, Option, None, MatchOption, slice_index_or}
+use Rattle.vs_instance.specs.declared.limits.TheConstants.{MAX_TRIPS}
 use Rattle.vs_match.specs.declared.arc_kind.ArcKind.{ArcKind}
 use Rattle.vs_match.specs.declared.arc_kind.ArcKind.TheVariants.{Trip, Waiting, Deadhead, PullOut, PullIn, Return}
 use Rattle.vs_match.specs.LayerGraph.{LayerGraph, IsLabelled, IsArcOfTrip}
@@ -17,7 +18,8 @@ IsTripAt kinds i found = MatchOption found ((k : ℕ) → ¬ (IsArcOfTrip kinds 
 abbrev pub IsTripIndex : List ArcKind → List (Option ℕ) → Type 0
 IsTripIndex kinds index = (i : ℕ) → IsTripAt kinds i (slice_index_or index i None)
 
--- a labelled net, with an index of its trips
+-- a labelled net of few nodes, with an index of its trips
 pub record IsIndexed (n : LayerGraph) (index : List (Option ℕ)) : Type 0 where
   pub labelled : IsLabelled n
+  pub few : n.graph.nodes ≤ 2 * MAX_TRIPS + 2
   pub trips : IsTripIndex n.kinds index

@@ -1,11 +1,13 @@
 ghost use Rattle.std.specs.Prelude.{◌≡◌, ◌<◌, ◌≤◌, IfOk, length};
 ghost use Rattle.vs_match.specs.Adds.{AreArcs};
 ghost use Rattle.vs_match.specs.ArcsOf.{return_of};
+ghost use Rattle.vs_match.specs.LawfulNets.{IsLawful};
 ghost use Rattle.vs_match.specs.LayerGraph.{IsNetOf};
 ghost use Rattle.vs_match.specs.Nodes.{AreNodes};
 ghost use Rattle.vs_match.specs.WalkLaw.{HasWalkLaw};
 
 use crate::arc_kind::ArcKind;
+use crate::by_ends::by_ends;
 use crate::deadheads::push_deadheads;
 use crate::in_order::put_in_order;
 use crate::layer_arc::LayerArc;
@@ -31,6 +33,7 @@ pub fn build(
     requires { l.0 < length instance.now.layers }
     ensures net { IfOk result (IsNetOf instance.now l.0 matching) }
     ensures walks { IfOk result (HasWalkLaw instance.now l.0) }
+    ensures lawful { IfOk result (IsLawful instance.now l.0) }
 {
     let nodes = nodes_of(alloc, instance, l)?;
     let arcs = arcs_of(alloc, instance, l, matching, &nodes)?;
@@ -50,15 +53,24 @@ fn arcs_of(
     ensures arcs { IfOk result (λ arcs. AreArcs instance.now l.0 matching nodes.now.events.items arcs.items) }
     ensures few { IfOk result (λ arcs. length arcs.items ≤ MAX_ARCS) }
 {
-    let mut arcs = Vec::new(alloc);
+    let mut arcs = Vec::with_capacity(alloc, most_deadheads(instance, nodes))?;
     push_trips(instance, l, nodes, &mut arcs)?;
     push_waiting(instance, l, nodes, &mut arcs)?;
     push_deadheads(instance, l, matching, nodes, &mut arcs)?;
     push_pull_outs(instance, l, nodes, &mut arcs)?;
     push_pull_ins(instance, l, nodes, &mut arcs)?;
     arcs.push(return_arc(instance, l, nodes.events.len() as u32 + 1))?;
-    put_in_order(&mut arcs);
-    Ok(arcs)
+    let mut ordered = by_ends(alloc, &arcs)?;
+    put_in_order(&mut ordered);
+    Ok(ordered)
+}
+
+/// From each arrival one deadhead leads to each stop at most.
+fn most_deadheads(instance: &Instance, nodes: &Nodes) -> usize {
+    nodes
+        .arrivals
+        .len()
+        .saturating_mul(instance.stops() as usize)
 }
 
 fn return_arc(instance: &Instance, l: LayerNo, last: u32) -> LayerArc

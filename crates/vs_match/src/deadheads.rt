@@ -1,6 +1,6 @@
-ghost use Rattle.std.specs.Prelude.{◌≡◌, ◌≢◌, ℕ, ◌+◌, ◌*◌, ◌<◌, ◌≤◌, ◌↔◌, All, IsTrue, OnOk, length, slice_index_or, take};
+ghost use Rattle.std.specs.Prelude.{◌≡◌, ◌≢◌, ℕ, ◌+◌, ◌*◌, ◌<◌, ◌≤◌, ◌↔◌, All, IsTrue, OnOk, length, map, slice_index_or, take};
 ghost use Rattle.vs_match.specs.declared.stay.Stay.{Stay};
-ghost use Rattle.vs_match.specs.Stays.{IsRising};
+ghost use Rattle.vs_match.specs.Stays.{IsRising, AreByStop};
 ghost use Rattle.vs_match.specs.Nodes.{AreNodes};
 ghost use Rattle.vs_match.specs.Adds.{Adds};
 ghost use Rattle.vs_match.specs.Parts.{IsDeadhead, IsDeadheadFrom};
@@ -12,7 +12,7 @@ use crate::layer_arc::LayerArc;
 use crate::matching::Matching;
 use crate::nodes::Nodes;
 use crate::rates::{fleet, rate};
-use crate::stay::{Stay, at_stop};
+use crate::stay::{Stay, at_stop, by_stop};
 use vs_instance::{Instance, MAX_METRES, MAX_MINUTES, MAX_STOPS, MAX_TRIPS, TWO_DAYS, Way};
 use vs_types::{LayerNo, Memory, StopNo};
 
@@ -31,24 +31,36 @@ pub fn push_deadheads(
     ensures few { OnOk result
         (length arcs.new.items ≤ length arcs.old.items + MAX_STOPS * (MAX_STOPS * MAX_TRIPS)) }
 {
+    let departures = by_stop(*arcs.allocator(), &nodes.departures, instance.stops())?;
     for stop in 0..instance.stops() {
-        push_from(instance, l, matching, nodes, StopNo(stop), arcs)?;
+        push_from(
+            instance,
+            l,
+            matching,
+            nodes,
+            &departures,
+            StopNo(stop),
+            arcs,
+        )?;
     }
     Ok(())
 }
 
-/// Puts the deadheads from a stop to its arcs.
+/// Puts the deadheads from a stop, to the departures at each stop, to the arcs.
 fn push_from(
     instance: &Instance,
     l: LayerNo,
     matching: Matching,
     nodes: &Nodes,
+    departures: &[&[Stay]],
     from: StopNo,
     arcs: &mut Vec<LayerArc>,
 ) -> Result<(), Memory>
     requires layer { l.0 < length instance.now.layers }
     requires from { from.0 < instance.now.stops }
     requires nodes { AreNodes instance.now l.0 nodes.now }
+    requires departures { AreByStop instance.now.stops nodes.now.departures.items
+        (map (λ g. g.now) departures.now) }
     ensures adds { OnOk result
         (Adds (IsDeadheadFrom instance.now l.0 matching nodes.now.events.items from.0) arcs.old.items arcs.new.items) }
     ensures few { OnOk result (length arcs.new.items ≤ length arcs.old.items + MAX_STOPS * MAX_TRIPS) }
@@ -61,8 +73,8 @@ fn push_from(
         let to = StopNo(to);
         if from != to {
             if let Some(way) = instance.way(from, to) {
-                let departures = at_stop(&nodes.departures, to);
-                push_matches(instance, l, matching, way, arrivals, departures, arcs)?;
+                let there = departures[to.0 as usize];
+                push_matches(instance, l, matching, way, arrivals, there, arcs)?;
             }
         }
     }

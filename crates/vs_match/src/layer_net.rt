@@ -70,6 +70,7 @@ impl LayerNet {
     pub fn net(&self) -> &Net
         ensures graph { result.now ≡ self.now.graph }
         ensures labelled { IsLabelled self.now }
+        ensures few { self.now.graph.nodes ≤ 2 * MAX_TRIPS + 2 }
     {
         &self.net
     }

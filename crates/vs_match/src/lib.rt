@@ -2,8 +2,10 @@
 //! of the layer's trips, and its waiting and deadhead arcs lead to exactly the trips that connect.
 #![tactic(auto)]
 
+mod aggregation;
 mod arc_kind;
 mod building;
+mod by_ends;
 mod deadheads;
 mod event;
 mod in_order;

@@ -1,5 +1,6 @@
 ghost use Rattle.std.specs.Prelude.{◌<◌, IfOk, length};
 ghost use Rattle.vs_match.specs.declared.matching.Matching.TheVariants.{First, Latest};
+ghost use Rattle.vs_match.specs.LawfulNets.{IsLawful};
 ghost use Rattle.vs_match.specs.LayerGraph.{IsNetOf};
 ghost use Rattle.vs_match.specs.WalkLaw.{HasWalkLaw};
 
@@ -23,6 +24,7 @@ pub fn first_match(alloc: Global, instance: &Instance, l: LayerNo) -> Result<Lay
     requires { l.0 < length instance.now.layers }
     ensures net { IfOk result (IsNetOf instance.now l.0 First) }
     ensures walks { IfOk result (HasWalkLaw instance.now l.0) }
+    ensures lawful { IfOk result (IsLawful instance.now l.0) }
 {
     build(alloc, instance, l, Matching::First)
 }
@@ -37,6 +39,7 @@ pub fn latest_first_match(
     requires { l.0 < length instance.now.layers }
     ensures net { IfOk result (IsNetOf instance.now l.0 Latest) }
     ensures walks { IfOk result (HasWalkLaw instance.now l.0) }
+    ensures lawful { IfOk result (IsLawful instance.now l.0) }
 {
     build(alloc, instance, l, Matching::Latest)
 }

@@ -86,11 +86,9 @@ fn connects(instance: &Instance, l: LayerNo, i: TripNo, j: TripNo) -> bool
 {
     prove!(l.0 < instance.layers() && i.0 < instance.trips() && j.0 < instance.trips());
     let (first, second) = (instance.trip(i), instance.trip(j));
-    if first.end > second.start || !first.layers.has(l) || !second.layers.has(l) {
-        return false;
-    }
-    match instance.way(first.to, second.from) {
+    let in_time = match instance.way(first.to, second.from) {
         Some(way) => first.end + way.minutes <= second.start,
         None => false,
-    }
+    };
+    first.layers.has(l) & second.layers.has(l) & in_time
 }

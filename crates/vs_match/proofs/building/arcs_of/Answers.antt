@@ -1,4 +1,5 @@
 use Rattle.std.proofs.Common.{◌≡◌, ℕ, ◌+◌, ◌∙◌, ap, sym, subst, length, length-append, arith, List, [], ◌∷◌, ◌++◌}
+use Rattle.std.specs.Prelude.{◌↔◌, Contains}
 use Rattle.vs_match.specs.declared.layer_arc.LayerArc.{LayerArc}
 use Rattle.vs_match.specs.Adds.{Adds}
 use Rattle.vs_match.specs.ArcsOf.{return_of}
@@ -22,15 +23,19 @@ returns-clause-arcs c =
     let pushed : c.push.new.self.items ≡ e ++ return_of p l (last_node events) ∷ [] =
     c.in_ok-push.ensures.items ∙ ap (λ (x : LayerArc). e ++ x ∷ []) back in
     let P : List LayerArc → Type 0 = λ xs. Adds (IsTrip p l events) xs c.push_trips.new.arcs.items in
+    let same : (x : LayerArc) → Contains c.put_in_order.new.items.items x ↔ Contains c.push.new.self.items x = λ x.
+    let sorted = rw c.deref.ensures.value at c.in_ok-ordered.ensures.same x in
+    let in_order = c.put_in_order.ensures.same x in
+    (λ has. sorted.0 (in_order.0 has), λ has. in_order.1 (sorted.1 has)) in
     are_arcs p l c.args.matching events c.push.new.self.items c.put_in_order.new.items.items
     (rw pushed
     (adds_all p l c.args.matching events c.push_trips.new.arcs.items c.push_waiting.new.arcs.items
     c.push_deadheads.new.arcs.items
     c.push_pull_outs.new.arcs.items e _
-    (subst P c.new-arcs.ensures.items c.in_ok-push_trips.ensures.adds) c.in_ok-push_waiting.ensures.adds
+    (subst P c.in_ok-arcs.ensures.items c.in_ok-push_trips.ensures.adds) c.in_ok-push_waiting.ensures.adds
     c.in_ok-push_deadheads.ensures.adds c.in_ok-push_pull_outs.ensures.adds c.in_ok-push_pull_ins.ensures.adds
     (adds_return p l c.args.matching events e)))
-    c.put_in_order.ensures.same c.put_in_order.ensures.ordered
+    same c.put_in_order.ensures.ordered
 
 pub returns-clause-few : goal.returns-clause-few
 returns-clause-few c =
@@ -40,11 +45,13 @@ returns-clause-few c =
     omega (
       arith,
       c.put_in_order.ensures.few,
+      c.in_ok-ordered.ensures.count,
+      ap length c.deref.ensures.value,
       pushed,
       c.in_ok-push_pull_ins.ensures.few,
       c.in_ok-push_pull_outs.ensures.few,
       c.in_ok-push_deadheads.ensures.few,
       c.in_ok-push_waiting.ensures.few,
       c.in_ok-push_trips.ensures.few,
-      ap length c.new-arcs.ensures.items,
+      ap length c.in_ok-arcs.ensures.items,
     )

@@ -1,13 +1,16 @@
-use Rattle.std.proofs.Common.{◌≡◌, ◌+◌, List, map, ap, sym, subst, length, ◌∙◌}
+use Rattle.std.proofs.Common.{◌≡◌, ◌+◌, List, map, ap, sym, subst, length, ◌∙◌, arith}
 use Rattle.std.specs.List.{All}
-use Rattle.vs_layer.specs.Graph.{Graph, AllRight}
+use Rattle.std.proofs.Math.ListN.{length-map}
+use Rattle.vs_layer.specs.Graph.{Graph, AllRight, IsNet}
 use Rattle.vs_match.specs.declared.arc_kind.ArcKind.{ArcKind}
 use Rattle.vs_match.specs.declared.layer_arc.LayerArc.{LayerArc}
 use Rattle.vs_match.specs.Adds.{arc_in, AreArcs}
 use Rattle.vs_match.specs.LayerGraph.{IsNetOf}
+use Rattle.vs_match.specs.LawfulNets.{IsLawful}
 use Rattle.vs_match.specs.TripIndex.{IsBelow}
 use Rattle.vs_match.specs.WalkLaw.{HasWalkLaw}
 use Rattle.vs_match.proofs.matches.WholeNet.{some_arc, all_right, all_below, is_net, net_of_parts}
+use Rattle.vs_match.proofs.walks.Lawful.{is_lawful}
 use Rattle.vs_match.proofs.walks.WalkLaws.{walk_law}
 use Rattle.vs_match.proofs.building.build.Goals as goal
 
@@ -71,3 +74,26 @@ returns-clause-walks c =
     c.new.ensures.graph c.new.ensures.kinds c.new.ensures.events
     (walk_law p c.trips.ensures.instance l c.args.matching _
     (is_net p c.trips.ensures.instance l c.args.matching events c.in_ok-nodes.ensures.events arcs are))
+
+pub returns-clause-lawful : goal.returns-clause-lawful
+returns-clause-lawful c =
+    let p = c.args.instance.now in
+    let l = c.args.l.0 in
+    let events = c.in_ok-nodes.nodes.events.items in
+    let arcs = c.deref.result.now in
+    let are =
+    subst (λ (xs : List LayerArc). AreArcs p l c.args.matching events xs)
+    (sym c.deref.ensures.value) c.in_ok-arcs.ensures.arcs in
+    let inst = c.trips.ensures.instance in
+    let nodes = c.in_ok-nodes.ensures.events in
+    let graph : Graph = record { nodes = length events + 2; arcs = map arc_in arcs } in
+    let net : IsNet graph = record {
+      nodes = omega arith;
+      some_arc = rw (length-map) (some_arc p inst l c.args.matching events nodes arcs are);
+      few_arcs = rw (length-map, c.deref.ensures.value) c.in_ok-arcs.ensures.few;
+      each_arc = all_right p inst l c.args.matching events nodes arcs are;
+    } in
+    net_of_parts (IsLawful p l) graph (map kind arcs) events c.new.result
+    c.new.ensures.graph c.new.ensures.kinds c.new.ensures.events
+    (is_lawful p inst l c.requires c.args.matching _
+    (is_net p inst l c.args.matching events nodes arcs are) net)

@@ -1,14 +1,19 @@
-use Rattle.std.proofs.Common.{◌≡◌, ℕ, ◌+◌, ◌<◌, ◌≤◌, ◌∙◌, sym, ap, subst, true, arith, List, length, Vec, Global, Some, None, inl, inr}
+use Rattle.std.proofs.Common.{◌≡◌, ℕ, ◌<◌, ◌∙◌, sym, ap, subst, arith, List, [], length, get_or, Bor, Vec, Global}
 use Rattle.std.proofs.lemmas.Bool.{eqb-true, eqb-false, not-true, not-false}
 use Rattle.std.proofs.lemmas.Option.{none-some}
 use Rattle.vs_match.specs.declared.stay.Stay.{Stay}
 use Rattle.vs_match.specs.declared.layer_arc.LayerArc.{LayerArc}
 use Rattle.vs_match.specs.Adds.{Adds}
 use Rattle.vs_match.specs.Parts.{IsDeadheadFrom, IsDeadheadTo}
-use Rattle.vs_match.proofs.events.Adding.{Upto, adds-none, upto-none, upto-many, upto-skip}
+use Rattle.vs_match.proofs.events.ByStop.{at_this_stop}
+use Rattle.vs_match.proofs.events.Adding.{Upto, adds-none, upto-many, upto-skip}
 use Rattle.vs_match.proofs.matches.Deadheading.{AreAt, matches_are, none_from, none_itself, none_without, from_all, arrivals_within, departures_within}
 use Rattle.vs_match.proofs.deadheads.push_from.Goals as goal
 use Rattle.vs_match.proofs.deadheads.push_from.Goals.{then-ne+in-Some+in_ok-push_matches, then-ne+in_default, else-ne}
+
+-- what is found past the last stop
+abbrev nowhere : Bor (List Stay)
+nowhere = record { ref_ptr = (0, 0); now = [] }
 
 pub returns-then-is_empty-clause-adds : goal.returns-then-is_empty-clause-adds
 returns-then-is_empty-clause-adds c =
@@ -32,12 +37,15 @@ push_matches-requires-clause-arrivals c =
 
 pub push_matches-requires-clause-departures : goal.push_matches-requires-clause-departures
 push_matches-requires-clause-departures c =
-    let to : AreAt (record { 0 = c.loop-to.to }) c.args.nodes.now.departures.items c.at_stop-departures.result.now =
-    rw (← c.deref-in-Some.ensures.value) c.at_stop-departures.ensures.same in (
-      c.at_stop-departures.ensures.rising,
+    let stops = c.args.instance.now.stops in
+    let within : c.loop-to.to < stops = omega (arith, c.loop-to-test.true, c.stops-to-end.ensures.count) in
+    let there =
+    at_this_stop stops c.args.nodes.now.departures.items c.args.departures.now c.requires.departures c.loop-to.to
+    within in (
+      there.1,
       departures_within c.args.instance.now c.args.l.0 c.args.nodes.now c.requires.nodes
           c.stops-to-end.ensures.instance (record { 0 = c.loop-to.to })
-          c.at_stop-departures.result.now to,
+          (get_or c.args.departures.now c.loop-to.to nowhere).now there.0,
     )
 
 pub loop-to-preserved : goal.loop-to-preserved
@@ -55,8 +63,8 @@ loop-to-preserved c =
     rw (← c.deref.ensures.value) c.at_stop-arrivals.ensures.same in
     elim c.if-ne.branch [
       | then-ne+in-Some+in_ok-push_matches b ↦
-          let to : AreAt (record { 0 = s }) nodes.departures.items b.at_stop-departures.result.now =
-          rw (← b.deref-in-Some.ensures.value) b.at_stop-departures.ensures.same in
+          let within : s < p.stops = omega (arith, c.loop-to-test.true, c.stops-to-end.ensures.count) in
+          let there = at_this_stop p.stops nodes.departures.items c.args.departures.now c.requires.departures s within in
           let apart = eqb-false k s (not-true _ (sym c.ne.ensures ∙ b.if-ne.true)) in
           let arcs = ap (λ (v : Vec LayerArc Global). v.items) b.arcs-is in
           let few = c.at_stop-arrivals.ensures.few in
@@ -65,7 +73,7 @@ loop-to-preserved c =
             adds = rw arcs (upto-many To s old before _ c.loop-to.invariant.adds
                 (matches_are p l nodes are c.args.matching b.in-Some.way c.args.from (record { 0 = s }) apart
                 (sym b.in-Some.ensures)
-                c.at_stop-arrivals.result.now b.at_stop-departures.result.now from to before _
+                c.at_stop-arrivals.result.now (get_or c.args.departures.now s nowhere).now from there.0 before _
                 b.in_ok-push_matches.ensures.adds));
             few = rw arcs
                 (omega (arith, c.loop-to.invariant.few, b.in_ok-push_matches.ensures.few, few, all, are.few_arrivals));

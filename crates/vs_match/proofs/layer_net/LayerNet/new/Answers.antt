@@ -38,5 +38,12 @@ invariant_of-result c =
         each_arc = ap length c.in_ok-kinds.ensures ∙ length-map c.args.arcs.now kind ∙ sym arcs;
         each_node = omega (arith, ap (λ (g : Graph). g.nodes) c.in_ok-net.ensures, c.len.ensures, c.args.events.ok.0);
       };
+      few = omega (
+        arith,
+        ap (λ (g : Graph). g.nodes) c.in_ok-net.ensures,
+        c.len.ensures,
+        c.args.events.ok.0,
+        c.requires.few_events,
+      );
       trips = subst P c.deref.ensures.value c.in_ok-trip_arcs.ensures;
     }
