@@ -1,0 +1,4 @@
+mod Standing
+mod Coming
+mod Taking
+mod Arrived
