@@ -1,5 +1,5 @@
-//! The judge of a plan's document: it trusts nothing of the search, and goes over all pairs of
-//! trips.
+//! The judge of a plan's document: it trusts nothing of the search. What it says of prices holds over all
+//! pairs of trips.
 #![tactic(auto)]
 
 mod flaw;

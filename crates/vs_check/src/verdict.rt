@@ -12,14 +12,17 @@ ghost use Rattle.vs_instance.specs.Instance.{IsInstance};
 ghost use Rattle.vs_instance.specs.Restriction.{IsRestriction};
 ghost use Rattle.vs_plan.specs.Blocks.{CanBeJudged, blocks_of};
 ghost use Rattle.vs_prices.specs.Table.{Fits};
+ghost use Rattle.vs_need.specs.Nets.{AreNets};
+ghost use Rattle.vs_need.specs.Room.{HasRoom};
 
 use crate::flaw::Flaw;
 use crate::walk::Walk;
 use std::alloc::Global;
 use vs_cert::{Document, Shape};
 use vs_instance::{Instance, MAX_TRIPS};
+use vs_need::{Counted, Scratch, broken_for, layer_nets};
 use vs_plan::{PlanError, judge};
-use vs_prices::{Bound, Table, broken, worth};
+use vs_prices::{Bound, Table, worth};
 use vs_tree::{claim_found, rest_of};
 use vs_types::{LayerSet, Memory};
 
@@ -53,18 +56,38 @@ fn plan_flaw(
     }
 }
 
-/// The first table that breaks, and where.
-fn tables_flaw(instance: &Instance, tables: &[Table]) -> Option<Flaw>
+/// The first table that breaks, and where, by passes along the nets of the layers.
+fn first_broken(
+    instance: &Instance,
+    nets: &mut Counted,
+    tables: &[Table],
+    scratch: &mut Scratch,
+) -> Option<Flaw>
     requires fits { All (Fits instance.now) tables.now }
     requires few { length tables.now < 2 ^ 32 }
+    requires nets { AreNets instance.now nets.old.nets.now }
+    requires room { HasRoom nets.old.nets.now scratch.old }
     ensures { result ≡ first (tables_flaws instance.now tables.now) }
 {
     for (t, table) in tables.iter().enumerate() {
-        if let Some(at) = broken(instance, table) {
+        let found = broken_for(instance, nets, table, scratch);
+        if let Some(at) = found {
             return Some(Flaw::TableBroken(t as u32, at));
         }
     }
     None
+}
+
+/// The first table that breaks, and where. The net of each layer is built once for all tables.
+fn tables_flaw(alloc: Global, instance: &Instance, tables: &[Table]) -> Result<Option<Flaw>, Memory>
+    requires fits { All (Fits instance.now) tables.now }
+    requires few { length tables.now < 2 ^ 32 }
+    ensures { IfOk result (λ flaw. flaw ≡ first (tables_flaws instance.now tables.now)) }
+{
+    let nets = layer_nets(alloc, instance)?;
+    let mut scratch = Scratch::new(alloc, &nets)?;
+    let mut reader = Counted::new(&nets);
+    Ok(first_broken(instance, &mut reader, tables, &mut scratch))
 }
 
 /// The flaw of a leaf at this position, whose table is worth so much there, beside the printed
@@ -179,7 +202,7 @@ fn first_flaw(
     if let Some(flaw) = plan_flaw(alloc, instance, document)? {
         return Ok(Some(flaw));
     }
-    if let Some(flaw) = tables_flaw(instance, &document.tables) {
+    if let Some(flaw) = tables_flaw(alloc, instance, &document.tables)? {
         return Ok(Some(flaw));
     }
     if let Some(flaw) = shape_flaw(alloc, instance, document)? {

@@ -1,0 +1,13 @@
+pub mod Greatest
+pub mod Ends
+pub mod Joined
+pub mod ReadOrder
+pub mod Offers
+pub mod Widths
+pub mod Passing
+pub mod LawfulPasses
+pub mod PieceWorths
+pub mod FoundFor
+pub mod Suspecting
+pub mod Cuts
+pub mod Built

@@ -1,0 +1,20 @@
+//! Prices judged by one pass along the arcs of each layer's net, in place of all pairs of trips.
+#![tactic(auto)]
+
+mod aim;
+mod arc_reader;
+mod building;
+mod finding;
+mod judging;
+mod pass;
+mod passes;
+mod scratch;
+
+pub use arc_reader::{ArcReader, Counted};
+pub use building::layer_nets;
+pub use finding::needs;
+pub use judging::{broken_fast, broken_for};
+pub use scratch::Scratch;
+
+#[cfg(test)]
+mod tests;
