@@ -1,0 +1,4 @@
+pub mod balance
+pub mod shipping
+pub mod low
+pub mod prices

@@ -1,0 +1,14 @@
+use Rattle.std.proofs.Common.{◌≡◌, nat_abs}
+use Rattle.vs_path.specs.Residual.{price_at}
+use Rattle.vs_circ.specs.Shipments.{Ships}
+use Rattle.vs_circ.proofs.draining.drain_node.Given as goal
+
+-- units were sent
+abbrev pub invariant-loop-search : goal.invariant-loop-search
+invariant-loop-search l = record {
+  ships : Ships l.net l.fn.shipment l.shipment;
+  nodes : l.search.nodes ≡ l.fn.search.nodes;
+}
+
+abbrev pub decreases-loop-search : goal.decreases-loop-search
+decreases-loop-search l = nat_abs (price_at l.shipment.surplus.items l.source)

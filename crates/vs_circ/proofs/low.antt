@@ -1,0 +1,12 @@
+pub mod Reindexing
+pub mod ArcTotals
+pub mod TripArcs
+pub mod LayerBounds
+pub mod LawfulArcs
+pub mod Slackness
+pub mod UnitBlocks
+pub mod TripPays
+pub mod Least
+pub mod Covered
+pub mod Stuck
+pub mod Worth

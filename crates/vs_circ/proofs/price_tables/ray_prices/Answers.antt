@@ -1,0 +1,29 @@
+use Rattle.std.proofs.Common.{◌≡◌, ℕ, List, length, replicate, ◌∙◌, sym, subst, rules, true}
+use Rattle.vs_circ.specs.declared.leeways.Side.TheVariants.{Leaving, Entering}
+use Rattle.vs_circ.specs.Leeways.{AreLeeways}
+use Rattle.vs_circ.proofs.prices.Holding.{if-ok, table-holds, table-pays}
+use Rattle.vs_circ.proofs.prices.Passes.{no-leeways}
+use Rattle.vs_circ.proofs.price_tables.ray_prices.Goals as goal
+
+pub returns-clause-holding : goal.returns-clause-holding
+returns-clause-holding c =
+    let n = c.args.net.now in
+    let prices = c.args.prices.now in
+    let none : c.in_ok-none.none.items ≡ replicate (length prices) 0 =
+    c.in_ok-none.ensures.items_if_clones_equal (search rules) in
+    let entering : AreLeeways n true Entering prices c.deref.result.now =
+    subst (λ (xs : List ℕ). AreLeeways n true Entering prices xs) (sym (c.deref.ensures.value ∙ none))
+    (no-leeways n true Entering prices (length prices) c.requires.each_node c.requires.moves) in
+    let leaving : AreLeeways n true Leaving prices c.deref-2.result.now =
+    subst (λ (xs : List ℕ). AreLeeways n true Leaving prices xs) (sym (c.deref-2.ensures.value ∙ none))
+    (no-leeways n true Leaving prices (length prices) c.requires.each_node c.requires.moves) in
+    if-ok c.table_of.result c.table_of.ensures
+    (λ given table p l is lawful count.
+    table-holds p l n true prices c.deref.result.now c.deref-2.result.now c.args.trips given lawful count
+    c.requires.within entering leaving table)
+
+pub returns-clause-pays : goal.returns-clause-pays
+returns-clause-pays c =
+    if-ok c.table_of.result c.table_of.ensures
+    (λ given table.
+    table-pays c.args.net.now c.args.prices.now c.deref.result.now c.deref-2.result.now c.args.trips given table)

@@ -1,0 +1,12 @@
+pub mod Walking
+pub mod Leeways
+pub mod Holding
+pub mod NodeLimits
+pub mod Passes
+pub mod Entries
+pub mod Pushed
+pub mod ClosedGaps
+pub mod NearPrices
+pub mod Mirrored
+pub mod SignRules
+pub mod Centred

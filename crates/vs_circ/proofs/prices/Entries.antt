@@ -1,0 +1,64 @@
+-- Entries made from prices and leeways that aren't too great are prices.
+use Rattle.std.proofs.Common.{◌≡◌, ℕ, ◌≤◌, ◌∙◌, List, ap, sym, subst, arith, ℤ, ◌+ℤ◌, ◌-ℤ◌}
+use Rattle.std.specs.Prelude.{slice_index}
+use Rattle.std.proofs.lemmas.Int.{ints, clamps}
+use Rattle.vs_layer.specs.Graph.{arc_of}
+use Rattle.vs_instance.specs.Problem.{Problem}
+use Rattle.vs_match.specs.LayerGraph.{LayerGraph, IsArcOfTrip}
+use Rattle.vs_match.specs.LawfulNets.{IsLawful}
+use Rattle.vs_path.specs.Residual.{AllWithin, IsWithin, price_at}
+use Rattle.vs_circ.specs.declared.leeways.Side.{Side}
+use Rattle.vs_circ.specs.declared.leeways.Side.TheVariants.{Leaving, Entering}
+use Rattle.vs_circ.specs.declared.leeways.TheConstants.{MAX_LEEWAY, MAX_NODE_PRICE}
+use Rattle.vs_circ.specs.LayerPrices.{IsPrice}
+use Rattle.vs_circ.specs.Leeways.{passing, shifted}
+use Rattle.vs_circ.specs.PriceTables.{IsEntry, base_price}
+use Rattle.vs_circ.specs.PricedFlows.{end_node}
+
+-- the price from which they count lies no further out than the prices
+pub base-within : (n : LayerGraph) (prices : List ℤ) → AllWithin MAX_NODE_PRICE prices
+    → IsWithin MAX_NODE_PRICE (base_price n prices)
+base-within n prices within =
+    let first = within 0 in
+    let last = within (end_node n) in
+    record {
+      low = omega (arith, ints, clamps, first.low, first.high, last.low, last.high);
+      high = omega (arith, ints, clamps, first.low, first.high, last.low, last.high);
+    }
+
+-- so do prices moved by a leeway
+pub shifted-price : (side : Side) (price : ℤ) (leeway : ℕ) → IsWithin (MAX_NODE_PRICE +ℤ MAX_NODE_PRICE) price
+    → leeway ≤ MAX_LEEWAY → IsPrice (shifted side price leeway)
+shifted-price Leaving price leeway within few =
+    (omega (arith, ints, within.low, within.high), omega (arith, ints, within.low, within.high))
+shifted-price Entering price leeway within few =
+    (omega (arith, ints, within.low, within.high), omega (arith, ints, within.low, within.high))
+
+-- the entry of a trip with an arc
+pub entry-of-arc : (p : Problem) (l : ℕ) (n : LayerGraph) (side : Side) (prices : List ℤ) (leeways : List ℕ)
+    (i k node : ℕ) (base entry : ℤ) → IsLawful p l n → AllWithin MAX_NODE_PRICE prices
+    → ((v : ℕ) → slice_index leeways v ≤ MAX_LEEWAY) → IsArcOfTrip n.kinds i k
+    → node ≡ passing side (arc_of n.graph k) → base ≡ base_price n prices
+    → entry ≡ shifted side (price_at prices node -ℤ base) (slice_index leeways node)
+    → IsEntry n side prices leeways i entry
+entry-of-arc p l n side prices leeways i k node base entry lawful within few is at base_is entry_is =
+    let far = base-within n prices within in
+    let here = within node in
+    let base_far : IsWithin MAX_NODE_PRICE base = subst (λ (z : ℤ). IsWithin MAX_NODE_PRICE z) (sym base_is) far in
+    let Is : ℤ → Type 0 = IsPrice in
+    record {
+      with_arc = λ k' is'.
+          let same : node ≡ passing side (arc_of n.graph k') =
+          at ∙ ap (λ (j : ℕ). passing side (arc_of n.graph j)) (lawful.one_arc i k k' is is') in
+          entry_is
+          ∙ ap (λ (z : ℤ). shifted side (price_at prices node -ℤ z) (slice_index leeways node)) base_is
+          ∙ ap (λ (v : ℕ). shifted side (price_at prices v -ℤ base_price n prices) (slice_index leeways v)) same;
+      without = λ none. absurd (none k is);
+      price = subst Is (sym entry_is)
+          (shifted-price side (price_at prices node -ℤ base) (slice_index leeways node)
+          (record {
+            low = omega (arith, ints, here.low, here.high, base_far.low, base_far.high);
+            high = omega (arith, ints, here.low, here.high, base_far.low, base_far.high);
+          })
+          (few node));
+    }

@@ -1,0 +1,131 @@
+-- A shipment whose units suit their arcs can be sent from.
+use Rattle.std.proofs.Common.{◌≡◌, ◌<◌, ◌≤◌, ◌^◌, ℕ, List, length, get_or, refl, sym, subst, arith, inl, inr, ℤ, pos, Option, Some, None, ◌≤ℤ◌, IfSome}
+use Rattle.std.proofs.lemmas.Int.{ints}
+use Rattle.std.proofs.lemmas.Bool.{cases_lt}
+use Rattle.std.proofs.lemmas.List.{get_or_past}
+use Rattle.vs_layer.specs.declared.arc.Arc.{Arc}
+use Rattle.vs_layer.specs.Graph.{Graph, arc_of}
+use Rattle.vs_match.specs.declared.arc_kind.ArcKind.{ArcKind}
+use Rattle.vs_match.specs.declared.arc_kind.ArcKind.TheVariants.{Trip, Waiting, Deadhead, PullOut, PullIn, Return}
+use Rattle.vs_match.specs.declared.layer_net.TheConstants.{MAX_ARC_COST}
+use Rattle.vs_match.specs.LayerGraph.{LayerGraph, kind_of}
+use Rattle.vs_path.specs.declared.step.Step.TheVariants.{Forward, Back}
+use Rattle.vs_path.specs.declared.residual.TheConstants.{MAX_COST, MAX_NODES}
+use Rattle.vs_path.specs.Residual.{HasSignRule, IsWithin, AllWithin}
+use Rattle.vs_circ.specs.declared.shipment.Shipment.{Shipment}
+use Rattle.vs_circ.specs.declared.shipment.TheConstants.{MAX_FIRST_PRICE}
+use Rattle.vs_circ.specs.declared.offers.TheConstants.{MAX_MULTIPLIER}
+use Rattle.vs_circ.specs.Offers.{offer_of, paid}
+use Rattle.vs_circ.specs.Shipments.{CanShip, IsSized, residual_of}
+use Rattle.vs_circ.specs.Prepared.{AllSuit, AreOfferedCosts, AreOfferedRooms, AreSmallOffers, HasNoGain, HasSmallArcs, IsLeftBy, offered_cost, offered_room, room_if}
+
+-- what a trip is paid is within 0 and 10^14
+paid-within : (offer : Option ℤ) → IfSome offer (λ m. (pos 0 ≤ℤ m) × (m ≤ℤ MAX_MULTIPLIER))
+    → (pos 0 ≤ℤ paid offer) × (paid offer ≤ℤ MAX_MULTIPLIER)
+paid-within None small = (omega (arith, ints), omega (arith, ints))
+paid-within (Some m) small = small
+
+module _ (offers : List (Option ℤ)) (small : AreSmallOffers offers) where
+  offered_cost-within : (kind : ArcKind) (a : Arc) → pos 0 ≤ℤ a.cost → a.cost ≤ℤ MAX_ARC_COST
+      → IsWithin MAX_COST (offered_cost offers kind a)
+  offered_cost-within (Trip i) a no_gain limit =
+      let paid_is = paid-within (offer_of offers i.0) (small i.0) in
+      record {
+        low = omega (arith, ints, no_gain, limit, paid_is.0, paid_is.1);
+        high = omega (arith, ints, no_gain, limit, paid_is.0, paid_is.1);
+      }
+  offered_cost-within Waiting a no_gain limit = record { low = omega (arith, ints); high = omega (arith, ints) }
+  offered_cost-within Deadhead a no_gain limit = record { low = omega (arith, ints); high = omega (arith, ints) }
+  offered_cost-within PullOut a no_gain limit = record { low = omega (arith, ints); high = omega (arith, ints) }
+  offered_cost-within PullIn a no_gain limit = record { low = omega (arith, ints); high = omega (arith, ints) }
+  offered_cost-within Return a no_gain limit = record { low = omega (arith, ints); high = omega (arith, ints) }
+
+room_if-< : (offer : Option ℤ) → room_if offer ≤ 1
+room_if-< None = omega arith
+room_if-< (Some m) = omega arith
+
+offered_room-< : (offers : List (Option ℤ)) (kind : ArcKind) (a : Arc) → a.room ≤ 2000
+    → offered_room offers kind a < 2 ^ 32
+offered_room-< offers (Trip i) a few = omega (arith, room_if-< (offer_of offers i.0))
+offered_room-< offers Waiting a few = omega arith
+offered_room-< offers Deadhead a few = omega arith
+offered_room-< offers PullOut a few = omega arith
+offered_room-< offers PullIn a few = omega arith
+offered_room-< offers Return a few = omega arith
+
+-- only an arc that is no trip's takes more than the net lets it
+offered-no_gain : (offers : List (Option ℤ)) (kind : ArcKind) (a : Arc) → a.room < offered_room offers kind a
+    → pos 0 ≤ℤ a.cost
+    → ((i : ℕ) → kind ≡ Trip (record { 0 = i }) → 1 ≤ a.room) → pos 0 ≤ℤ offered_cost offers kind a
+offered-no_gain offers (Trip i) a more no_gain trip =
+    absurd (omega (arith, room_if-< (offer_of offers i.0), trip i.0 refl))
+offered-no_gain offers Waiting a more no_gain trip = no_gain
+offered-no_gain offers Deadhead a more no_gain trip = no_gain
+offered-no_gain offers PullOut a more no_gain trip = no_gain
+offered-no_gain offers PullIn a more no_gain trip = no_gain
+offered-no_gain offers Return a more no_gain trip = no_gain
+
+module _ (n : LayerGraph) (offers : List (Option ℤ)) (arcs : HasSmallArcs n) where
+  pub costs-within : AreSmallOffers offers → (cost : List ℤ) → length cost ≡ length n.graph.arcs
+      → AreOfferedCosts n offers cost → AllWithin MAX_COST cost
+  costs-within small cost sized offered k =
+      elim (cases_lt k (length n.graph.arcs)) [
+        | inl within ↦
+            subst (IsWithin MAX_COST) (sym (offered k within))
+            (offered_cost-within offers small (kind_of n k) (arc_of n.graph k) (arcs.no_gain k within)
+            (arcs.cost k within))
+        | inr past ↦
+            let none = get_or_past cost k (pos 0) (omega (arith, past, sized)) in
+            record { low = omega (arith, ints, none); high = omega (arith, ints, none) }
+      ]
+
+  pub rooms-within : (room : List ℕ) → length room ≡ length n.graph.arcs → AreOfferedRooms n offers room
+      → (k : ℕ) → get_or room k 0 < 2 ^ 32
+  rooms-within room sized offered k =
+      elim (cases_lt k (length n.graph.arcs)) [
+        | inl within ↦
+            omega (
+              arith,
+              offered k within,
+              offered_room-< offers (kind_of n k) (arc_of n.graph k) (arcs.room k within),
+            )
+        | inr past ↦ omega (arith, get_or_past room k 0 (omega (arith, past, sized)))
+      ]
+
+  pub no-gain : (cost : List ℤ) (room : List ℕ) → AreOfferedCosts n offers cost → AreOfferedRooms n offers room
+      → HasNoGain n.graph cost room
+  no-gain cost room costs rooms k within more =
+      let no_gain =
+      offered-no_gain offers (kind_of n k) (arc_of n.graph k) (omega (arith, more, rooms k within))
+      (arcs.no_gain k within)
+      (λ i is. omega (arith, arcs.trip i k within is)) in
+      let is = costs k within in
+      omega (arith, ints, no_gain, is)
+
+-- where the units suit the arcs, no step gains anything
+pub suit-signs : (g : Graph) (s : Shipment)
+    → AllSuit g s.costs.cost.items s.costs.room.items s.prices.items s.flow.units.items
+    → HasSignRule (residual_of g s) s.prices.items
+suit-signs g s suit (Forward k) open_ =
+    let more = (suit k open_.arc).more open_.room in omega (arith, ints, more)
+suit-signs g s suit (Back k) open_ =
+    let less = (suit k open_.arc).less open_.room in omega (arith, ints, less)
+
+pub suit-can : (n : LayerGraph) (offers : List (Option ℤ)) (s : Shipment) → HasSmallArcs n → n.graph.nodes ≤ MAX_NODES
+    → AreSmallOffers offers → IsSized n.graph s → AreOfferedCosts n offers s.costs.cost.items
+    → AreOfferedRooms n offers s.costs.room.items → AllWithin MAX_FIRST_PRICE s.prices.items
+    → AllSuit n.graph s.costs.cost.items s.costs.room.items s.prices.items s.flow.units.items
+    → IsLeftBy n.graph s.flow.units.items s.surplus.items → CanShip n.graph s
+suit-can n offers s arcs nodes small sized costs rooms first suit left = record {
+  sized = sized;
+  nodes = nodes;
+  costs = costs-within n offers arcs small s.costs.cost.items sized.cost costs;
+  rooms = rooms-within n offers arcs s.costs.room.items sized.room rooms;
+  prices = λ v.
+      let within = first v in
+      record { low = omega (arith, ints, within.low); high = omega (arith, ints, within.high) };
+  first = λ v lacks. first v;
+  signs = suit-signs n.graph s suit;
+  in_room = λ k within. (suit k within).in_room;
+  even = left.even;
+}

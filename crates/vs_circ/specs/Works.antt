@@ -1,0 +1,17 @@
+-- What is kept for a net from one call to the next.
+use Rattle.std.specs.Prelude.{◌≡◌, ℕ, ◌<◌, List, length, Some, slice_get}
+use Rattle.vs_layer.specs.Graph.{Graph}
+use Rattle.vs_circ.specs.declared.work.Kept.{Kept}
+use Rattle.vs_circ.specs.Mirror.{IsMirror}
+use Rattle.vs_circ.specs.Shipments.{IsSized}
+
+-- the shipment has a number for each arc and each node of the net, so has the search, and the mirror is the net's
+pub record IsKeptFor (g : Graph) (kept : Kept) : Type 0 where
+  pub sized : IsSized g kept.shipment
+  pub nodes : kept.search.nodes ≡ g.nodes
+  pub mirror : IsMirror g kept.mirror
+
+-- at this place stands what is kept for the net
+pub record IsKeptAt (g : Graph) (kept : List Kept) (place : ℕ) : Type 0 where
+  pub within : place < length kept
+  pub each : (k : Kept) → slice_get kept place ≡ Some k → IsKeptFor g k

@@ -1,0 +1,93 @@
+ghost use Rattle.std.specs.Prelude.{◌≡◌, ◌<◌, ◌≤ℤ◌, ◌<ℤ◌, length, pos, MatchOption, MatchBool};
+ghost use Rattle.vs_path.specs.Residual.{price_at};
+ghost use Rattle.vs_circ.specs.Shipments.{CanShip, Ships, IsOneLess, IsStuck, IsDrained, CanTakeAll, IsSentAlong, GainAlong, after_unit};
+ghost use Rattle.vs_path.specs.Labels.{Lacks};
+
+use crate::shipment::Shipment;
+use vs_layer::Net;
+use vs_path::{Residual, Search, Step};
+
+/// Sends units from the nodes that have too many to those that lack some, along paths that cost
+/// nothing by the prices. None once nothing is left; else the node that units are stuck at, from
+/// which the search has reached all that it can.
+pub(crate) fn drain(net: &Net, search: &mut Search, shipment: &mut Shipment) -> Option<u32>
+    requires nodes { search.old.nodes ≡ net.now.nodes }
+    requires can { CanShip net.now shipment.old }
+    ensures ships { Ships net.now shipment.old shipment.new }
+    ensures left { MatchOption result (IsDrained shipment.new.surplus.items)
+        (λ source. IsStuck net.now shipment.new source search.new.reached) }
+    ensures nodes { search.new.nodes ≡ search.old.nodes }
+{
+    for node in 0..net.nodes() {
+        if !drain_node(net, search, shipment, node) {
+            return Some(node);
+        }
+    }
+    None
+}
+
+/// Sends units from a node while it has too many. False where some are stuck there.
+fn drain_node(net: &Net, search: &mut Search, shipment: &mut Shipment, source: u32) -> bool
+    requires nodes { search.old.nodes ≡ net.now.nodes }
+    requires can { CanShip net.now shipment.old }
+    requires source { source < net.now.nodes }
+    ensures ships { Ships net.now shipment.old shipment.new }
+    ensures left { MatchBool result (price_at shipment.new.surplus.items source ≤ℤ pos 0)
+        (IsStuck net.now shipment.new source search.new.reached) }
+    ensures nodes { search.new.nodes ≡ search.old.nodes }
+{
+    while shipment.surplus[source as usize] > 0 {
+        if !send(net, search, shipment, source) {
+            return false;
+        }
+    }
+    true
+}
+
+/// Sends a unit from a node to the nearest one that lacks a unit. False where it can reach none.
+fn send(net: &Net, search: &mut Search, shipment: &mut Shipment, source: u32) -> bool
+    requires nodes { search.old.nodes ≡ net.now.nodes }
+    requires can { CanShip net.now shipment.old }
+    requires source { source < net.now.nodes }
+    requires some { pos 0 <ℤ price_at shipment.old.surplus.items source }
+    ensures ships { Ships net.now shipment.old shipment.new }
+    ensures sent { MatchBool result
+        (IsOneLess shipment.old.surplus.items shipment.new.surplus.items source)
+        (IsStuck net.now shipment.new source search.new.reached) }
+    ensures nodes { search.new.nodes ≡ search.old.nodes }
+{
+    let residual = Residual::new(net, &shipment.flow, &shipment.costs, net.arcs());
+    let found = search.find(&residual, &shipment.surplus, source, &mut shipment.prices);
+    let Some(goal) = found else {
+        return false;
+    };
+    carry(search.path(), &mut shipment.flow.units);
+    move_unit(&mut shipment.surplus, source, goal);
+    true
+}
+
+/// A unit less at a node that has some, and a unit more at one that lacks some.
+fn move_unit(surplus: &mut [i64], source: u32, goal: u32)
+    requires source { source < length surplus.old }
+    requires goal { goal < length surplus.old }
+    requires some { pos 0 <ℤ price_at surplus.old source }
+    requires lacks { Lacks surplus.old goal }
+    ensures { surplus.new ≡ after_unit surplus.old source goal }
+{
+    surplus[source as usize] -= 1;
+    surplus[goal as usize] += 1;
+}
+
+/// A unit more on the arc of each step forward, and a unit less on that of each step back.
+fn carry(path: &[Step], units: &mut [u32])
+    requires { CanTakeAll units.old path.now }
+    ensures sent { IsSentAlong units.old units.new path.now (length path.now) }
+    ensures gain { GainAlong units.old units.new path.now }
+{
+    for step in path {
+        match *step {
+            Step::Forward(k) => units[k as usize] += 1,
+            Step::Back(k) => units[k as usize] -= 1,
+        }
+    }
+}

@@ -1,0 +1,152 @@
+ghost use Rattle.std.specs.Prelude.{◌≡◌, ℕ, ◌<◌, ◌≤◌, ◌≤ℤ◌, ◌*ℤ◌, pos, IfOk, length, slice_index};
+ghost use Rattle.vs_types.specs.declared.numbers.LayerNo.{LayerNo};
+ghost use Rattle.vs_layer.specs.Circulation.{flow_cost};
+ghost use Rattle.vs_instance.specs.Problem.{Problem};
+ghost use Rattle.vs_instance.specs.Instance.{IsInstance};
+ghost use Rattle.vs_match.specs.LawfulNets.{IsLawful};
+ghost use Rattle.vs_match.specs.declared.layer_net.TheConstants.{MAX_ARC_COST};
+ghost use Rattle.vs_circ.specs.Circulations.{IsFixed};
+ghost use Rattle.vs_circ.specs.Offers.{AreMust};
+ghost use Rattle.vs_circ.specs.Prepared.{HasSmallArcs};
+ghost use Rattle.vs_circ.specs.Shipments.{IsDrained, IsSized};
+ghost use Rattle.vs_circ.specs.Supplied.{AreRun, AreStuckPrices, HasStuckUnits, IsSupplied};
+
+use crate::draining::drain;
+use crate::fixed_flow::FixedFlow;
+use crate::gaps::near_prices;
+use crate::price_tables::{layer_prices, ray_prices};
+use crate::shipment::Shipment;
+use crate::supplying::{must_on, supply};
+use crate::work::Work;
+use std::alloc::Global;
+use vs_layer::{Arc, Flow};
+use vs_match::LayerNet;
+use vs_path::Search;
+use vs_types::Memory;
+
+/// A least circulation that runs exactly these trips, or prices that show that there is none.
+pub fn fixed(
+    alloc: Global,
+    net: &LayerNet,
+    must: &[bool],
+    work: &mut Work,
+) -> Result<FixedFlow, Memory>
+    requires of_layer { (p : Problem) × (l : LayerNo) × IsInstance p × IsLawful p l.0 net.now
+        × AreMust p l.0 must.now }
+    ensures fixed { IfOk result (λ f. (p : Problem) (l : LayerNo) → IsInstance p
+        → IsLawful p l.0 net.now → AreMust p l.0 must.now → IsFixed p l net.now must.now f) }
+{
+    let place = work.place_of(alloc, net.net())?;
+    let kept = &mut work.kept[place];
+    fix(alloc, net, must, &mut kept.shipment, &mut kept.search)
+}
+
+/// The same by a shipment and a search for nets with as many nodes and arcs.
+fn fix(
+    alloc: Global,
+    net: &LayerNet,
+    must: &[bool],
+    shipment: &mut Shipment,
+    search: &mut Search,
+) -> Result<FixedFlow, Memory>
+    requires of_layer { (p : Problem) × (l : LayerNo) × IsInstance p × IsLawful p l.0 net.now
+        × AreMust p l.0 must.now }
+    requires nodes { search.old.nodes ≡ net.now.graph.nodes }
+    requires sized { IsSized net.now.graph shipment.old }
+    ensures fixed { IfOk result (λ f. (p : Problem) (l : LayerNo) → IsInstance p
+        → IsLawful p l.0 net.now → AreMust p l.0 must.now → IsFixed p l net.now must.now f) }
+    ensures nodes { search.new.nodes ≡ search.old.nodes }
+    ensures sized { IsSized net.now.graph shipment.new }
+{
+    let arcs = net.net();
+    supply(net, must, shipment);
+    match drain(arcs, search, shipment) {
+        None => covered(alloc, net, must, shipment),
+        Some(_) => short(alloc, net, must, search.reached()),
+    }
+}
+
+/// The circulation that is made up of the trips that have to run and of the units that were sent.
+fn covered(
+    alloc: Global,
+    net: &LayerNet,
+    must: &[bool],
+    shipment: &Shipment,
+) -> Result<FixedFlow, Memory>
+    requires of_layer { (p : Problem) × (l : LayerNo) × IsInstance p × IsLawful p l.0 net.now
+        × AreMust p l.0 must.now }
+    requires supplied { IsSupplied net.now must.now shipment.now }
+    requires drained { IsDrained shipment.now.surplus.items }
+    ensures { IfOk result (λ f. (p : Problem) (l : LayerNo) → IsInstance p
+        → IsLawful p l.0 net.now → AreMust p l.0 must.now → IsFixed p l net.now must.now f) }
+{
+    let flow = run_too(alloc, net, must, &shipment.flow)?;
+    let near = near_prices(alloc, &shipment.prices)?;
+    let prices = layer_prices(alloc, net, must.len(), &near)?;
+    let cost = cost_of(net, &flow);
+    Ok(FixedFlow::Covered { flow, prices, cost })
+}
+
+/// The flow with a unit on the arc of each trip that has to run.
+fn run_too(alloc: Global, net: &LayerNet, must: &[bool], flow: &Flow) -> Result<Flow, Memory>
+    requires { length flow.now.units.items ≡ length net.now.graph.arcs }
+    ensures { IfOk result (λ both. AreRun net.now must.now flow.now.units.items both.units.items) }
+{
+    let mut units = Vec::with_capacity(alloc, flow.units.len())?;
+    for k in 0..net.net().arcs() {
+        units.push(flow.units[k as usize].max(must_on(must, net.kind(k))))?;
+    }
+    Ok(Flow { units })
+}
+
+/// What a flow costs, in 1/1000 of a cost unit.
+fn cost_of(net: &LayerNet, flow: &Flow) -> i128
+    requires arcs { HasSmallArcs net.now }
+    requires units { length flow.now.units.items ≡ length net.now.graph.arcs }
+    ensures { result ≡ flow_cost net.now.graph flow.now.units.items }
+{
+    let mut cost = 0;
+    for k in 0..net.net().arcs() {
+        cost += units_cost(net.net().arc(k), flow.units[k as usize]);
+    }
+    cost
+}
+
+/// What so many units on an arc cost, in 1/1000 of a cost unit.
+fn units_cost(arc: Arc, units: u32) -> i128
+    requires no_gain { pos 0 ≤ℤ arc.cost }
+    requires cost { arc.cost ≤ℤ MAX_ARC_COST }
+    ensures value { result ≡ arc.cost *ℤ pos units }
+    ensures low { pos 0 ≤ℤ result }
+    ensures high { result ≤ℤ pos 85899345920000000000000 }
+{
+    i128::from(arc.cost) * i128::from(units)
+}
+
+/// Prices that show that units are stuck at these nodes.
+fn short(alloc: Global, net: &LayerNet, must: &[bool], stuck: &[u32]) -> Result<FixedFlow, Memory>
+    requires of_layer { (p : Problem) × (l : LayerNo) × IsInstance p × IsLawful p l.0 net.now
+        × AreMust p l.0 must.now }
+    requires within { (i : ℕ) → i < length stuck.now
+        → slice_index stuck.now i < net.now.graph.nodes }
+    requires stuck { HasStuckUnits net.now must.now stuck.now }
+    ensures { IfOk result (λ f. (p : Problem) (l : LayerNo) → IsInstance p
+        → IsLawful p l.0 net.now → AreMust p l.0 must.now → IsFixed p l net.now must.now f) }
+{
+    let nodes = stuck_prices(alloc, net.net().nodes(), stuck)?;
+    let prices = ray_prices(alloc, net, must.len(), &nodes)?;
+    Ok(FixedFlow::Short { prices })
+}
+
+/// The price -1 at each of these nodes, and 0 at the others of so many.
+fn stuck_prices(alloc: Global, count: u32, stuck: &[u32]) -> Result<Vec<i64>, Memory>
+    requires within { (i : ℕ) → i < length stuck.now → slice_index stuck.now i < count }
+    ensures size { IfOk result (λ prices. length prices.items ≡ count) }
+    ensures prices { IfOk result (λ prices. AreStuckPrices stuck.now prices.items) }
+{
+    let mut prices = vec![in alloc; 0; count as usize]?;
+    for i in 0..stuck.len() {
+        prices[stuck[i] as usize] = -1;
+    }
+    Ok(prices)
+}

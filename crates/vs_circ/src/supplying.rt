@@ -1,0 +1,62 @@
+ghost use Rattle.std.specs.Prelude.{◌≡◌, ℕ, ◌<◌, ◌≤◌, length, slice_index};
+ghost use Rattle.vs_types.specs.declared.numbers.LayerNo.{LayerNo};
+ghost use Rattle.vs_instance.specs.Problem.{Problem};
+ghost use Rattle.vs_instance.specs.Instance.{IsInstance};
+ghost use Rattle.vs_match.specs.LawfulNets.{IsLawful};
+ghost use Rattle.vs_match.specs.LayerGraph.{kind_of};
+ghost use Rattle.vs_path.specs.declared.residual.TheConstants.{MAX_NODES};
+ghost use Rattle.vs_circ.specs.PricedFlows.{must_on, must_units};
+ghost use Rattle.vs_circ.specs.Shipments.{IsSized};
+ghost use Rattle.vs_circ.specs.Supplied.{IsSupplied};
+
+use crate::preparing::{clear, leave, offer_costs, offer_rooms};
+use crate::shipment::Shipment;
+use vs_match::{ArcKind, LayerNet};
+
+/// A unit on the arc of a trip that has to run, and none on any other arc.
+pub(crate) fn must_on(must: &[bool], kind: ArcKind) -> u32
+    ensures { result ≡ must_on must.now kind }
+{
+    match kind {
+        ArcKind::Trip(i) => match must.get(i.0 as usize) {
+            Some(true) => 1,
+            _ => 0,
+        },
+        _ => 0,
+    }
+}
+
+/// Runs the trips that have to run, and makes no empty move.
+fn run(net: &LayerNet, must: &[bool], units: &mut [u32])
+    requires size { length units.old ≡ length net.now.graph.arcs }
+    ensures { units.new ≡ must_units net.now must.now }
+{
+    for k in 0..net.net().arcs() {
+        units[k as usize] = must_on(must, net.kind(k));
+    }
+}
+
+/// Takes the units off all arcs.
+fn empty(units: &mut [u32])
+    ensures { (k : ℕ) → slice_index units.new k ≡ 0 }
+{
+    for n in units.iter_mut() {
+        *n = 0;
+    }
+}
+
+/// Makes a shipment ready to make up for the trips that have to run: a unit more is where each
+/// arrives, and a unit lacks where it departs. No arc carries anything, and all prices are 0.
+pub(crate) fn supply(net: &LayerNet, must: &[bool], shipment: &mut Shipment)
+    requires of_layer { (p : Problem) × (l : LayerNo) × IsInstance p × IsLawful p l.0 net.now }
+    requires nodes { net.now.graph.nodes ≤ MAX_NODES }
+    requires sized { IsSized net.now.graph shipment.old }
+    ensures { IsSupplied net.now must.now shipment.new }
+{
+    offer_costs(net, &[], &mut shipment.costs.cost);
+    offer_rooms(net, &[], &mut shipment.costs.room);
+    run(net, must, &mut shipment.flow.units);
+    leave(net.net(), &shipment.flow.units, &mut shipment.surplus);
+    empty(&mut shipment.flow.units);
+    clear(&mut shipment.prices);
+}

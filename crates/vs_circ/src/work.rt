@@ -1,0 +1,122 @@
+ghost use Rattle.std.specs.Prelude.{IfOk, IsTrue};
+ghost use Rattle.vs_circ.specs.Mirror.{IsMirror};
+ghost use Rattle.vs_circ.specs.Shipments.{IsSized};
+ghost use Rattle.vs_circ.specs.Works.{IsKeptAt, IsKeptFor};
+
+use crate::mirror::{mirror_of, turned};
+use crate::shipment::Shipment;
+use std::alloc::Global;
+use vs_layer::{Flow, Net};
+use vs_match::LayerNet;
+use vs_path::{Costs, Search};
+use vs_types::Memory;
+
+/// What is kept for a net: the units that were sent last, the space of the searches, and the net
+/// turned round.
+#[derive(Drop)]
+pub(crate) struct Kept {
+    pub shipment: Shipment,
+    pub search: Search,
+    pub mirror: Net,
+}
+
+/// What calls keep for the nets of the layers. It decides only how long a call takes, so a call
+/// asks nothing of it.
+#[derive(Drop)]
+pub struct Work {
+    pub(crate) kept: Vec<Kept>,
+}
+
+impl Kept {
+    /// A start for a net.
+    fn new(alloc: Global, net: &Net) -> Result<Kept, Memory>
+        ensures { IfOk result (IsKeptFor net.now) }
+    {
+        Ok(Kept {
+            shipment: empty_shipment(alloc, net)?,
+            search: Search::new(alloc, net.nodes())?,
+            mirror: mirror_of(alloc, net)?,
+        })
+    }
+
+    /// Whether it is one of this net.
+    fn is_of(&self, net: &Net) -> bool
+        ensures { IsTrue result → IsKeptFor net.now self.now }
+    {
+        is_sized(&self.shipment, net)
+            && self.search.nodes() == net.nodes() as usize
+            && is_mirror(&self.mirror, net)
+    }
+}
+
+impl Work {
+    /// What calls for these nets keep. With it none of them allocates for what it keeps.
+    pub fn new(alloc: Global, nets: &[LayerNet]) -> Result<Work, Memory> {
+        let mut kept = Vec::with_capacity(alloc, nets.len())?;
+        for net in nets {
+            kept.push(Kept::new(alloc, net.net())?)?;
+        }
+        Ok(Work { kept })
+    }
+
+    /// The place of what is kept for a net, which is made where there is none.
+    pub(crate) fn place_of(&mut self, alloc: Global, net: &Net) -> Result<usize, Memory>
+        ensures { IfOk result (λ place. IsKeptAt net.now self.new.kept.items place) }
+    {
+        for (place, kept) in self.kept.iter().enumerate() {
+            if kept.is_of(net) {
+                return Ok(place);
+            }
+        }
+        let place = self.kept.len();
+        self.kept.push(Kept::new(alloc, net)?)?;
+        Ok(place)
+    }
+}
+
+/// No units, at prices of 0.
+fn empty_shipment(alloc: Global, net: &Net) -> Result<Shipment, Memory>
+    ensures { IfOk result (IsSized net.now) }
+{
+    let arcs = net.arcs() as usize;
+    let nodes = net.nodes() as usize;
+    Ok(Shipment {
+        flow: Flow {
+            units: vec![in alloc; 0; arcs]?,
+        },
+        costs: Costs {
+            cost: vec![in alloc; 0; arcs]?,
+            room: vec![in alloc; 0; arcs]?,
+        },
+        prices: vec![in alloc; 0; nodes]?,
+        surplus: vec![in alloc; 0; nodes]?,
+    })
+}
+
+/// Whether a shipment has a number for each arc and for each node of the net.
+fn is_sized(shipment: &Shipment, net: &Net) -> bool
+    ensures { IsTrue result → IsSized net.now shipment.now }
+{
+    let arcs = net.arcs() as usize;
+    let nodes = net.nodes() as usize;
+    shipment.flow.units.len() == arcs
+        && shipment.costs.cost.len() == arcs
+        && shipment.costs.room.len() == arcs
+        && shipment.prices.len() == nodes
+        && shipment.surplus.len() == nodes
+}
+
+/// Whether this is the net turned round.
+fn is_mirror(mirror: &Net, net: &Net) -> bool
+    ensures { IsTrue result → IsMirror net.now mirror.now }
+{
+    if mirror.nodes() != net.nodes() || mirror.arcs() != net.arcs() {
+        return false;
+    }
+    for k in 0..net.arcs() {
+        if mirror.arc(k) != turned(net.nodes(), net.arc(k)) {
+            return false;
+        }
+    }
+    true
+}
