@@ -1,0 +1,23 @@
+use Rattle.std.proofs.Common.{◌<◌, ◌∙◌, length, arith, sym, subst}
+use Rattle.std.proofs.lemmas.List.{length-set}
+use Rattle.vs_instance.specs.Lagrangian.{IsStart}
+use Rattle.vs_multi.proofs.OwnBlocks.{start_is, start_value}
+use Rattle.vs_multi.proofs.Places.{place_filled}
+use Rattle.vs_multi.proofs.starting.start.Goals as goal
+
+pub loop-i-preserved : goal.loop-i-preserved
+loop-i-preserved c =
+    let p = c.args.instance.now in
+    let i = c.loop-i.i in
+    let inv = c.loop-i.invariant in
+    let inside : i < length c.loop-i.multipliers =
+    omega (arith, inv.size, c.trips-i-end.ensures.count, c.loop-i-test.true) in
+    let least = c.least_own_cost.ensures in
+    let value = start_value c.least_own_cost.result c.unwrap_or-least.result c.unwrap_or-least.ensures least.limits in
+    let here = subst (IsStart p (record { 0 = i })) (sym value)
+    (start_is p (record { 0 = i }) c.least_own_cost.result least.value) in
+    record {
+      size = length-set c.loop-i.multipliers i _ ∙ inv.size;
+      done = λ j below. place_filled (λ k m. IsStart p (record { 0 = k }) m) c.loop-i.multipliers i _ inside
+          (λ k less. inv.done (record { 0 = k }) less) here j.0 below;
+    }

@@ -1,0 +1,51 @@
+-- What trips are paid for, in 1/1000 of a cost unit.
+use Rattle.std.specs.Prelude.{◌≡◌, ℕ, ◌<◌, ◌≤◌, List, [], ◌∷◌, length, Option, Some, None, ℤ, pos, ◌≤ℤ◌}
+use Rattle.std.specs.Int.{int_min, int_max}
+use Rattle.vs_types.specs.declared.layer_set.LayerSet.{LayerSet}
+use Rattle.vs_types.specs.declared.numbers.LayerNo.{LayerNo}
+use Rattle.vs_types.specs.declared.numbers.TripNo.{TripNo}
+use Rattle.vs_instance.specs.Problem.{Problem}
+use Rattle.vs_instance.specs.Blocks.{block_cost}
+use Rattle.vs_instance.specs.Lagrangian.{HasOwnBlock, IsStart, multiplier_of}
+use Rattle.vs_prices.specs.declared.table.Table.{Table}
+use Rattle.vs_prices.specs.Worth.{least_price}
+use Rattle.vs_multi.specs.declared.least_prices.TheConstants.{MAX_MULTIPLIER}
+
+-- what the block of trip i alone costs in layer l, None where there is no such block
+abbrev pub IsOwnCost : Problem → LayerNo → TripNo → Option ℤ → Type 0
+IsOwnCost p l i None = ¬ (HasOwnBlock p l i)
+IsOwnCost p l i (Some cost) = HasOwnBlock p l i × (cost ≡ pos (block_cost p l (i ∷ [])))
+
+-- the block of trip i alone in layer l is the cheapest of those in the layers below n
+abbrev pub IsCheapestAlone : Problem → ℕ → TripNo → LayerNo → Type 0
+IsCheapestAlone p n i l =
+    (m : LayerNo) → m.0 < n → HasOwnBlock p m i → block_cost p l (i ∷ []) ≤ block_cost p m (i ∷ [])
+
+-- what the cheapest of these costs, None where there is none
+abbrev pub IsLeastOwnCost : Problem → ℕ → TripNo → Option ℤ → Type 0
+IsLeastOwnCost p n i None = (l : LayerNo) → l.0 < n → ¬ (HasOwnBlock p l i)
+IsLeastOwnCost p n i (Some cost) = (l : LayerNo) × IsOwnCost p l i (Some cost) × IsCheapestAlone p n i l
+
+-- no block of one trip costs more
+abbrev pub MayCostAlone : ℤ → Type 0
+MayCostAlone cost = (pos 0 ≤ℤ cost) × (cost ≤ℤ pos 60000000000)
+
+-- the lesser of two numbers, where there are both, else the one that there is
+abbrev pub lesser_of : Option ℤ → Option ℤ → Option ℤ
+lesser_of None b = b
+lesser_of (Some a) None = Some a
+lesser_of (Some a) (Some b) = Some (int_min a b)
+
+-- a multiplier for each trip, the one to begin with
+pub record AreStarts (p : Problem) (multipliers : List ℤ) : Type 0 where
+  pub each_trip : length multipliers ≡ length p.trips
+  pub start : (i : TripNo) → i.0 < length p.trips → IsStart p i (multiplier_of multipliers i.0)
+
+-- a price, or the limit of multipliers that it is beyond
+abbrev pub limited : ℤ → ℤ
+limited price = int_min (int_max price (pos 0)) MAX_MULTIPLIER
+
+-- a multiplier for each trip: what it pays in the cheapest layer of its set
+pub record AreOfTable (p : Problem) (sets : List LayerSet) (table : Table) (multipliers : List ℤ) : Type 0 where
+  pub each_trip : length multipliers ≡ length p.trips
+  pub price : (i : ℕ) → i < length p.trips → multiplier_of multipliers i ≡ limited (least_price p sets table i)
