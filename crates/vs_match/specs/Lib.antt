@@ -17,3 +17,4 @@ pub mod LawfulNets
 pub mod Decomposition
 pub mod Underway
 pub mod Aggregation
+pub mod LayerNets

@@ -7,7 +7,8 @@ use Rattle.vs_instance.specs.Problem.{Problem}
 use Rattle.vs_match.specs.declared.matching.Matching.{Matching}
 use Rattle.vs_match.specs.LayerGraph.{LayerGraph, IsNetOf, kind_of}
 use Rattle.vs_match.specs.NetArcs.{IsArcBefore}
-use Rattle.vs_need.specs.Nets.{IsRising, net_at, no_net}
+use Rattle.vs_match.specs.LayerNets.{net_at, no_net}
+use Rattle.vs_need.specs.Nets.{IsRising}
 
 -- what holds of each net so far, and of one more
 pub one_more_net : (P : ℕ → LayerGraph → Type 0) (nets : List LayerGraph) (net : LayerGraph) (count : ℕ)

@@ -51,7 +51,7 @@ cut_of p nets table l trips s intos into froms from given e e' is is' =
     record {
       fits = fits;
       layer = given.layer;
-      few_trips = given.can_judge.nets_are.instance.few_trips;
+      few_trips = given.can_judge.nets_are.of_layers.instance.few_trips;
       into_is = into_is;
       from_is = from_is;
       into_prices = each_price p l table.into.items into into_is fits.into;

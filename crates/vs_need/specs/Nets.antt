@@ -1,18 +1,10 @@
 -- The nets of an instance, one for each layer, and what it takes to go along their arcs once.
-use Rattle.std.specs.Prelude.{◌≡◌, ◌≢◌, ℕ, ◌+◌, ◌-◌, ◌^◌, ◌<◌, ◌≤◌, List, [], length, min, sum_by, slice_index_or}
+use Rattle.std.specs.Prelude.{◌≡◌, ◌≢◌, ℕ, ◌+◌, ◌-◌, ◌^◌, ◌<◌, ◌≤◌, List, length, min, sum_by}
 use Rattle.vs_layer.specs.Graph.{IsNet, arc_of}
 use Rattle.vs_instance.specs.Problem.{Problem}
-use Rattle.vs_instance.specs.Instance.{IsInstance}
 use Rattle.vs_match.specs.declared.arc_kind.ArcKind.TheVariants.{Return}
 use Rattle.vs_match.specs.LayerGraph.{LayerGraph, IsLabelled, IsArcOfTrip, kind_of}
-use Rattle.vs_match.specs.LawfulNets.{IsLawful}
-
--- what stands past the end of the nets
-abbrev pub no_net : LayerGraph
-no_net = record { graph = record { nodes = 0; arcs = [] }; kinds = []; events = [] }
-
-abbrev pub net_at : List LayerGraph → ℕ → LayerGraph
-net_at nets l = slice_index_or nets l no_net
+use Rattle.vs_match.specs.LayerNets.{AreLayerNets, net_at}
 
 abbrev pub arcs_in : LayerGraph → ℕ
 arcs_in n = length n.graph.arcs
@@ -29,11 +21,9 @@ one_more n = min (n + 1) (2 ^ 64 - 1)
 abbrev pub IsRising : LayerGraph → Type 0
 IsRising n = (j k : ℕ) → j < k → k < arcs_in n → (arc_of n.graph j).from ≤ (arc_of n.graph k).from
 
--- the nets are those of an instance: one for each layer in order, each lawful, with its arcs in order
+-- the nets are those of an instance, with their arcs in order
 pub record AreNets (p : Problem) (nets : List LayerGraph) : Type 0 where
-  pub instance : IsInstance p
-  pub each_layer : length nets ≡ length p.layers
-  pub lawful : (l : ℕ) → l < length nets → IsLawful p l (net_at nets l)
+  pub of_layers : AreLayerNets p nets
   pub rising : (l : ℕ) → l < length nets → IsRising (net_at nets l)
 
 -- a net whose arcs may be gone along once, of trips below this number: all but the return arc go up, and each trip has

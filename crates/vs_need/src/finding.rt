@@ -1,7 +1,8 @@
 ghost use Rattle.std.specs.Prelude.{◌≡◌, ℕ, ◌+◌, ◌*◌, ◌<◌, ◌≤◌, IfSome, None, FitsSigned, length, slice_index_or, slice_range};
 ghost use mir.Syntax.{w64};
 ghost use Rattle.vs_instance.specs.Problem.{Problem};
-ghost use Rattle.vs_need.specs.Nets.{arcs_in, net_at};
+ghost use Rattle.vs_match.specs.LayerNets.{net_at};
+ghost use Rattle.vs_need.specs.Nets.{arcs_in};
 ghost use Rattle.vs_need.specs.Needs.{AreNeeds, IsFoundFor};
 ghost use Rattle.vs_need.specs.Room.{CanFind, CanNeed, HasRoom};
 

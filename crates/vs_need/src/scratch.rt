@@ -1,5 +1,5 @@
 ghost use Rattle.std.specs.Prelude.{ℕ, ◌<◌, ◌≤◌, IfOk, length};
-ghost use Rattle.vs_need.specs.Nets.{net_at};
+ghost use Rattle.vs_match.specs.LayerNets.{net_at};
 
 use std::alloc::Global;
 use vs_instance::MAX_TRIPS;

@@ -2,3 +2,4 @@ pub mod Table
 pub mod Breaks
 pub mod Worth
 pub mod Laws
+pub mod Bounds

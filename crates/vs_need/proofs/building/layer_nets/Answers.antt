@@ -2,7 +2,8 @@ use Rattle.std.proofs.Common.{ℕ, ◌+◌, ◌<◌, List, arith, rules, sym, su
 use Rattle.vs_match.specs.declared.matching.Matching.TheVariants.{Latest}
 use Rattle.vs_match.specs.LayerGraph.{LayerGraph}
 use Rattle.vs_match.specs.LawfulNets.{IsLawful}
-use Rattle.vs_need.specs.Nets.{IsRising, net_at}
+use Rattle.vs_match.specs.LayerNets.{net_at}
+use Rattle.vs_need.specs.Nets.{IsRising}
 use Rattle.vs_need.proofs.Built.{net_rises, one_more_net}
 use Rattle.vs_need.proofs.building.layer_nets.Goals as goal
 
@@ -25,14 +26,16 @@ loop-l-preserved c =
 
 pub returns : goal.returns
 returns c = record {
-  instance = c.layers-l-end.ensures.instance;
-  each_layer = omega (
-    arith,
-    c.loop-l.invariant.each,
-    c.loop-l-test.false,
-    c.layers-l-end.ensures.count,
-    c.loop-l.auto.l-end,
-  );
-  lawful = λ k within. c.loop-l.invariant.lawful k (omega (arith, c.loop-l.invariant.each, within));
+  of_layers = record {
+    instance = c.layers-l-end.ensures.instance;
+    each_layer = omega (
+      arith,
+      c.loop-l.invariant.each,
+      c.loop-l-test.false,
+      c.layers-l-end.ensures.count,
+      c.loop-l.auto.l-end,
+    );
+    lawful = λ k within. c.loop-l.invariant.lawful k (omega (arith, c.loop-l.invariant.each, within));
+  };
   rising = λ k within. c.loop-l.invariant.rising k (omega (arith, c.loop-l.invariant.each, within));
 }

@@ -1,6 +1,7 @@
 use Rattle.std.proofs.Common.{◌≡◌, ℕ, ◌<◌, length}
 use Rattle.vs_match.specs.LawfulNets.{IsLawful}
-use Rattle.vs_need.specs.Nets.{IsRising, net_at}
+use Rattle.vs_match.specs.LayerNets.{net_at}
+use Rattle.vs_need.specs.Nets.{IsRising}
 use Rattle.vs_need.proofs.building.layer_nets.Given as goal
 
 abbrev pub invariant-loop-l : goal.invariant-loop-l

@@ -3,7 +3,8 @@ use Rattle.std.proofs.lemmas.List.Sums.{sum_by_more, sum_by_more_le}
 use Rattle.vs_instance.proofs.Firsts.{first_below-step, first_below-found}
 use Rattle.vs_match.specs.LayerGraph.{LayerGraph}
 use Rattle.vs_prices.specs.Breaks.{layer_breaks}
-use Rattle.vs_need.specs.Nets.{arcs_in, net_at, no_net}
+use Rattle.vs_match.specs.LayerNets.{net_at, no_net}
+use Rattle.vs_need.specs.Nets.{arcs_in}
 use Rattle.vs_need.proofs.Cuts.{kept-kept}
 use Rattle.vs_need.proofs.judging.broken_fast.Goals as goal
 
@@ -11,7 +12,7 @@ pub returns-in-Some-clause-first : goal.returns-in-Some-clause-first
 returns-in-Some-clause-first g c =
     let given = c.requires.1 in
     first_below-found (layer_breaks g.p c.args.table.now) c.loop-l.l (length g.p.layers) _ c.loop-l.invariant.so_far
-    c.in-Some.at (omega (arith, c.layers-l-end.ensures, c.loop-l-test.true, given.nets_are.each_layer))
+    c.in-Some.at (omega (arith, c.layers-l-end.ensures, c.loop-l-test.true, given.nets_are.of_layers.each_layer))
     c.in-Some.ensures.first
 
 pub returns-in-Some-clause-reads : goal.returns-in-Some-clause-reads
@@ -36,5 +37,5 @@ loop-l-preserved g c =
           c.broken_in_layer-found.ensures.kept;
       so_far =
           first_below-step (layer_breaks g.p c.args.table.now) c.loop-l.l (length g.p.layers) _
-          c.loop-l.invariant.so_far (omega (arith, within, given.nets_are.each_layer)) c.in_default.ensures.first;
+          c.loop-l.invariant.so_far (omega (arith, within, given.nets_are.of_layers.each_layer)) c.in_default.ensures.first;
     }

@@ -2,7 +2,7 @@ use Rattle.std.proofs.Common.{◌≡◌, ◌∙◌, ℕ, List, arith, rules, ap,
 use Rattle.vs_layer.specs.declared.arc.Arc.{Arc}
 use Rattle.vs_layer.specs.Graph.{arc_of}
 use Rattle.vs_match.specs.LayerGraph.{LayerGraph, kind_of}
-use Rattle.vs_need.specs.Nets.{net_at}
+use Rattle.vs_match.specs.LayerNets.{net_at}
 use Rattle.vs_need.specs.Reading.{arc_after}
 use Rattle.vs_need.proofs.Widths.{price_fits_at}
 use Rattle.vs_need.proofs.Passing.{passed}

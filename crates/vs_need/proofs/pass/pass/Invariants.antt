@@ -1,5 +1,5 @@
 use Rattle.std.proofs.Common.{◌≡◌, ◌+◌, ◌≤◌}
-use Rattle.vs_need.specs.Nets.{net_at}
+use Rattle.vs_match.specs.LayerNets.{net_at}
 use Rattle.vs_need.proofs.Passing.{IsUnderWay}
 use Rattle.vs_need.proofs.pass.pass.Given as goal
 

@@ -1,5 +1,5 @@
 use Rattle.std.proofs.Common.{ℕ, ◌<◌, ◌≤◌}
-use Rattle.vs_need.specs.Nets.{net_at}
+use Rattle.vs_match.specs.LayerNets.{net_at}
 use Rattle.vs_need.proofs.scratch.most_nodes.Given as goal
 
 abbrev pub invariant-loop-net : goal.invariant-loop-net

@@ -1,0 +1,19 @@
+-- The nets of an instance, one for each layer.
+use Rattle.std.specs.Prelude.{◌≡◌, ℕ, ◌<◌, List, [], length, slice_index_or}
+use Rattle.vs_instance.specs.Problem.{Problem}
+use Rattle.vs_instance.specs.Instance.{IsInstance}
+use Rattle.vs_match.specs.LayerGraph.{LayerGraph}
+use Rattle.vs_match.specs.LawfulNets.{IsLawful}
+
+-- what stands past the end of the nets
+abbrev pub no_net : LayerGraph
+no_net = record { graph = record { nodes = 0; arcs = [] }; kinds = []; events = [] }
+
+abbrev pub net_at : List LayerGraph → ℕ → LayerGraph
+net_at nets l = slice_index_or nets l no_net
+
+-- the nets are those of an instance: a lawful one for each layer, in order
+pub record AreLayerNets (p : Problem) (nets : List LayerGraph) : Type 0 where
+  pub instance : IsInstance p
+  pub each_layer : length nets ≡ length p.layers
+  pub lawful : (l : ℕ) → l < length nets → IsLawful p l (net_at nets l)
