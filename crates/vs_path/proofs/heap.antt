@@ -1,2 +1,2 @@
+pub mod Emptying
 pub mod Matches
-pub mod Waiting

@@ -1,5 +1,5 @@
 -- What a search for least paths knows while it goes on.
-use Rattle.std.specs.Prelude.{◌≡◌, ◌≢◌, ℕ, ◌+◌, ◌*◌, ◌<◌, ◌≤◌, List, [], ◌∷◌, ◌++◌, length, set, replicate, slice_index, slice_index_or, Option, Some, None, ℤ, pos, ◌+ℤ◌, ◌-ℤ◌, ◌≤ℤ◌, ◌<ℤ◌, nat_abs}
+use Rattle.std.specs.Prelude.{◌≡◌, ◌≢◌, ◌⊎◌, ℕ, ◌+◌, ◌*◌, ◌<◌, ◌≤◌, List, [], ◌∷◌, ◌++◌, length, set, replicate, slice_index, slice_index_or, Option, Some, None, ℤ, pos, ◌+ℤ◌, ◌-ℤ◌, ◌≤ℤ◌, ◌<ℤ◌, nat_abs}
 use Rattle.vs_path.specs.declared.residual.TheConstants.{MAX_COST, MAX_NODES, MAX_PRICE}
 use Rattle.vs_path.specs.declared.step.Step.{Step}
 use Rattle.vs_path.specs.declared.labels.Settled.{Settled}
@@ -135,29 +135,42 @@ pub record AreLabels (r : ResidualNet) (prices : List ℤ) (l : Lists) : Type 0 
   pub ordered : (v w : ℕ) (a : Settled) (key : ℤ) → settled_at l v ≡ Some a → waiting_at l w ≡ Some key
       → a.distance ≤ℤ key
 
--- what the step reaches is labelled accordingly, from node u at this distance
-abbrev pub IsRelaxed : ResidualNet → List ℤ → Lists → ℕ → ℤ → Step → Type 0
-IsRelaxed r prices l u distance s =
-    IsOpen r s → from_of r s ≡ u → Covers l (to_of r s) (distance +ℤ reduced r prices s)
-
--- the step is relaxed, from a node at this distance, and nothing is lost
-pub record Relaxes (r : ResidualNet) (prices : List ℤ) (step : Step) (distance : ℤ) (old new : Lists) : Type 0 where
-  pub labels : AreLabels r prices new
-  pub lowered : IsLowered old new
-  pub relaxed : IsRelaxed r prices new (from_of r step) distance step
-
--- so are all steps from settled nodes but this one
-abbrev pub AreRelaxedBut : ResidualNet → List ℤ → Lists → ℕ → Type 0
-AreRelaxedBut r prices l but = (u : ℕ) (a : Settled) (s : Step) → settled_at l u ≡ Some a → u ≢ but
-    → IsRelaxed r prices l u a.distance s
-
--- so are all
-abbrev pub AreRelaxed : ResidualNet → List ℤ → Lists → Type 0
-AreRelaxed r prices l = (u : ℕ) (a : Settled) (s : Step) → settled_at l u ≡ Some a → IsRelaxed r prices l u a.distance s
-
 -- less comes into the node than goes out
 abbrev pub Lacks : List ℤ → ℕ → Type 0
 Lacks surplus v = slice_index_or surplus v (pos 0) <ℤ pos 0
+
+-- a path no longer than this was found to the node, or to one that lacks a unit
+pub record Serves (surplus : List ℤ) (l : Lists) (v : ℕ) (bound : ℤ) : Type 0 where
+  pub node : ℕ
+  pub which : (node ≡ v) ⊎ Lacks surplus node
+  pub covers : Covers l node bound
+
+-- no such bound, or one within which a node that lacks a unit was found
+abbrev pub IsBound : List ℤ → Lists → Option ℤ → Type 0
+IsBound surplus l bound =
+    (b : ℤ) → bound ≡ Some b → (w : ℕ) × Lacks surplus w × Covers l w b
+
+-- what the step reaches is labelled accordingly, from node u at this distance, or a node that lacks a unit is
+abbrev pub IsRelaxed : ResidualNet → List ℤ → List ℤ → Lists → ℕ → ℤ → Step → Type 0
+IsRelaxed r prices surplus l u distance s =
+    IsOpen r s → from_of r s ≡ u → Serves surplus l (to_of r s) (distance +ℤ reduced r prices s)
+
+-- the step is relaxed, from a node at this distance, and nothing is lost
+pub record Relaxes (r : ResidualNet) (prices surplus : List ℤ) (step : Step) (distance : ℤ)
+    (old new : Lists) : Type 0 where
+  pub labels : AreLabels r prices new
+  pub lowered : IsLowered old new
+  pub relaxed : IsRelaxed r prices surplus new (from_of r step) distance step
+
+-- so are all steps from settled nodes but this one
+abbrev pub AreRelaxedBut : ResidualNet → List ℤ → List ℤ → Lists → ℕ → Type 0
+AreRelaxedBut r prices surplus l but = (u : ℕ) (a : Settled) (s : Step) → settled_at l u ≡ Some a → u ≢ but
+    → IsRelaxed r prices surplus l u a.distance s
+
+-- so are all
+abbrev pub AreRelaxed : ResidualNet → List ℤ → List ℤ → Lists → Type 0
+AreRelaxed r prices surplus l = (u : ℕ) (a : Settled) (s : Step) → settled_at l u ≡ Some a
+    → IsRelaxed r prices surplus l u a.distance s
 
 -- what is there to settle, where nothing is settled yet
 pub record AreFresh (nodes : ℕ) (l : Lists) : Type 0 where
@@ -169,14 +182,14 @@ pub record AreFresh (nodes : ℕ) (l : Lists) : Type 0 where
 -- the search goes on: all that is settled is relaxed, and none of it lacks a unit
 pub record IsUnderWay (r : ResidualNet) (prices surplus : List ℤ) (source : ℕ) (l : Lists) : Type 0 where
   pub labels : AreLabels r prices l
-  pub relaxed : AreRelaxed r prices l
+  pub relaxed : AreRelaxed r prices surplus l
   pub from : source_of l ≡ source
   pub no_lack : (v : ℕ) (a : Settled) → settled_at l v ≡ Some a → ¬ (Lacks surplus v)
 
 -- the search has settled a node that lacks a unit, as the last
 pub record IsReached (r : ResidualNet) (prices surplus : List ℤ) (source : ℕ) (l : Lists) (goal : ℕ) : Type 0 where
   pub labels : AreLabels r prices l
-  pub relaxed : AreRelaxedBut r prices l goal
+  pub relaxed : AreRelaxedBut r prices surplus l goal
   pub from : source_of l ≡ source
   pub lacks : Lacks surplus goal
   pub no_lack : (v : ℕ) (a : Settled) → settled_at l v ≡ Some a → v ≢ goal → ¬ (Lacks surplus v)

@@ -1,5 +1,5 @@
 -- Keys of nodes at the leaves of a tree, of which each inner place has the lesser of the two below it.
-use Rattle.std.specs.Prelude.{◌≡◌, ◌⊎◌, ℕ, ◌+◌, ◌*◌, ◌<◌, length, ℤ, Option}
+use Rattle.std.specs.Prelude.{◌≡◌, ◌⊎◌, ℕ, ◌+◌, ◌*◌, ◌<◌, length, ℤ, Option, None}
 use Rattle.vs_path.specs.Keys.{Keys, IsNotAfter, key_at}
 
 -- one of two keys, taken no later than either
@@ -17,3 +17,11 @@ pub record IsTournament (count : ℕ) (keys : Keys) : Type 0 where
   pub some : 0 < count
   pub size : length keys ≡ 2 * count
   pub played : (k : ℕ) → 0 < k → k < count → IsPlayed keys k
+
+-- below an inner place that has no key, none has one
+pub record IsCovered (keys : Keys) (k : ℕ) : Type 0 where
+  pub left : key_at keys k ≡ None → key_at keys (2 * k) ≡ None
+  pub right : key_at keys k ≡ None → key_at keys (2 * k + 1) ≡ None
+
+abbrev pub AreCovered : ℕ → Keys → Type 0
+AreCovered count keys = (k : ℕ) → 0 < k → k < count → IsCovered keys k

@@ -2,8 +2,8 @@ ghost use Rattle.std.specs.Prelude.{◌≡◌, ℕ, ℤ, IfSome, ◌<◌, ◌≤
 ghost use Rattle.vs_path.specs.Residual.{IsResidual, HasSignRule, arc_no, from_of, reduced, step_along};
 ghost use Rattle.vs_path.specs.declared.labels.Settled.{Settled};
 ghost use Rattle.vs_path.specs.declared.step.Step.{Step};
-ghost use Rattle.vs_path.specs.Keys.{IsEmpty, IsLeast};
-ghost use Rattle.vs_path.specs.Labels.{AreLabels, AreFresh, AreListed, IsBetter, IsFarthest, IsLowered, IsOver, IsReached, IsRelaxed, IsSettledAt, IsSmall, Lacks, Relaxes, lists_of, lowered, settle_in, settled_at, waiting_at};
+ghost use Rattle.vs_path.specs.Keys.{IsEmpty, IsLeast, IsNotAfter};
+ghost use Rattle.vs_path.specs.Labels.{AreLabels, AreFresh, AreListed, Covers, IsBetter, IsBound, IsFarthest, IsLowered, IsOver, IsReached, IsRelaxed, IsSettledAt, IsSmall, Lacks, Relaxes, lists_of, lowered, settle_in, settled_at, waiting_at};
 
 use crate::node_heap::NodeHeap;
 use crate::residual::{MAX_NODES, Residual};
@@ -30,6 +30,8 @@ pub struct Labels {
     pub steps: Vec<Option<Step>>,
     /// The settled nodes in order.
     pub order: Vec<u32>,
+    /// The least distance to a node that lacks a unit that was found so far.
+    pub bound: Option<i64>,
 }
 
 impl Labels {
@@ -44,6 +46,7 @@ impl Labels {
             waiting: NodeHeap::new(alloc, nodes)?,
             steps: vec![in alloc; None; nodes as usize]?,
             order: Vec::with_capacity(alloc, nodes as usize)?,
+            bound: None,
         })
     }
 
@@ -52,10 +55,12 @@ impl Labels {
         requires { AreListed (length self.old.settled.items) (lists_of self.old) }
         ensures fresh { AreFresh (length self.old.settled.items) (lists_of self.new) }
         ensures space { vec_capacity self.new.order ≡ vec_capacity self.old.order }
+        ensures bound { self.new.bound ≡ None }
     {
         forget(&mut self.settled, &self.order);
         self.order.clear();
         self.waiting.clear();
+        self.bound = None;
     }
 
     /// Settles nodes from the source on, the nearest first, up to the first that lacks a unit. None where there is
@@ -74,6 +79,7 @@ impl Labels {
         requires has_enough { ¬ (Lacks surplus.now source) }
         requires fresh { AreFresh residual.now.graph.nodes (lists_of self.old) }
         requires space { residual.now.graph.nodes ≤ vec_capacity self.old.order }
+        requires no_bound { self.old.bound ≡ None }
         ensures found { MatchOption result
             (IsOver residual.now prices.now surplus.now source (lists_of self.new))
             (IsReached residual.now prices.now surplus.now source (lists_of self.new)) }
@@ -82,12 +88,12 @@ impl Labels {
         ensures residual { IsResidual residual.now }
     {
         self.settle(source, 0);
-        self.expand(residual, prices, source, 0);
+        self.expand(residual, prices, surplus, source, 0);
         while let Some((node, distance)) = self.settle_next() {
             if surplus[node as usize] < 0 {
                 return Some(node);
             }
-            self.expand(residual, prices, node, distance);
+            self.expand(residual, prices, surplus, node, distance);
         }
         None
     }
@@ -105,6 +111,7 @@ impl Labels {
             (λ t. lists_of self.new ≡ settle_in (lists_of self.old) t.0 t.1) }
         ensures node { IfSome result (λ t. t.0 < length self.old.waiting) }
         ensures space { vec_capacity self.old.order ≤ vec_capacity self.new.order }
+        ensures bound { self.new.bound ≡ self.old.bound }
     {
         let (node, distance) = self.waiting.take()?;
         self.settle(node, distance);
@@ -122,6 +129,7 @@ impl Labels {
         ensures waiting { self.new.waiting ≡ self.old.waiting }
         ensures steps { self.new.steps.items ≡ self.old.steps.items }
         ensures space { vec_capacity self.old.order ≤ vec_capacity self.new.order }
+        ensures bound { self.new.bound ≡ self.old.bound }
     {
         let place = self.order.len() as u32;
         self.settled[node as usize] = Some(Settled { distance, place });
@@ -129,22 +137,32 @@ impl Labels {
     }
 
     /// Relaxes all steps from a node that is settled at this distance, the farthest so far.
-    fn expand(&mut self, residual: &Residual, prices: &[i64], node: u32, distance: i64)
+    fn expand(
+        &mut self,
+        residual: &Residual,
+        prices: &[i64],
+        surplus: &[i64],
+        node: u32,
+        distance: i64,
+    )
         requires small { IsSmall residual.now prices.now }
         requires sign_rule { HasSignRule residual.now prices.now }
         requires labels { AreLabels residual.now prices.now (lists_of self.old) }
         requires node { node < residual.now.graph.nodes }
         requires from { IsSettledAt (lists_of self.old) node distance }
         requires farthest { IsFarthest (lists_of self.old) distance }
+        requires each_node { length surplus.now ≡ residual.now.graph.nodes }
+        requires bound { IsBound surplus.now (lists_of self.old) self.old.bound }
+        ensures bound { IsBound surplus.now (lists_of self.new) self.new.bound }
         ensures labels { AreLabels residual.now prices.now (lists_of self.new) }
         ensures lowered { IsLowered (lists_of self.old) (lists_of self.new) }
         ensures relaxed { (s : Step)
-            → IsRelaxed residual.now prices.now (lists_of self.new) node distance s }
+            → IsRelaxed residual.now prices.now surplus.now (lists_of self.new) node distance s }
         ensures order { self.new.order ≡ self.old.order }
         ensures residual { IsResidual residual.now }
     {
-        self.relax_along(residual, prices, node, distance, Way::Forward);
-        self.relax_along(residual, prices, node, distance, Way::Back);
+        self.relax_along(residual, prices, surplus, node, distance, Way::Forward);
+        self.relax_along(residual, prices, surplus, node, distance, Way::Back);
     }
 
     /// Whether a node has no distance yet, or a greater one.
@@ -158,29 +176,67 @@ impl Labels {
         }
     }
 
+    /// Whether a node that lacks a unit was found that is no farther than this.
+    fn is_past(&self, label: i64) -> bool
+        ensures { IsTrue result ↔ IsNotAfter self.now.bound (Some label) }
+    {
+        match self.bound {
+            None => false,
+            Some(bound) => bound <= label,
+        }
+    }
+
     /// The node that a step reaches from one at this distance is given the distance along it, where that is less
-    /// than what it has.
-    fn relax(&mut self, residual: &Residual, prices: &[i64], distance: i64, step: Step)
+    /// than what it has, and less than the distance of a node that lacks a unit: no node farther than that is settled.
+    fn relax(
+        &mut self,
+        residual: &Residual,
+        prices: &[i64],
+        surplus: &[i64],
+        distance: i64,
+        step: Step,
+    )
         requires arc { arc_no step < length residual.now.graph.arcs }
         requires small { IsSmall residual.now prices.now }
         requires sign_rule { HasSignRule residual.now prices.now }
         requires labels { AreLabels residual.now prices.now (lists_of self.old) }
         requires from { IsSettledAt (lists_of self.old) (from_of residual.now step) distance }
         requires farthest { IsFarthest (lists_of self.old) distance }
-        ensures relaxes { Relaxes residual.now prices.now step distance (lists_of self.old)
+        requires each_node { length surplus.now ≡ residual.now.graph.nodes }
+        requires bound { IsBound surplus.now (lists_of self.old) self.old.bound }
+        ensures bound { IsBound surplus.now (lists_of self.new) self.new.bound }
+        ensures relaxes { Relaxes residual.now prices.now surplus.now step distance (lists_of self.old)
             (lists_of self.new) }
         ensures order { self.new.order ≡ self.old.order }
     {
+        if !residual.is_open(step) {
+            return;
+        }
         let node = residual.to(step);
         if self.settled[node as usize].is_some() {
             return;
         }
-        if !residual.is_open(step) {
+        let label = self.along(residual, prices, distance, step);
+        if self.is_past(label) {
             return;
         }
-        let label = self.along(residual, prices, distance, step);
         if self.is_better(node, label) {
             self.lower(node, label, step);
+            self.note(surplus, node, label);
+        }
+    }
+
+    /// Where a node lacks a unit, none farther than it is of use.
+    fn note(&mut self, surplus: &[i64], node: u32, label: i64)
+        requires node { node < length surplus.now }
+        requires covers { Covers (lists_of self.old) node label }
+        requires bound { IsBound surplus.now (lists_of self.old) self.old.bound }
+        ensures bound { IsBound surplus.now (lists_of self.new) self.new.bound }
+        ensures lists { lists_of self.new ≡ lists_of self.old }
+        ensures order { self.new.order ≡ self.old.order }
+    {
+        if surplus[node as usize] < 0 {
+            self.bound = Some(label);
         }
     }
 
@@ -191,6 +247,7 @@ impl Labels {
         requires better { IsBetter (lists_of self.old) node label }
         ensures lists { lists_of self.new ≡ lowered (lists_of self.old) node label step }
         ensures order { self.new.order ≡ self.old.order }
+        ensures bound { self.new.bound ≡ self.old.bound }
     {
         self.waiting.lower(node, label);
         self.steps[node as usize] = Some(step);
@@ -212,6 +269,7 @@ impl Labels {
         &mut self,
         residual: &Residual,
         prices: &[i64],
+        surplus: &[i64],
         node: u32,
         distance: i64,
         way: Way,
@@ -222,16 +280,19 @@ impl Labels {
         requires node { node < residual.now.graph.nodes }
         requires from { IsSettledAt (lists_of self.old) node distance }
         requires farthest { IsFarthest (lists_of self.old) distance }
+        requires each_node { length surplus.now ≡ residual.now.graph.nodes }
+        requires bound { IsBound surplus.now (lists_of self.old) self.old.bound }
+        ensures bound { IsBound surplus.now (lists_of self.new) self.new.bound }
         ensures labels { AreLabels residual.now prices.now (lists_of self.new) }
         ensures lowered { IsLowered (lists_of self.old) (lists_of self.new) }
         ensures relaxed { (k : ℕ)
-            → IsRelaxed residual.now prices.now (lists_of self.new) node distance
+            → IsRelaxed residual.now prices.now surplus.now (lists_of self.new) node distance
             (step_along way k) }
         ensures order { self.new.order ≡ self.old.order }
         ensures residual { IsResidual residual.now }
     {
         for k in residual.arcs_along(way, node) {
-            self.relax(residual, prices, distance, Step::along(way, *k));
+            self.relax(residual, prices, surplus, distance, Step::along(way, *k));
         }
     }
 }

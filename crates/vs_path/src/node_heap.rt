@@ -1,7 +1,7 @@
 ghost use Rattle.std.specs.Prelude.{◌≡◌, ◌<◌, length, set, replicate, IfOk, IfSome, MatchOption, Some, None};
 ghost use Rattle.vs_path.specs.Keys.{IsEmpty, IsLeast, IsNotAfter, key_at};
 
-use crate::tournament::{put, winner};
+use crate::tournament::{empty, put, winner};
 use std::alloc::Global;
 use std::marker::Model;
 use vs_types::Memory;
@@ -78,7 +78,7 @@ impl NodeHeap {
     pub fn clear(&mut self)
         ensures { self.new ≡ replicate (length self.old) None }
     {
-        while let Some(_) = self.take() {}
+        empty(&mut self.keys, self.count as usize, 1);
     }
 }
 

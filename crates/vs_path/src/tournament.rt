@@ -1,6 +1,6 @@
-ghost use Rattle.std.specs.Prelude.{◌≡◌, ◌+◌, ◌*◌, ◌<◌, set, drop};
+ghost use Rattle.std.specs.Prelude.{◌≡◌, ℕ, ◌+◌, ◌*◌, ◌<◌, length, set, drop, None};
 ghost use Rattle.vs_path.specs.Keys.{key_at};
-ghost use Rattle.vs_path.specs.Tournament.{IsFirstOf, IsTournament};
+ghost use Rattle.vs_path.specs.Tournament.{AreCovered, IsFirstOf, IsTournament};
 
 /// Of two keys the lesser, None only where both are.
 fn first_of(left: Option<i64>, right: Option<i64>) -> Option<i64>
@@ -46,4 +46,24 @@ pub fn winner(keys: &[Option<i64>], count: usize) -> usize
         }
     }
     place - count
+}
+
+/// Takes out the keys at this place and below it, at a cost of a few steps for each.
+pub fn empty(keys: &mut [Option<i64>], count: usize, place: usize)
+    requires size { length keys.old ≡ 2 * count }
+    requires some { 0 < place }
+    requires within { place < 2 * count }
+    requires covered { AreCovered count keys.old }
+    ensures covered { AreCovered count keys.new }
+    ensures empty { key_at keys.new place ≡ None }
+    ensures still { (k : ℕ) → key_at keys.old k ≡ None → key_at keys.new k ≡ None }
+{
+    if keys[place].is_none() {
+        return;
+    }
+    if place < count {
+        empty(keys, count, 2 * place);
+        empty(keys, count, 2 * place + 1);
+    }
+    keys[place] = None;
 }

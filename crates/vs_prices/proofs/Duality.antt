@@ -22,7 +22,7 @@ use Rattle.vs_instance.proofs.Totals.{total-map_le}
 use Rattle.vs_prices.proofs.PlanPrices.{over_blocks, once_each, plan_pays}
 
 -- the least of some numbers is no more than any of them
-least-le : (f : ℕ → ℤ) (ks : List ℕ) (k : ℕ) → Contains ks k → least (map f ks) ≤ℤ f k
+pub least-le : (f : ℕ → ℤ) (ks : List ℕ) (k : ℕ) → Contains ks k → least (map f ks) ≤ℤ f k
 least-le f [] k among = absurd (omega (arith, among.1))
 least-le f (j ∷ []) k (zero, within, is) = ap_le
   where

@@ -5,7 +5,7 @@ use Rattle.std.proofs.lemmas.Int.{ints}
 use Rattle.vs_path.specs.declared.step.Step.{Step}
 use Rattle.vs_path.specs.declared.labels.Settled.{Settled}
 use Rattle.vs_path.specs.Residual.{ResidualNet, IsOpen, IsPath, HasSignRule, from_of, to_of, price_at, reduced, step_in}
-use Rattle.vs_path.specs.Labels.{Lists, AreLabels, IsOver, IsReached, IsSmall, Lacks, label_of, label_at, settled_at, source_of, waiting_at}
+use Rattle.vs_path.specs.Labels.{Lists, AreLabels, Covers, Serves, IsOver, IsReached, IsSmall, Lacks, label_of, label_at, settled_at, source_of, waiting_at}
 use Rattle.vs_path.specs.Search.{AreMoved, AreTreeSteps, CanMove, IsCut, IsGoal, IsIn, moved, two_paths}
 use Rattle.vs_path.proofs.labelling.Settling.{order-≤}
 
@@ -25,13 +25,26 @@ module _ (r : ResidualNet) (prices surplus : List ℤ) (source : ℕ) (l : Lists
     in_order v label has (Some a) e =
         let at = over.under_way.labels.are_listed.placed v a e in (a.place, at.0, at.1)
 
+    -- no node that lacks a unit was reached
+    pub over-covers : (v : ℕ) (bound : ℤ) → Serves surplus l v bound → Covers l v bound
+    over-covers v bound serves =
+        elim serves.which [
+          | inl same ↦ subst (λ (w : ℕ). Covers l w bound) same serves.covers
+          | inr lacks ↦
+              let at = settled_in serves.node
+              (in_order serves.node serves.covers.label serves.covers.has (settled_at l serves.node) refl) in
+              absurd (over.under_way.no_lack serves.node at.0 at.1 lacks)
+        ]
+
     -- what was reached is a cut
     pub is-cut : IsCut r surplus source l.order
     is-cut = record {
       has_source = (0, over.under_way.labels.some, over.under_way.from);
       closed = λ s is_open at.
           let a = settled_in (from_of r s) at in
-          let covers = over.under_way.relaxed (from_of r s) a.0 s a.1 is_open refl in
+          let covers =
+          over-covers (to_of r s) (a.0.distance +ℤ reduced r prices s)
+          (over.under_way.relaxed (from_of r s) a.0 s a.1 is_open refl) in
           in_order (to_of r s) covers.label covers.has (settled_at l (to_of r s)) refl;
       no_lack = λ v at. let a = settled_in v at in over.under_way.no_lack v a.0 a.1;
     }
@@ -95,23 +108,62 @@ module _ (r : ResidualNet) (prices surplus : List ℤ) (source : ℕ) (l : Lists
       → pos 0 ≤ℤ reduced r new s
   sign-from s is_open same = omega (arith, ints, sign s is_open, fell (to_of r s), same)
 
+  -- a node that lacks a unit is no nearer than the goal
+  lacks-far : (v : ℕ) (label : ℤ) → Lacks surplus v → label_at l v ≡ Some label → (t : Option Settled)
+      → settled_at l v ≡ t → far ≤ℤ label
+  lacks-far v label lacks has None e =
+      let waits : waiting_at l v ≡ Some label = ap (λ t. label_of t (waiting_at l v)) (sym e) ∙ has in
+      reached.labels.ordered goal v reached.goal_is label reached.settled waits
+  lacks-far v label lacks has (Some a) e =
+      elim (cases_eq v goal) [
+        | inl same ↦
+            let g = same-goal a (ap (settled_at l) (sym same) ∙ e) in
+            let d = ap (λ (b : Settled). b.distance) g in
+            let f : Some a.distance ≡ Some label = ap (λ t. label_of t (waiting_at l v)) (sym e) ∙ has in
+            let k : a.distance ≡ label = cc in
+            omega (arith, ints, d, k)
+        | inr ne ↦ absurd (reached.no_lack v a e ne lacks)
+      ]
+
+  -- what a step reaches has a label that is no greater, or is no nearer than the goal
+  serves-far : (v : ℕ) (bound : ℤ) → Serves surplus l v bound → (Covers l v bound) ⊎ (far ≤ℤ bound)
+  serves-far v bound serves =
+      elim serves.which [
+        | inl same ↦ inl (subst (λ (w : ℕ). Covers l w bound) same serves.covers)
+        | inr lacks ↦
+            let more = serves.covers.no_more in
+            let less =
+            lacks-far serves.node serves.covers.label lacks serves.covers.has (settled_at l serves.node) refl in
+            inr (omega (arith, ints, more, less))
+      ]
+
   -- a step from a node that is nearer than the goal
   sign-near : (s : Step) → IsOpen r s → (a : Settled) → settled_at l (from_of r s) ≡ Some a → from_of r s ≢ goal
       → (t : Option Settled) → settled_at l (to_of r s) ≡ t → pos 0 ≤ℤ reduced r new s
   sign-near s is_open a from ne None to =
-      let covers = reached.relaxed (from_of r s) a s from ne is_open refl in
-      let waits : waiting_at l (to_of r s) ≡ Some covers.label =
-      ap (λ t. label_of t (waiting_at l (to_of r s))) (sym to) ∙ covers.has in
-      let later = reached.labels.ordered goal (to_of r s) reached.goal_is covers.label reached.settled waits in
-      let less = covers.no_more in
-      omega (arith, ints, at-some (from_of r s) a from, at-none (to_of r s) to, later, less)
+      elim (serves-far (to_of r s) (a.distance +ℤ reduced r prices s)
+      (reached.relaxed (from_of r s) a s from ne is_open refl)) [
+        | inl covers ↦
+            let waits : waiting_at l (to_of r s) ≡ Some covers.label =
+            ap (λ t. label_of t (waiting_at l (to_of r s))) (sym to) ∙ covers.has in
+            let later = reached.labels.ordered goal (to_of r s) reached.goal_is covers.label reached.settled waits in
+            let less = covers.no_more in
+            omega (arith, ints, at-some (from_of r s) a from, at-none (to_of r s) to, later, less)
+        | inr beyond ↦ omega (arith, ints, at-some (from_of r s) a from, at-none (to_of r s) to, beyond)
+      ]
   sign-near s is_open a from ne (Some b) to =
-      let covers = reached.relaxed (from_of r s) a s from ne is_open refl in
-      let e : Some b.distance ≡ Some covers.label =
-      ap (λ t. label_of t (waiting_at l (to_of r s))) (sym to) ∙ covers.has in
-      let label : b.distance ≡ covers.label = cc in
-      let less = covers.no_more in
-      omega (arith, ints, at-some (from_of r s) a from, at-some (to_of r s) b to, label, less)
+      elim (serves-far (to_of r s) (a.distance +ℤ reduced r prices s)
+      (reached.relaxed (from_of r s) a s from ne is_open refl)) [
+        | inl covers ↦
+            let e : Some b.distance ≡ Some covers.label =
+            ap (λ t. label_of t (waiting_at l (to_of r s))) (sym to) ∙ covers.has in
+            let label : b.distance ≡ covers.label = cc in
+            let less = covers.no_more in
+            omega (arith, ints, at-some (from_of r s) a from, at-some (to_of r s) b to, label, less)
+        | inr beyond ↦
+            let nearer = reached.farthest (to_of r s) b to in
+            omega (arith, ints, at-some (from_of r s) a from, at-some (to_of r s) b to, beyond, nearer)
+      ]
 
   pub sign_rule : HasSignRule r new
   sign_rule s is_open = go (settled_at l (from_of r s)) refl

@@ -5,8 +5,9 @@ use Rattle.std.proofs.lemmas.Int.{ints}
 use Rattle.std.proofs.lemmas.List.{get_or-set_same, get_or-set_other}
 use Rattle.vs_path.specs.declared.step.Step.{Step}
 use Rattle.vs_path.specs.declared.labels.Settled.{Settled}
-use Rattle.vs_path.specs.Residual.{ResidualNet, Leads, cost_along, from_of, to_of, price_at}
+use Rattle.vs_path.specs.Residual.{ResidualNet, Leads, cost_along, from_of, to_of, price_at, reduced}
 use Rattle.vs_path.specs.Labels.{Lists, AreLabels, IsOver, IsReached, IsSmall, label_of, label_at, settled_at, source_of, step_at, waiting_at}
+use Rattle.vs_path.proofs.found.Finding.{over-covers}
 use Rattle.vs_path.proofs.labelling.Settling.{order-≤}
 use Rattle.vs_path.specs.LeastPaths.{LeastPaths, AreCosts, AreLeastPaths, AreSettledSteps, CanCost, CanCostTo, ComesBack, FollowsBack, IsLeastCost, IsSized, cost_to, distance_at, if_settled, last_step}
 
@@ -44,7 +45,9 @@ module _ (r : ResidualNet) (prices surplus : List ℤ) (source : ℕ) (l : Lists
         (from.0, ap (settled_at l) (sym at) ∙ from.1, omega (arith, ints, same, d))
     no-farther (s ∷ ss) v leads =
         let before = no-farther ss (from_of r s) leads.2 in
-        let covers = over.under_way.relaxed (from_of r s) before.0 s before.1 leads.0 refl in
+        let covers =
+        over-covers r prices surplus source l over (to_of r s) (before.0.distance +ℤ reduced r prices s)
+        (over.under_way.relaxed (from_of r s) before.0 s before.1 leads.0 refl) in
         let at = settled-label (to_of r s) covers.label covers.has (settled_at l (to_of r s)) refl in
         let same : price_at prices (to_of r s) ≡ price_at prices v = ap (price_at prices) leads.1 in
         let less = before.2 in

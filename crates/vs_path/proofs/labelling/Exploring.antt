@@ -7,9 +7,9 @@ use Rattle.vs_path.specs.declared.step.Step.{Step}
 use Rattle.vs_path.specs.declared.labels.Settled.{Settled}
 use Rattle.vs_path.specs.Keys.{Keys, IsLeast}
 use Rattle.vs_path.specs.Residual.{ResidualNet}
-use Rattle.vs_path.specs.Labels.{Lists, AreLabels, AreListed, AreFresh, AreRelaxedBut, IsFarthest, IsLowered, IsNear, IsReached, IsRelaxed, IsSettledAt, IsUnderWay, Lacks, count_settled, settle_in, settled_at, source_of, waiting_at}
+use Rattle.vs_path.specs.Labels.{Lists, AreLabels, AreListed, AreFresh, AreRelaxedBut, IsBound, IsFarthest, IsLowered, IsNear, IsReached, IsRelaxed, IsSettledAt, IsUnderWay, Lacks, count_settled, settle_in, settled_at, source_of, waiting_at}
 use Rattle.vs_path.proofs.labelling.Lowering.{lowered-relaxed, lowered-settled}
-use Rattle.vs_path.proofs.labelling.Settling.{count_settled-set, settled_labels, settled_relaxed, settled_farthest, settled_here, settled_other, source_same}
+use Rattle.vs_path.proofs.labelling.Settling.{count_settled-set, settled_labels, settled_bound, settled_relaxed, settled_farthest, settled_here, settled_other, source_same}
 
 pub get_or-none : {X : Type 0} (n i : ℕ) → get_or (replicate {A = Option X} n None) i None ≡ None
 get_or-none zero i = refl
@@ -120,8 +120,8 @@ module _ (r : ResidualNet) (prices : List ℤ) (source : ℕ) (steps : List (Opt
   pub begun_settled : IsSettledAt begun source (pos 0)
   begun_settled = (own, begun_here, refl)
 
-  pub begun_relaxed : AreRelaxedBut r prices begun source
-  begun_relaxed u a s is ne = absurd (ne (begun_only u a is).0)
+  pub begun_relaxed : (surplus : List ℤ) → AreRelaxedBut r prices surplus begun source
+  begun_relaxed surplus u a s is ne = absurd (ne (begun_only u a is).0)
 
   pub begun_lack : (surplus : List ℤ) → (v : ℕ) (a : Settled) → settled_at begun v ≡ Some a → v ≢ source
       → Lacks surplus v → ⊥
@@ -129,10 +129,10 @@ module _ (r : ResidualNet) (prices : List ℤ) (source : ℕ) (steps : List (Opt
 
 -- once the steps from the last node are relaxed too, the search is under way again
 pub expanded : (r : ResidualNet) (prices surplus : List ℤ) (source : ℕ) (l after : Lists) (node : ℕ) (distance : ℤ)
-    → AreRelaxedBut r prices l node → source_of l ≡ source
+    → AreRelaxedBut r prices surplus l node → source_of l ≡ source
     → ((v : ℕ) (a : Settled) → settled_at l v ≡ Some a → v ≢ node → Lacks surplus v → ⊥) → (Lacks surplus node → ⊥)
     → IsSettledAt l node distance → IsLowered l after → AreLabels r prices after
-    → ((s : Step) → IsRelaxed r prices after node distance s)
+    → ((s : Step) → IsRelaxed r prices surplus after node distance s)
     → IsUnderWay r prices surplus source after
 expanded r prices surplus source l after node distance but from no_lack enough is low labels relaxed = record {
   labels = labels;
@@ -143,10 +143,10 @@ expanded r prices surplus source l after node distance but from no_lack enough i
             let e : Some still.0 ≡ Some a = sym still.1 ∙ ap (settled_at after) (sym same) ∙ at in
             let k : still.0 ≡ a = cc in
             let d : distance ≡ a.distance = sym still.2 ∙ ap (λ (b : Settled). b.distance) k in
-            let P : ℕ → Type 0 = λ v. IsRelaxed r prices after v a.distance s in
-            let Q : ℤ → Type 0 = λ x. IsRelaxed r prices after node x s in
+            let P : ℕ → Type 0 = λ v. IsRelaxed r prices surplus after v a.distance s in
+            let Q : ℤ → Type 0 = λ x. IsRelaxed r prices surplus after node x s in
             subst P (sym same) (subst Q d (relaxed s))
-        | inr ne ↦ lowered-relaxed r prices l after u a.distance s low (but u a s (old u a at) ne)
+        | inr ne ↦ lowered-relaxed r prices surplus l after u a.distance s low (but u a s (old u a at) ne)
       ];
   from = ap (λ (order : List ℕ). get_or order 0 0) low.order ∙ from;
   no_lack = λ v a at lacks.
@@ -166,8 +166,11 @@ module _ (r : ResidualNet) (prices surplus : List ℤ) (source : ℕ) (l : Lists
   pub next_labels : AreLabels r prices (settle_in l v key)
   next_labels = settled_labels r prices l way.labels v key least within
 
-  pub next_relaxed : AreRelaxedBut r prices (settle_in l v key) v
-  next_relaxed = settled_relaxed r prices l way.labels v key least within way.relaxed
+  pub next_relaxed : AreRelaxedBut r prices surplus (settle_in l v key) v
+  next_relaxed = settled_relaxed r prices l way.labels v key least within surplus way.relaxed
+
+  pub next_bound : (bound : Option ℤ) → IsBound surplus l bound → IsBound surplus (settle_in l v key) bound
+  next_bound = settled_bound r prices l way.labels v key least within surplus
 
   pub next_settled : IsSettledAt (settle_in l v key) v key
   next_settled =

@@ -10,7 +10,7 @@ use Rattle.vs_path.specs.declared.labels.Settled.{Settled}
 use Rattle.vs_path.specs.Keys.{IsNotAfter}
 use Rattle.vs_path.specs.Residual.{ResidualNet, IsOpen, IsWithin, AllWithin, HasSignRule, from_of, to_of, cost_of, reduced}
 use Rattle.vs_path.proofs.labelling.Settling.{order-≤}
-use Rattle.vs_path.specs.Labels.{Lists, AreLabels, IsArrival, IsBetter, IsFarthest, IsLowered, IsNear, IsRelaxed, IsSettledAt, IsSmall, Relaxes, label_of, label_at, lowered, settled_at, source_of, step_at, waiting_at}
+use Rattle.vs_path.specs.Labels.{Lists, AreLabels, IsArrival, Covers, IsBetter, IsBound, IsFarthest, IsLowered, IsNear, IsRelaxed, IsSettledAt, IsSmall, Relaxes, label_of, label_at, lowered, settled_at, source_of, step_at, waiting_at}
 
 -- where a number isn't less than one that may be there, that one is there, and no greater
 pub not-less : (known : Option ℤ) (label : ℤ) → (((key : ℤ) → known ≡ Some key → label <ℤ key) → ⊥)
@@ -67,8 +67,8 @@ pub better-not_after : (known : Option ℤ) (label : ℤ) → ((key : ℤ) → k
 better-not_after None label better = tt
 better-not_after (Some key) label better = let less = better key refl in omega (arith, ints, less)
 
-module _ (r : ResidualNet) (prices : List ℤ) (l : Lists) (labels : AreLabels r prices l) (sign : HasSignRule r prices)
-    (step : Step) (distance label : ℤ) (from : IsSettledAt l (from_of r step) distance)
+module _ (r : ResidualNet) (prices surplus : List ℤ) (l : Lists) (labels : AreLabels r prices l)
+    (sign : HasSignRule r prices) (step : Step) (distance label : ℤ) (from : IsSettledAt l (from_of r step) distance)
     (farthest : IsFarthest l distance) (is_open : IsOpen r step)
     (sum : label ≡ distance +ℤ reduced r prices step) where
   abbrev v : ℕ
@@ -76,16 +76,32 @@ module _ (r : ResidualNet) (prices : List ℤ) (l : Lists) (labels : AreLabels r
 
   -- a label that is there already is no greater
   pub relaxed_already : (key : ℤ) → label_at l v ≡ Some key → key ≤ℤ label
-      → IsRelaxed r prices l (from_of r step) distance step
+      → IsRelaxed r prices surplus l (from_of r step) distance step
   relaxed_already key has less is_open' from' = record {
-    label = key;
-    has = has;
-    no_more = subst (λ (b : ℤ). key ≤ℤ b) sum less;
+    node = v;
+    which = inl refl;
+    covers = record { label = key; has = has; no_more = subst (λ (b : ℤ). key ≤ℤ b) sum less };
   }
+
+  -- one that is no less than that of a node that lacks a unit is of no use
+  pub relaxed_past : (bound : Option ℤ) → IsBound surplus l bound → IsNotAfter bound (Some label)
+      → IsRelaxed r prices surplus l (from_of r step) distance step
+  relaxed_past None is past is_open' from' = absurd past
+  relaxed_past (Some b) is past is_open' from' =
+      let at = is b refl in
+      record {
+        node = at.0;
+        which = inr at.1;
+        covers = record {
+          label = at.2.label;
+          has = at.2.has;
+          no_more = omega (arith, ints, at.2.no_more, past, sum);
+        };
+      }
 
   -- one that isn't less than what is there changes nothing
   pub relaxed_worse : settled_at l v ≡ None → (IsBetter l v label → ⊥)
-      → IsRelaxed r prices l (from_of r step) distance step
+      → IsRelaxed r prices surplus l (from_of r step) distance step
   relaxed_worse unsettled worse =
       let known = not-less (waiting_at l v) label worse in
       relaxed_already known.0 (ap (λ a. label_of a (waiting_at l v)) unsettled ∙ known.1) known.2
@@ -94,7 +110,8 @@ module _ (r : ResidualNet) (prices : List ℤ) (l : Lists) (labels : AreLabels r
   above : (w : ℕ) (a : Settled) → settled_at l w ≡ Some a → a.distance ≤ℤ label
   above w a is = omega (arith, ints, sum, sign step is_open, farthest w a is)
 
-  pub settled_already : (a : Settled) → settled_at l v ≡ Some a → IsRelaxed r prices l (from_of r step) distance step
+  pub settled_already : (a : Settled) → settled_at l v ≡ Some a
+      → IsRelaxed r prices surplus l (from_of r step) distance step
   settled_already a is = relaxed_already a.distance (ap (λ s. label_of s (waiting_at l v)) is) (above v a is)
 
   module _ (small : IsSmall r prices) (inside : v < r.graph.nodes) (unsettled : settled_at l v ≡ None)
@@ -217,14 +234,17 @@ module _ (r : ResidualNet) (prices : List ℤ) (l : Lists) (labels : AreLabels r
           ];
     }
 
-    pub lowered_relaxed : IsRelaxed r prices new (from_of r step) distance step
+    pub lowered_relaxed : IsRelaxed r prices surplus new (from_of r step) distance step
     lowered_relaxed is_open' from' = record {
-      label = label;
-      has = label_here;
-      no_more = omega (arith, ints, sum);
+      node = v;
+      which = inl refl;
+      covers = record { label = label; has = label_here; no_more = omega (arith, ints, sum) };
     }
 
-    pub relaxes_lowered : Relaxes r prices step distance l new
+    pub covers_here : Covers new v label
+    covers_here = record { label = label; has = label_here; no_more = omega (arith, ints) }
+
+    pub relaxes_lowered : Relaxes r prices surplus step distance l new
     relaxes_lowered = record { labels = lowered_labels; lowered = is_lowered; relaxed = lowered_relaxed }
 
 pub lowered-same : (l : Lists) → IsLowered l l
@@ -249,10 +269,28 @@ lowered-farthest old after distance low farthest v a is =
     farthest v a (ap (λ (settled : List (Option Settled)). get_or settled v None) (sym low.settled) ∙ is)
 
 -- a step that is relaxed stays so
-pub lowered-relaxed : (r : ResidualNet) (prices : List ℤ) (old after : Lists) (u : ℕ) (distance : ℤ) (s : Step)
-    → IsLowered old after → IsRelaxed r prices old u distance s → IsRelaxed r prices after u distance s
-lowered-relaxed r prices old after u distance s low relaxed is_open from =
-    low.covers (to_of r s) (distance +ℤ reduced r prices s) (relaxed is_open from)
+pub lowered-relaxed : (r : ResidualNet) (prices surplus : List ℤ) (old after : Lists) (u : ℕ) (distance : ℤ) (s : Step)
+    → IsLowered old after → IsRelaxed r prices surplus old u distance s → IsRelaxed r prices surplus after u distance s
+lowered-relaxed r prices surplus old after u distance s low relaxed is_open from =
+    let before = relaxed is_open from in
+    record {
+      node = before.node;
+      which = before.which;
+      covers = low.covers before.node (distance +ℤ reduced r prices s) before.covers;
+    }
+
+-- the steps that go either way are all
+pub both-ways : (r : ResidualNet) (prices surplus : List ℤ) (l : Lists) (u : ℕ) (distance : ℤ)
+    → ((k : ℕ) → IsRelaxed r prices surplus l u distance (Forward k))
+    → ((k : ℕ) → IsRelaxed r prices surplus l u distance (Back k))
+    → (s : Step) → IsRelaxed r prices surplus l u distance s
+both-ways r prices surplus l u distance forward back (Forward k) = forward k
+both-ways r prices surplus l u distance forward back (Back k) = back k
+
+-- a bound stays one
+pub lowered-bound : (surplus : List ℤ) (old after : Lists) (bound : Option ℤ) → IsLowered old after
+    → IsBound surplus old bound → IsBound surplus after bound
+lowered-bound surplus old after bound low is b e = let at = is b e in (at.0, at.1, low.covers at.0 b at.2)
 
 -- a read of what may be there
 pub read_at : {X : Type 0} (xs : List (Option X)) (i : ℕ) (o : Option X) → i < length xs → o ≡ get_or xs i o

@@ -1,5 +1,5 @@
 -- What is known of the nodes stays known where the one that waits with the least key is settled.
-use Rattle.std.proofs.Common.{◌≡◌, ◌≢◌, ℕ, zero, suc, ◌+◌, ◌<◌, ◌≤◌, ◌∙◌, List, [], ◌∷◌, length, set, get_or, refl, sym, ap, subst, arith, inl, inr, Option, Some, None, ℤ, pos, ◌≤ℤ◌, length-set, length-append}
+use Rattle.std.proofs.Common.{◌≡◌, ◌≢◌, ℕ, zero, suc, ◌+◌, ◌<◌, ◌≤◌, ◌∙◌, List, [], ◌∷◌, length, set, get_or, refl, sym, ap, subst, arith, inl, inr, Option, Some, None, ℤ, ◌+ℤ◌, pos, ◌≤ℤ◌, length-set, length-append}
 use Rattle.std.proofs.Math.ListN.{get_or-append}
 use Rattle.std.proofs.lemmas.Bool.{cases_eq, cases_lt}
 use Rattle.std.proofs.lemmas.Int.{ints}
@@ -7,8 +7,8 @@ use Rattle.std.proofs.lemmas.List.{get_or-set_same, get_or-set_other, get_or_pus
 use Rattle.vs_path.specs.declared.step.Step.{Step}
 use Rattle.vs_path.specs.declared.labels.Settled.{Settled}
 use Rattle.vs_path.specs.Keys.{IsLeast}
-use Rattle.vs_path.specs.Residual.{ResidualNet, from_of, to_of}
-use Rattle.vs_path.specs.Labels.{Lists, AreLabels, AreListed, IsArrival, IsFarthest, IsNear, IsRelaxed, count_settled, label_of, label_at, settle_in, settled_at, source_of, waiting_at}
+use Rattle.vs_path.specs.Residual.{ResidualNet, from_of, reduced}
+use Rattle.vs_path.specs.Labels.{Lists, AreLabels, AreListed, Covers, IsArrival, IsBound, IsFarthest, IsNear, IsRelaxed, count_settled, label_of, label_at, settle_in, settled_at, source_of, waiting_at}
 
 -- one more is settled
 pub count_settled-set : (settled : List (Option Settled)) (v : ℕ) (a : Settled) → v < length settled
@@ -185,17 +185,29 @@ module _ (r : ResidualNet) (prices : List ℤ) (l : Lists) (labels : AreLabels r
   settled_farthest =
       at_settled (λ w a. a.distance ≤ℤ key) (omega (arith, ints)) (λ w a is. labels.ordered w v a key is least.has)
 
+  settled_covers : (w : ℕ) (bound : ℤ) → Covers l w bound → Covers new w bound
+  settled_covers w bound covers = record {
+    label = covers.label;
+    has = label_same w ∙ covers.has;
+    no_more = covers.no_more;
+  }
+
   -- what was relaxed is
-  pub settled_relaxed : ((u : ℕ) (a : Settled) (s : Step) → settled_at l u ≡ Some a
-      → IsRelaxed r prices l u a.distance s)
-      → (u : ℕ) (a : Settled) (s : Step) → settled_at new u ≡ Some a → u ≢ v → IsRelaxed r prices new u a.distance s
-  settled_relaxed relaxed u a s is ne is_open from =
-      let covers = relaxed u a s (sym (settled_other u ne) ∙ is) is_open from in
+  pub settled_relaxed : (surplus : List ℤ) → ((u : ℕ) (a : Settled) (s : Step) → settled_at l u ≡ Some a
+      → IsRelaxed r prices surplus l u a.distance s)
+      → (u : ℕ) (a : Settled) (s : Step) → settled_at new u ≡ Some a → u ≢ v
+      → IsRelaxed r prices surplus new u a.distance s
+  settled_relaxed surplus relaxed u a s is ne is_open from =
+      let before = relaxed u a s (sym (settled_other u ne) ∙ is) is_open from in
       record {
-        label = covers.label;
-        has = label_same (to_of r s) ∙ covers.has;
-        no_more = covers.no_more;
+        node = before.node;
+        which = before.which;
+        covers = settled_covers before.node (a.distance +ℤ reduced r prices s) before.covers;
       }
+
+  -- a bound stays one
+  pub settled_bound : (surplus : List ℤ) (bound : Option ℤ) → IsBound surplus l bound → IsBound surplus new bound
+  settled_bound surplus bound is b e = let at = is b e in (at.0, at.1, settled_covers at.0 b at.2)
 
 count_settled-≤ : (settled : List (Option Settled)) → count_settled settled ≤ length settled
 count_settled-≤ [] = omega arith

@@ -12,6 +12,7 @@ use Rattle.vs_path.specs.Labels.{Lists, AreLabels, IsNear, IsOver, IsSmall, sett
 use Rattle.vs_path.specs.LeastPaths.{cost_to}
 use Rattle.vs_path.specs.Raising.{AreRaised, CanRaise, HasSpan, IsGreatest, IsRaised, IsRaisedAt, one_path, rise_of}
 use Rattle.vs_path.proofs.labelling.Settling.{order-≤}
+use Rattle.vs_path.proofs.found.Finding.{over-covers}
 use Rattle.vs_path.proofs.found.Moving.{node-<}
 use Rattle.vs_path.proofs.found.LeastCosts.{settled-label, least-cost}
 
@@ -125,7 +126,9 @@ module _ (r : ResidualNet) (prices surplus : List ℤ) (source : ℕ) (l : Lists
       let less = greatest.farthest (to_of r s) b to in
       omega (arith, ints, sign s is_open, at-none (from_of r s) ends.0 from, at-some (to_of r s) b to, less)
   sign-at s is_open (Some a) b from to =
-      let covers = over.under_way.relaxed (from_of r s) a s from is_open refl in
+      let covers =
+      over-covers r prices surplus source l over (to_of r s) (a.distance +ℤ reduced r prices s)
+      (over.under_way.relaxed (from_of r s) a s from is_open refl) in
       let at =
       settled-label r prices surplus source l over (to_of r s) covers.label covers.has (settled_at l (to_of r s))
       refl in

@@ -1,6 +1,6 @@
 use Rattle.std.proofs.Common.{◌≡◌, ◌<◌, ◌∙◌, ℕ, List, length, get_or, replicate, refl, sym, ap, arith, Option, Some, None}
 use Rattle.vs_path.specs.declared.labels.Settled.{Settled}
-use Rattle.vs_path.proofs.heap.Waiting.{all-none}
+use Rattle.vs_path.proofs.heap.Emptying.{all-none}
 use Rattle.vs_path.proofs.labels.forget.Goals as goal
 
 -- what was emptied at each place that wasn't empty is empty

@@ -1,10 +1,10 @@
-use Rattle.std.proofs.Common.{◌≡◌, ◌<◌, ℤ, pos, [], ◌∷◌, length, get_or, refl, sym, ap, subst, rules, arith, true, false, ◌<ℤ◌, SFits, w64, length-append}
+use Rattle.std.proofs.Common.{◌≡◌, ◌<◌, ◌∙◌, Some, None, ℤ, pos, [], ◌∷◌, length, get_or, refl, sym, ap, subst, rules, arith, true, false, ◌<ℤ◌, SFits, w64, length-append}
 use Rattle.std.proofs.lemmas.Int.{ints, to_z-of_z}
 use Rattle.std.specs.Prelude.{vec_capacity}
 use lib.Signed.{lt_z}
-use Rattle.vs_path.specs.Labels.{Lists, AreLabels, IsReached, IsSettledAt, IsFarthest, IsLowered, Lacks, lists_of, settle_in}
+use Rattle.vs_path.specs.Labels.{Lists, AreLabels, Covers, IsReached, IsSettledAt, IsFarthest, IsLowered, Lacks, lists_of, settle_in}
 use Rattle.vs_path.proofs.labelling.Settling.{room-left}
-use Rattle.vs_path.proofs.labelling.Exploring.{begun_at, is_begun, begun_labels, begun_farthest, begun_settled, begun_relaxed, begun_lack, expanded, next_labels, next_relaxed, next_settled, next_farthest, next_from, next_lack, next_reached}
+use Rattle.vs_path.proofs.labelling.Exploring.{begun_at, is_begun, begun_labels, begun_farthest, begun_settled, begun_relaxed, begun_lack, expanded, next_bound, next_labels, next_relaxed, next_settled, next_farthest, next_from, next_lack, next_reached}
 use Rattle.vs_path.proofs.labels.Labels.explore.Goals as goal
 
 lt_z-true : (a b : ℤ) → lt_z a b ≡ true → a <ℤ b
@@ -45,6 +45,26 @@ expand-requires-clause-farthest c =
     subst P (sym e) (begun_farthest r c.args.prices.now c.args.source old.steps c.requires.source
     c.requires.fresh.steps)
 
+pub expand-requires-clause-bound : goal.expand-requires-clause-bound
+expand-requires-clause-bound c = λ b is.
+    let e : None ≡ Some b = sym c.requires.no_bound ∙ sym c.settle.ensures.bound ∙ is in absurd (cc)
+
+pub expand-requires-in-Some-clause-bound : goal.expand-requires-in-Some-clause-bound
+expand-requires-in-Some-clause-bound c =
+    let r = c.args.residual.now in
+    let s = c.args.surplus.now in
+    let l = lists_of c.loop-node.self in
+    let way = c.loop-node.invariant.under_way in
+    let within : c.in-Some.node < r.graph.nodes =
+    omega (arith, c.in-Some.ensures.node, way.labels.are_listed.waiting) in
+    λ b is.
+    let e : c.loop-node.self.bound ≡ Some b = sym c.in-Some.ensures.bound ∙ is in
+    let at =
+    next_bound r c.args.prices.now s c.args.source l way c.in-Some.node c.in-Some.distance
+    c.in-Some.ensures.next within c.loop-node.self.bound c.loop-node.invariant.bound b e in
+    let P : Lists → Type 0 = λ k. Covers k at.0 b in
+    (at.0, at.1, subst P (sym c.in-Some.ensures.lists) at.2)
+
 -- the source is settled and its steps are relaxed
 pub loop-node-init : goal.loop-node-init
 loop-node-init c =
@@ -59,11 +79,12 @@ loop-node-init c =
     record {
       under_way = expanded r p c.args.surplus.now source (begun_at r.graph.nodes source old.steps)
           (lists_of c.expand.new.self) source (pos 0)
-          (begun_relaxed r p source old.steps c.requires.source c.requires.fresh.steps) refl
+          (begun_relaxed r p source old.steps c.requires.source c.requires.fresh.steps c.args.surplus.now) refl
           (begun_lack r p source old.steps c.requires.source c.requires.fresh.steps c.args.surplus.now)
           c.requires.has_enough
           (begun_settled r p source old.steps c.requires.source c.requires.fresh.steps)
           (subst P e c.expand.ensures.lowered) c.expand.ensures.labels c.expand.ensures.relaxed;
+      bound = c.expand.ensures.bound;
       space = let same = ap vec_capacity c.expand.ensures.order in omega (arith, same, c.settle.ensures.space);
     }
 
@@ -167,6 +188,7 @@ loop-node-preserved c =
           enough
           (next_settled r p s source l way node c.in-Some.distance next within)
           (subst P c.in-Some.ensures.lists c.expand-in-Some.ensures.lowered) c.expand-in-Some.ensures.labels relaxed;
+      bound = c.expand-in-Some.ensures.bound;
       space = let same = ap vec_capacity c.expand-in-Some.ensures.order in
           omega (arith, same, c.in-Some.ensures.space, c.loop-node.invariant.space);
     }

@@ -43,20 +43,22 @@ loop-k-preserved c =
     let fits : SFits w64 c.args.distance = search rules in
     let done = c.relax.ensures.relaxes in
     record {
+      bound = c.relax.ensures.bound;
       labels = done.labels;
       lowered = lowered-on (lists_of c.args.self.now) old new inv.lowered done.lowered;
       relaxed = λ i below.
           elim (cases_lt i c.loop-k.k-index) [
             | inl before ↦
-                lowered-relaxed r p old new c.args.node _ (step_along c.args.way (get_or ks i 0)) done.lowered
+                lowered-relaxed r p c.args.surplus.now old new c.args.node _ (step_along c.args.way (get_or ks i 0))
+                done.lowered
                 (inv.relaxed i before)
             | inr last ↦
                 let e : c.loop-k.k-index ≡ i = omega arith in
                 let P : ℕ → Type 0 =
-                λ j. IsRelaxed r p new c.args.node (to_z w64 (of_z w64 c.args.distance))
+                λ j. IsRelaxed r p c.args.surplus.now new c.args.node (to_z w64 (of_z w64 c.args.distance))
                 (step_along c.args.way (get_or ks j 0)) in
                 let Q : Step → Type 0 =
-                λ s. IsRelaxed r p new c.args.node (to_z w64 (of_z w64 c.args.distance)) s in
+                λ s. IsRelaxed r p c.args.surplus.now new c.args.node (to_z w64 (of_z w64 c.args.distance)) s in
                 subst P e (subst Q c.along.ensures (λ is_open from. done.relaxed is_open refl))
           ];
       order = c.relax.ensures.order ∙ inv.order;
@@ -73,5 +75,6 @@ returns-clause-relaxed c = λ k is_open from.
     let fits : SFits w64 c.args.distance = search rules in
     let relaxed = simp to_z-of_z at (c.loop-k.invariant.relaxed at.0 (omega (arith, at.1, c.loop-k-test.false))) in
     let P : ℕ → Type 0 =
-    λ j. IsRelaxed r p (lists_of c.loop-k.self) c.args.node c.args.distance (step_along c.args.way j) in
+    λ j. IsRelaxed r p c.args.surplus.now (lists_of c.loop-k.self) c.args.node c.args.distance
+    (step_along c.args.way j) in
     subst P at.2 relaxed is_open from

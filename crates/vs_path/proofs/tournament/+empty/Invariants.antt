@@ -1,0 +1,5 @@
+use Rattle.std.proofs.Common.{◌*◌, ◌-◌}
+use Rattle.vs_path.proofs.tournament.+empty.Given as goal
+
+abbrev pub decreases-empty : goal.decreases-empty
+decreases-empty l = 2 * l.count - l.place
