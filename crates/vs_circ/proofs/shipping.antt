@@ -11,3 +11,5 @@ pub mod Supplying
 pub mod Covering
 pub mod Fixing
 pub mod Relaxed
+pub mod Running
+pub mod Keeping

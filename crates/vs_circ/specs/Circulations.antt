@@ -1,5 +1,5 @@
--- What the two calls on a layer's net answer, said of blocks.
-use Rattle.std.specs.Prelude.{◌≡◌, ℕ, ◌*◌, ◌<◌, Bool, true, false, List, [], ◌∷◌, length, Option, slice_index, ℤ, pos, ◌+ℤ◌, ◌-ℤ◌, ◌*ℤ◌, ◌≤ℤ◌, ◌<ℤ◌}
+-- What the calls on a layer's net answer, said of blocks.
+use Rattle.std.specs.Prelude.{◌≡◌, ℕ, ◌*◌, ◌<◌, ◌↔◌, Bool, true, false, List, [], ◌∷◌, length, Option, slice_index, slice_index_or, ℤ, pos, ◌+ℤ◌, ◌-ℤ◌, ◌*ℤ◌, ◌≤ℤ◌, ◌<ℤ◌}
 use Rattle.vs_types.specs.declared.numbers.LayerNo.{LayerNo}
 use Rattle.vs_layer.specs.Circulation.{IsCirculation, flow_cost}
 use Rattle.vs_instance.specs.Problem.{Problem}
@@ -31,15 +31,27 @@ abbrev pub RunTrip : LayerGraph → List ℕ → ℕ → Type 0
 RunTrip n units i = (k : ℕ) × IsArcOfTrip n.kinds i k × (0 < slice_index units k)
 
 -- A circulation of offered trips, whose value is its cost less their multipliers. No blocks of offered trips have a lower
--- reduced cost, and some have that. The prices hold, and show so.
+-- reduced cost, and some have that.
+pub record IsLeastFlow (p : Problem) (l : LayerNo) (n : LayerGraph) (offers : List (Option ℤ)) (units : List ℕ)
+    (value : ℤ) : Type 0 where
+  pub circulation : IsCirculation n.graph units
+  pub offered : (i : ℕ) → RunTrip n units i → IsOffered offers i
+  pub value_is : value ≡ flow_cost n.graph units -ℤ paid_by_units (multipliers_of offers) n.kinds units
+  pub low : IsLowOf p l (IsOffered offers) (multipliers_of offers) value
+
+-- such a circulation with prices, which hold and show its value
 pub record IsLeastCirculation (p : Problem) (l : LayerNo) (n : LayerGraph) (offers : List (Option ℤ)) (c : Circ) : Type 0 where
-  pub circulation : IsCirculation n.graph c.flow.units.items
-  pub offered : (i : ℕ) → RunTrip n c.flow.units.items i → IsOffered offers i
-  pub value_is : c.value
-      ≡ flow_cost n.graph c.flow.units.items -ℤ paid_by_units (multipliers_of offers) n.kinds c.flow.units.items
-  pub low : IsLowOf p l (IsOffered offers) (multipliers_of offers) c.value
+  pub least : IsLeastFlow p l n offers c.flow.units.items c.value
   pub holding : AreHolding p l.0 false c.prices
   pub shows : shown_of_offers p l.0 offers c.prices ≡ c.value
+
+-- exactly the trips marked true run in one such circulation
+pub record RunLeast (p : Problem) (l : LayerNo) (n : LayerGraph) (offers : List (Option ℤ)) (marked : List Bool)
+    : Type 0 where
+  pub units : List ℕ
+  pub value : ℤ
+  pub least : IsLeastFlow p l n offers units value
+  pub runs : (i : ℕ) → (slice_index_or marked i false ≡ true) ↔ RunTrip n units i
 
 -- the blocks run exactly the trips that have to run
 pub record RunExactly (p : Problem) (l : LayerNo) (must : List Bool) (blocks : List LayerBlock) : Type 0 where

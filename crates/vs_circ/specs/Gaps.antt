@@ -39,3 +39,14 @@ AreLevels count ascending levels = (i j : ℕ) → i ≤ j → j < count
 pub record AreCounted (old new : List ℤ) : Type 0 where
   pub size : length new ≡ length old
   pub each : (v : ℕ) → v < length old → price_at new v ≡ price_at old v -ℤ price_at old 0
+
+-- a price is put at the level of a place where it stands
+pub record IsAtLevel (old ascending levels : List ℤ) (v : ℕ) (price : ℤ) : Type 0 where
+  pub place : ℕ
+  pub within : place < length ascending
+  pub from : price_at ascending place ≡ price_at old v
+  pub to : price_at levels place ≡ price
+
+-- so are all
+abbrev pub AreAtLevels : List ℤ → List ℤ → List ℤ → List ℤ → Type 0
+AreAtLevels old ascending levels new = (v : ℕ) → v < length old → IsAtLevel old ascending levels v (price_at new v)

@@ -1,15 +1,26 @@
 -- What is kept for a net from one call to the next.
 use Rattle.std.specs.Prelude.{◌≡◌, ℕ, ◌<◌, List, length, Some, slice_get}
 use Rattle.vs_layer.specs.Graph.{Graph}
+use Rattle.vs_circ.specs.declared.space.Space.{Space}
 use Rattle.vs_circ.specs.declared.work.Kept.{Kept}
 use Rattle.vs_circ.specs.Mirror.{IsMirror}
 use Rattle.vs_circ.specs.Shipments.{IsSized}
 
--- the shipment has a number for each arc and each node of the net, so has the search, and the mirror is the net's
+-- it has numbers for so many nodes
+pub record IsSpaceFor (nodes : ℕ) (space : Space) : Type 0 where
+  pub prices : length space.prices.items ≡ nodes
+  pub turned : length space.turned.items ≡ nodes
+  pub low : length space.low.items ≡ nodes
+  pub entering : length space.entering.items ≡ nodes
+  pub leaving : length space.leaving.items ≡ nodes
+
+-- the shipment has a number for each arc and each node of the net, so have the search and the space, and the mirror is
+-- the net's
 pub record IsKeptFor (g : Graph) (kept : Kept) : Type 0 where
   pub sized : IsSized g kept.shipment
   pub nodes : kept.search.nodes ≡ g.nodes
   pub mirror : IsMirror g kept.mirror
+  pub space : IsSpaceFor g.nodes kept.space
 
 -- at this place stands what is kept for the net
 pub record IsKeptAt (g : Graph) (kept : List Kept) (place : ℕ) : Type 0 where

@@ -8,20 +8,21 @@ ghost use Rattle.vs_match.specs.declared.layer_net.TheConstants.{MAX_ARC_COST};
 ghost use Rattle.vs_circ.specs.Circulations.{IsFixed};
 ghost use Rattle.vs_circ.specs.Offers.{AreMust};
 ghost use Rattle.vs_circ.specs.Prepared.{HasSmallArcs};
-ghost use Rattle.vs_circ.specs.Shipments.{IsDrained, IsSized};
+ghost use Rattle.vs_circ.specs.Shipments.{IsDrained};
 ghost use Rattle.vs_circ.specs.Supplied.{AreRun, AreStuckPrices, HasStuckUnits, IsSupplied};
+ghost use Rattle.vs_circ.specs.Works.{IsKeptFor, IsSpaceFor};
 
 use crate::draining::drain;
 use crate::fixed_flow::FixedFlow;
-use crate::gaps::near_prices;
-use crate::price_tables::{layer_prices, ray_prices};
+use crate::preparing::clear;
+use crate::price_tables::ray_prices;
 use crate::shipment::Shipment;
+use crate::space::Space;
 use crate::supplying::{must_on, supply};
-use crate::work::Work;
+use crate::work::{Kept, Work};
 use std::alloc::Global;
 use vs_layer::{Arc, Flow};
 use vs_match::LayerNet;
-use vs_path::Search;
 use vs_types::Memory;
 
 /// A least circulation that runs exactly these trips, or prices that show that there is none.
@@ -37,32 +38,22 @@ pub fn fixed(
         → IsLawful p l.0 net.now → AreMust p l.0 must.now → IsFixed p l net.now must.now f) }
 {
     let place = work.place_of(alloc, net.net())?;
-    let kept = &mut work.kept[place];
-    fix(alloc, net, must, &mut kept.shipment, &mut kept.search)
+    fix(alloc, net, must, &mut work.kept[place])
 }
 
-/// The same by a shipment and a search for nets with as many nodes and arcs.
-fn fix(
-    alloc: Global,
-    net: &LayerNet,
-    must: &[bool],
-    shipment: &mut Shipment,
-    search: &mut Search,
-) -> Result<FixedFlow, Memory>
+/// The same, from what is kept for the net.
+fn fix(alloc: Global, net: &LayerNet, must: &[bool], kept: &mut Kept) -> Result<FixedFlow, Memory>
     requires of_layer { (p : Problem) × (l : LayerNo) × IsInstance p × IsLawful p l.0 net.now
         × AreMust p l.0 must.now }
-    requires nodes { search.old.nodes ≡ net.now.graph.nodes }
-    requires sized { IsSized net.now.graph shipment.old }
+    requires kept { IsKeptFor net.now.graph kept.old }
     ensures fixed { IfOk result (λ f. (p : Problem) (l : LayerNo) → IsInstance p
         → IsLawful p l.0 net.now → AreMust p l.0 must.now → IsFixed p l net.now must.now f) }
-    ensures nodes { search.new.nodes ≡ search.old.nodes }
-    ensures sized { IsSized net.now.graph shipment.new }
 {
     let arcs = net.net();
-    supply(net, must, shipment);
-    match drain(arcs, search, shipment) {
-        None => covered(alloc, net, must, shipment),
-        Some(_) => short(alloc, net, must, search.reached()),
+    supply(net, must, &mut kept.shipment);
+    match drain(arcs, &mut kept.search, &mut kept.shipment) {
+        None => covered(alloc, net, must, &kept.shipment, &mut kept.space),
+        Some(_) => short(alloc, net, must, kept.search.reached(), &mut kept.space),
     }
 }
 
@@ -72,17 +63,19 @@ fn covered(
     net: &LayerNet,
     must: &[bool],
     shipment: &Shipment,
+    space: &mut Space,
 ) -> Result<FixedFlow, Memory>
     requires of_layer { (p : Problem) × (l : LayerNo) × IsInstance p × IsLawful p l.0 net.now
         × AreMust p l.0 must.now }
     requires supplied { IsSupplied net.now must.now shipment.now }
     requires drained { IsDrained shipment.now.surplus.items }
+    requires space { IsSpaceFor net.now.graph.nodes space.old }
     ensures { IfOk result (λ f. (p : Problem) (l : LayerNo) → IsInstance p
         → IsLawful p l.0 net.now → AreMust p l.0 must.now → IsFixed p l net.now must.now f) }
 {
     let flow = run_too(alloc, net, must, &shipment.flow)?;
-    let near = near_prices(alloc, &shipment.prices)?;
-    let prices = layer_prices(alloc, net, must.len(), &near)?;
+    space.take_near(&shipment.prices);
+    let prices = space.layer_prices(alloc, net, must.len())?;
     let cost = cost_of(net, &flow);
     Ok(FixedFlow::Covered { flow, prices, cost })
 }
@@ -124,29 +117,34 @@ fn units_cost(arc: Arc, units: u32) -> i128
 }
 
 /// Prices that show that units are stuck at these nodes.
-fn short(alloc: Global, net: &LayerNet, must: &[bool], stuck: &[u32]) -> Result<FixedFlow, Memory>
+fn short(
+    alloc: Global,
+    net: &LayerNet,
+    must: &[bool],
+    stuck: &[u32],
+    space: &mut Space,
+) -> Result<FixedFlow, Memory>
     requires of_layer { (p : Problem) × (l : LayerNo) × IsInstance p × IsLawful p l.0 net.now
         × AreMust p l.0 must.now }
     requires within { (i : ℕ) → i < length stuck.now
         → slice_index stuck.now i < net.now.graph.nodes }
     requires stuck { HasStuckUnits net.now must.now stuck.now }
+    requires space { IsSpaceFor net.now.graph.nodes space.old }
     ensures { IfOk result (λ f. (p : Problem) (l : LayerNo) → IsInstance p
         → IsLawful p l.0 net.now → AreMust p l.0 must.now → IsFixed p l net.now must.now f) }
 {
-    let nodes = stuck_prices(alloc, net.net().nodes(), stuck)?;
-    let prices = ray_prices(alloc, net, must.len(), &nodes)?;
+    set_stuck_prices(stuck, &mut space.prices);
+    let prices = ray_prices(alloc, net, must.len(), &space.prices, &mut space.entering)?;
     Ok(FixedFlow::Short { prices })
 }
 
-/// The price -1 at each of these nodes, and 0 at the others of so many.
-fn stuck_prices(alloc: Global, count: u32, stuck: &[u32]) -> Result<Vec<i64>, Memory>
-    requires within { (i : ℕ) → i < length stuck.now → slice_index stuck.now i < count }
-    ensures size { IfOk result (λ prices. length prices.items ≡ count) }
-    ensures prices { IfOk result (λ prices. AreStuckPrices stuck.now prices.items) }
+/// Gives these nodes the price -1, and the others 0.
+fn set_stuck_prices(stuck: &[u32], prices: &mut [i64])
+    requires { (i : ℕ) → i < length stuck.now → slice_index stuck.now i < length prices.old }
+    ensures { AreStuckPrices stuck.now prices.new }
 {
-    let mut prices = vec![in alloc; 0; count as usize]?;
+    clear(prices);
     for i in 0..stuck.len() {
         prices[stuck[i] as usize] = -1;
     }
-    Ok(prices)
 }

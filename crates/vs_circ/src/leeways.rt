@@ -1,14 +1,12 @@
-ghost use Rattle.std.specs.Prelude.{◌≡◌, ℕ, ◌+◌, ◌*◌, ◌<◌, ◌≤◌, ◌↔◌, ◌≤ℤ◌, pos, nat_abs, IfOk, length, false};
+ghost use Rattle.std.specs.Prelude.{◌≡◌, ℕ, ◌+◌, ◌*◌, ◌<◌, ◌≤◌, ◌↔◌, ◌≤ℤ◌, pos, nat_abs, length, false};
 ghost use Rattle.vs_instance.specs.Problem.{Problem};
 ghost use Rattle.vs_match.specs.LawfulNets.{IsLawful};
 ghost use Rattle.vs_path.specs.Residual.{AllWithin};
 ghost use Rattle.vs_circ.specs.NodePrices.{HasMovePrices};
 ghost use Rattle.vs_circ.specs.Leeways.{passing, limits_of, spare, ArcAllows, IsAllowed, AreLeeways};
 
-use std::alloc::Global;
 use vs_layer::{Arc, Net};
 use vs_match::{ArcKind, LayerNet, MAX_ARC_COST};
-use vs_types::Memory;
 
 /// How far at most the price for leaving or entering a trip is moved, in 1/1000 of a cost unit.
 pub(crate) const MAX_LEEWAY: u64 = 70_000_000_000_000_000;
@@ -49,24 +47,19 @@ impl Side {
     }
 }
 
-/// How much leeway at each node the empty moves leave, by one pass against the arcs for leaving, and along them for
-/// entering.
-pub(crate) fn leeways(
-    alloc: Global,
-    net: &LayerNet,
-    side: Side,
-    prices: &[i64],
-) -> Result<Vec<u64>, Memory>
+/// Sets how much leeway at each node the empty moves leave, by one pass against the arcs for leaving, and along them
+/// for entering.
+pub(crate) fn set_leeways(net: &LayerNet, side: Side, prices: &[i64], leeways: &mut [u64])
     requires of_layer { (p : Problem) × (l : ℕ) × IsLawful p l net.now }
     requires prices { HasMovePrices net.now prices.now }
-    ensures { IfOk result (λ leeways. AreLeeways net.now false side prices.now leeways.items) }
+    requires size { length leeways.old ≡ length prices.now }
+    ensures { AreLeeways net.now false side prices.now leeways.new }
 {
-    let mut leeways = vec![in alloc; 0; prices.len()]?;
+    leeways.fill(0);
     match side {
-        Side::Leaving => pass_against(net, prices, &mut leeways),
-        Side::Entering => pass_along(net, prices, &mut leeways),
+        Side::Leaving => pass_against(net, prices, leeways),
+        Side::Entering => pass_along(net, prices, leeways),
     }
-    Ok(leeways)
 }
 
 /// The leeways for leaving, node by node from the last.

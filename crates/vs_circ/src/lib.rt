@@ -16,8 +16,10 @@ mod offers;
 mod preparing;
 mod price_tables;
 mod relaxing;
+mod running;
 mod settling;
 mod shipment;
+mod space;
 mod supplying;
 mod work;
 
@@ -27,4 +29,8 @@ pub use fixing::fixed;
 pub use layer_prices::{LayerPrices, MAX_PRICE};
 pub use offers::MAX_MULTIPLIER;
 pub use relaxing::relaxed;
+pub use running::runs;
 pub use work::Work;
+
+#[cfg(test)]
+mod tests;

@@ -45,14 +45,13 @@ pub(crate) fn turned(nodes: u32, arc: Arc) -> Arc
     }
 }
 
-/// The prices of the nodes in the net turned round, by which each move costs the same.
-pub(crate) fn turned_prices(alloc: Global, prices: &[i64]) -> Result<Vec<i64>, Memory>
-    requires { AllWithin MAX_PRICE prices.now }
-    ensures { IfOk result (λ turned. AreTurned prices.now turned.items) }
+/// Sets the prices of the nodes in the net turned round, by which each move costs the same.
+pub(crate) fn turn_prices(prices: &[i64], turned: &mut [i64])
+    requires within { AllWithin MAX_PRICE prices.now }
+    requires size { length turned.old ≡ length prices.now }
+    ensures { AreTurned prices.now turned.new }
 {
-    let mut turned = Vec::with_capacity(alloc, prices.len())?;
-    for v in 0..prices.len() {
-        turned.push(-prices[prices.len() - 1 - v])?;
+    for v in 0..turned.len() {
+        turned[v] = -prices[prices.len() - 1 - v];
     }
-    Ok(turned)
 }

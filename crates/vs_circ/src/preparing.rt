@@ -49,25 +49,21 @@ fn offered_room(offers: &[Option<i64>], kind: ArcKind, arc: Arc) -> u32
     }
 }
 
-/// Sets what the arcs cost where these trips are offered.
-pub(crate) fn offer_costs(net: &LayerNet, offers: &[Option<i64>], cost: &mut [i64])
+/// Sets what the arcs cost and how many units they take where these trips are offered.
+pub(crate) fn offer_arcs(net: &LayerNet, offers: &[Option<i64>], cost: &mut [i64], room: &mut [u32])
     requires arcs { HasSmallArcs net.now }
     requires offers { AreSmallOffers offers.now }
-    requires size { length cost.old ≡ length net.now.graph.arcs }
-    ensures { AreOfferedCosts net.now offers.now cost.new }
+    requires cost_size { length cost.old ≡ length net.now.graph.arcs }
+    requires room_size { length room.old ≡ length net.now.graph.arcs }
+    ensures cost { AreOfferedCosts net.now offers.now cost.new }
+    ensures room { AreOfferedRooms net.now offers.now room.new }
 {
-    for k in 0..net.net().arcs() {
-        cost[k as usize] = offered_cost(offers, net.kind(k), net.net().arc(k));
-    }
-}
-
-/// Sets how many units the arcs take where these trips are offered.
-pub(crate) fn offer_rooms(net: &LayerNet, offers: &[Option<i64>], room: &mut [u32])
-    requires size { length room.old ≡ length net.now.graph.arcs }
-    ensures { AreOfferedRooms net.now offers.now room.new }
-{
-    for k in 0..net.net().arcs() {
-        room[k as usize] = offered_room(offers, net.kind(k), net.net().arc(k));
+    let graph = net.net();
+    for k in 0..graph.arcs() {
+        let kind = net.kind(k);
+        let arc = graph.arc(k);
+        cost[k as usize] = offered_cost(offers, kind, arc);
+        room[k as usize] = offered_room(offers, kind, arc);
     }
 }
 
@@ -199,8 +195,12 @@ pub(crate) fn prepare(net: &LayerNet, offers: &[Option<i64>], shipment: &mut Shi
     ensures room { AreOfferedRooms net.now offers.now shipment.new.costs.room.items }
     ensures left { IsLeftBy net.now.graph shipment.new.flow.units.items shipment.new.surplus.items }
 {
-    offer_costs(net, offers, &mut shipment.costs.cost);
-    offer_rooms(net, offers, &mut shipment.costs.room);
+    offer_arcs(
+        net,
+        offers,
+        &mut shipment.costs.cost,
+        &mut shipment.costs.room,
+    );
     let arcs = net.net();
     fit(
         arcs,

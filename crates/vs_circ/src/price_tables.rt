@@ -10,7 +10,7 @@ ghost use Rattle.vs_circ.specs.Leeways.{AreFewLeeways, shifted};
 ghost use Rattle.vs_circ.specs.PriceTables.{AreEntries, IsEntry, IsTableOf, base_price};
 
 use crate::layer_prices::LayerPrices;
-use crate::leeways::{MAX_LEEWAY, MAX_NODE_PRICE, Side, leeways};
+use crate::leeways::{MAX_LEEWAY, MAX_NODE_PRICE, Side, set_leeways};
 use std::alloc::Global;
 use vs_instance::MAX_TRIPS;
 use vs_match::LayerNet;
@@ -18,32 +18,39 @@ use vs_types::{Memory, TripNo};
 
 /// Prices of a layer, with entries for so many trips, from prices of the nodes. They hold, and each trip pays no less
 /// by them: they are the mean of those with the least prices for leaving trips, and of those with the greatest ones
-/// for entering trips.
+/// for entering trips. The last two slices, with a number for each node, are space to work in.
 pub(crate) fn layer_prices(
     alloc: Global,
     net: &LayerNet,
     trips: usize,
     prices: &[i64],
+    entering: &mut [u64],
+    leaving: &mut [u64],
 ) -> Result<LayerPrices, Memory>
     requires of_layer { (p : Problem) × (l : ℕ) × IsInstance p × IsLawful p l net.now × (length p.trips ≡ trips) }
     requires prices { HasMovePrices net.now prices.now }
+    requires entering { length entering.old ≡ length prices.now }
+    requires leaving { length leaving.old ≡ length prices.now }
     ensures holding { IfOk result (λ given. (p : Problem) (l : ℕ) → IsInstance p → IsLawful p l net.now
         → length p.trips ≡ trips → AreHolding p l false given) }
     ensures pays { IfOk result (PaysNoLess net.now trips prices.now) }
 {
-    let entering = leeways(alloc, net, Side::Entering, prices)?;
-    let leaving = leeways(alloc, net, Side::Leaving, prices)?;
-    table_of(alloc, net, trips, prices, &entering, &leaving)
+    set_leeways(net, Side::Entering, prices, entering);
+    set_leeways(net, Side::Leaving, prices, leaving);
+    table_of(alloc, net, trips, prices, entering, leaving)
 }
 
 /// Prices of a ray, with entries for so many trips, from prices of the nodes. They hold, and each trip pays the same.
+/// The last slice, with a number for each node, is space to work in.
 pub(crate) fn ray_prices(
     alloc: Global,
     net: &LayerNet,
     trips: usize,
     prices: &[i64],
+    none: &mut [u64],
 ) -> Result<LayerPrices, Memory>
     requires of_layer { (p : Problem) × (l : ℕ) × IsInstance p × IsLawful p l net.now × (length p.trips ≡ trips) }
+    requires none { length none.old ≡ length prices.now }
     requires each_node { length prices.now ≡ net.now.graph.nodes }
     requires within { AllWithin MAX_NODE_PRICE prices.now }
     requires moves { AreMovePrices net.now true prices.now }
@@ -51,8 +58,8 @@ pub(crate) fn ray_prices(
         → length p.trips ≡ trips → AreHolding p l true given) }
     ensures pays { IfOk result (PaysNoLess net.now trips prices.now) }
 {
-    let none = vec![in alloc; 0; prices.len()]?;
-    table_of(alloc, net, trips, prices, &none, &none)
+    none.fill(0);
+    table_of(alloc, net, trips, prices, none, none)
 }
 
 /// Prices of a layer from prices and leeways of the nodes.

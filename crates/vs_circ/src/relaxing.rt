@@ -13,15 +13,16 @@ ghost use Rattle.vs_circ.specs.Offers.{AreOffers};
 ghost use Rattle.vs_circ.specs.Settled.{IsSettled};
 ghost use Rattle.vs_circ.specs.Shipments.{residual_of};
 ghost use Rattle.vs_circ.specs.Values.{worth_of_units};
-ghost use Rattle.vs_circ.specs.Works.{IsKeptFor};
+ghost use Rattle.vs_circ.specs.Works.{IsKeptFor, IsSpaceFor};
 
-use crate::centring::centred;
+use crate::centring::centre;
 use crate::circ::Circ;
-use crate::price_tables::layer_prices;
 use crate::settling::settle;
 use crate::shipment::Shipment;
+use crate::space::Space;
 use crate::work::{Kept, Work};
 use std::alloc::Global;
+use std::mem::swap;
 use vs_layer::{Flow, Net};
 use vs_match::LayerNet;
 use vs_path::Residual;
@@ -61,54 +62,58 @@ fn relaxed_from(
 {
     let graph = net.net();
     settle(net, offers, &mut kept.search, &mut kept.shipment);
-    let prices = centred_prices(alloc, graph, kept)?;
-    let circ = circ_of(alloc, net, offers, &kept.shipment, &prices)?;
-    kept.shipment.prices = prices;
+    take_centred(graph, kept);
+    let circ = circ_of(alloc, net, offers, &kept.shipment, &mut kept.space)?;
+    swap(&mut kept.shipment.prices, &mut kept.space.prices);
     Ok(circ)
 }
 
-/// Prices in the middle of those at which the units stay settled.
-fn centred_prices(alloc: Global, net: &Net, kept: &mut Kept) -> Result<Vec<i64>, Memory>
+/// Takes prices in the middle of those at which the units stay settled.
+fn take_centred(net: &Net, kept: &mut Kept)
     requires kept { IsKeptFor net.now kept.old }
     requires small { IsSmall (residual_of net.now kept.old.shipment)
         kept.old.shipment.prices.items }
     requires signs { HasSignRule (residual_of net.now kept.old.shipment)
         kept.old.shipment.prices.items }
-    ensures centred { IfOk result (λ prices.
-        AreSettled (residual_of net.now kept.old.shipment) prices.items) }
+    ensures centred { AreSettled (residual_of net.now kept.old.shipment) kept.new.space.prices.items }
+    ensures space { IsSpaceFor net.now.nodes kept.new.space }
     ensures same { kept.new.shipment ≡ kept.old.shipment }
 {
     let shipment = &kept.shipment;
     let residual = Residual::new(net, &shipment.flow, &shipment.costs, net.arcs());
     let mirror = &kept.mirror;
     let mirrored = Residual::new(mirror, &shipment.flow, &shipment.costs, mirror.arcs());
-    centred(
-        alloc,
+    let space = &mut kept.space;
+    space.prices.copy_from_slice(&shipment.prices);
+    centre(
         &mut kept.search,
         &residual,
         &mirrored,
-        &shipment.prices,
-    )
+        &mut space.prices,
+        &mut space.turned,
+        &mut space.low,
+    );
 }
 
-/// The circulation of a settled shipment, with prices made from those of the nodes.
+/// The circulation of a settled shipment, with prices made from those of the nodes that were taken.
 fn circ_of(
     alloc: Global,
     net: &LayerNet,
     offers: &[Option<i64>],
     shipment: &Shipment,
-    prices: &[i64],
+    space: &mut Space,
 ) -> Result<Circ, Memory>
     requires of_layer { (p : Problem) × (l : LayerNo) × IsInstance p × IsLawful p l.0 net.now
         × AreOffers p l.0 offers.now }
     requires settled { IsSettled net.now offers.now shipment.now }
-    requires prices { AreSettled (residual_of net.now.graph shipment.now) prices.now }
+    requires space { IsSpaceFor net.now.graph.nodes space.old }
+    requires prices { AreSettled (residual_of net.now.graph shipment.now) space.old.prices.items }
     ensures least { IfOk result (λ c. (p : Problem) (l : LayerNo) → IsInstance p
         → IsLawful p l.0 net.now → AreOffers p l.0 offers.now
         → IsLeastCirculation p l net.now offers.now c) }
 {
     let units = Vec::from_slice(alloc, &shipment.flow.units)?;
-    let prices = layer_prices(alloc, net, offers.len(), prices)?;
+    let prices = space.layer_prices(alloc, net, offers.len())?;
     let value = worth_of(&shipment.costs.cost, &units);
     Ok(Circ {
         flow: Flow { units },

@@ -9,7 +9,7 @@ ghost use Rattle.vs_circ.specs.PricedFlows.{must_on, must_units};
 ghost use Rattle.vs_circ.specs.Shipments.{IsSized};
 ghost use Rattle.vs_circ.specs.Supplied.{IsSupplied};
 
-use crate::preparing::{clear, leave, offer_costs, offer_rooms};
+use crate::preparing::{clear, leave, offer_arcs};
 use crate::shipment::Shipment;
 use vs_match::{ArcKind, LayerNet};
 
@@ -53,8 +53,7 @@ pub(crate) fn supply(net: &LayerNet, must: &[bool], shipment: &mut Shipment)
     requires sized { IsSized net.now.graph shipment.old }
     ensures { IsSupplied net.now must.now shipment.new }
 {
-    offer_costs(net, &[], &mut shipment.costs.cost);
-    offer_rooms(net, &[], &mut shipment.costs.room);
+    offer_arcs(net, &[], &mut shipment.costs.cost, &mut shipment.costs.room);
     run(net, must, &mut shipment.flow.units);
     leave(net.net(), &shipment.flow.units, &mut shipment.surplus);
     empty(&mut shipment.flow.units);

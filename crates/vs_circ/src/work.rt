@@ -5,19 +5,21 @@ ghost use Rattle.vs_circ.specs.Works.{IsKeptAt, IsKeptFor};
 
 use crate::mirror::{mirror_of, turned};
 use crate::shipment::Shipment;
+use crate::space::Space;
 use std::alloc::Global;
 use vs_layer::{Flow, Net};
 use vs_match::LayerNet;
 use vs_path::{Costs, Search};
 use vs_types::Memory;
 
-/// What is kept for a net: the units that were sent last, the space of the searches, and the net
-/// turned round.
+/// What is kept for a net: the units that were sent last, the searches, the net turned round, and
+/// space to work in.
 #[derive(Drop)]
 pub(crate) struct Kept {
     pub shipment: Shipment,
     pub search: Search,
     pub mirror: Net,
+    pub space: Space,
 }
 
 /// What calls keep for the nets of the layers. It decides only how long a call takes, so a call
@@ -36,6 +38,7 @@ impl Kept {
             shipment: empty_shipment(alloc, net)?,
             search: Search::new(alloc, net.nodes())?,
             mirror: mirror_of(alloc, net)?,
+            space: Space::new(alloc, net.nodes())?,
         })
     }
 
@@ -45,12 +48,14 @@ impl Kept {
     {
         is_sized(&self.shipment, net)
             && self.search.nodes() == net.nodes() as usize
+            && self.space.is_for(net.nodes())
             && is_mirror(&self.mirror, net)
     }
 }
 
 impl Work {
-    /// What calls for these nets keep. With it none of them allocates for what it keeps.
+    /// What calls for these nets keep, and space for them. With it none of them allocates anything but
+    /// its answer.
     pub fn new(alloc: Global, nets: &[LayerNet]) -> Result<Work, Memory> {
         let mut kept = Vec::with_capacity(alloc, nets.len())?;
         for net in nets {
@@ -68,8 +73,16 @@ impl Work {
                 return Ok(place);
             }
         }
+        self.add(alloc, net)
+    }
+
+    /// Keeps a start for a net, at the last place.
+    fn add(&mut self, alloc: Global, net: &Net) -> Result<usize, Memory>
+        ensures { IfOk result (λ place. IsKeptAt net.now self.new.kept.items place) }
+    {
         let place = self.kept.len();
-        self.kept.push(Kept::new(alloc, net)?)?;
+        let kept = Kept::new(alloc, net)?;
+        self.kept.push(kept)?;
         Ok(place)
     }
 }

@@ -8,6 +8,7 @@ use Rattle.vs_types.specs.declared.numbers.LayerNo.{LayerNo}
 use Rattle.vs_instance.specs.Problem.{Problem}
 use Rattle.vs_instance.specs.Instance.{IsInstance}
 use Rattle.vs_instance.specs.Ways.{layer_of}
+use Rattle.vs_instance.specs.HoldingTable.{HoldsInLayer}
 use Rattle.vs_instance.specs.Lagrangian.{IsLowOf, reduced_cost}
 use Rattle.vs_instance.specs.Plan.{LayerBlock}
 use Rattle.vs_instance.proofs.Totals.{times_none, times_one, total-map_sub, total-range_le}
@@ -17,8 +18,8 @@ use Rattle.vs_match.specs.LawfulNets.{IsLawful}
 use Rattle.vs_match.specs.LayerGraph.{IsArcOfTrip, LayerGraph}
 use Rattle.vs_match.proofs.decomposition.Dividing.{circulation_decomposes}
 use Rattle.vs_circ.specs.declared.layer_prices.LayerPrices.{LayerPrices}
-use Rattle.vs_circ.specs.Circulations.{RunTrip, paid_by_units, paid_on}
-use Rattle.vs_circ.specs.LayerPrices.{AreHolding, pays_at, shown_of_offers, trip_pays}
+use Rattle.vs_circ.specs.Circulations.{IsLeastFlow, RunTrip, paid_by_units, paid_on}
+use Rattle.vs_circ.specs.LayerPrices.{pays_at, shown_of_offers, trip_pays}
 use Rattle.vs_circ.specs.Laws.{LeastCirculations}
 use Rattle.vs_circ.specs.Offers.{AreOffers, IsOffered, multipliers_of, offer_of, paid}
 use Rattle.vs_circ.specs.PricedFlows.{IsPricedFlow, KeepsOffers, PaysNoLess, arc_pays}
@@ -64,7 +65,8 @@ not_offered (Some m) x none = absurd (none refl)
 module _ (p : Problem) (l : LayerNo) (n : LayerGraph) (offers : List (Option ℤ)) (prices : List ℤ) (units : List ℕ)
     (given : LayerPrices) (instance : IsInstance p) (lawful : IsLawful p l.0 n) (are : AreOffers p l.0 offers)
     (circulation : IsCirculation n.graph units) (flow : IsPricedFlow n units prices)
-    (keeps : KeepsOffers n offers units prices) (holding : AreHolding p l.0 false given)
+    (keeps : KeepsOffers n offers units prices)
+    (holds : HoldsInLayer p l.0 false given.into.items given.from.items given.fleet)
     (pays : PaysNoLess n (length p.trips) prices given) where
   -- the cost of the units less the multipliers of their trips
   abbrev value : ℤ
@@ -137,10 +139,10 @@ module _ (p : Problem) (l : LayerNo) (n : LayerGraph) (offers : List (Option ℤ
         omega (arith, ints, paid_is, cost)
 
     -- so value, blocks and prices meet
-    pub is_low : IsLowOf p l (IsOffered offers) (multipliers_of offers) value
+    is_low : IsLowOf p l (IsOffered offers) (multipliers_of offers) value
     is_low =
         let such = are_blocks p l n lawful units circulation blocks parts (IsOffered offers) run_offered in
-        let bound = offers_bound p l given instance holding.holds offers in
+        let bound = offers_bound p l given instance holds offers in
         let here = bound blocks such in
         let shown = value_shown in
         let most = blocks_value in
@@ -152,28 +154,40 @@ module _ (p : Problem) (l : LayerNo) (n : LayerGraph) (offers : List (Option ℤ
         }
 
     -- the prices show the value
-    pub value_is_shown : shown_of_offers p l.0 offers given ≡ value
+    value_is_shown : shown_of_offers p l.0 offers given ≡ value
     value_is_shown =
-        let here = offers_bound p l given instance holding.holds offers blocks
+        let here = offers_bound p l given instance holds offers blocks
         (are_blocks p l n lawful units circulation blocks parts (IsOffered offers) run_offered) in
         let shown = value_shown in
         let most = blocks_value in
         omega (arith, ints, here, shown, most)
 
+  -- the circulation is least
+  pub least_flow : IsLeastFlow p l n offers units value
+  least_flow =
+      let parts = circulation_decomposes p instance l n lawful units circulation in
+      record {
+        circulation = circulation;
+        offered = run_offered;
+        value_is = refl;
+        low = is_low parts.0 parts.1;
+      }
+
+  -- and the prices show its value
+  value_shown_exactly : shown_of_offers p l.0 offers given ≡ value
+  value_shown_exactly =
+      let parts = circulation_decomposes p instance l n lawful units circulation in value_is_shown parts.0 parts.1
+
 -- the law
 pub least_circulations : LeastCirculations
 least_circulations p l n offers prices c instance lawful are circulation flow keeps holding pays is =
     let units = c.flow.units.items in
-    let parts = circulation_decomposes p instance l n lawful units circulation in
+    let holds = holding.holds in
     record {
-      circulation = circulation;
-      offered = run_offered p l n offers prices units c.prices instance lawful are circulation flow keeps holding pays;
-      value_is = is;
-      low = subst (λ (v : ℤ). IsLowOf p l (IsOffered offers) (multipliers_of offers) v) (sym is)
-          (is_low p l n offers prices units c.prices instance lawful are circulation flow keeps holding pays
-          parts.0 parts.1);
+      least = subst (λ (v : ℤ). IsLeastFlow p l n offers units v) (sym is)
+          (least_flow p l n offers prices units c.prices instance lawful are circulation flow keeps holds pays);
       holding = holding;
       shows =
-          value_is_shown p l n offers prices units c.prices instance lawful are circulation flow keeps holding pays
-          parts.0 parts.1 ∙ sym is;
+          value_shown_exactly p l n offers prices units c.prices instance lawful are circulation flow keeps holds pays
+          ∙ sym is;
     }

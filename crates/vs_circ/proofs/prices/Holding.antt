@@ -34,44 +34,58 @@ vehicle_price-≥ n prices =
     let is = int_max_is (pos 0) (price_at prices 0 -ℤ price_at prices (end_node n)) in
     (omega (arith, ints, clamps), omega (arith, ints, clamps))
 
-module _ (n : LayerGraph) (prices : List ℤ) (entering leaving : List ℕ) (trips : ℕ) (given : LayerPrices)
-    (table : IsTableOf n prices entering leaving trips given) where
-  -- the price for entering a trip
+-- prices of a layer that are those of the nodes, moved by half their leeways
+pub record FollowNodes (n : LayerGraph) (prices : List ℤ) (entering leaving : List ℕ) (trips : ℕ) (given : LayerPrices)
+    : Type 0 where
+  pub vehicle : given.fleet ≡ vehicle_price n prices
   pub into_is : (i k : ℕ) → i < trips → IsArcOfTrip n.kinds i k → price_of given.into.items i
       ≡ (price_at prices (arc_of n.graph k).from -ℤ (price_at prices 0 -ℤ given.fleet))
       +ℤ pos (slice_index entering (arc_of n.graph k).from / 2)
-  into_is i k within is =
-      (table.into.each i within).with_arc k is
-      ∙ ap (λ (f : ℤ). (price_at prices (arc_of n.graph k).from -ℤ (price_at prices 0 -ℤ f))
-      +ℤ pos (slice_index entering (arc_of n.graph k).from / 2)) (sym table.vehicle)
-
-  -- the price for leaving it
   pub from_is : (i k : ℕ) → i < trips → IsArcOfTrip n.kinds i k → price_of given.from.items i
       ≡ (price_at prices (arc_of n.graph k).to -ℤ (price_at prices 0 -ℤ given.fleet))
       -ℤ pos ((slice_index leaving (arc_of n.graph k).to + 1) / 2)
-  from_is i k within is =
+
+-- so are those of a table
+table-follows : (n : LayerGraph) (prices : List ℤ) (entering leaving : List ℕ) (trips : ℕ) (given : LayerPrices)
+    → IsTableOf n prices entering leaving trips given → FollowNodes n prices entering leaving trips given
+table-follows n prices entering leaving trips given table = record {
+  vehicle = table.vehicle;
+  into_is = λ i k within is.
+      (table.into.each i within).with_arc k is
+      ∙ ap (λ (f : ℤ). (price_at prices (arc_of n.graph k).from -ℤ (price_at prices 0 -ℤ f))
+      +ℤ pos (slice_index entering (arc_of n.graph k).from / 2)) (sym table.vehicle);
+  from_is = λ i k within is.
       (table.from.each i within).with_arc k is
       ∙ ap (λ (f : ℤ). (price_at prices (arc_of n.graph k).to -ℤ (price_at prices 0 -ℤ f))
-      -ℤ pos ((slice_index leaving (arc_of n.graph k).to + 1) / 2)) (sym table.vehicle)
+      -ℤ pos ((slice_index leaving (arc_of n.graph k).to + 1) / 2)) (sym table.vehicle);
+}
 
-  -- each trip pays no less than by the prices of its nodes
-  pub table-pays : PaysNoLess n trips prices given
-  table-pays = record {
-    vehicle = table.vehicle;
-    each_trip = λ i k within is. omega (arith, ints, into_is i k within is, from_is i k within is);
-  }
+-- by such prices each trip pays no less than by the prices of its nodes
+pub following-pays : (n : LayerGraph) (prices : List ℤ) (entering leaving : List ℕ) (trips : ℕ) (given : LayerPrices)
+    → FollowNodes n prices entering leaving trips given → PaysNoLess n trips prices given
+following-pays n prices entering leaving trips given follow = record {
+  vehicle = follow.vehicle;
+  each_trip = λ i k within is. omega (arith, ints, follow.into_is i k within is, follow.from_is i k within is);
+}
+
+-- and by those of a table
+pub table-pays : (n : LayerGraph) (prices : List ℤ) (entering leaving : List ℕ) (trips : ℕ) (given : LayerPrices)
+    → IsTableOf n prices entering leaving trips given → PaysNoLess n trips prices given
+table-pays n prices entering leaving trips given table =
+    following-pays n prices entering leaving trips given
+    (table-follows n prices entering leaving trips given table)
 
 module _ (p : Problem) (l : ℕ) (n : LayerGraph) (lawful : IsLawful p l n) (ray : Bool) (prices : List ℤ)
     (entering leaving : List ℕ) (enter : AreLeeways n ray Entering prices entering)
     (leave : AreLeeways n ray Leaving prices leaving) (given : LayerPrices)
-    (table : IsTableOf n prices entering leaving (length p.trips) given) where
+    (follow : FollowNodes n prices entering leaving (length p.trips) given) where
   arc_for : (i : ℕ) → i < length p.trips → Permitted p l i → (k : ℕ) × IsArcOfTrip n.kinds i k
   arc_for i within may = lawful.each_trip i (within, may)
 
   -- what a vehicle pays, by the prices of the depot's beginning and end
   pays : (pos 0 ≤ℤ given.fleet) × (price_at prices 0 ≤ℤ (price_at prices (end_node n) +ℤ given.fleet))
   pays = let P : ℤ → Type 0 = λ f. (pos 0 ≤ℤ f) × (price_at prices 0 ≤ℤ (price_at prices (end_node n) +ℤ f)) in
-      subst P (sym table.vehicle) (vehicle_price-≥ n prices)
+      subst P (sym follow.vehicle) (vehicle_price-≥ n prices)
 
   enters_from_depot : (i k : ℕ) → i < length p.trips → IsArcOfTrip n.kinds i k
       → IfSome (out_piece p l i) (λ c. price_of given.into.items i ≤ℤ (scaled ray c +ℤ given.fleet))
@@ -80,7 +94,7 @@ module _ (p : Problem) (l : ℕ) (n : LayerGraph) (lawful : IsLawful p l n) (ray
       (moved-entering n lawful.net ray prices entering enter) i k is in
       if-both (out_piece p l i) rises rises
       (λ c a b.
-      let entry = into_is n prices entering leaving (length p.trips) given table i k within is in
+      let entry = follow.into_is i k within is in
       omega (arith, ints, a, entry, enter.first))
 
   leaves_and_enters : (i j k m : ℕ) → i < length p.trips → j < length p.trips
@@ -97,8 +111,8 @@ module _ (p : Problem) (l : ℕ) (n : LayerGraph) (lawful : IsLawful p l n) (ray
         ints,
         a,
         b,
-        into_is n prices entering leaving (length p.trips) given table j m within' is',
-        from_is n prices entering leaving (length p.trips) given table i k within is,
+        follow.into_is j m within' is',
+        follow.from_is i k within is,
         still-entering n lawful.net ray prices entering enter lawful.labelled i k is,
         still-leaving n lawful.net ray prices leaving leave lawful.labelled j m is',
       ))
@@ -110,9 +124,10 @@ module _ (p : Problem) (l : ℕ) (n : LayerGraph) (lawful : IsLawful p l n) (ray
       (moved-leaving n lawful.net ray prices leaving leave) i k is in
       if-both (in_piece p l i) rises rises
       (λ c a b.
-      let entry = from_is n prices entering leaving (length p.trips) given table i k within is in
+      let entry = follow.from_is i k within is in
       omega (arith, ints, a, entry, leave.last, pays.1))
 
+  -- they hold
   pub holds : HoldsInLayer p l ray given.into.items given.from.items given.fleet
   holds = record {
     vehicle = pays.0;
@@ -149,7 +164,9 @@ table-holds p l n ray prices entering leaving trips given lawful count within en
       from = All-from_get_or IsPrice given.from.items (pos 0)
           (λ i below. (of_trips.from.each i (omega (arith, of_trips.from.size))).price);
       fleet = subst Is (sym table.vehicle) (vehicle-price n prices within);
-      holds = holds p l n lawful ray prices entering leaving enter leave given of_trips;
+      holds =
+          holds p l n lawful ray prices entering leaving enter leave given
+          (table-follows n prices entering leaving (length p.trips) given of_trips);
     }
 
 -- what follows of a value that there is

@@ -72,7 +72,8 @@ allows-none PullIn most least = least tt
 allows-none Return most least = tt
 
 module _ (n : LayerGraph) (ray : Bool) (side : Side) (prices : List ℤ) where
-  none_at : (count w : ℕ) → slice_index (replicate count 0) w ≡ 0
+  -- none at any node
+  pub none_at : (count w : ℕ) → slice_index (replicate count 0) w ≡ 0
   none_at count w =
       elim (cases_lt w count) [
         | inl within ↦ get_or-replicate count w 0 0 within

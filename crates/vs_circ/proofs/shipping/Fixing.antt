@@ -10,7 +10,8 @@ use Rattle.vs_instance.specs.Problem.{Problem}
 use Rattle.vs_instance.specs.Instance.{IsInstance}
 use Rattle.vs_match.specs.LawfulNets.{IsLawful}
 use Rattle.vs_match.specs.LayerGraph.{LayerGraph}
-use Rattle.vs_path.specs.Residual.{HasSignRule, IsResidual, price_at}
+use Rattle.vs_path.specs.Residual.{AllWithin, HasSignRule, IsResidual, IsWithin, price_at}
+use Rattle.vs_circ.specs.declared.leeways.TheConstants.{MAX_NODE_PRICE}
 use Rattle.vs_circ.specs.declared.fixed_flow.FixedFlow.TheVariants.{Covered, Short}
 use Rattle.vs_circ.specs.declared.layer_prices.LayerPrices.{LayerPrices}
 use Rattle.vs_circ.specs.declared.shipment.Shipment.{Shipment}
@@ -55,6 +56,14 @@ stuck-price nodes prices are v = go (is_in nodes v) refl
     go : (b : Bool) → is_in nodes v ≡ b → price_at prices v ≡ neg_ℤ (cond b (pos 1) (pos 0))
     go true e = let is = is_in-to nodes v e in ap (price_at prices) (sym is.2) ∙ are.stuck is.0 is.1
     go false e = are.others v (λ is. false≢true (sym e ∙ is_in-from nodes v is))
+
+-- none of these prices is great
+pub stuck-within : (nodes : List ℕ) (prices : List ℤ) → AreStuckPrices nodes prices → AllWithin MAX_NODE_PRICE prices
+stuck-within nodes prices are v = go (is_in nodes v) (stuck-price nodes prices are v)
+  where
+    go : (b : Bool) → price_at prices v ≡ neg_ℤ (cond b (pos 1) (pos 0)) → IsWithin MAX_NODE_PRICE (price_at prices v)
+    go true is = record { low = omega (arith, ints, is); high = omega (arith, ints, is) }
+    go false is = record { low = omega (arith, ints, is); high = omega (arith, ints, is) }
 
 module _ (n : LayerGraph) (must : List Bool) (nodes : List ℕ) (prices : List ℤ) (stuck : HasStuckUnits n must nodes)
     (are : AreStuckPrices nodes prices) where

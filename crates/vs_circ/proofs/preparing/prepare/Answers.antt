@@ -13,14 +13,14 @@ returns-clause-can c =
     let n = c.args.net.now in
     let s = c.args.shipment.now in
     let sized = c.requires.sized in
-    let cost = with_items_is s.costs.cost c.offer_costs.new.cost (c.offer_costs.auto.cost ∙ c.deref_mut.ensures.len) in
+    let cost = with_items_is s.costs.cost c.offer_arcs.new.cost (c.offer_arcs.auto.cost ∙ c.deref_mut.ensures.len) in
     let room =
-    with_items_is s.costs.room c.offer_rooms.new.room (c.offer_rooms.auto.room ∙ c.deref_mut-2.ensures.len) in
+    with_items_is s.costs.room c.offer_arcs.new.room (c.offer_arcs.auto.room ∙ c.deref_mut-2.ensures.len) in
     let prices = with_items_is s.prices c.fit.new.prices (c.fit.auto.prices ∙ c.deref_mut-3.ensures.len) in
     let units = with_items_is s.flow.units c.fit.new.units (c.fit.auto.units ∙ c.deref_mut-4.ensures.len) in
     let surplus = with_items_is s.surplus c.leave.new.surplus (c.leave.auto.surplus ∙ c.deref_mut-5.ensures.len) in
-    let cost_now : List ℤ = (with_items s.costs.cost c.offer_costs.new.cost).items in
-    let room_now : List ℕ = (with_items s.costs.room c.offer_rooms.new.room).items in
+    let cost_now : List ℤ = (with_items s.costs.cost c.offer_arcs.new.cost).items in
+    let room_now : List ℕ = (with_items s.costs.room c.offer_arcs.new.room).items in
     let prices_now : List ℤ = (with_items s.prices c.fit.new.prices).items in
     let units_now : List ℕ = (with_items s.flow.units c.fit.new.units).items in
     let Suit : Graph → Type 0 = λ g. AllSuit g cost_now room_now c.fit.new.prices c.fit.new.units in
@@ -32,13 +32,13 @@ returns-clause-can c =
     suit-can n c.args.offers.now _ c.requires.arcs c.requires.nodes c.requires.offers
     (record {
       units = ap length units ∙ c.fit.auto.units ∙ ap length c.deref_mut-4.ensures.value ∙ sized.units;
-      cost = ap length cost ∙ c.offer_costs.auto.cost ∙ ap length c.deref_mut.ensures.value ∙ sized.cost;
-      room = ap length room ∙ c.offer_rooms.auto.room ∙ ap length c.deref_mut-2.ensures.value ∙ sized.room;
+      cost = ap length cost ∙ c.offer_arcs.auto.cost ∙ ap length c.deref_mut.ensures.value ∙ sized.cost;
+      room = ap length room ∙ c.offer_arcs.auto.room ∙ ap length c.deref_mut-2.ensures.value ∙ sized.room;
       prices = ap length prices ∙ c.fit.auto.prices ∙ ap length c.deref_mut-3.ensures.value ∙ sized.prices;
       surplus = ap length surplus ∙ c.leave.auto.surplus ∙ ap length c.deref_mut-5.ensures.value ∙ sized.surplus;
     })
-    (subst (AreOfferedCosts n c.args.offers.now) (sym cost) c.offer_costs.ensures)
-    (subst (AreOfferedRooms n c.args.offers.now) (sym room) c.offer_rooms.ensures)
+    (subst (AreOfferedCosts n c.args.offers.now) (sym cost) c.offer_arcs.ensures.cost)
+    (subst (AreOfferedRooms n c.args.offers.now) (sym room) c.offer_arcs.ensures.room)
     (subst (AllWithin MAX_FIRST_PRICE) (sym prices) c.fit.ensures.first)
     (subst SuitTo (sym units) (subst SuitAt (sym prices) (subst Suit c.net-arcs.ensures.graph c.fit.ensures.suit)))
     (subst LeftAt (sym surplus) (subst LeftBy c.deref.ensures.value

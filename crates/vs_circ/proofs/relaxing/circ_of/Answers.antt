@@ -14,7 +14,7 @@ pub layer_prices-requires-clause-prices : goal.layer_prices-requires-clause-pric
 layer_prices-requires-clause-prices c =
     let layer = c.requires.of_layer in
     centred-moves layer.0 layer.2 layer.1 c.args.net.now layer.3 c.args.offers.now c.args.shipment.now
-    c.requires.settled c.args.prices.now c.requires.prices
+    c.requires.settled c.args.space.now.prices.items c.requires.prices
 
 pub returns : goal.returns
 returns c = record {
@@ -22,7 +22,7 @@ returns c = record {
       let n = c.args.net.now in
       let s = c.args.shipment.now in
       let offers = c.args.offers.now in
-      let prices = c.args.prices.now in
+      let prices = c.args.space.now.prices.items in
       let Pays : ℕ → Type 0 = λ trips. PaysNoLess n trips prices c.in_ok-prices.prices in
       let units = c.in_ok-units.ensures.items ∙ c.deref.ensures.value in
       let worth = c.worth_of-value.ensures

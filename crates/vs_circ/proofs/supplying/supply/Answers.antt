@@ -10,8 +10,8 @@ use Rattle.vs_circ.proofs.shipping.SmallArcs.{small_arcs}
 use Rattle.vs_circ.proofs.shipping.Supplying.{is-supplied, must_on-≤}
 use Rattle.vs_circ.proofs.supplying.supply.Goals as goal
 
-pub offer_costs-requires-clause-arcs : goal.offer_costs-requires-clause-arcs
-offer_costs-requires-clause-arcs c =
+pub offer_arcs-requires-clause-arcs : goal.offer_arcs-requires-clause-arcs
+offer_arcs-requires-clause-arcs c =
     let layer = c.requires.of_layer in small_arcs layer.0 layer.2 layer.1.0 c.args.net.now layer.3
 
 pub leave-requires-clause-few : goal.leave-requires-clause-few
@@ -31,9 +31,9 @@ returns c =
     let s = c.args.shipment.now in
     let layer = c.requires.of_layer in
     let sized = c.requires.sized in
-    let cost = with_items_is s.costs.cost c.offer_costs.new.cost (c.offer_costs.auto.cost ∙ c.deref_mut.ensures.len) in
+    let cost = with_items_is s.costs.cost c.offer_arcs.new.cost (c.offer_arcs.auto.cost ∙ c.deref_mut.ensures.len) in
     let room =
-    with_items_is s.costs.room c.offer_rooms.new.room (c.offer_rooms.auto.room ∙ c.deref_mut-2.ensures.len) in
+    with_items_is s.costs.room c.offer_arcs.new.room (c.offer_arcs.auto.room ∙ c.deref_mut-2.ensures.len) in
     let run = with_items_is s.flow.units c.run.new.units (c.run.auto.units ∙ c.deref_mut-3.ensures.len) in
     let surplus = with_items_is s.surplus c.leave.new.surplus (c.leave.auto.surplus ∙ c.deref_mut-4.ensures.len) in
     let units =
@@ -51,12 +51,12 @@ returns c =
     (record {
       units = ap length units ∙ c.empty.auto.units ∙ ap length c.deref_mut-5.ensures.value ∙ ap length run
           ∙ c.run.auto.units ∙ ap length c.deref_mut-3.ensures.value ∙ sized.units;
-      cost = ap length cost ∙ c.offer_costs.auto.cost ∙ ap length c.deref_mut.ensures.value ∙ sized.cost;
-      room = ap length room ∙ c.offer_rooms.auto.room ∙ ap length c.deref_mut-2.ensures.value ∙ sized.room;
+      cost = ap length cost ∙ c.offer_arcs.auto.cost ∙ ap length c.deref_mut.ensures.value ∙ sized.cost;
+      room = ap length room ∙ c.offer_arcs.auto.room ∙ ap length c.deref_mut-2.ensures.value ∙ sized.room;
       prices = ap length prices ∙ c.clear.auto.numbers ∙ ap length c.deref_mut-6.ensures.value ∙ sized.prices;
       surplus = ap length surplus ∙ c.leave.auto.surplus ∙ ap length c.deref_mut-4.ensures.value ∙ sized.surplus;
     })
-    (subst (AreOfferedCosts n []) (sym cost) c.offer_costs.ensures)
-    (subst (AreOfferedRooms n []) (sym room) c.offer_rooms.ensures)
+    (subst (AreOfferedCosts n []) (sym cost) c.offer_arcs.ensures.cost)
+    (subst (AreOfferedRooms n []) (sym room) c.offer_arcs.ensures.room)
     (subst Empty (sym units) c.empty.ensures)
     (subst AreNone (sym prices) c.clear.ensures)
