@@ -1,2 +1,11 @@
 pub mod Places
 pub mod OwnBlocks
+pub mod Rows
+pub mod Exchanged
+pub mod OfferedBlocks
+pub mod LagrangianWorth
+pub mod BoundOrder
+pub mod Counts
+pub mod HaveRun
+pub mod Better
+pub mod Nets

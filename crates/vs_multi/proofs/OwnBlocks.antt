@@ -18,7 +18,7 @@ use Rattle.vs_instance.proofs.BlockPieces.{blocks_cost_their_pieces}
 use Rattle.vs_instance.proofs.Elements.{All-cons, All-none}
 use Rattle.vs_connect.specs.Cost.{IsCost}
 use Rattle.vs_connect.proofs.PieceExistence.{pieces_exist}
-use Rattle.vs_multi.specs.Multipliers.{IsOwnCost, IsCheapestAlone, IsLeastOwnCost, MayCostAlone, lesser_of}
+use Rattle.vs_multi.specs.Multipliers.{IsOwnCost, IsCheapestAlone, IsLeastOwnCost, IsMultiplier, MayCostAlone, lesser_of}
 
 -- a cost that is looked up is that of a piece that there is
 pub piece_found : (cost : ℤ) (piece : Option ℕ) → Some cost ≡ option_map pos piece
@@ -148,6 +148,7 @@ pub sum_is : (a b c : ℤ) → IsCost a → IsCost b → IsCost c
     +ℤ to_z w64 (of_z w64 c))) ≡ (a +ℤ b) +ℤ c
 sum_is a b c first second third = omega (arith, ints, first.0, first.1, second.0, second.1, third.0, third.1)
 
+-- nor do they come to more than a block of one trip may cost
 pub sum_limits : (a b c : ℤ) → IsCost a → IsCost b → IsCost c → MayCostAlone ((a +ℤ b) +ℤ c)
 sum_limits a b c first second third =
     (omega (arith, ints, first.0, second.0, third.0), omega (arith, ints, first.1, second.1, third.1))
@@ -162,3 +163,9 @@ start_value (Some (pos n)) cost e limits =
     ap (λ (x : ℤ). to_z w64 (of_z w64 (pos 1000 *ℤ to_z w64 (of_z w64 x)))) e
     ∙ ap (λ (x : ℤ). to_z w64 (of_z w64 (pos 1000 *ℤ x))) inner ∙ omega (arith, ints, limits.1)
 start_value (Some (negsuc n)) cost e limits = absurd (omega (arith, ints, limits.0))
+
+-- what a block of one trip costs at most is a multiplier
+pub start_within : (least : Option ℤ) → IfSome least MayCostAlone → IsMultiplier (pos 1000 *ℤ unwrap_or least (pos 0))
+start_within None limits = (omega (arith, ints), omega (arith, ints))
+start_within (Some (pos n)) limits = (omega (arith, ints), omega (arith, ints, limits.1))
+start_within (Some (negsuc n)) limits = absurd (omega (arith, ints, limits.0))

@@ -9,7 +9,7 @@ use Rattle.vs_instance.specs.Blocks.{block_cost}
 use Rattle.vs_instance.specs.Lagrangian.{HasOwnBlock, IsStart, multiplier_of}
 use Rattle.vs_prices.specs.declared.table.Table.{Table}
 use Rattle.vs_prices.specs.Worth.{least_price}
-use Rattle.vs_multi.specs.declared.least_prices.TheConstants.{MAX_MULTIPLIER}
+use Rattle.vs_circ.specs.declared.offers.TheConstants.{MAX_MULTIPLIER}
 
 -- what the block of trip i alone costs in layer l, None where there is no such block
 abbrev pub IsOwnCost : Problem → LayerNo → TripNo → Option ℤ → Type 0
@@ -35,6 +35,18 @@ abbrev pub lesser_of : Option ℤ → Option ℤ → Option ℤ
 lesser_of None b = b
 lesser_of (Some a) None = Some a
 lesser_of (Some a) (Some b) = Some (int_min a b)
+
+-- not below 0 or beyond the limit
+abbrev pub IsMultiplier : ℤ → Type 0
+IsMultiplier multiplier = (pos 0 ≤ℤ multiplier) × (multiplier ≤ℤ MAX_MULTIPLIER)
+
+abbrev pub AreWithin : List ℤ → Type 0
+AreWithin multipliers = (i : ℕ) → IsMultiplier (multiplier_of multipliers i)
+
+-- a multiplier for each trip, within these limits
+pub record AreMultipliers (p : Problem) (multipliers : List ℤ) : Type 0 where
+  pub each_trip : length multipliers ≡ length p.trips
+  pub within : AreWithin multipliers
 
 -- a multiplier for each trip, the one to begin with
 pub record AreStarts (p : Problem) (multipliers : List ℤ) : Type 0 where

@@ -3,12 +3,10 @@ ghost use Rattle.vs_instance.specs.Restriction.{IsRestriction};
 ghost use Rattle.vs_multi.specs.Multipliers.{AreOfTable};
 ghost use Rattle.vs_prices.specs.Table.{Fits};
 
+use vs_circ::MAX_MULTIPLIER;
 use vs_instance::Instance;
 use vs_prices::{Table, least_price};
 use vs_types::{LayerSet, TripNo};
-
-/// The greatest multiplier of a trip, in 1/1000 of a cost unit. The least is 0.
-pub const MAX_MULTIPLIER: i64 = 100_000_000_000_000;
 
 /// The multipliers that a table stands for: each becomes what its trip pays in the cheapest layer of its set, or the
 /// limit that this is beyond.

@@ -1,5 +1,5 @@
 ghost use Rattle.std.specs.Prelude.{◌≡◌, ◌<◌, IfSome, length, pos, ◌≤ℤ◌};
-ghost use Rattle.vs_multi.specs.Multipliers.{AreStarts, IsLeastOwnCost, IsOwnCost, MayCostAlone};
+ghost use Rattle.vs_multi.specs.Multipliers.{AreMultipliers, AreStarts, IsLeastOwnCost, IsOwnCost, MayCostAlone};
 ghost use Rattle.vs_multi.specs.Multipliers.{lesser_of};
 
 use vs_connect::{in_cost, out_cost, trip_cost};
@@ -51,7 +51,8 @@ fn least_own_cost(instance: &Instance, i: TripNo) -> Option<i64>
 /// in whichever of the layers that may run it, or 0 where it has none.
 pub fn start(instance: &Instance, multipliers: &mut [i64])
     requires { length multipliers.old ≡ length instance.now.trips }
-    ensures { AreStarts instance.now multipliers.new }
+    ensures start { AreStarts instance.now multipliers.new }
+    ensures within { AreMultipliers instance.now multipliers.new }
 {
     for i in 0..instance.trips() {
         let least = least_own_cost(instance, TripNo(i)).unwrap_or(0);

@@ -1,8 +1,9 @@
-use Rattle.std.proofs.Common.{◌<◌, ◌∙◌, length, arith, sym, subst}
+use Rattle.std.proofs.Common.{◌<◌, ◌∙◌, length, arith, sym, subst, pos}
 use Rattle.std.proofs.lemmas.List.{length-set}
 use Rattle.vs_instance.specs.Lagrangian.{IsStart}
-use Rattle.vs_multi.proofs.OwnBlocks.{start_is, start_value}
-use Rattle.vs_multi.proofs.Places.{place_filled}
+use Rattle.vs_multi.specs.Multipliers.{IsMultiplier}
+use Rattle.vs_multi.proofs.OwnBlocks.{start_is, start_value, start_within}
+use Rattle.vs_multi.proofs.Places.{all_within, place_filled}
 use Rattle.vs_multi.proofs.starting.start.Goals as goal
 
 pub loop-i-preserved : goal.loop-i-preserved
@@ -18,6 +19,16 @@ loop-i-preserved c =
     (start_is p (record { 0 = i }) c.least_own_cost.result least.value) in
     record {
       size = length-set c.loop-i.multipliers i _ ∙ inv.size;
-      done = λ j below. place_filled (λ k m. IsStart p (record { 0 = k }) m) c.loop-i.multipliers i _ inside
+      within = place_filled (pos 0) (λ k m. IsMultiplier m) c.loop-i.multipliers i _ inside inv.within
+          (subst IsMultiplier (sym value) (start_within c.least_own_cost.result least.limits));
+      done = λ j below. place_filled (pos 0) (λ k m. IsStart p (record { 0 = k }) m) c.loop-i.multipliers i _ inside
           (λ k less. inv.done (record { 0 = k }) less) here j.0 below;
     }
+
+pub returns-clause-within : goal.returns-clause-within
+returns-clause-within c = record {
+  each_trip = c.loop-i.invariant.size;
+  within = all_within c.loop-i.multipliers
+      (λ j inside. c.loop-i.invariant.within j
+      (omega (arith, c.loop-i.invariant.size, c.loop-i-test.false, c.trips-i-end.ensures.count)));
+}

@@ -1,0 +1,10 @@
+use Rattle.vs_multi.specs.Rounds.{IsRoundFor}
+use Rattle.vs_multi.proofs.HaveRun.{HaveRun}
+use Rattle.vs_multi.proofs.round.Round.run.Given as goal
+
+-- the layers below this one have run
+abbrev pub invariant-loop-l : goal.invariant-loop-l
+invariant-loop-l l = record {
+  round : IsRoundFor l.instance l.self;
+  run : HaveRun l.instance l.nets l.sets l.multipliers l.l l.self;
+}

@@ -1,0 +1,30 @@
+-- By how much multipliers change from round to round.
+use Rattle.std.specs.Prelude.{◌≡◌, ℕ, ◌+◌, ◌*◌, ◌/◌, ◌^◌, ◌<◌, ◌≤◌, List, length, sum_by, slice_index, nat_abs, ℤ, pos, ◌+ℤ◌, ◌-ℤ◌}
+use Rattle.vs_instance.specs.Lagrangian.{multiplier_of}
+use Rattle.vs_multi.specs.declared.steps.Steps.{Steps}
+use Rattle.vs_multi.specs.declared.steps.Steps.TheVariants.{Halving, Near}
+use Rattle.vs_multi.specs.Multipliers.{limited}
+
+-- the mean, rounded down; 0 of no numbers
+abbrev pub IsMean : List ℤ → ℕ → Type 0
+IsMean multipliers mean = (length multipliers ≡ 0 → mean ≡ 0)
+    × (0 < length multipliers → mean ≡ sum_by nat_abs multipliers / length multipliers)
+
+-- there is a round, and there are no more than 30
+abbrev pub HasRounds : Steps → Type 0
+HasRounds Halving = Unit {0}
+HasRounds (Near rounds) = (0 < rounds) × (rounds ≤ 30)
+
+-- the step of round r, of which none is greater than the greatest
+abbrev pub step_in : Steps → ℕ → ℕ → ℕ
+step_in Halving most r = most / 2 ^ (r / 5)
+step_in (Near rounds) most r = most / 400 * 10 / (10 + r)
+
+-- a multiplier after a step up, and a step down for each layer that runs its trip
+abbrev pub moved : ℤ → ℕ → ℕ → ℤ
+moved multiplier step covers = limited ((multiplier +ℤ pos step) -ℤ pos (step * covers))
+
+-- so for each trip
+pub record AreMoved (step : ℕ) (covers : List ℕ) (old new : List ℤ) : Type 0 where
+  pub each_trip : length new ≡ length old
+  pub moved : (i : ℕ) → i < length old → multiplier_of new i ≡ moved (multiplier_of old i) step (slice_index covers i)

@@ -1,0 +1,101 @@
+ghost use Rattle.std.specs.Prelude.{◌≡◌, ℕ, ◌*◌, ◌<◌, ◌≤◌, ◌≤ℤ◌, pos, nat_abs, length, sum_by, slice_index};
+ghost use Rattle.vs_multi.specs.Multipliers.{AreWithin};
+ghost use Rattle.vs_multi.specs.Steps.{AreMoved, HasRounds, IsMean, moved, step_in};
+
+use vs_circ::MAX_MULTIPLIER;
+
+/// How many rounds the root has.
+const ROUNDS: u32 = 30;
+
+/// After how many rounds the step is halved.
+const ROUNDS_PER_STEP: u32 = 5;
+
+/// How the step, by which multipliers change, falls from round to round.
+#[derive(Clone, Copy, Debug, PartialEq, Eq)]
+pub(crate) enum Steps {
+    /// It begins as the greatest and is halved every few rounds, since nothing is known yet.
+    Halving,
+    /// It is small from the first of so many rounds on, so that what is known isn't lost.
+    Near { rounds: u32 },
+}
+
+impl Steps {
+    /// How many rounds there are.
+    pub(crate) fn rounds(self) -> u32
+        requires { HasRounds self }
+        ensures some { 0 < result }
+        ensures few { result ≤ 30 }
+    {
+        match self {
+            Steps::Halving => ROUNDS,
+            Steps::Near { rounds } => rounds,
+        }
+    }
+
+    /// The step of round r, in 1/1000 of a cost unit.
+    pub(crate) fn step(self, most: u64, r: u32) -> u64
+        requires round { r < 30 }
+        requires most { pos most ≤ℤ MAX_MULTIPLIER }
+        ensures value { result ≡ step_in self most r }
+        ensures few { pos result ≤ℤ MAX_MULTIPLIER }
+    {
+        match self {
+            Steps::Halving => most >> (r / ROUNDS_PER_STEP),
+            Steps::Near { .. } => most / 400 * 10 / (10 + u64::from(r)),
+        }
+    }
+}
+
+/// What multipliers come to together.
+fn total(multipliers: &[i64]) -> u64
+    requires few { length multipliers.now ≤ 2000 }
+    requires within { AreWithin multipliers.now }
+    ensures value { result ≡ sum_by nat_abs multipliers.now }
+    ensures few { result ≤ 100000000000000 * length multipliers.now }
+{
+    let mut sum = 0;
+    for multiplier in multipliers {
+        sum += *multiplier as u64;
+    }
+    sum
+}
+
+/// The mean of multipliers, rounded down; 0 where there are none.
+pub(crate) fn mean(multipliers: &[i64]) -> u64
+    requires few { length multipliers.now ≤ 2000 }
+    requires within { AreWithin multipliers.now }
+    ensures mean { IsMean multipliers.now result }
+    ensures few { pos result ≤ℤ MAX_MULTIPLIER }
+{
+    total(multipliers)
+        .checked_div(multipliers.len() as u64)
+        .unwrap_or(0)
+}
+
+/// A multiplier after a round in which so many layers ran its trip.
+pub fn moved(multiplier: i64, step: u64, covers: u32) -> i64
+    requires least { pos 0 ≤ℤ multiplier }
+    requires most { multiplier ≤ℤ MAX_MULTIPLIER }
+    requires step { pos step ≤ℤ MAX_MULTIPLIER }
+    requires covers { covers ≤ 16 }
+    ensures { result ≡ moved multiplier step covers }
+{
+    let down = step * u64::from(covers);
+    (multiplier + step as i64 - down as i64)
+        .max(0)
+        .min(MAX_MULTIPLIER)
+}
+
+/// Changes each multiplier by a step, after a round in which so many layers ran the trips.
+pub(crate) fn move_all(step: u64, covers: &[u32], multipliers: &mut [i64])
+    requires step { pos step ≤ℤ MAX_MULTIPLIER }
+    requires each_trip { length covers.now ≡ length multipliers.old }
+    requires few { (i : ℕ) → slice_index covers.now i ≤ 16 }
+    requires within { AreWithin multipliers.old }
+    ensures moved { AreMoved step covers.now multipliers.old multipliers.new }
+    ensures within { AreWithin multipliers.new }
+{
+    for i in 0..multipliers.len() {
+        multipliers[i] = moved(multipliers[i], step, covers[i]);
+    }
+}
