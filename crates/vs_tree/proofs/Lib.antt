@@ -1,6 +1,17 @@
 pub mod Bits
+pub mod Accepted
+pub mod CutSets
+pub mod LawfulPrices
+pub mod LogSteps
+pub mod PlacesSeen
+pub mod Matches
+pub mod Spots
+pub mod search
+pub mod sound
+pub mod TrueReports
 pub mod Rests
 pub mod RunIn
 pub mod Restrictions
 pub mod Sharing
 pub mod ClaimExamples
+pub mod trees

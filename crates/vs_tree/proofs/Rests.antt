@@ -1,11 +1,12 @@
 -- What a set leaves of another, and that a part and what it leaves share out the whole.
-use Rattle.std.proofs.Common.{◌≡◌, ℕ, zero, suc, ◌-◌, ◌^◌, ◌<◌, ◌↔◌, ◌⊎◌, Bool, cond, eqb, not, refl, sym, ap, ◌∙◌, arith, inl, inr, bit_and, min, w16}
+use Rattle.std.proofs.Common.{[], ◌≡◌, ◌≢◌, ℕ, zero, suc, ◌-◌, ◌^◌, ◌<◌, ◌↔◌, ◌⊎◌, Bool, cond, eqb, not, refl, sym, ap, ◌∙◌, arith, inl, inr, bit_and, min, w16}
 use Rattle.std.specs.Prelude.{◌&&◌}
 use Rattle.std.specs.Int.{bit_at}
 use Rattle.std.proofs.lemmas.Bool.{cases_eq, eq-eqb, ne_eqb}
 use Rattle.std.proofs.lemmas.Nat.{and_le_l}
 use Rattle.std.proofs.lemmas.Nat.Bits.{bit_at-lt, bit_at_and, bit_at_not, same_from_bits_below}
-use Rattle.vs_types.specs.LayerSet.{Has}
+use Rattle.vs_types.specs.LayerSet as layer_set
+use Rattle.vs_types.specs.LayerSet.{Has, members}
 use Rattle.vs_types.specs.declared.layer_set.LayerSet.{LayerSet}
 use Rattle.vs_types.proofs.Members.{Has-below}
 use Rattle.vs_tree.specs.Rest.{has, rest_of}
@@ -92,3 +93,8 @@ rest-is_and whole part whole_fits part_fits =
         by_bits (suc zero) (suc zero) a_bit b_bit = refl
         by_bits (suc zero) (suc (suc b)) a_bit b_bit = absurd (omega (arith, b_bit))
         by_bits (suc (suc a)) b a_bit b_bit = absurd (omega (arith, a_bit))
+
+-- a set with members isn't the empty one
+pub some-layers : (set : LayerSet) → members set ≢ [] → set.0 ≢ 0
+unfolding layer_set.layer_numbers
+some-layers set some none = some (ap (λ (n : ℕ). members (record { 0 = n })) none)

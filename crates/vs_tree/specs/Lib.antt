@@ -2,3 +2,15 @@ pub mod Rest
 pub mod Tree
 pub mod Laws
 pub mod Claims
+pub mod Prices
+pub mod History
+pub mod Sound
+pub mod Report
+pub mod Free
+pub mod StateTree
+pub mod Cuts
+pub mod Log
+pub mod Codes
+pub mod Search
+pub mod Takes
+pub mod Calls

@@ -1,6 +1,7 @@
 //! What holds of every tree.
 
 ghost use Rattle.vs_tree.specs.Laws.{LeavesAreRestrictions, LeavesShareOutPlans};
+ghost use Rattle.vs_tree.specs.Laws.{HistoriesAreSound, LeavesBoundPlans, ReportsAreTrue, StatesAreTrees};
 
 /// The leaves of a good tree share out the plans of its root: each plan within the root's restriction lies
 /// within that of exactly one leaf.
@@ -12,4 +13,27 @@ pub fn leaves_share_out_plans()
 /// one of the root's.
 pub fn leaves_are_restrictions()
     ensures { LeavesAreRestrictions }
+{}
+
+/// Every state that a history of a search leads to is sound: each plan of the instance lies in exactly one leaf,
+/// every table fits and holds, every accepted plan is one of the instance and cheaper than the one before, no closed
+/// leaf leaves room for a cheaper plan, and no more leaves are worked on than the budget allows.
+pub fn histories_are_sound()
+    ensures { HistoriesAreSound }
+{}
+
+/// In every such state a plan costs at least what the leaf is worth that it lies in.
+pub fn leaves_bound_plans()
+    ensures { LeavesBoundPlans }
+{}
+
+/// What the report of such a state claims is true of all plans of the instance: no plan costs less than the
+/// cheapest one found, or there is none, or none costs less than the bound.
+pub fn reports_are_true()
+    ensures { ReportsAreTrue }
+{}
+
+/// The spots of every such state make a tree of cases, good in every split, in which each leaf stands once.
+pub fn states_are_trees()
+    ensures { StatesAreTrees }
 {}

@@ -2,11 +2,35 @@
 #![tactic(auto)]
 
 mod claim;
+mod cut;
+mod entry;
+mod free_leaves;
+mod hand;
 mod laws;
+mod limits;
+mod log;
 mod next;
+mod places;
+mod report;
 mod rest;
+mod spot;
+mod step;
+mod take;
+mod tree;
 
 pub use claim::{Claim, claim_found};
-pub use laws::{leaves_are_restrictions, leaves_share_out_plans};
+pub use laws::{
+    histories_are_sound, leaves_are_restrictions, leaves_bound_plans, leaves_share_out_plans,
+    reports_are_true, states_are_trees,
+};
+pub use limits::{MAX_BUDGET, MAX_WORKERS};
 pub use next::Next;
+pub use report::Report;
 pub use rest::rest_of;
+pub use spot::Spot;
+pub use step::Step;
+pub use take::Take;
+pub use tree::Tree;
+
+#[cfg(test)]
+mod tests;

@@ -1,0 +1,40 @@
+use Rattle.std.proofs.Common.{◌≡◌, ℕ, ◌∙◌, ap, sym, subst, map, List, ◌∷◌, [], ◌++◌, length, append-nil}
+use Rattle.std.specs.List.{All}
+use Rattle.std.proofs.lemmas.List.{length-map}
+use Rattle.vs_plan.specs.CheckedPlan.{Checked}
+use Rattle.vs_prices.specs.declared.table.Table.{Table}
+use Rattle.vs_tree.specs.History.{FullStep}
+use Rattle.vs_tree.specs.Log.{IsOfLog, Log, full_step}
+use Rattle.vs_tree.specs.Prices.{Prices, prices_of}
+use Rattle.vs_tree.proofs.LogSteps.{map-last, steps-kept}
+use Rattle.vs_tree.proofs.log.Log.add_table.Goals as goal
+
+pub returns-clause-log : goal.returns-clause-log
+returns-clause-log c =
+    let i = c.self.inside in
+    let old : List Prices = map prices_of i.tables.items in
+    let more : List Prices = prices_of c.args.table ∷ [] in
+    let tables : map prices_of c.push.new.self.items ≡ old ++ more =
+    ap (λ (x : List Table). map prices_of x) c.in-Ok.ensures.items ∙ map-last i.tables.items c.args.table in
+    let each : All (IsOfLog (length old) (length i.plans.items)) i.steps.items =
+    subst (λ (n : ℕ). All (IsOfLog n (length i.plans.items)) i.steps.items)
+    (sym (length-map i.tables.items prices_of)) c.self.invariant.of_log in
+    let kept : map (full_step (old ++ more) (i.plans.items ++ [])) i.steps.items
+    ≡ map (full_step old i.plans.items) i.steps.items =
+    steps-kept old more i.plans.items [] i.steps.items each in
+    let same : map (full_step (old ++ more) i.plans.items) i.steps.items ≡ map (full_step old i.plans.items) i.steps.items =
+    ap (λ (x : List Checked). map (full_step (old ++ more) x) i.steps.items) (sym (append-nil i.plans.items)) ∙ kept in
+    let steps : map (full_step (map prices_of c.push.new.self.items) i.plans.items) i.steps.items
+    ≡ map (full_step old i.plans.items) i.steps.items =
+    ap (λ (x : List Prices). map (full_step x i.plans.items) i.steps.items) tables ∙ same in
+    let with : List FullStep → List Prices → Log = λ steps tables. record {
+      steps = steps;
+      tables = tables;
+      plans = i.plans.items;
+      step_room = i.rooms.steps;
+      table_room = i.rooms.tables;
+      plan_room = i.rooms.plans;
+    } in
+    ap (λ (x : List FullStep). with x (map prices_of c.push.new.self.items)) steps
+    ∙ ap (λ (x : List Prices). with (map (full_step old i.plans.items) i.steps.items) x) tables
+    ∙ ap (λ (x : Log). record x { tables = x.tables ++ more }) c.self.view_is

@@ -1,0 +1,14 @@
+pub mod Facts
+pub mod Hands
+pub mod Inside
+pub mod Next
+pub mod Starting
+pub mod Stepping
+pub mod ClosedLeaf
+pub mod GivingBack
+pub mod Offering
+pub mod Released
+pub mod Reporting
+pub mod Taking
+pub mod SplitLeaf
+pub mod TwoMore

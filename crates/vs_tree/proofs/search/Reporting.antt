@@ -1,0 +1,91 @@
+-- What a search reports is the least of what its leaves are worth and of the cheapest plan's cost.
+use Rattle.std.proofs.Common.{◌≡◌, ◌⊎◌, ℕ, ◌+◌, true, false, arith, List, length, refl, sym, ap, ◌∙◌, subst, inl, inr, Option, ℤ}
+use Rattle.vs_prices.specs.Bounds.{IsNoLess}
+use Rattle.vs_prices.specs.declared.bound.Bound.{Bound}
+use Rattle.vs_tree.specs.History.{Opening, Place, State, IsLeafWorth, is_inner, known, place_at, prices_at, sets_at, spot_at, state_of}
+use Rattle.vs_tree.specs.Report.{IsLeastOf, IsLesser, bound_of}
+use Rattle.vs_tree.specs.Search.{IsSearch, Parts, worth_at}
+use Rattle.std.proofs.lemmas.Bool.{cases_lt}
+use Rattle.vs_types.specs.declared.layer_set.LayerSet.{LayerSet}
+use Rattle.vs_types.specs.declared.numbers.TripNo.{TripNo}
+use Rattle.vs_tree.specs.declared.spot.Spot.{Spot}
+use Rattle.vs_tree.specs.declared.spot.Spot.TheVariants.{Inner, Free, Held, Closed}
+use Rattle.vs_tree.proofs.Matches.{no_less-trans}
+use Rattle.vs_tree.proofs.LawfulPrices.{one_worth}
+use Rattle.vs_tree.proofs.search.Facts.{leaf_is, spot-is}
+
+pub least-is : (o : Opening) (a : Parts) (is : IsSearch o a) (cost : Option ℤ) (least : Bound)
+    → cost ≡ known (state_of o a.log.steps)
+    → IsLeastOf a.places.places a.worths cost (length a.places.places) least
+    → IsLesser o.problem (state_of o a.log.steps) least
+least-is o a is cost least knows of =
+    let s : State = state_of o a.log.steps in
+    record {
+      leaves = λ k worth leaf is_worth.
+          let below = leaf_is o a is k leaf in
+          let same : worth_at a.worths k ≡ worth =
+          one_worth o.problem (sets_at s k) (prices_at s k) (worth_at a.worths k) worth (is.parts.worths k leaf) is_worth in
+          subst (λ (x : Bound). IsNoLess x least) same
+          (of.leaves k below (ap is_inner (sym (spot-is o a is k)) ∙ leaf));
+      cost = subst (λ (x : Option ℤ). IsNoLess (bound_of x) least) knows of.cost;
+      reached = elim of.reached [
+        | inl known_is ↦ inl (known_is ∙ ap bound_of knows)
+        | inr found ↦
+            let leaf : is_inner (spot_at s found.0) ≡ false = ap is_inner (spot-is o a is found.0) ∙ found.2 in
+            inr (record {
+              leaf = found.0;
+              is_leaf = leaf;
+              worth = subst (λ (x : Bound). IsLeafWorth o.problem s found.0 x) found.3 (is.parts.worths found.0 leaf);
+            })
+      ];
+    }
+
+pub not-inner : (spot : Spot) → ((trip : TripNo) (left : LayerSet) (lower upper : ℕ) → spot ≡ Inner trip left lower upper → ⊥)
+    → is_inner spot ≡ false
+not-inner (Inner trip left lower upper) none = absurd (none trip left lower upper refl)
+not-inner (Free table) none = refl
+not-inner (Held worker table) none = refl
+not-inner (Closed table) none = refl
+
+module _ (places : List Place) (worths : List Bound) (cost : Option ℤ) (k : ℕ) (least : Bound)
+    (of : IsLeastOf places worths cost k least) where
+  -- a spot that isn't a leaf changes nothing
+  pub least-skip : is_inner (place_at places k).spot ≡ true → IsLeastOf places worths cost (k + 1) least
+  least-skip inner = record {
+    leaves = λ j below leaf. elim (cases_lt j k) [
+      | inl before ↦ of.leaves j before leaf
+      | inr past ↦
+          let here : j ≡ k = omega arith in
+          let at : is_inner (place_at places k).spot ≡ false =
+          ap (λ (i : ℕ). is_inner (place_at places i).spot) (sym here) ∙ leaf in
+          absurd cc
+    ];
+    cost = of.cost;
+    reached = elim of.reached [
+      | inl known_is ↦ inl known_is
+      | inr found ↦ inr (found.0, omega (arith, found.1), found.2, found.3)
+    ];
+  }
+
+  -- and of a leaf the lesser counts
+  pub least-more : (worth lesser : Bound) → is_inner (place_at places k).spot ≡ false → worth_at worths k ≡ worth
+      → (lesser ≡ least) ⊎ (lesser ≡ worth) → IsNoLess least lesser → IsNoLess worth lesser
+      → IsLeastOf places worths cost (k + 1) lesser
+  least-more worth lesser leaf is choice below_least below_worth = record {
+    leaves = λ j below j_leaf. elim (cases_lt j k) [
+      | inl before ↦ no_less-trans (worth_at worths j) least lesser (of.leaves j before j_leaf) below_least
+      | inr past ↦
+          let here : k ≡ j = omega arith in
+          subst (λ (i : ℕ). IsNoLess (worth_at worths i) lesser) here
+          (subst (λ (x : Bound). IsNoLess x lesser) (sym is) below_worth)
+    ];
+    cost = no_less-trans (bound_of cost) least lesser of.cost below_least;
+    reached = elim choice [
+      | inl old ↦
+          elim of.reached [
+            | inl known_is ↦ inl (old ∙ known_is)
+            | inr found ↦ inr (found.0, omega (arith, found.1), found.2, found.3 ∙ sym old)
+          ]
+      | inr new ↦ inr (k, omega arith, leaf, is ∙ sym new)
+    ];
+  }

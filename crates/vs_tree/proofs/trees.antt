@@ -1,0 +1,5 @@
+pub mod Relabelled
+pub mod Parts
+pub mod Grown
+pub mod Leaves
+pub mod Histories

@@ -1,0 +1,27 @@
+use vs_types::{LayerSet, TripNo};
+
+/// A place in a tree of cases. A leaf is one that isn't `Inner`.
+#[derive(Clone, Copy, Debug, PartialEq, Eq)]
+pub enum Spot {
+    /// It was split: the trip is run in a layer of `left` in the lower spot, and in one of the others of its set in
+    /// the upper spot.
+    Inner {
+        trip: TripNo,
+        left: LayerSet,
+        lower: u32,
+        upper: u32,
+    },
+    /// A leaf that nobody works on, with the number of its table.
+    Free {
+        table: u32,
+    },
+    /// A leaf that a worker works on, with the number of the table that it had when it was taken.
+    Held {
+        worker: u32,
+        table: u32,
+    },
+    /// A leaf that was done with, with the number of the table that says so.
+    Closed {
+        table: u32,
+    },
+}
