@@ -1,0 +1,16 @@
+pub mod SetMembers
+pub mod Cheapest
+pub mod OneLayer
+pub mod TablePrices
+pub mod LayerValues
+pub mod LayerBlocks
+pub mod Done
+pub mod RayTables
+pub mod FixedLayers
+pub mod SameTables
+pub mod Comparing
+pub mod Begun
+pub mod SettledPlans
+pub mod Nexts
+pub mod NarrowerSets
+pub mod WorkedSearches

@@ -1,0 +1,10 @@
+pub mod ChosenLayers
+pub mod LeastPlans
+pub mod LayersDone
+pub mod SplitRule
+pub mod NextSteps
+pub mod Outcomes
+pub mod WorkedStep
+pub mod SameTables
+pub mod WorkedHistory
+pub mod Laws

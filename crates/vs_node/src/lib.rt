@@ -1,0 +1,26 @@
+//! The work on one leaf of a search: prices for its sets, a plan of the layers that the prices choose, and whether the
+//! leaf is closed or split.
+#![tactic(auto)]
+
+mod choosing;
+mod deciding;
+mod keeping;
+mod laws;
+mod layers_run;
+mod outcome;
+mod pushing;
+mod ray_table;
+mod searching;
+mod settling;
+mod splitting;
+mod task;
+mod working;
+
+pub use laws::worked_searches_reach_the_start;
+pub use outcome::Outcome;
+pub use settling::{Settled, settle};
+pub use task::Task;
+pub use working::work;
+
+#[cfg(test)]
+mod tests;

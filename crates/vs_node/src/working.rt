@@ -1,0 +1,61 @@
+ghost use Rattle.std.specs.Prelude.{◌≡◌, true, IfOk};
+ghost use Rattle.vs_instance.specs.Restriction.{IsRestriction};
+ghost use Rattle.vs_match.specs.LayerNets.{AreLayerNets};
+ghost use Rattle.vs_prices.specs.Bounds.{IsWorthNoLess};
+ghost use Rattle.vs_prices.specs.Table.{Fits, HoldingTable};
+ghost use Rattle.vs_tree.specs.declared.next.Next.TheVariants.{Close};
+ghost use Rattle.vs_node.specs.ChosenLayers.{AreSingle};
+ghost use Rattle.vs_node.specs.Outcomes.{HasPlan, IsFollowedBy};
+ghost use Rattle.vs_node.specs.WorkedStep.{IsWorked, ReachesStart};
+
+use crate::outcome::{Outcome, alone};
+use crate::searching::search;
+use crate::splitting::first_with_choice;
+use crate::task::Task;
+use std::alloc::Global;
+use vs_circ::Work;
+use vs_instance::{Instance, MAX_TRIPS};
+use vs_match::LayerNet;
+use vs_types::Memory;
+
+/// Works on a leaf. Finds a table that within the leaf's sets is worth no less than the leaf's own, and no less than
+/// the Lagrangian value at the multipliers that the leaf begins with; and a least plan of the layers in which the trips
+/// pay least by the table. Closes the leaf where the table leaves no room for a plan that costs less than that one and than
+/// the known cost, and else says how it is split. A leaf whose trips have one layer each is closed.
+pub fn work(
+    alloc: Global,
+    instance: &Instance,
+    nets: &[LayerNet],
+    task: &Task,
+    work: &mut Work,
+) -> Result<Outcome, Memory>
+    requires nets { AreLayerNets instance.now nets.now }
+    requires restriction { IsRestriction instance.now task.now.sets.items }
+    requires fits { Fits instance.now task.now.table }
+    requires holds { HoldingTable instance.now task.now.table }
+    ensures fits { IfOk result (λ outcome. Fits instance.now outcome.table) }
+    ensures holds { IfOk result (λ outcome. HoldingTable instance.now outcome.table) }
+    ensures no_less { IfOk result (λ outcome.
+        IsWorthNoLess instance.now task.now.sets.items outcome.table task.now.table) }
+    ensures worked { IfOk result (λ outcome.
+        IsWorked instance.now task.now.root task.now.sets.items task.now.table outcome.table) }
+    ensures start { IfOk result (λ outcome. task.now.root ≡ true
+        → ReachesStart instance.now task.now.sets.items outcome.table) }
+    ensures plan { IfOk result (λ outcome.
+        HasPlan instance.now task.now.sets.items outcome.table outcome.plan) }
+    ensures next { IfOk result (λ outcome.
+        IsFollowedBy instance.now nets.now task.now outcome) }
+    ensures alone { IfOk result (λ outcome. AreSingle task.now.sets.items → outcome.next ≡ Close) }
+{
+    prove!(instance.trips() <= MAX_TRIPS);
+    match first_with_choice(&task.sets) {
+        None => {
+            let closed = alone(alloc, instance, nets, task, work)?;
+            Ok(closed)
+        }
+        Some(_trip) => {
+            let outcome = search(alloc, instance, nets, task, work)?;
+            Ok(outcome)
+        }
+    }
+}
