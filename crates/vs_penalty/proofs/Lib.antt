@@ -1,0 +1,3 @@
+pub mod FewLayers
+pub mod NetOfLayer
+pub mod GivenLayers

@@ -1,0 +1,5 @@
+pub mod Moves
+pub mod Noted
+pub mod Penalties
+pub mod Rates
+pub mod Tallies
