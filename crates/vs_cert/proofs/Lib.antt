@@ -3,3 +3,4 @@ pub mod rows
 pub mod parts
 pub mod written
 pub mod alike
+pub mod states

@@ -147,8 +147,11 @@ shape_row (Leaf table) = LeafRow (table + 1)
 shape_row (Split trip left) = SplitRow trip left
 
 -- what a document claims, its cost, its bound and its nodes
+abbrev pub head_of : Claim → Option ℤ → Option ℤ → ℕ → List DocumentRow
+head_of claim cost bound nodes = ClaimRow claim ∷ CostRow cost ∷ BoundRow bound ∷ NodesRow nodes ∷ []
+
 abbrev pub head_rows : Document → List DocumentRow
-head_rows d = ClaimRow d.claim ∷ CostRow d.cost ∷ BoundRow d.bound ∷ NodesRow d.nodes ∷ []
+head_rows d = head_of d.claim d.cost d.bound d.nodes
 
 -- the head of a document, its blocks, its tables numbered from 1, its tree, and `end`
 abbrev pub rows_of_document : Problem → Document → List DocumentRow

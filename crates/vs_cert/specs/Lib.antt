@@ -10,3 +10,7 @@ pub mod Form
 pub mod Laws
 pub mod RowForms
 pub mod Reading
+pub mod StateDocument
+pub mod Numbering
+pub mod TreeRows
+pub mod TreeText

@@ -19,4 +19,4 @@ pub use reading::read;
 pub use refused::{DocError, DocWhy};
 pub use shape::Shape;
 pub use text::Text;
-pub use writing::{bound_field, claim_field, cost_field, text_of};
+pub use writing::{bound_field, claim_field, cost_field, text_of, write};

@@ -87,12 +87,12 @@ module _ (p : Problem) (names : NameLists) (instance : IsInstance p) (counts : H
       (tables_forms (n + 1) tables (All-tail (Fits p) table tables fits) (omega arith))
 
   -- of a split or a leaf
-  shape_form : (tables : ℕ) (s : Shape) → tables ≤ MAX_NUMBER → IsShapeOf p tables s → HasForm names (shape_row s)
+  pub shape_form : (tables : ℕ) (s : Shape) → tables ≤ MAX_NUMBER → IsShapeOf p tables s → HasForm names (shape_row s)
   shape_form tables (shape.Leaf table) few is = omega arith
   shape_form tables (shape.Split trip left) few is =
       (omega (arith, counts.trips), is.1, λ l has. omega (arith, counts.layers, is.2 l has))
 
-  block_form : (b : LayerBlock) → IsOfInstance p b → IsNamedBlock names b
+  pub block_form : (b : LayerBlock) → IsOfInstance p b → IsNamedBlock names b
   block_form b is = record {
     layer = omega (arith, counts.layers, is.layer);
     some_trip = is.some_trip;

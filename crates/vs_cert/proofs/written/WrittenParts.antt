@@ -1,10 +1,10 @@
 -- The lines of what rows of a document say, part by part.
-use Rattle.std.proofs.Common.{◌≡◌, List, [], ◌∷◌, ◌++◌, refl, sym, ap, ◌∙◌}
-use Rattle.std.specs.Prelude.{flat_map, map}
+use Rattle.std.proofs.Common.{◌≡◌, ℕ, List, [], ◌∷◌, ◌++◌, refl, sym, ap, ◌∙◌}
+use Rattle.std.specs.Prelude.{codes, flat_map, map}
 use Rattle.std.proofs.lemmas.List.{append_assoc}
 use Rattle.vs_reader.specs.Names.{NameLists}
 use Rattle.vs_reader.specs.Rows.{line, lines}
-use Rattle.vs_cert.specs.DocumentRows.{DocumentRow, written_row, written_rows}
+use Rattle.vs_cert.specs.DocumentRows.{DocumentRow, EndRow, written_row, written_rows}
 
 module _ (names : NameLists) where
   -- the lines of rows behind others come behind theirs
@@ -27,3 +27,21 @@ module _ (names : NameLists) where
   written-flat_map f (x ∷ xs) =
       written-append (f x) (flat_map f xs)
       ∙ ap (λ bytes. lines (written_rows names (f x)) ++ bytes) (written-flat_map f xs)
+
+  abbrev text : List DocumentRow → List ℕ
+  text said = lines (written_rows names said)
+
+  -- the parts of a document, written one after another
+  pub written_in_turn : (head blocks tables shapes : List DocumentRow) (a b c d e : List ℕ) → a ≡ text head
+      → b ≡ a ++ text blocks → c ≡ b ++ text tables → d ≡ c ++ text shapes
+      → e ≡ d ++ codes "end" ++ 10 ∷ [] → e ≡ text (head ++ blocks ++ tables ++ shapes ++ EndRow ∷ [])
+  written_in_turn head blocks tables shapes a b c d e first second third fourth last =
+      last ∙ append_assoc d (codes "end") (10 ∷ [])
+      ∙ ap (λ t. t ++ text (EndRow ∷ [])) (fourth
+      ∙ ap (λ t. t ++ text shapes) (third
+      ∙ ap (λ t. t ++ text tables) (second
+      ∙ ap (λ t. t ++ text blocks) first
+      ∙ sym (written-append head blocks))
+      ∙ sym (written-append (head ++ blocks) tables))
+      ∙ sym (written-append (head ++ blocks ++ tables) shapes))
+      ∙ sym (written-append (head ++ blocks ++ tables ++ shapes) (EndRow ∷ []))

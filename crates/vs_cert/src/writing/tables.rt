@@ -30,7 +30,7 @@ pub fn write_tables(
 }
 
 /// Writes a table: its number, its kind, and the prices of each layer.
-fn write_table(
+pub fn write_table(
     text: &mut Text,
     instance: &Instance,
     names: &Names,
