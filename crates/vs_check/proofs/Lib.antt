@@ -12,3 +12,11 @@ pub mod NamedFlaws
 pub mod AgreeingTables
 pub mod AlikeDocuments
 pub mod FlawExamples
+pub mod StateDocuments
+pub mod NamedTables
+pub mod AnswerBounds
+pub mod AnswerWorths
+pub mod AnswerCounts
+pub mod StateAnswers
+pub mod LeafCounts
+pub mod EnoughBudgets

@@ -1,6 +1,8 @@
 //! What holds of the documents of every instance.
 
-ghost use Rattle.vs_check.specs.Laws.{AlikeDocumentsAreJudgedAlike};
+ghost use Rattle.vs_check.specs.Laws.{AlikeDocumentsAreJudgedAlike, DocumentsOfStatesHold};
+ghost use Rattle.vs_check.specs.Laws.{BoundsReachTheStart, EnoughBudgetsLeaveNothingOpen};
+ghost use Rattle.vs_check.specs.Laws.{FinishedSearchesAnswer};
 ghost use Rattle.vs_check.specs.Laws.{HoldingDocumentsProveTheirClaims};
 
 /// A document that holds proves what it claims, of every plan of the instance and whoever wrote it.
@@ -12,4 +14,30 @@ pub fn holding_documents_prove_their_claims()
 /// both or neither.
 pub fn alike_documents_are_judged_alike()
     ensures { AlikeDocumentsAreJudgedAlike }
+{}
+
+/// The document of any state that a search comes to holds: with the state's report, its cheapest plan, its tree of
+/// cases, and the tables that leaves name.
+pub fn documents_of_states_hold()
+    ensures { DocumentsOfStatesHold }
+{}
+
+/// Where a search is over, the document of its state is what a search with its budget answers: it holds, its bound is
+/// the lesser of the least worth of its leaves and of its cost, it has the tables that leaves name in the order in
+/// which they first name them, as many nodes as splits and closed leaves, and as many as the budget where the claim
+/// is still open.
+pub fn finished_searches_answer()
+    ensures { FinishedSearchesAnswer }
+{}
+
+/// Where every leaf of a state is worth no less than the value at the starting multipliers, so is the bound of its
+/// document, unless the bound is the cost.
+pub fn bounds_reach_the_start()
+    ensures { BoundsReachTheStart }
+{}
+
+/// Where the budget is at least `2 * P - 1`, with P the product over all trips of their number of permitted layers, a
+/// search that is over has an optimal plan, or has shown that there is none.
+pub fn enough_budgets_leave_nothing_open()
+    ensures { EnoughBudgetsLeaveNothingOpen }
 {}
