@@ -28,7 +28,8 @@ use Rattle.mdvsp.specs.PricedPlan.{IsPricedPlan}
 use Rattle.mdvsp.specs.Owed.{IsZeroTable}
 use Rattle.vs_tree.specs.Tree.{LeafPlace}
 use Rattle.vs_tree.specs.Tree as tree
-use Rattle.mdvsp.specs.SolveAnswer.{IsBoundOf, SolveAnswer}
+use Rattle.vs_check.specs.Answers.{IsBoundOf}
+use Rattle.mdvsp.specs.SolveAnswer.{SolveAnswer}
 use Rattle.mdvsp.proofs.ZeroTable.{zero-worth}
 
 -- a number within the limits of printed bounds

@@ -20,7 +20,8 @@ use Rattle.mdvsp.specs.Laws.{IsDoneWhereShown}
 use Rattle.mdvsp.specs.Owed.{OwesDocument, status_of}
 use Rattle.vs_reader.specs.Rows.{Row}
 use Rattle.vs_tree.specs.Tree.{Tree, Leaf, Split, LeafPlace, leaves, splits}
-use Rattle.mdvsp.specs.SolveAnswer.{SolveAnswer, AreWorths, IsBoundOf}
+use Rattle.vs_check.specs.Answers.{AreWorths, IsBoundOf}
+use Rattle.mdvsp.specs.SolveAnswer.{SolveAnswer}
 
 -- the worth of one leaf
 one_worth : (p : Problem) (d : Document) (place : LeafPlace) (worths : List Bound) → AreWorths p d (place ∷ []) worths

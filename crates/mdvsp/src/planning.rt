@@ -1,7 +1,8 @@
 ghost use Rattle.std.specs.Prelude.{[], ◌∷◌, IfOk};
 ghost use Rattle.mdvsp.specs.Owed.{HasGreedyPlan, HasZeroTable};
 ghost use Rattle.mdvsp.specs.PricedPlan.{IsPricedPlan};
-ghost use Rattle.mdvsp.specs.SolveAnswer.{IsBoundOf, SolveAnswer};
+ghost use Rattle.vs_check.specs.Answers.{IsBoundOf};
+ghost use Rattle.mdvsp.specs.SolveAnswer.{SolveAnswer};
 ghost use Rattle.vs_plan.specs.Blocks.{blocks_of};
 
 use std::alloc::Global;

@@ -774,4 +774,5 @@ fn ends_where_a_stream_fails(rt: HostRuntime) -> Result<(), Fail> {
     Ok(())
 }
 
+mod agreeing;
 mod commands;
