@@ -6,3 +6,4 @@ pub mod LawBounds
 pub mod grammar
 pub mod owing
 pub mod once
+pub mod leaves

@@ -12,3 +12,4 @@ pub mod Owed
 pub mod Laws
 pub mod Outcome
 pub mod Answered
+pub mod Searching

@@ -776,3 +776,4 @@ fn ends_where_a_stream_fails(rt: HostRuntime) -> Result<(), Fail> {
 
 mod agreeing;
 mod commands;
+mod searching;

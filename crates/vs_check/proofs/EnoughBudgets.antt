@@ -4,7 +4,6 @@ use Rattle.std.proofs.lemmas.Bool.{cases_eq, ne_eqb}
 use Rattle.std.proofs.lemmas.List.Sums.{sum_by-cons}
 use Rattle.vs_instance.specs.Restriction.{permitted_sets}
 use Rattle.vs_instance.proofs.PermittedSets.{permitted_sets-IsRestriction}
-use Rattle.vs_tree.specs.declared.claim.Claim.TheVariants.{StillOpen}
 use Rattle.vs_tree.specs.declared.spot.Spot.{Spot}
 use Rattle.vs_tree.specs.History.{Opening, Place, State, is_closed, is_inner, spot_at, state_of}
 use Rattle.vs_tree.specs.Sound.{IsOpening, IsSound}
@@ -15,7 +14,7 @@ use Rattle.vs_tree.proofs.sound.Histories.{histories_are_sound}
 use Rattle.vs_tree.proofs.trees.Parts.{times-cons}
 use Rattle.vs_cert.specs.StateDocument.{IsDocumentOf}
 use Rattle.vs_cert.specs.declared.document.Document.{Document}
-use Rattle.vs_check.specs.Answers.{IsOver, choices}
+use Rattle.vs_check.specs.Answers.{choices}
 use Rattle.vs_check.specs.Laws.{EnoughBudgetsLeaveNothingOpen}
 use Rattle.vs_check.proofs.AnswerCounts.{closed_at_spots, is_closed_at, one_kind}
 use Rattle.vs_check.proofs.LeafCounts.{few_leaves, leaves-splits}

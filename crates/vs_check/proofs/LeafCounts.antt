@@ -1,16 +1,15 @@
 -- How many leaves a good tree has at most.
-use Rattle.std.proofs.Common.{◌≡◌, ◌≢◌, ℕ, zero, suc, ◌+◌, ◌*◌, ◌<◌, ◌≤◌, ◌==◌, Bool, cond, List, [], ◌∷◌, length, count_by, filter, set, refl, sym, ap, ◌∙◌, arith, inl, inr, length-append}
+use Rattle.std.proofs.Common.{◌≡◌, ◌≢◌, ℕ, zero, suc, ◌+◌, ◌*◌, ◌<◌, ◌≤◌, ◌==◌, Bool, cond, List, [], ◌∷◌, length, count_by, set, refl, ap, arith, inl, inr, length-append}
 use Rattle.std.specs.Int.{bit_at}
 use Rattle.std.proofs.Math.Nat.{mul-le-mul_left, mul-le-mul_right, one-le-mul}
 use Rattle.std.proofs.lemmas.Bool.{cases_eq, eq-eqb, ne_eqb}
 use Rattle.std.proofs.lemmas.List.Sums.{length-filter, sum_by-cons}
-use Rattle.vs_types.specs.LayerSet.{Has, layer_numbers, members}
+use Rattle.vs_types.specs.LayerSet.{layer_numbers, members}
 use Rattle.vs_types.specs.declared.layer_set.LayerSet.{LayerSet}
 use Rattle.vs_instance.specs.Instance.{IsInstance}
 use Rattle.vs_instance.specs.Problem.{Problem}
 use Rattle.vs_instance.specs.Restriction.{IsRestriction, set_of}
-use Rattle.vs_tree.specs.Rest.{rest_of}
-use Rattle.vs_tree.specs.Tree.{Tree, Leaf, Split, IsGoodTree, IsProperPart, LeafPlace, leaves, right_of, splits, with_set}
+use Rattle.vs_tree.specs.Tree.{Tree, Leaf, Split, IsGoodTree, leaves, right_of, splits, with_set}
 use Rattle.vs_tree.proofs.Restrictions.{left-restricts, restriction-layers, right-restricts}
 use Rattle.vs_tree.proofs.Rests.{SharesOut, shares_out}
 use Rattle.vs_check.specs.Answers.{choices}

@@ -65,7 +65,7 @@ AreNamedInOrder named (leaf ∷ places) tables =
     ((leaf.table < named) × AreNamedInOrder named places tables)
     ⊎ ((leaf.table ≡ named) × AreNamedInOrder (named + 1) places tables)
 
--- where a node was finished, the bound is no less than what the starting multipliers show, or than the cost
+-- the bound is no less than what the starting multipliers show, or than the cost
 abbrev pub ReachesStart : Problem → Document → ℤ → Type 0
 ReachesStart p d bound = (value start : ℤ) → IsStartingValue p value → IsRoundedUp value start
     → MatchOption d.cost (start ≤ℤ bound) (λ cost. (start ≤ℤ bound) ⊎ (cost ≤ℤ bound))
@@ -80,7 +80,8 @@ pub record IsOver (o : Opening) (s : State) : Type 0 where
   pub none_held : held_leaves s ≡ 0
   pub no_more : (¬ (IsWorkLeft o.problem s)) ⊎ (s.finished ≡ o.budget)
 
--- what the document says of a search with this budget
+-- What the document says of a search with this budget: its nodes are no fewer than the splits of its tree, and no more
+-- than these and the leaves that aren't below the cost; where the claim is still open they are the whole budget.
 pub record IsAnswer (p : Problem) (budget : ℕ) (d : Document) : Type 0 where
   pub holds : HoldingDocument p d
   pub written : AreNamedInOrder 0 (places_of p d holds) (length d.tables.items)

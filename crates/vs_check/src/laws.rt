@@ -22,10 +22,10 @@ pub fn documents_of_states_hold()
     ensures { DocumentsOfStatesHold }
 {}
 
-/// Where a search is over, the document of its state is what a search with its budget answers: it holds, its bound is
-/// the lesser of the least worth of its leaves and of its cost, it has the tables that leaves name in the order in
-/// which they first name them, as many nodes as splits and closed leaves, and as many as the budget where the claim
-/// is still open.
+/// Where a search is over, the document of its state is what a search with its budget answers: it holds; its bound is
+/// the lesser of the least worth of its leaves and of its cost; its tables are those that leaves name, in the order in
+/// which they first name them; its nodes are within the budget, no fewer than the splits of its tree, and no more than
+/// these and the leaves that aren't below its cost; and where the claim is still open, they are the whole budget.
 pub fn finished_searches_answer()
     ensures { FinishedSearchesAnswer }
 {}

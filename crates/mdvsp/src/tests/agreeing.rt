@@ -11,7 +11,7 @@ use vs_prices::{Table, permitted_sets, worth};
 use vs_reader::{MAX_BYTES, read};
 
 /// The instance that a text stands for.
-fn instance_of(alloc: Global, text: &[u8]) -> Result<Instance, Fail> {
+pub(crate) fn instance_of(alloc: Global, text: &[u8]) -> Result<Instance, Fail> {
     if text.len() > MAX_BYTES {
         return Err(Fail::new("too long a text"));
     }
