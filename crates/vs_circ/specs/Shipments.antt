@@ -1,6 +1,6 @@
 -- Units on their way from nodes with a surplus to nodes with a lack (the transshipment problem: Ahuja, Magnanti and
 -- Orlin, Network Flows, 1993, chapter 9).
-use Rattle.std.specs.Prelude.{◌≡◌, ◌≢◌, ℕ, ◌+◌, ◌^◌, ◌<◌, ◌≤◌, List, length, map, set, slice_index, ℤ, pos, ◌+ℤ◌, ◌-ℤ◌, ◌≤ℤ◌, ◌<ℤ◌}
+use Rattle.std.specs.Prelude.{◌≡◌, ◌≢◌, ℕ, ◌+◌, ◌^◌, ◌%◌, ◌<◌, ◌≤◌, List, length, map, set, slice_index, ℤ, pos, ◌+ℤ◌, ◌-ℤ◌, ◌≤ℤ◌, ◌<ℤ◌}
 use Rattle.std.specs.Int.{int_max}
 use Rattle.vs_layer.specs.declared.arc.Arc.{Arc}
 use Rattle.vs_layer.specs.Graph.{Graph}
@@ -81,6 +81,10 @@ IsOneLess old new source = price_at new source ≡ price_at old source -ℤ pos 
 pub record IsStuck (g : Graph) (s : Shipment) (source : ℕ) (nodes : List ℕ) : Type 0 where
   pub left : pos 0 <ℤ price_at s.surplus.items source
   pub cut : IsCut (residual_of g s) s.surplus.items source nodes
+
+-- nothing is left at the node and at those that lie a number of strides after it
+abbrev pub HasNoneFrom : ℕ → ℕ → List ℤ → Type 0
+HasNoneFrom stride first surplus = (v : ℕ) → v % stride ≡ first → price_at surplus v ≤ℤ pos 0
 
 -- nothing is left anywhere, and nothing lacks
 abbrev pub IsDrained : List ℤ → Type 0

@@ -1,11 +1,15 @@
 ghost use Rattle.std.specs.Prelude.{◌≡◌, ◌<◌, ◌≤ℤ◌, ◌<ℤ◌, length, pos, MatchOption, MatchBool};
 ghost use Rattle.vs_path.specs.Residual.{price_at};
-ghost use Rattle.vs_circ.specs.Shipments.{CanShip, Ships, IsOneLess, IsStuck, IsDrained, CanTakeAll, IsSentAlong, GainAlong, after_unit};
+ghost use Rattle.vs_circ.specs.Shipments.{CanShip, Ships, IsOneLess, HasNoneFrom, IsStuck, IsDrained, CanTakeAll, IsSentAlong, GainAlong, after_unit};
 ghost use Rattle.vs_path.specs.Labels.{Lacks};
 
 use crate::shipment::Shipment;
 use vs_layer::Net;
 use vs_path::{Residual, Search, Step};
+
+/// How far apart nodes lie from which units are sent one after the other. The searches from two that lie near each other
+/// mostly go over the same nodes.
+const STRIDE: u32 = 64;
 
 /// Sends units from the nodes that have too many to those that lack some, along paths that cost
 /// nothing by the prices. None once nothing is left; else the node that units are stuck at, from
@@ -18,10 +22,31 @@ pub(crate) fn drain(net: &Net, search: &mut Search, shipment: &mut Shipment) -> 
         (λ source. IsStuck net.now shipment.new source search.new.reached) }
     ensures nodes { search.new.nodes ≡ search.old.nodes }
 {
-    for node in 0..net.nodes() {
+    for first in 0..STRIDE {
+        if let Some(stuck) = drain_from(net, search, shipment, first) {
+            return Some(stuck);
+        }
+    }
+    None
+}
+
+/// Sends units from this node and from each that lies a number of strides after it, while they have too many. Gives the
+/// node that some are stuck at.
+fn drain_from(net: &Net, search: &mut Search, shipment: &mut Shipment, first: u32) -> Option<u32>
+    requires nodes { search.old.nodes ≡ net.now.nodes }
+    requires can { CanShip net.now shipment.old }
+    requires first { first < STRIDE }
+    ensures ships { Ships net.now shipment.old shipment.new }
+    ensures left { MatchOption result (HasNoneFrom STRIDE first shipment.new.surplus.items)
+        (λ source. IsStuck net.now shipment.new source search.new.reached) }
+    ensures nodes { search.new.nodes ≡ search.old.nodes }
+{
+    let mut node = first;
+    while node < net.nodes() {
         if !drain_node(net, search, shipment, node) {
             return Some(node);
         }
+        node += STRIDE;
     }
     None
 }
