@@ -1,2 +1,4 @@
 pub mod Emptying
 pub mod Matches
+pub mod Queuing
+pub mod Stacked

@@ -1,5 +1,6 @@
 pub mod Keys
 pub mod Tournament
+pub mod Queues
 pub mod Residual
 pub mod Labels
 pub mod Search

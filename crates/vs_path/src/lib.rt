@@ -9,6 +9,7 @@ mod least_tree;
 mod node_heap;
 mod path_tree;
 mod paths;
+mod queue;
 mod raising;
 mod reach;
 mod residual;

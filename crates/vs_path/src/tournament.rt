@@ -1,6 +1,6 @@
 ghost use Rattle.std.specs.Prelude.{◌≡◌, ℕ, ◌+◌, ◌*◌, ◌<◌, length, set, drop, None};
 ghost use Rattle.vs_path.specs.Keys.{key_at};
-ghost use Rattle.vs_path.specs.Tournament.{AreCovered, IsFirstOf, IsTournament};
+ghost use Rattle.vs_path.specs.Tournament.{AreCovered, AreTakenOut, IsFirstOf, IsTournament};
 
 /// Of two keys the lesser, None only where both are.
 fn first_of(left: Option<i64>, right: Option<i64>) -> Option<i64>
@@ -13,7 +13,9 @@ fn first_of(left: Option<i64>, right: Option<i64>) -> Option<i64>
     }
 }
 
-/// Gives a node of so many this key, and plays its matches again.
+/// Gives a node of so many this key, and plays its matches again. It is a tournament: the keys are the leaves of a tree in
+/// which each inner place has the lesser of the two keys below it (Knuth, The Art of Computer Programming, volume 3,
+/// section 5.2.3).
 pub fn put(keys: &mut [Option<i64>], count: usize, node: usize, key: Option<i64>)
     requires tournament { IsTournament count keys.old }
     requires node { node < count }
@@ -48,22 +50,25 @@ pub fn winner(keys: &[Option<i64>], count: usize) -> usize
     place - count
 }
 
-/// Takes out the keys at this place and below it, at a cost of a few steps for each.
-pub fn empty(keys: &mut [Option<i64>], count: usize, place: usize)
-    requires size { length keys.old ≡ 2 * count }
+/// Takes out the keys at this place of the tree and below it, and those of their nodes, at a cost of a few steps for each.
+pub fn empty(tree: &mut [Option<i64>], keys: &mut [Option<i64>], place: usize)
+    requires size { length tree.old ≡ 2 * length keys.old }
     requires some { 0 < place }
-    requires within { place < 2 * count }
-    requires covered { AreCovered count keys.old }
-    ensures covered { AreCovered count keys.new }
-    ensures empty { key_at keys.new place ≡ None }
-    ensures still { (k : ℕ) → key_at keys.old k ≡ None → key_at keys.new k ≡ None }
+    requires within { place < 2 * length keys.old }
+    requires covered { AreCovered (length keys.old) tree.old }
+    ensures covered { AreCovered (length keys.old) tree.new }
+    ensures empty { key_at tree.new place ≡ None }
+    ensures still { (k : ℕ) → key_at tree.old k ≡ None → key_at tree.new k ≡ None }
+    ensures taken { AreTakenOut tree.old tree.new keys.old keys.new }
 {
-    if keys[place].is_none() {
+    if tree[place].is_none() {
         return;
     }
-    if place < count {
-        empty(keys, count, 2 * place);
-        empty(keys, count, 2 * place + 1);
+    if place < keys.len() {
+        empty(tree, keys, 2 * place);
+        empty(tree, keys, 2 * place + 1);
+    } else {
+        keys[place - keys.len()] = None;
     }
-    keys[place] = None;
+    tree[place] = None;
 }

@@ -1,5 +1,5 @@
-use Rattle.std.proofs.Common.{◌*◌, ◌-◌}
+use Rattle.std.proofs.Common.{◌*◌, ◌-◌, length}
 use Rattle.vs_path.proofs.tournament.+empty.Given as goal
 
 abbrev pub decreases-empty : goal.decreases-empty
-decreases-empty l = 2 * l.count - l.place
+decreases-empty l = 2 * length l.keys.now - l.place

@@ -1,0 +1,13 @@
+use Rattle.std.proofs.Common.{◌≡◌}
+use Rattle.vs_path.specs.Queues.{IsQueue}
+use Rattle.vs_path.proofs.queue.Queue.unstack.Given as goal
+
+-- the nodes so far are in the tournament
+abbrev pub invariant-loop-node : goal.invariant-loop-node
+invariant-loop-node l = record {
+  queue : IsQueue l.keys l.self;
+  floor : l.self.floor ≡ l.fn.self.floor;
+}
+
+abbrev pub decreases-loop-node : goal.decreases-loop-node
+decreases-loop-node l = goal.left-loop-node l
