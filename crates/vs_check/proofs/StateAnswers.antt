@@ -15,13 +15,13 @@ use Rattle.vs_tree.specs.Prices.{Prices, prices_of}
 use Rattle.vs_tree.specs.Report.{IsLesser, bound_of}
 use Rattle.vs_tree.specs.Sound.{IsSound}
 use Rattle.vs_tree.specs.StateTree.{one_if}
-use Rattle.vs_tree.specs.Takes.{IsWorkLeft}
+use Rattle.vs_tree.specs.Takes.{IsOver, IsWorkLeft}
 use Rattle.vs_tree.specs.Tree.{leaves, splits}
 use Rattle.vs_tree.proofs.Spots.{leaf_within}
 use Rattle.vs_tree.proofs.sound.Histories.{histories_are_sound}
 use Rattle.vs_cert.specs.StateDocument.{IsDocumentOf}
 use Rattle.vs_cert.specs.declared.document.Document.{Document}
-use Rattle.vs_check.specs.Answers.{AreNamedInOrder, IsAnswer, IsBoundOf, IsOver, ReachesStart, count_not_below}
+use Rattle.vs_check.specs.Answers.{AreNamedInOrder, IsAnswer, IsBoundOf, ReachesStart, count_not_below}
 use Rattle.vs_check.specs.Laws.{BoundsReachTheStart, EachReachesTheStart, FinishedSearchesAnswer}
 use Rattle.vs_check.proofs.AnswerBounds.{IsOneOf, lesser_is_bound, not_open, reaches_start}
 use Rattle.vs_check.proofs.AnswerCounts.{closed_leaves, kind_counts}

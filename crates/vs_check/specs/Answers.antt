@@ -9,8 +9,6 @@ use Rattle.vs_prices.specs.Worth.{IsWorth, IsRoundedUp}
 use Rattle.vs_prices.specs.declared.bound.Bound.{Bound}
 use Rattle.vs_prices.specs.declared.bound.Bound.TheVariants.{AtLeast, NoPlan}
 use Rattle.vs_prices.specs.declared.table.Table.{Table}
-use Rattle.vs_tree.specs.History.{Opening, State}
-use Rattle.vs_tree.specs.Takes.{IsWorkLeft, held_leaves}
 use Rattle.vs_tree.specs.Tree.{LeafPlace, leaves, splits}
 use Rattle.vs_tree.specs.declared.claim.Claim.TheVariants.{StillOpen}
 use Rattle.vs_cert.specs.declared.document.Document.{Document}
@@ -74,11 +72,6 @@ ReachesStart p d bound = (value start : ℤ) → IsStartingValue p value → IsR
 abbrev pub choices : List LayerSet → ℕ
 choices [] = 1
 choices (layers ∷ sets) = length (members layers) * choices sets
-
--- no leaf is held, and none that is free leaves room for a cheaper plan, or the budget is spent
-pub record IsOver (o : Opening) (s : State) : Type 0 where
-  pub none_held : held_leaves s ≡ 0
-  pub no_more : (¬ (IsWorkLeft o.problem s)) ⊎ (s.finished ≡ o.budget)
 
 -- What the document says of a search with this budget: its nodes are no fewer than the splits of its tree, and no more
 -- than these and the leaves that aren't below the cost; where the claim is still open they are the whole budget.

@@ -13,7 +13,8 @@ use Rattle.vs_cert.specs.Alike.{AreAlike}
 use Rattle.vs_cert.specs.Form.{Suits}
 use Rattle.vs_cert.specs.StateDocument.{IsDocumentOf}
 use Rattle.vs_cert.specs.declared.document.Document.{Document}
-use Rattle.vs_check.specs.Answers.{IsAnswer, IsOver, ReachesStart, choices}
+use Rattle.vs_tree.specs.Takes.{IsOver}
+use Rattle.vs_check.specs.Answers.{IsAnswer, ReachesStart, choices}
 use Rattle.vs_check.specs.Flaws.{flaws_of}
 use Rattle.vs_check.specs.HoldingDocument.{HoldingDocument, ProvesItsClaim}
 

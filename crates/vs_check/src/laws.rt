@@ -36,8 +36,9 @@ pub fn bounds_reach_the_start()
     ensures { BoundsReachTheStart }
 {}
 
-/// Where the budget is at least `2 * P - 1`, with P the product over all trips of their number of permitted layers, a
-/// search that is over has an optimal plan, or has shown that there is none.
+/// Each trip's layer can be chosen in so many ways, and all layers together in the product of these numbers. A search
+/// that is over, with a budget of twice that product less one or more, has an optimal plan, or has shown that there is
+/// none.
 pub fn enough_budgets_leave_nothing_open()
     ensures { EnoughBudgetsLeaveNothingOpen }
 {}

@@ -1,5 +1,5 @@
 -- What a worker that asks for a leaf is told.
-use Rattle.std.specs.Prelude.{◌≡◌, ℕ, ◌+◌, ◌<◌, List, [], ◌∷◌, ◌++◌, ◌*◌, length}
+use Rattle.std.specs.Prelude.{◌≡◌, ℕ, ◌+◌, ◌<◌, List, [], ◌∷◌, ◌++◌, ◌*◌, length, ◌⊎◌}
 use Rattle.vs_types.specs.declared.layer_set.LayerSet.{LayerSet}
 use Rattle.vs_instance.specs.Problem.{Problem}
 use Rattle.vs_prices.specs.Bounds.{IsBelow}
@@ -33,6 +33,11 @@ IsTake o s sets table (Node leaf cost) = IsRoomLeft o s × IsNextLeaf o.problem 
 IsTake o s sets table Wait = (0 < held_leaves s) × ¬ (IsRoomLeft o s × IsWorkLeft o.problem s)
 IsTake o s sets table Done = (held_leaves s ≡ 0) × ¬ (IsWorkLeft o.problem s)
 IsTake o s sets table Spent = (held_leaves s ≡ 0) × IsWorkLeft o.problem s × (s.finished ≡ o.budget)
+
+-- a search is over: no leaf is held, and no free leaf leaves room for a cheaper plan, or the budget is spent
+pub record IsOver (o : Opening) (s : State) : Type 0 where
+  pub none_held : held_leaves s ≡ 0
+  pub no_more : (¬ (IsWorkLeft o.problem s)) ⊎ (s.finished ≡ o.budget)
 
 -- the steps that the answer adds
 abbrev pub taking : ℕ → List FullStep → Take → List FullStep
