@@ -1,8 +1,9 @@
 ghost use Rattle.std.specs.Prelude.{◌≡◌, ◌≢◌, ℕ, ◌<◌, ◌≤◌, [], length, All, IfOk};
 ghost use Rattle.vs_match.specs.LayerNets.{AreLayerNets};
+ghost use Rattle.vs_prices.specs.Table.{Fits};
 ghost use Rattle.vs_types.specs.LayerSet.{Has, members};
 
-use crate::{Task, work};
+use crate::{Outcome, Task, work};
 use std::alloc::{AllocError, Global};
 use std::test::Fail;
 use vs_circ::Work;
@@ -148,11 +149,10 @@ fn nets_of(alloc: Global, instance: &Instance) -> Result<Vec<LayerNet>, Memory>
     Ok(nets)
 }
 
-/// What becomes of the root, what the plan costs that is found, and what the table is worth.
-type Found = (Next, Option<i64>, Bound);
-
 /// What the work on the root finds, where nothing is known.
-fn found(alloc: Global, instance: &Instance) -> Result<Found, Fail> {
+fn worked(alloc: Global, instance: &Instance) -> Result<Outcome, Fail>
+    ensures { IfOk result (λ outcome. Fits instance.now outcome.table) }
+{
     let nets = nets_of(alloc, instance)?;
     let task = Task {
         sets: permitted_sets(alloc, instance)?,
@@ -161,8 +161,17 @@ fn found(alloc: Global, instance: &Instance) -> Result<Found, Fail> {
         root: true,
     };
     let mut kept = Work::new(alloc, &nets)?;
-    let outcome = work(alloc, instance, &nets, &task, &mut kept)?;
-    let worth = worth(instance, &task.sets, &outcome.table);
+    Ok(work(alloc, instance, &nets, &task, &mut kept)?)
+}
+
+/// What becomes of the root, what the plan costs that is found, and what the table is worth.
+type Found = (Next, Option<i64>, Bound);
+
+/// What the work on the root comes to.
+fn found(alloc: Global, instance: &Instance) -> Result<Found, Fail> {
+    let outcome = worked(alloc, instance)?;
+    let sets = permitted_sets(alloc, instance)?;
+    let worth = worth(instance, &sets, &outcome.table);
     let cost = outcome.plan.as_ref().map(|plan| plan.cost());
     Ok((outcome.next, cost, worth))
 }
@@ -204,5 +213,23 @@ fn works_on_roots(rt: HostRuntime) -> Result<(), Fail> {
         }
     );
     assert_eq!(rt; cost, None);
+    Ok(())
+}
+
+// Two layers that are alike have the same prices.
+#[test]
+fn a_tie_goes_to_the_lower_layer(rt: HostRuntime) -> Result<(), Fail> {
+    let alloc = rt.alloc();
+    let rows = [(1, 480, 2, 510)];
+    let alike = instance(alloc, layer(0, 1, 1000), layer(0, 1, 1000), both(), &rows)?;
+    let outcome = worked(alloc, &alike)?;
+    let blocks = outcome
+        .plan
+        .as_ref()
+        .map(|plan| plan.plan().blocks.as_slice());
+    let layer = blocks
+        .and_then(|blocks| blocks.first())
+        .map(|block| block.layer);
+    assert_eq!(rt; layer, Some(LayerNo(0)));
     Ok(())
 }
