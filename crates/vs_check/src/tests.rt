@@ -1,5 +1,6 @@
 mod instances;
 mod shapes;
+mod trees;
 
 ghost use Rattle.std.specs.Prelude.{◌≡◌, ◌≤◌, length, All};
 ghost use Rattle.vs_cert.specs.Shapes.{AreTree, IsShapeOf};
