@@ -1,4 +1,4 @@
--- When a document that `solve` owes is optimal.
+-- When a document that `solve` owes without a node is optimal.
 use Rattle.std.proofs.Common.{◌≡◌, ℕ, zero, suc, Bool, true, false, List, [], ◌∷◌, ◌⊎◌, inl, inr, ⊎_elim, Option, Some, None, IsSomeAnd, slice_get, refl, sym, ap, ◌∙◌, subst, arith, ℤ, ◌≤ℤ◌, if◌then◌else◌}
 use Rattle.std.proofs.lemmas.Bool.{false≢true}
 use Rattle.std.proofs.lemmas.Bool.Decides.{Decides-int_eq}
@@ -20,8 +20,9 @@ use Rattle.mdvsp.specs.Laws.{IsDoneWhereShown}
 use Rattle.mdvsp.specs.Owed.{OwesDocument, status_of}
 use Rattle.vs_reader.specs.Rows.{Row}
 use Rattle.vs_tree.specs.Tree.{Tree, Leaf, Split, LeafPlace, leaves, splits}
-use Rattle.vs_check.specs.Answers.{AreWorths, IsBoundOf}
+use Rattle.vs_check.specs.Answers.{AreWorths, IsAnswer, IsBoundOf}
 use Rattle.mdvsp.specs.SolveAnswer.{SolveAnswer}
+use Rattle.mdvsp.proofs.FirstStates.{given_budget, greedy_plan, zero_listed}
 
 -- the worth of one leaf
 one_worth : (p : Problem) (d : Document) (place : LeafPlace) (worths : List Bound) → AreWorths p d (place ∷ []) worths
@@ -47,11 +48,11 @@ one_case (Leaf t) none = (t, refl)
 one_case (Split trip left lower upper) none = absurd (omega (arith, none))
 
 -- so is that of a search without a budget
-pub one_leaf : (p : Problem) (d : Document) (s : SolveAnswer p 0 d) → (t : ℕ) × (s.holds.tree.tree ≡ Leaf t)
+pub one_leaf : (p : Problem) (d : Document) (s : IsAnswer p 0 d) → (t : ℕ) × (s.holds.tree.tree ≡ Leaf t)
 one_leaf p d s = one_case s.holds.tree.tree (omega (arith, s.each_split, s.within_budget))
 
 -- the one worth is that of the one table
-worth_is : (p : Problem) (d : Document) (table : Table) (s : SolveAnswer p 0 d) → d.tables.items ≡ table ∷ []
+worth_is : (p : Problem) (d : Document) (table : Table) (s : IsAnswer p 0 d) → d.tables.items ≡ table ∷ []
     → table.ray ≡ false
     → (n : ℤ) × IsWorth p (permitted_sets p) table (AtLeast n) × (s.worths ≡ AtLeast n ∷ [])
 worth_is p d table s one cost =
@@ -114,17 +115,22 @@ status_tells cost n claim answer e t = record {
 }
 
 -- a search without a budget is done where its plan costs no more than the zero table is worth
-pub done_where_shown : (bytes : List ℕ) (answer : Status) (rows : List Row) (owed : OwesDocument bytes answer rows)
-    → IsDoneWhereShown bytes answer rows owed
+pub done_where_shown : (bytes : List ℕ) (answer : Status) (rows : List Row)
+    (owed : OwesDocument (Some 0) bytes answer rows) → IsDoneWhereShown bytes answer rows owed
 done_where_shown bytes answer rows owed =
+    let p = owed.problem in
     let d = owed.document in
-    let w = worth_is owed.problem d owed.table.0 owed.solves owed.table.1 owed.table.2.cost in
-    let bound = subst (λ (ws : List Bound). IsBoundOf d.cost ws d.bound) w.2 owed.solves.bound in
+    let solves = subst (λ (n : ℕ). SolveAnswer p n 1 d) (given_budget p 0 owed.budget owed.budget_is) owed.solves in
+    let zero = zero_listed p 1 d solves in
+    let w = worth_is p d zero.0 solves.answer zero.1 zero.2.cost in
+    let bound = subst (λ (ws : List Bound). IsBoundOf d.cost ws d.bound) w.2 solves.answer.bound in
     let t = status_tells d.cost w.0 _ answer owed.status_is
-    (subst (Tells d.cost w.0) (sym owed.solves.holds.claim) (bound_tells d.cost d.bound w.0 bound)) in
+    (subst (Tells d.cost w.0) (sym solves.answer.holds.claim) (bound_tells d.cost d.bound w.0 bound)) in
     record {
-      table = owed.table.0;
-      zero = owed.table.2;
+      plan = greedy_plan p 1 d solves;
+      table = zero.0;
+      only = zero.1;
+      zero = zero.2;
       n = w.0;
       worth = w.1;
       done_only = t.done_only;

@@ -1,5 +1,5 @@
 -- A document that `solve` owes is judged `yes` behind its instance's records.
-use Rattle.std.proofs.Common.{◌≡◌, ℕ, ◌<◌, List, [], ◌∷◌, ◌++◌, length, take, refl, sym, subst, inl, inr, arith, ◌∙◌}
+use Rattle.std.proofs.Common.{◌≡◌, ℕ, ◌<◌, List, [], ◌∷◌, ◌++◌, length, take, refl, sym, subst, inl, inr, arith, ◌∙◌, Option}
 use Rattle.std.proofs.lemmas.List.{get_or_default, length_push}
 use Rattle.std.proofs.lemmas.List.Elements.{All-nil, All-push}
 use Rattle.std.proofs.lemmas.List.Quantifiers.{all_pairs_push}
@@ -64,10 +64,10 @@ instance_names bytes p names before rest stands =
     (record { layers = no_names; trips = no_names }))
 
 -- behind the records they are one text
-pub solved_holds : (bytes read : List ℕ) (answer : Status) (rows : List Row) (owed : OwesDocument bytes answer rows)
-    → HasRows read (take owed.text.before owed.text.instance.rows) → EndsInLine read
+pub solved_holds : (nodes : Option ℕ) (bytes read : List ℕ) (answer : Status) (rows : List Row)
+    (owed : OwesDocument nodes bytes answer rows) → HasRows read (take owed.text.before owed.text.instance.rows) → EndsInLine read
     → OwesYes (read ++ lines rows) (yes_row owed.document ∷ [])
-solved_holds bytes read answer rows owed has ends =
+solved_holds nodes bytes read answer rows owed has ends =
     let p = owed.problem in
     let names = owed.names in
     let d = owed.document in
@@ -87,7 +87,7 @@ solved_holds bytes read answer rows owed has ends =
         instance = stands_behind bytes read p names owed.text.before owed.text.rest written stands has ends plain refl;
         document = stands_for p names instance counts d owed.solves.has_text;
       };
-      holds = owed.solves.holds;
+      holds = owed.solves.answer.holds;
       proves = owed.proves;
       rows_are = refl;
     })

@@ -1,9 +1,8 @@
-pub mod ZeroTable
-pub mod FirstAnswer
+pub mod SearchAnswers
+pub mod FirstStates
 pub mod Sequences
 pub mod LawDocuments
 pub mod LawBounds
 pub mod grammar
 pub mod owing
 pub mod once
-pub mod leaves

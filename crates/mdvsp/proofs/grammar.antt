@@ -1,4 +1,4 @@
 -- Which words ask for which command, and which are bad.
 pub mod CommandWords
-pub mod TripCounts
+pub mod ShortNumbers
 pub mod WordLaws

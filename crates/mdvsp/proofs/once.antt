@@ -4,4 +4,4 @@ pub mod OneNet
 pub mod OneRefusal
 pub mod OneCase
 pub mod OneAnswer
-pub mod OneStatus
+pub mod SolveStatus

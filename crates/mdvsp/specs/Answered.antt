@@ -16,7 +16,7 @@ use Rattle.mdvsp.specs.SolveAnswer.{SolveAnswer}
 use Rattle.mdvsp.specs.declared.case.CaseError.{CaseError}
 use Rattle.mdvsp.specs.declared.case.CaseError.TheVariants as error
 use Rattle.mdvsp.specs.Network.{AreNetworkRows}
-use Rattle.mdvsp.specs.Owed.{Owes, OwesNoCase, HasGreedyPlan, HasZeroTable, status_of}
+use Rattle.mdvsp.specs.Owed.{Owes, OwesNoCase, status_of}
 use Rattle.vs_reader.specs.Rows.{Row, lines}
 
 -- the text is the lines of rows that are owed for the bytes, with this answer
@@ -57,11 +57,9 @@ pub record HasSizes (problem : Problem) (names : NameLists) (answer : Answer) : 
   pub status_is : answer.status ≡ Done
   pub text_is : answer.text.items ≡ lines rows
 
--- the text is that of a document that answers for the instance, and the status that of its claim
-pub record IsDocumentOf (problem : Problem) (names : NameLists) (answer : Answer) : Type 0 where
+-- the text is that of a document that a search with this budget answers, and the status that of its claim
+pub record IsDocumentOf (problem : Problem) (names : NameLists) (budget : ℕ) (answer : Answer) : Type 0 where
   pub document : Document
-  pub solves : SolveAnswer problem 0 document
-  pub plan : HasGreedyPlan problem document
-  pub table : HasZeroTable problem document
+  pub solves : SolveAnswer problem budget 1 document
   pub status_is : answer.status ≡ status_of document.claim
   pub text_is : answer.text.items ≡ lines (document_rows problem names document)

@@ -1,21 +1,38 @@
--- When the plan that `solve` writes is shown to be optimal, and which commands owe one thing.
-use Rattle.std.specs.Prelude.{◌≡◌, ◌⊎◌, ℕ, List, IsSomeAnd, ℤ, ◌≤ℤ◌}
+-- What the answers of `solve` have to do with each other, and which commands owe one thing.
+use Rattle.std.specs.Prelude.{◌≡◌, ◌⊎◌, ℕ, false, List, [], ◌∷◌, MatchOption, Some, IfSome, IsSomeAnd, ℤ, ◌≤ℤ◌}
+use Rattle.vs_instance.specs.Problem.{Problem}
 use Rattle.vs_instance.specs.Restriction.{permitted_sets}
+use Rattle.vs_plan.specs.Blocks.{blocks_of}
+use Rattle.vs_plan.specs.Greedy.{GreedyGetsStuck, GreedyGives}
 use Rattle.vs_prices.specs.declared.bound.Bound.TheVariants.{AtLeast}
 use Rattle.vs_prices.specs.declared.table.Table.{Table}
+use Rattle.vs_prices.specs.Table.{AreZeros, Fits}
 use Rattle.vs_prices.specs.Worth.{IsWorth}
+use Rattle.vs_cert.specs.declared.document.Document.{Document}
+use Rattle.vs_reader.specs.Rows.{Row}
 use Rattle.mdvsp.specs.declared.command.Command.{Command}
 use Rattle.mdvsp.specs.declared.command.Command.TheVariants.{Solve}
 use Rattle.mdvsp.specs.declared.status.Status.{Status}
 use Rattle.mdvsp.specs.declared.status.Status.TheVariants as status
-use Rattle.mdvsp.specs.Owed.{OwesDocument, IsZeroTable}
-use Rattle.vs_reader.specs.Rows.{Row}
+use Rattle.mdvsp.specs.Owed.{OwesDocument}
 
--- The table of zeros is worth a number. The answer is done exactly where there is a plan that costs no more than it,
--- and else open.
+-- the document's plan is the greedy rule's, and it has none where that rule gets stuck
+abbrev pub HasGreedyPlan : Problem → Document → Type 0
+HasGreedyPlan p d = MatchOption d.cost (GreedyGetsStuck p) (λ _. GreedyGives p (blocks_of d.plan))
+
+-- a cost table of the instance in which every price is 0
+pub record IsZeroTable (p : Problem) (table : Table) : Type 0 where
+  pub cost : table.ray ≡ false
+  pub fits : Fits p table
+  pub zeros : AreZeros table
+
+-- Without a node the document has the greedy rule's plan and no table but that of zeros, which is worth a number. The
+-- answer is done exactly where there is a plan that costs no more than it, and else open.
 pub record IsDoneWhereShown (bytes : List ℕ) (answer : Status) (rows : List Row)
-    (owed : OwesDocument bytes answer rows) : Type 0 where
+    (owed : OwesDocument (Some 0) bytes answer rows) : Type 0 where
+  pub plan : HasGreedyPlan owed.problem owed.document
   pub table : Table
+  pub only : owed.document.tables.items ≡ table ∷ []
   pub zero : IsZeroTable owed.problem table
   pub n : ℤ
   pub worth : IsWorth owed.problem (permitted_sets owed.problem) table (AtLeast n)
@@ -23,7 +40,21 @@ pub record IsDoneWhereShown (bytes : List ℕ) (answer : Status) (rows : List Ro
   pub done_there : IsSomeAnd owed.document.cost (λ cost. cost ≤ℤ n) → answer ≡ status.Done
   pub or_open : (answer ≡ status.Done) ⊎ (answer ≡ status.StillOpen)
 
--- what the command owes is one thing; of `solve` the definition leaves open which of several plans is written
+-- what the command owes is one thing; of `solve` the definition leaves open which of several searches is made
 abbrev pub IsDetermined : Command → Type 0
-IsDetermined Solve = ⊥
+IsDetermined (Solve nodes) = ⊥
 IsDetermined _ = Unit {0}
+
+-- the answer settles what plans there are
+abbrev pub IsSettled : Status → Type 0
+IsSettled status.Done = Unit {0}
+IsSettled status.Infeasible = Unit {0}
+IsSettled _ = ⊥
+
+-- two answers to the same words and bytes may both be right: they are the same, or one leaves open what the other settles
+abbrev pub MayBothBe : Status → Status → Type 0
+MayBothBe a b = (a ≡ b) ⊎ ((a ≡ status.StillOpen) × IsSettled b) ⊎ ((b ≡ status.StillOpen) × IsSettled a)
+
+-- the bound of one answer isn't above the cost of the other
+abbrev pub NeverPasses : Document → Document → Type 0
+NeverPasses d e = IfSome d.bound (λ bound. IfSome e.cost (λ cost. bound ≤ℤ cost))

@@ -3,7 +3,7 @@ pub mod FlawRows
 pub mod RefusalRows
 pub mod Status
 pub mod Words
-pub mod PricedPlan
+pub mod Budgets
 pub mod SolveAnswer
 pub mod Network
 pub mod Timetable
@@ -12,4 +12,3 @@ pub mod Owed
 pub mod Laws
 pub mod Outcome
 pub mod Answered
-pub mod Searching

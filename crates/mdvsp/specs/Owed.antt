@@ -1,11 +1,9 @@
 -- What a call has to answer, and what it has to write.
-use Rattle.std.specs.Prelude.{◌≡◌, ℕ, false, List, [], ◌∷◌, codes, MatchOption, Some, IsSome, IfSome, ◌⊎◌}
+use Rattle.std.specs.Prelude.{◌≡◌, ℕ, List, [], ◌∷◌, codes, Option, Some, None, IsSome, IfSome, ◌⊎◌}
 use Rattle.vs_instance.specs.Problem.{Problem}
 use Rattle.vs_tree.specs.declared.claim.Claim.{Claim}
 use Rattle.vs_tree.specs.declared.claim.Claim.TheVariants.{Optimal, Infeasible, StillOpen}
 use Rattle.vs_cert.specs.declared.document.Document.{Document}
-use Rattle.vs_prices.specs.declared.table.Table.{Table}
-use Rattle.vs_prices.specs.Table.{AreZeros, Fits}
 use Rattle.vs_plan.specs.Blocks.{blocks_of}
 use Rattle.vs_check.specs.HoldingDocument.{HoldingDocument, ProvesItsClaim}
 use Rattle.vs_check.specs.Flaws.{flaws_of}
@@ -20,9 +18,9 @@ use Rattle.vs_cert.specs.declared.refused.DocWhy.{DocWhy}
 use Rattle.vs_reader.specs.Texts.{IsRefused}
 use Rattle.vs_reader.specs.declared.refused.Refused.{Refused}
 use Rattle.mdvsp.specs.Cases.{CheckText, LacksDocument, SolveText}
-use Rattle.mdvsp.specs.RefusalRows.{refusal_row, document_refusal_row}
+use Rattle.mdvsp.specs.RefusalRows.{document_refusal_row, refusal_row, too_large_row}
 use Rattle.mdvsp.specs.FlawRows.{no_row}
-use Rattle.vs_plan.specs.Greedy.{GreedyGives, GreedyGetsStuck}
+use Rattle.mdvsp.specs.Budgets.{budget_of}
 use Rattle.mdvsp.specs.SolveAnswer.{SolveAnswer}
 use Rattle.mdvsp.specs.declared.command.Command.{Command}
 use Rattle.mdvsp.specs.declared.command.Command.TheVariants.{Check, Solve, Network, Blocks, Make}
@@ -104,37 +102,36 @@ pub record OwesNoTimetable (bytes : List ℕ) (rows : List Row) : Type 0 where
   pub is_first : first (faults_of problem (blocks_of document.plan)) ≡ Some fault
   pub rows_are : rows ≡ no_row names (Plan fault) ∷ []
 
--- the document's plan is the greedy rule's, and it has none where that rule gets stuck
-abbrev pub HasGreedyPlan : Problem → Document → Type 0
-HasGreedyPlan p d = MatchOption d.cost (GreedyGetsStuck p) (λ _. GreedyGives p (blocks_of d.plan))
-
--- a cost table of the instance in which every price is 0
-pub record IsZeroTable (p : Problem) (table : Table) : Type 0 where
-  pub cost : table.ray ≡ false
-  pub fits : Fits p table
-  pub zeros : AreZeros table
-
--- without a search the only table is the zero table
-abbrev pub HasZeroTable : Problem → Document → Type 0
-HasZeroTable p d = (table : Table) × (d.tables.items ≡ table ∷ []) × IsZeroTable p table
-
 abbrev pub status_of : Claim → Status
 status_of Optimal = status.Done
 status_of Infeasible = status.Infeasible
 status_of StillOpen = status.StillOpen
 
--- `solve` is owed a document that answers for the instance and proves what it claims, with the status of its claim
-pub record OwesDocument (bytes : List ℕ) (answer : Status) (rows : List Row) : Type 0 where
+-- `solve` is owed a document that a search of the instance answers, made by one worker within the budget, and that proves
+-- what it claims, with the status of its claim
+pub record OwesDocument (nodes : Option ℕ) (bytes : List ℕ) (answer : Status) (rows : List Row) : Type 0 where
   pub problem : Problem
   pub names : NameLists
   pub document : Document
   pub text : SolveText bytes problem names
-  pub solves : SolveAnswer problem 0 document
+  pub budget : ℕ
+  pub budget_is : budget_of problem nodes ≡ Some budget
+  pub solves : SolveAnswer problem budget 1 document
   pub proves : ProvesItsClaim problem document
-  pub plan : HasGreedyPlan problem document
-  pub table : HasZeroTable problem document
   pub status_is : answer ≡ status_of document.claim
   pub rows_are : rows ≡ document_rows problem names document
+
+-- and where so many nodes are too many for the instance, a refusal
+pub record OwesTooLarge (nodes : Option ℕ) (bytes : List ℕ) (rows : List Row) : Type 0 where
+  pub problem : Problem
+  pub names : NameLists
+  pub text : SolveText bytes problem names
+  pub too_large : budget_of problem nodes ≡ None
+  pub rows_are : rows ≡ too_large_row ∷ []
+
+-- a text that is no instance text is refused first
+abbrev pub OwesNoSearch : Option ℕ → List ℕ → List Row → Type 0
+OwesNoSearch nodes bytes rows = OwesRefusal bytes rows ⊎ OwesTooLarge nodes bytes rows
 
 -- what `check` has to answer for these bytes, and which rows it has to write
 abbrev pub CheckOwes : List ℕ → Status → List Row → Type 0
@@ -143,13 +140,13 @@ CheckOwes bytes status.SaysNo rows = OwesNo bytes rows
 CheckOwes bytes status.BadInput rows = OwesNoCase bytes rows
 CheckOwes bytes _ rows = ⊥
 
--- the same of `solve`
-abbrev pub SolveOwes : List ℕ → Status → List Row → Type 0
-SolveOwes bytes status.Done rows = OwesDocument bytes status.Done rows
-SolveOwes bytes status.Infeasible rows = OwesDocument bytes status.Infeasible rows
-SolveOwes bytes status.StillOpen rows = OwesDocument bytes status.StillOpen rows
-SolveOwes bytes status.BadInput rows = OwesRefusal bytes rows
-SolveOwes bytes _ rows = ⊥
+-- the same of `solve`, with so many nodes, where they are given
+abbrev pub SolveOwes : Option ℕ → List ℕ → Status → List Row → Type 0
+SolveOwes nodes bytes status.Done rows = OwesDocument nodes bytes status.Done rows
+SolveOwes nodes bytes status.Infeasible rows = OwesDocument nodes bytes status.Infeasible rows
+SolveOwes nodes bytes status.StillOpen rows = OwesDocument nodes bytes status.StillOpen rows
+SolveOwes nodes bytes status.BadInput rows = OwesNoSearch nodes bytes rows
+SolveOwes nodes bytes _ rows = ⊥
 
 -- of `network`
 abbrev pub NetworkOwes : List ℕ → Status → List Row → Type 0
@@ -172,7 +169,7 @@ MakeOwes n _ rows = ⊥
 -- what a command has to answer for the bytes that it read, and which rows it has to write
 abbrev pub Owes : Command → List ℕ → Status → List Row → Type 0
 Owes Check bytes answer rows = CheckOwes bytes answer rows
-Owes Solve bytes answer rows = SolveOwes bytes answer rows
+Owes (Solve nodes) bytes answer rows = SolveOwes nodes bytes answer rows
 Owes Network bytes answer rows = NetworkOwes bytes answer rows
 Owes Blocks bytes answer rows = BlocksOwes bytes answer rows
 Owes (Make n) bytes answer rows = MakeOwes n answer rows

@@ -99,3 +99,7 @@ document_name doc.PriceRange = codes "PriceRange"
 abbrev pub document_refusal_row : ℕ → DocWhy → Row
 document_refusal_row at why =
     codes "refused" ∷ decimal at ∷ decimal (document_number why) ∷ document_name why ∷ []
+
+-- the row that refuses a search of too many nodes for the instance
+abbrev pub too_large_row : Row
+too_large_row = codes "refused" ∷ decimal 0 ∷ decimal 40 ∷ codes "TooLarge" ∷ []

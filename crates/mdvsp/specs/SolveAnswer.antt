@@ -1,23 +1,44 @@
--- What a document has to be that a search of so many nodes answers.
-use Rattle.std.specs.Prelude.{◌≡◌, ℕ, ◌+◌, ◌≤◌, List, length, IfSome}
+-- What a document has to be that a search answers.
+use Rattle.std.specs.Prelude.{◌≡◌, ℕ, ◌≤◌, List, IfSome, MatchOption, Option}
 use Rattle.vs_instance.specs.Problem.{Problem}
-use Rattle.vs_prices.specs.declared.bound.Bound.{Bound}
-use Rattle.vs_tree.specs.declared.claim.Claim.TheVariants.{StillOpen}
+use Rattle.vs_plan.specs.CheckedPlan.{Checked}
+use Rattle.vs_plan.specs.Greedy.{GreedyGetsStuck, GreedyGives}
+use Rattle.vs_tree.specs.History.{FullStep, IsHistory, Opening, state_of}
+use Rattle.vs_tree.specs.Sound.{IsOpening, IsPlanOf}
+use Rattle.vs_tree.specs.Takes.{IsOver}
+use Rattle.vs_node.specs.WorkedHistory.{AreWorked}
 use Rattle.vs_cert.specs.DocumentText.{HasText}
+use Rattle.vs_cert.specs.StateDocument.{IsDocumentOf}
 use Rattle.vs_cert.specs.declared.document.Document.{Document}
-use Rattle.vs_check.specs.Answers.{AreNamedInOrder, AreWorths, IsBoundOf, ReachesStart, count_not_below, places_of, splits_of}
-use Rattle.vs_check.specs.HoldingDocument.{HoldingDocument}
+use Rattle.vs_check.specs.Answers.{IsAnswer, ReachesStart}
 
--- a document that a search of so many nodes may answer
-pub record SolveAnswer (p : Problem) (budget : ℕ) (d : Document) : Type 0 where
+-- the greedy rule's plan, where it gives one
+abbrev pub IsGreedyPlan : Problem → Option Checked → Type 0
+IsGreedyPlan p first = MatchOption first (GreedyGetsStuck p) (λ plan. GreedyGives p plan.blocks × IsPlanOf p plan)
+
+-- a search of the instance begins with so many nodes as its budget, so many workers, and the greedy rule's plan
+pub record BeginsFor (p : Problem) (nodes crew : ℕ) (opening : Opening) : Type 0 where
+  pub problem : opening.problem ≡ p
+  pub budget : opening.budget ≡ nodes
+  pub workers : opening.workers ≡ crew
+  pub first : IsGreedyPlan p opening.first
+
+-- The document is that of the state that such a search comes to once it is over and no worker holds a leaf. Each leaf
+-- that it split or closed was worked on.
+pub record IsSearched (p : Problem) (budget workers : ℕ) (d : Document) : Type 0 where
+  pub opening : Opening
+  pub begins : BeginsFor p budget workers opening
+  pub is_opening : IsOpening opening
+  pub steps : List FullStep
+  pub history : IsHistory opening steps
+  pub worked : AreWorked opening steps
+  pub over : IsOver opening (state_of opening steps)
+  pub of_state : IsDocumentOf opening (state_of opening steps) d
+
+-- A document that a search with this budget and so many workers may answer: it has a text, holds, and says what the
+-- search came to; once a leaf was worked on, its bound is no less than what the starting multipliers show.
+pub record SolveAnswer (p : Problem) (budget workers : ℕ) (d : Document) : Type 0 where
   pub has_text : HasText p d
-  pub holds : HoldingDocument p d
-  pub written : AreNamedInOrder 0 (places_of p d holds) (length d.tables.items)
-  pub worths : List Bound
-  pub are_worths : AreWorths p d (places_of p d holds) worths
-  pub bound : IsBoundOf d.cost worths d.bound
-  pub within_budget : d.nodes ≤ budget
-  pub each_split : splits_of p d holds ≤ d.nodes
-  pub each_node : d.nodes ≤ splits_of p d holds + count_not_below d.cost worths
-  pub still_open : d.claim ≡ StillOpen → d.nodes ≡ budget
+  pub answer : IsAnswer p budget d
   pub start : 1 ≤ d.nodes → IfSome d.bound (ReachesStart p d)
+  pub searched : IsSearched p budget workers d

@@ -1,8 +1,9 @@
 -- What words ask for, and at which word they are bad.
-use Rattle.std.specs.Prelude.{◌≡◌, ℕ, ◌+◌, ◌-◌, ◌<◌, ◌≤◌, List, [], ◌∷◌, ◌++◌, length, map, take, codes, decimal, String, string_bytes, slice_index_or, Result, MatchResult}
+use Rattle.std.specs.Prelude.{◌≡◌, ℕ, ◌+◌, ◌-◌, ◌<◌, ◌≤◌, List, [], ◌∷◌, ◌++◌, length, map, take, codes, decimal, String, string_bytes, slice_index_or, Result, MatchResult, Option, Some, None}
 use Rattle.std.specs.Str.Parse.{digits_value}
 use Rattle.std.specs.declared.alloc.Global.{Global}
 use Rattle.vs_instance.specs.declared.limits.TheConstants.{MAX_TRIPS}
+use Rattle.vs_tree.specs.declared.limits.TheConstants.{MAX_BUDGET}
 use Rattle.vs_reader.specs.Numbers.{AreDigits}
 use Rattle.vs_reader.specs.Rows.{Row}
 use Rattle.mdvsp.specs.declared.command.Command.{Command}
@@ -17,24 +18,25 @@ Word = List ℕ
 -- the first word of each command
 abbrev pub command_name : Command → Word
 command_name Check = codes "check"
-command_name Solve = codes "solve"
+command_name (Solve nodes) = codes "solve"
 command_name Network = codes "network"
 command_name Blocks = codes "blocks"
 command_name (Make n) = codes "make"
 
--- 1 to 6 digits, with leading zeros or without, that write n, which is no more than an instance has trips
-pub record IsTripCount (word : Word) (n : ℕ) : Type 0 where
+-- 1 to 6 digits, with leading zeros or without, that write n, which is no greater than `most`
+pub record IsNumberUpTo (most : ℕ) (word : Word) (n : ℕ) : Type 0 where
   pub digits : AreDigits word MAX_DIGITS
   pub value : n ≡ digits_value 10 word
-  pub few : n ≤ MAX_TRIPS
+  pub few : n ≤ most
 
 -- the words behind the first
 abbrev pub AreFurther : Command → List Word → Type 0
 AreFurther Check words = words ≡ []
-AreFurther Solve words = words ≡ codes "--nodes" ∷ codes "0" ∷ []
+AreFurther (Solve None) words = words ≡ []
+AreFurther (Solve (Some n)) words = (nodes : Word) × (words ≡ codes "--nodes" ∷ nodes ∷ []) × IsNumberUpTo MAX_BUDGET nodes n
 AreFurther Network words = words ≡ []
 AreFurther Blocks words = words ≡ []
-AreFurther (Make n) words = (count : Word) × (words ≡ count ∷ []) × IsTripCount count n
+AreFurther (Make n) words = (count : Word) × (words ≡ count ∷ []) × IsNumberUpTo MAX_TRIPS count n
 
 -- the words ask for the command
 pub record AskFor (words : List Word) (command : Command) : Type 0 where
@@ -70,10 +72,11 @@ IsAlone Network = Unit {0}
 IsAlone Blocks = Unit {0}
 IsAlone _ = ⊥
 
--- an instance may have as many trips as the command asks for
-abbrev pub HasFewTrips : Command → Type 0
-HasFewTrips (Make n) = n ≤ MAX_TRIPS
-HasFewTrips _ = Unit {0}
+-- an instance may have as many trips as the command asks for, and a search as many nodes
+abbrev pub IsWithinLimits : Command → Type 0
+IsWithinLimits (Make n) = n ≤ MAX_TRIPS
+IsWithinLimits (Solve (Some n)) = n ≤ MAX_BUDGET
+IsWithinLimits _ = Unit {0}
 
 -- the command takes input
 abbrev pub Reads : Command → Type 0

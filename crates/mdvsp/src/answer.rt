@@ -3,7 +3,7 @@ ghost use Rattle.vs_check.specs.Flaws.{IsFlawWithin};
 ghost use Rattle.mdvsp.specs.Answered.{IsSaid};
 ghost use Rattle.mdvsp.specs.FlawRows.{no_row};
 ghost use Rattle.mdvsp.specs.Owed.{yes_row};
-ghost use Rattle.mdvsp.specs.RefusalRows.{document_refusal_row, refusal_row};
+ghost use Rattle.mdvsp.specs.RefusalRows.{document_refusal_row, refusal_row, too_large_row};
 ghost use Rattle.vs_reader.specs.Rows.{lines};
 ghost use Rattle.mdvsp.specs.Words.{words_row};
 
@@ -45,6 +45,19 @@ impl Answer {
         text.begin_row("refused")?;
         text.number(refused.row)?;
         write_why(&mut text, refused.why)?;
+        text.end_row()?;
+        Ok(Answer::of(Status::BadInput, text))
+    }
+
+    /// So many nodes are too many for the instance.
+    pub fn too_large(alloc: Global) -> Result<Answer, Memory>
+        ensures { IfOk result (λ a. (a.status ≡ Status.BadInput) × (a.text.items ≡ lines (too_large_row ∷ []))) }
+    {
+        let mut text = Text::new(alloc);
+        text.begin_row("refused")?;
+        text.number(0_u32)?;
+        text.number(40_u32)?;
+        text.field("TooLarge")?;
         text.end_row()?;
         Ok(Answer::of(Status::BadInput, text))
     }

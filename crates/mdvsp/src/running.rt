@@ -1,7 +1,7 @@
 ghost use Rattle.std.specs.Prelude.{◌≡◌, ◌≤◌, List, length, IfErr, IfOk};
 ghost use Rattle.mdvsp.specs.Answered.{IsOwedFor};
 ghost use Rattle.mdvsp.specs.Outcome.{CouldNotRead, Ends, HasRead, input_limit};
-ghost use Rattle.mdvsp.specs.Words.{AskFor, AskToRead, HasFewTrips, Reads, Word, words_of};
+ghost use Rattle.mdvsp.specs.Words.{AskFor, AskToRead, IsWithinLimits, Reads, Word, words_of};
 
 use crate::answer::{Answer, say};
 use crate::checking::answer_check;
@@ -52,7 +52,7 @@ fn obey<I: Source, O: Sink>(
     input: &mut I,
     output: &mut O,
 ) -> Status
-    requires { HasFewTrips command }
+    requires { IsWithinLimits command }
     ensures ends { (words : List Word) → AskFor words command → Ends (record {
       words = words;
       left = I.left input.old;
@@ -97,12 +97,12 @@ fn input_of<I: Source>(
 /// What the command answers for the bytes of its input.
 fn answer_to(alloc: Global, command: Command, bytes: &[u8]) -> Result<Answer, Memory>
     requires few { length bytes.now ≤ input_limit }
-    requires trips { HasFewTrips command }
+    requires limits { IsWithinLimits command }
     ensures { IfOk result (IsOwedFor command bytes.now) }
 {
     match command {
         Command::Check => answer_check(alloc, bytes),
-        Command::Solve => answer_solve(alloc, bytes),
+        Command::Solve(nodes) => answer_solve(alloc, nodes, bytes),
         Command::Network => answer_network(alloc, bytes),
         Command::Blocks => answer_blocks(alloc, bytes),
         Command::Make(n) => answer_make(alloc, n),

@@ -693,16 +693,18 @@ fn judges_what_it_plans(rt: HostRuntime) -> Result<(), Fail> {
 
 #[test]
 fn tells_wrong_words(rt: HostRuntime) -> Result<(), Fail> {
-    let cases: [(&[&str], &str); 14] = [
+    let cases: [(&[&str], &str); 16] = [
         (&[], "words,1\n"),
         (&["plan"], "words,1\n"),
         (&["check", "x"], "words,2\n"),
         (&["network", "x"], "words,2\n"),
         (&["blocks", "x"], "words,2\n"),
-        (&["solve"], "words,2\n"),
+        (&["solve", "x"], "words,2\n"),
         (&["solve", "--nodes"], "words,3\n"),
         (&["solve", "--nodes", "-1"], "words,3\n"),
+        (&["solve", "--nodes", "100001"], "words,3\n"),
         (&["solve", "--nodes", "0", "x"], "words,4\n"),
+        (&["solve", "--nodes", "5", "--nodes", "6"], "words,4\n"),
         (&["make"], "words,2\n"),
         (&["make", "+1"], "words,2\n"),
         (&["make", "2001"], "words,2\n"),
@@ -776,4 +778,5 @@ fn ends_where_a_stream_fails(rt: HostRuntime) -> Result<(), Fail> {
 
 mod agreeing;
 mod commands;
+mod limits;
 mod searching;

@@ -1,8 +1,9 @@
 ghost use Rattle.std.specs.Prelude.{◌≡◌, ℕ, ◌≤◌, codes, IsTrue, MatchOption, ◌↔◌};
-ghost use Rattle.mdvsp.specs.Words.{Answers, IsAlone, IsTripCount, IsWordAt, command_name, words_of};
+ghost use Rattle.mdvsp.specs.Words.{Answers, IsAlone, IsNumberUpTo, IsWordAt, command_name, words_of};
 
 use crate::command::Command;
 use vs_instance::MAX_TRIPS;
+use vs_tree::MAX_BUDGET;
 
 /// The first bad word, counted from 1. Where a word is missing it is one more than there are.
 #[derive(Clone, Copy, Debug, PartialEq, Eq)]
@@ -11,7 +12,8 @@ pub struct BadWord(pub usize);
 /// How many digits a number among the words has at most.
 pub const MAX_DIGITS: usize = 6;
 
-/// What the words ask for: `check`, `network`, `blocks`, `solve --nodes 0`, or `make` and a number.
+/// What the words ask for: `check`, `network`, `blocks`, `solve` with or without `--nodes` and a number, or `make` and a
+/// number.
 #[tactic(auto, using(crate::proofs::grammar::CommandWords::no_command))]
 pub fn command_of(words: &[String]) -> Result<Command, BadWord>
     ensures { Answers (words_of words.now) result }
@@ -44,20 +46,25 @@ fn alone(words: &[String], command: Command) -> Result<Command, BadWord>
     }
 }
 
-/// `solve`, with a budget of no nodes.
-#[tactic(auto, using(crate::proofs::grammar::CommandWords::solve_bad_second, crate::proofs::grammar::CommandWords::solve_bad_third, crate::proofs::grammar::CommandWords::solve_goes_on))]
+/// `solve`, with a number of nodes or without.
+
 fn solve_of(words: &[String]) -> Result<Command, BadWord>
     requires { IsWordAt (words_of words.now) 0 (codes "solve") }
     ensures { Answers (words_of words.now) result }
 {
+    if words.len() == 1 {
+        return Ok(Command::Solve(None));
+    }
     if !is_word(words, 1, "--nodes") {
-        Err(BadWord(2))
-    } else if !is_word(words, 2, "0") {
-        Err(BadWord(3))
-    } else if words.len() > 3 {
-        Err(BadWord(4))
-    } else {
-        Ok(Command::Solve)
+        return Err(BadWord(2));
+    }
+    let Some(nodes) = words.get(2) else {
+        return Err(BadWord(3));
+    };
+    match number_up_to(nodes.as_str(), MAX_BUDGET) {
+        None => Err(BadWord(3)),
+        Some(n) if words.len() == 3 => Ok(Command::Solve(Some(n))),
+        Some(_) => Err(BadWord(4)),
     }
 }
 
@@ -69,17 +76,16 @@ fn make_of(words: &[String]) -> Result<Command, BadWord>
     let Some(count) = words.get(1) else {
         return Err(BadWord(2));
     };
-    match trip_count(count.as_str()) {
+    match number_up_to(count.as_str(), MAX_TRIPS) {
         None => Err(BadWord(2)),
         Some(n) if words.len() == 2 => Ok(Command::Make(n)),
         Some(_) => Err(BadWord(3)),
     }
 }
 
-/// The count of trips that a word of 1 to 6 digits writes. None where it isn't one, or there are no
-/// instances of so many trips.
-fn trip_count(word: &str) -> Option<u32>
-    ensures { MatchOption result ((n : ℕ) → ¬ (IsTripCount word.now n)) (IsTripCount word.now) }
+/// The number that a word of 1 to 6 digits writes. None where it isn't one, or the number is greater than `most`.
+fn number_up_to(word: &str, most: u32) -> Option<u32>
+    ensures { MatchOption result ((n : ℕ) → ¬ (IsNumberUpTo most word.now n)) (IsNumberUpTo most word.now) }
 {
     if word.is_empty() || word.len() > MAX_DIGITS {
         return None;
@@ -88,7 +94,7 @@ fn trip_count(word: &str) -> Option<u32>
         return None;
     }
     let n = word.parse::<u32>().ok()?;
-    if n <= MAX_TRIPS { Some(n) } else { None }
+    if n <= most { Some(n) } else { None }
 }
 
 /// Whether there is a word at this place, counted from 0, and it is the one wanted.

@@ -1,5 +1,5 @@
 -- Words ask for one command at most, or are bad at one place.
-use Rattle.std.proofs.Common.{◌≡◌, ℕ, ◌+◌, ◌-◌, ◌<◌, ◌≤◌, List, [], ◌∷◌, ◌++◌, length, take, drop, sum, refl, ap, sym, ◌∙◌, subst, arith, append_assoc}
+use Rattle.std.proofs.Common.{◌≡◌, ℕ, ◌+◌, ◌-◌, ◌<◌, ◌≤◌, List, [], ◌∷◌, ◌++◌, length, take, drop, sum, refl, ap, sym, ◌∙◌, subst, arith, append_assoc, codes, Some, None}
 use Rattle.std.specs.Str.Parse.{digits_value}
 use Rattle.std.proofs.lemmas.List.{append-nil, take-append-drop, take-take}
 use Rattle.mdvsp.specs.declared.command.Command.{Command}
@@ -10,7 +10,14 @@ use Rattle.mdvsp.specs.Words.{Word, AreAccepted, AreBadAt, AreFurther, AskFor, B
 one_further : (c d : Command) (words : List Word) → command_name c ≡ command_name d → AreFurther c words
     → AreFurther d words → c ≡ d
 one_further Check Check words e f g = refl
-one_further Solve Solve words e f g = refl
+one_further (Solve None) (Solve None) words e f g = refl
+one_further (Solve (Some m)) (Solve (Some n)) words e f g =
+    let count : f.0 ≡ g.0 =
+    let h : words ≡ codes "--nodes" ∷ f.0 ∷ [] = f.1 in let k : words ≡ codes "--nodes" ∷ g.0 ∷ [] = g.1 in cc in
+    let same : m ≡ n = f.2.value ∙ ap (digits_value 10) count ∙ sym g.2.value in
+    ap (λ (x : ℕ). Solve (Some x)) same
+one_further (Solve None) (Solve (Some n)) words e f g = let h : words ≡ [] = f in let k = g.1 in cc
+one_further (Solve (Some m)) (Solve None) words e f g = let h : words ≡ [] = g in let k = f.1 in cc
 one_further Network Network words e f g = refl
 one_further Blocks Blocks words e f g = refl
 one_further (Make m) (Make n) words e f g =

@@ -14,14 +14,15 @@ use Rattle.mdvsp.specs.declared.answer.Answer.{Answer}
 use Rattle.mdvsp.specs.declared.status.Status.{Status}
 use Rattle.mdvsp.specs.declared.status.Status.TheVariants as status
 use Rattle.mdvsp.specs.declared.command.Command.{Command}
-use Rattle.mdvsp.specs.declared.command.Command.TheVariants.{Check, Solve, Network, Blocks}
+use Rattle.mdvsp.specs.declared.command.Command.TheVariants.{Check, Solve, Network}
 use Rattle.mdvsp.specs.Answered.{HasSizes, IsDocumentOf, IsNoCase, IsOwedFor, RefusesCase, case_error}
 use Rattle.vs_cert.specs.DocumentRefusals.{AreRefused}
 use Rattle.vs_cert.specs.DocumentRows.{document_rows}
 use Rattle.vs_cert.specs.declared.refused.DocWhy.{DocWhy}
+use Rattle.mdvsp.specs.Budgets.{budget_of}
 use Rattle.mdvsp.specs.Cases.{CheckText, SolveText}
 use Rattle.mdvsp.specs.Owed.{Owes, SolveOwes, OwesDocument, OwesRefusal, status_of, yes_row}
-use Rattle.mdvsp.specs.RefusalRows.{document_refusal_row, refusal_row}
+use Rattle.mdvsp.specs.RefusalRows.{document_refusal_row, refusal_row, too_large_row}
 use Rattle.mdvsp.specs.FlawRows.{no_row}
 use Rattle.vs_instance.specs.Firsts.{first}
 use Rattle.vs_check.specs.Flaws.{flaws_of, verdict_of}
@@ -49,11 +50,22 @@ refusal : (bytes : List ℕ) (refused : Refused) → IsRefused bytes refused
 refusal bytes refused is = record { refused = refused; is_refused = is; rows_are = refl }
 
 -- a text that is refused is owed its refusal
-pub solve_refusal_owed : (bytes : List ℕ) (refused : Refused) (r : Result Answer Memory) → IsRefused bytes refused
-    → IfOk r (TellsRow status.BadInput (refusal_row refused)) → IfOk r (IsOwedFor Solve bytes)
-solve_refusal_owed bytes refused (Ok a) is says =
-    owed_so Solve bytes a status.BadInput (refusal_row refused ∷ []) (refusal bytes refused is) says.0 says.1
-solve_refusal_owed bytes refused (Err m) is says = tt
+pub solve_refusal_owed : (nodes : Option ℕ) (bytes : List ℕ) (refused : Refused) (r : Result Answer Memory)
+    → IsRefused bytes refused → IfOk r (TellsRow status.BadInput (refusal_row refused))
+    → IfOk r (IsOwedFor (Solve nodes) bytes)
+solve_refusal_owed nodes bytes refused (Ok a) is says =
+    owed_so (Solve nodes) bytes a status.BadInput (refusal_row refused ∷ []) (inl (refusal bytes refused is)) says.0
+    says.1
+solve_refusal_owed nodes bytes refused (Err m) is says = tt
+
+-- and so is a search of too many nodes
+pub too_large_owed : (nodes : Option ℕ) (bytes : List ℕ) (p : Problem) (names : NameLists) (r : Result Answer Memory)
+    → SolveText bytes p names → budget_of p nodes ≡ None → IfOk r (TellsRow status.BadInput too_large_row)
+    → IfOk r (IsOwedFor (Solve nodes) bytes)
+too_large_owed nodes bytes p names (Ok a) text none says =
+    owed_so (Solve nodes) bytes a status.BadInput (too_large_row ∷ [])
+    (inr (record { problem = p; names = names; text = text; too_large = none; rows_are = refl })) says.0 says.1
+too_large_owed nodes bytes p names (Err m) text none says = tt
 
 pub network_refusal_owed : (bytes : List ℕ) (refused : Refused) (r : Result Answer Memory) → IsRefused bytes refused
     → IfOk r (TellsRow status.BadInput (refusal_row refused)) → IfOk r (IsOwedFor Network bytes)
@@ -106,12 +118,6 @@ no_document_case bytes p names before rest at why (Ok a) stands refused says =
     refused_document_case bytes p names before rest at why a stands refused says
 no_document_case bytes p names before rest at why (Err m) stands refused says = tt
 
-pub check_no_case : (bytes : List ℕ) (a : Answer) → IsNoCase bytes a → IsOwedFor Check bytes a
-check_no_case bytes a none = owed_so Check bytes a status.BadInput none.rows none.owed none.status_is none.text_is
-
-pub blocks_no_case : (bytes : List ℕ) (a : Answer) → IsNoCase bytes a → IsOwedFor Blocks bytes a
-blocks_no_case bytes a none = owed_so Blocks bytes a status.BadInput none.rows none.owed none.status_is none.text_is
-
 pub yes_owed : (bytes : List ℕ) (p : Problem) (names : NameLists) (d : Document) (r : Result Answer Memory)
     → CheckText bytes p names d → HoldingDocument p d
     → IfOk r (TellsRow status.Done (yes_row d)) → IfOk r (IsOwedFor Check bytes)
@@ -151,30 +157,30 @@ first_of_verdict None verdict flaw is refused = cc
 first_of_verdict (Some other) verdict flaw is refused = cc
 
 -- a document with its claim's status is what solve owes
-solve_owes : (bytes : List ℕ) (claim : Claim) (rows : List Row) → OwesDocument bytes (status_of claim) rows
-    → SolveOwes bytes (status_of claim) rows
-solve_owes bytes Optimal rows o = o
-solve_owes bytes Infeasible rows o = o
-solve_owes bytes StillOpen rows o = o
+solve_owes : (nodes : Option ℕ) (bytes : List ℕ) (claim : Claim) (rows : List Row)
+    → OwesDocument nodes bytes (status_of claim) rows → SolveOwes nodes bytes (status_of claim) rows
+solve_owes nodes bytes Optimal rows o = o
+solve_owes nodes bytes Infeasible rows o = o
+solve_owes nodes bytes StillOpen rows o = o
 
-pub document_owed : (bytes : List ℕ) (p : Problem) (names : NameLists) (r : Result Answer Memory)
-    → SolveText bytes p names
-    → IfOk r (IsDocumentOf p names) → IfOk r (IsOwedFor Solve bytes)
-document_owed bytes p names (Ok a) text d =
-    owed_so Solve bytes a (status_of d.document.claim) (document_rows p names d.document)
-    (solve_owes bytes d.document.claim (document_rows p names d.document) (record {
+pub document_owed : (nodes : Option ℕ) (bytes : List ℕ) (p : Problem) (names : NameLists) (budget : ℕ)
+    (r : Result Answer Memory) → SolveText bytes p names → budget_of p nodes ≡ Some budget
+    → IfOk r (IsDocumentOf p names budget) → IfOk r (IsOwedFor (Solve nodes) bytes)
+document_owed nodes bytes p names budget (Ok a) text budget_is d =
+    owed_so (Solve nodes) bytes a (status_of d.document.claim) (document_rows p names d.document)
+    (solve_owes nodes bytes d.document.claim (document_rows p names d.document) (record {
       problem = p;
       names = names;
       document = d.document;
       text = text;
+      budget = budget;
+      budget_is = budget_is;
       solves = d.solves;
-      proves = prove_their_claims p d.document text.instance.text.makes.instance d.solves.holds;
-      plan = d.plan;
-      table = d.table;
+      proves = prove_their_claims p d.document text.instance.text.makes.instance d.solves.answer.holds;
       status_is = refl;
       rows_are = refl;
     })) d.status_is d.text_is
-document_owed bytes p names (Err m) text d = tt
+document_owed nodes bytes p names budget (Err m) text budget_is d = tt
 
 -- the sizes of the nets are what network owes
 pub sizes_owed : (bytes : List ℕ) (p : Problem) (names : NameLists) (r : Result Answer Memory)

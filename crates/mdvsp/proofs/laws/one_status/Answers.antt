@@ -1,20 +1,21 @@
-use Rattle.std.proofs.Common.{◌≡◌, ℕ, List}
+use Rattle.std.proofs.Common.{◌≡◌, ℕ, List, inl}
 use Rattle.vs_reader.specs.Rows.{Row}
+use Rattle.mdvsp.specs.Laws.{MayBothBe}
 use Rattle.mdvsp.specs.Owed.{Owes}
 use Rattle.mdvsp.specs.declared.command.Command.{Command}
 use Rattle.mdvsp.specs.declared.command.Command.TheVariants.{Check, Solve, Network, Blocks, Make}
 use Rattle.mdvsp.specs.declared.status.Status.{Status}
 use Rattle.mdvsp.proofs.once.OneAnswer.{one_answer}
-use Rattle.mdvsp.proofs.once.OneStatus.{one_status}
+use Rattle.mdvsp.proofs.once.SolveStatus.{solve_status}
 use Rattle.mdvsp.proofs.laws.one_status.Goals as goal
 
 by_command : (command : Command) (bytes : List ℕ) (a b : Status) (r s : List Row) → Owes command bytes a r
-    → Owes command bytes b s → a ≡ b
-by_command Check bytes a b r s owed also = (one_answer Check bytes a b r s tt owed also).0
-by_command Solve bytes a b r s owed also = one_status bytes a b r s owed also
-by_command Network bytes a b r s owed also = (one_answer Network bytes a b r s tt owed also).0
-by_command Blocks bytes a b r s owed also = (one_answer Blocks bytes a b r s tt owed also).0
-by_command (Make n) bytes a b r s owed also = (one_answer (Make n) bytes a b r s tt owed also).0
+    → Owes command bytes b s → MayBothBe a b
+by_command Check bytes a b r s owed also = inl (one_answer Check bytes a b r s tt owed also).0
+by_command (Solve nodes) bytes a b r s owed also = solve_status nodes bytes a b r s owed also
+by_command Network bytes a b r s owed also = inl (one_answer Network bytes a b r s tt owed also).0
+by_command Blocks bytes a b r s owed also = inl (one_answer Blocks bytes a b r s tt owed also).0
+by_command (Make n) bytes a b r s owed also = inl (one_answer (Make n) bytes a b r s tt owed also).0
 
 pub returns : goal.returns
 returns c = by_command

@@ -2,4 +2,4 @@ use Rattle.mdvsp.proofs.LawDocuments.{solved_holds}
 use Rattle.mdvsp.proofs.laws.solved_documents_hold.Goals as goal
 
 pub returns : goal.returns
-returns c bytes read answer rows owed has ends = solved_holds bytes read answer rows owed has ends
+returns c = solved_holds

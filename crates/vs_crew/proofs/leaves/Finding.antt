@@ -1,0 +1,84 @@
+-- What the work on a leaf finds, also where the layers came to agree before.
+use Rattle.std.proofs.Common.{◌≡◌, ℕ, ◌<◌, ◌⊎◌, Bool, true, List, length, sym, subst, arith, inl, inr, Option, Some, None, ℤ}
+use Rattle.std.specs.Prelude.{IfSome}
+use Rattle.std.proofs.lemmas.Int.{ints, clamps}
+use Rattle.vs_types.specs.declared.layer_set.LayerSet.{LayerSet}
+use Rattle.vs_instance.specs.Problem.{Problem}
+use Rattle.vs_plan.specs.CheckedPlan.{Checked}
+use Rattle.vs_match.specs.LayerGraph.{LayerGraph}
+use Rattle.vs_multi.specs.Multipliers.{lesser_of}
+use Rattle.vs_penalty.specs.Penalties.{IsPlanOf as IsAgreed}
+use Rattle.vs_prices.specs.Bounds.{IsBelow}
+use Rattle.vs_prices.specs.declared.bound.Bound.{Bound}
+use Rattle.vs_prices.specs.declared.bound.Bound.TheVariants.{AtLeast, NoPlan}
+use Rattle.vs_prices.specs.declared.table.Table.{Table}
+use Rattle.vs_tree.specs.Sound.{IsPlanOf}
+use Rattle.vs_tree.specs.declared.next.Next.{Next}
+use Rattle.vs_tree.specs.declared.next.Next.TheVariants.{Close, Split}
+use Rattle.vs_node.specs.LeastPlans.{IsBestWithin}
+use Rattle.vs_node.specs.NextSteps.{cost_of}
+use Rattle.vs_node.specs.Outcomes.{HasNext, HasPlan}
+use Rattle.vs_node.specs.SplitRule.{IsSplitTrip}
+use Rattle.vs_node.specs.WorkedStep.{IsWorked}
+use Rattle.vs_crew.specs.Searching.{IsLawfulNext}
+
+-- what is below the lesser of two costs is below both
+pub below-both : (worth : Bound) (a b : Option ℤ) → IsBelow worth (lesser_of a b) → IsBelow worth a × IsBelow worth b
+below-both NoPlan a b below = absurd below
+below-both (AtLeast n) None b below = (tt, below)
+below-both (AtLeast n) (Some a) None below = (below, tt)
+below-both (AtLeast n) (Some a) (Some b) below =
+    (omega (arith, ints, clamps, below), omega (arith, ints, clamps, below))
+
+-- and what is below both is below it
+pub below-lesser : (worth : Bound) (a b : Option ℤ) → IsBelow worth a → IsBelow worth b → IsBelow worth (lesser_of a b)
+below-lesser NoPlan a b first second = absurd first
+below-lesser (AtLeast n) None b first second = second
+below-lesser (AtLeast n) (Some a) None first second = first
+below-lesser (AtLeast n) (Some a) (Some b) first second = omega (arith, ints, clamps, first, second)
+
+best-is : (p : Problem) (sets : List LayerSet) (plan : Option Checked) → IsBestWithin p sets plan
+    → IfSome plan (IsPlanOf p)
+best-is p sets None best = tt
+best-is p sets (Some c) best = (best.plan.checked, best.plan.problem)
+
+-- the plan that the work finds is one of the instance
+pub plan_of : (p : Problem) (sets : List LayerSet) (table : Table) (plan : Option Checked) → HasPlan p sets table plan
+    → IfSome plan (IsPlanOf p)
+plan_of p sets table plan has = best-is p has.chosen plan has.best
+
+-- a trip by which a leaf is split is one of its trips
+split-inside : (sets : List LayerSet) (covers : List ℕ) (i : ℕ) → IsSplitTrip sets covers i → i < length sets
+split-inside sets covers i (inl lowest) = lowest.inside
+split-inside sets covers i (inr lowest) = lowest.1.inside
+
+-- where the known cost was the lesser of a cost and of that of a first plan, the cheaper plan leaves as little room
+pub next-lesser : (p : Problem) (nets : List LayerGraph) (sets : List LayerSet) (known : Option ℤ) (table : Table)
+    (first plan best : Option Checked) (next : Next)
+    → HasNext p nets sets (lesser_of known (cost_of first)) table plan next
+    → cost_of best ≡ lesser_of (cost_of first) (cost_of plan) → IsLawfulNext p sets known table best next
+next-lesser p nets sets known table first plan best Close has cost = λ worth is room.
+    let both = below-both worth (cost_of first) (cost_of plan) (subst (IsBelow worth) cost room.1) in
+    has worth is (below-lesser worth known (cost_of first) room.0 both.0, both.1)
+next-lesser p nets sets known table first plan best (Split trip left) has cost =
+    (split-inside sets has.1.0 trip.0 has.1.2.by_rule, has.1.2.part)
+
+-- one of two plans of the instance
+pub plan-either : (p : Problem) (first plan best : Option Checked) → IfSome first (IsPlanOf p)
+    → IfSome plan (IsPlanOf p) → (best ≡ first) ⊎ (best ≡ plan) → IfSome best (IsPlanOf p)
+plan-either p first plan best one other (inl same) =
+    subst (λ (q : Option Checked). IfSome q (IsPlanOf p)) (sym same) one
+plan-either p first plan best one other (inr same) =
+    subst (λ (q : Option Checked). IfSome q (IsPlanOf p)) (sym same) other
+
+-- a plan of the instance, with its two facts in the other order
+pub plan-turned : (p : Problem) (plan : Option Checked) → IfSome plan (IsAgreed p) → IfSome plan (IsPlanOf p)
+plan-turned p None is = tt
+plan-turned p (Some c) is = (is.1, is.0)
+
+-- the work at the root doesn't depend on the table that it begins with
+pub worked-root : (p : Problem) (root : Bool) (sets : List LayerSet) (old other new : Table) → root ≡ true
+    → IsWorked p root sets old new → IsWorked p root sets other new
+worked-root p root sets old other new is worked =
+    subst (λ (b : Bool). IsWorked p b sets other new) (sym is)
+    (subst (λ (b : Bool). IsWorked p b sets old new) is worked)
