@@ -1,6 +1,7 @@
-# `make demo` plans a shipped timetable and has the plan audited, within a minute or two and before any proof.
+# `make demo` plans a shipped timetable and has the plan audited, before any proof where the program isn't built.
 # `make` proves the program and builds bin/mdvsp. `make test` is the merge gate.
-.PHONY: all demo test clean
+# `make bench` times the built program; it proves and asserts nothing.
+.PHONY: all demo test bench clean
 
 SOURCES := crates.txt $(shell find crates -name out -prune -o \( -name '*.rt' -o -name '*.antt' \) -print)
 
@@ -15,6 +16,9 @@ demo:
 
 test:
 	./.ci/run
+
+bench: bin/mdvsp
+	@bench/solve.sh
 
 clean:
 	rm -rf bin crates/*/out

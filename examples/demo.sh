@@ -1,6 +1,6 @@
 #!/usr/bin/env bash
-# Plans examples/morning_peak.csv and has the plan audited. Where bin/mdvsp is built, that program runs. Else the
-# sources are compiled without any proof, which takes half a minute a run.
+# Plans examples/morning_peak.csv, tells how far the plan can be from the best one, and has it audited. Where bin/mdvsp is
+# built, that program runs. Else the sources are compiled without any proof and run with checks, which takes minutes.
 set -u
 cd "$(dirname "$0")/.." || exit 1
 timetable=examples/morning_peak.csv
@@ -10,11 +10,11 @@ trap 'rm -rf "$work"' EXIT
 if [ -x bin/mdvsp ]; then
   run() { bin/mdvsp "$@"; }
 else
-  echo "This runs the sources as they are, unproved; \`make\` proves the program and builds bin/mdvsp."
-  run() { (cd crates/mdvsp && rt try -- "$@" 2> "$work/log"); }
+  echo "This runs the sources as they are, unproved, and takes some minutes; \`make\` proves the program and builds bin/mdvsp."
+  run() { (cd crates/mdvsp && rt try --steps 1 --seconds 1800 -- "$@" 2> "$work/log"); }
 fi
 
-run solve --nodes 0 < "$timetable" > "$work/plan.csv"
+run solve --nodes 20 < "$timetable" > "$work/plan.csv"
 status=$?
 if [ "$status" -ne 0 ] && [ "$status" -ne 11 ]; then
   cat "$work/log" 2> /dev/null
@@ -22,6 +22,8 @@ if [ "$status" -ne 0 ] && [ "$status" -ne 11 ]; then
 fi
 echo "The plan of $timetable, from a depot, trip by trip and back in each block:"
 grep -E '^(result|cost|bound|block),' "$work/plan.csv"
+awk -F, '$1 == "cost" { cost = $2 } $1 == "bound" { bound = $2 }
+  END { if (cost > 0) printf "Between plan and bound: %.3f per cent of the cost\n", 100 * (cost - bound) / cost }' "$work/plan.csv"
 echo "The audit says:"
 cat "$timetable" "$work/plan.csv" > "$work/both.csv"
 run check < "$work/both.csv"
