@@ -1,6 +1,6 @@
 -- The plans that were accepted, and the cheapest of them.
 use Rattle.std.specs.List.{All, last_or}
-use Rattle.std.proofs.Common.{◌≡◌, ◌⊎◌, ℕ, zero, suc, ◌+◌, ◌-◌, ◌<◌, ◌≤◌, List, [], ◌∷◌, ◌++◌, length, get_or, refl, sym, ap, ◌∙◌, subst, arith, inl, inr, Option, Some, None, ℤ, ◌<ℤ◌, ◌≤ℤ◌, length-append, option_map, unwrap_or, slice_get, Bool, true, false}
+use Rattle.std.proofs.Common.{◌≡◌, ◌⊎◌, ℕ, zero, suc, ◌+◌, ◌-◌, List, [], ◌∷◌, ◌++◌, length, get_or, refl, sym, ap, ◌∙◌, subst, arith, inl, inr, Option, Some, None, ℤ, ◌<ℤ◌, ◌≤ℤ◌, length-append, option_map, unwrap_or, slice_get, Bool, true, false}
 use Rattle.std.specs.Prelude.{int_lt}
 use Rattle.std.proofs.lemmas.Bool.{cases_lt}
 use Rattle.std.proofs.lemmas.Int.{ints}

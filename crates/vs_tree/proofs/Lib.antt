@@ -15,3 +15,4 @@ pub mod Restrictions
 pub mod Sharing
 pub mod ClaimExamples
 pub mod trees
+pub mod Entries

@@ -14,3 +14,4 @@ pub mod Codes
 pub mod Search
 pub mod Takes
 pub mod Calls
+pub mod Entries

@@ -1,5 +1,6 @@
 //! What holds of every tree.
 
+ghost use Rattle.vs_tree.specs.Entries.{EntriesDiffer};
 ghost use Rattle.vs_tree.specs.Laws.{LeavesAreRestrictions, LeavesShareOutPlans};
 ghost use Rattle.vs_tree.specs.Laws.{HistoriesAreSound, LeavesBoundPlans, ReportsAreTrue, StatesAreTrees};
 
@@ -36,4 +37,10 @@ pub fn reports_are_true()
 /// The spots of every such state make a tree of cases, good in every split, in which each leaf stands once.
 pub fn states_are_trees()
     ensures { StatesAreTrees }
+{}
+
+/// Written out as numbers, as workers that share a search see it, two different openings differ, and so do two different
+/// steps.
+pub fn entries_differ()
+    ensures { EntriesDiffer }
 {}

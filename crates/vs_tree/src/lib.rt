@@ -20,8 +20,8 @@ mod tree;
 
 pub use claim::{Claim, claim_found};
 pub use laws::{
-    histories_are_sound, leaves_are_restrictions, leaves_bound_plans, leaves_share_out_plans,
-    reports_are_true, states_are_trees,
+    entries_differ, histories_are_sound, leaves_are_restrictions, leaves_bound_plans,
+    leaves_share_out_plans, reports_are_true, states_are_trees,
 };
 pub use limits::{MAX_BUDGET, MAX_WORKERS};
 pub use next::Next;

@@ -35,6 +35,7 @@ use std::snapshot::Snapshot;
 use vs_instance::Instance;
 use vs_plan::CheckedPlan;
 use vs_prices::{Bound, Table, permitted_sets, worth};
+use vs_turn::Kept;
 use vs_types::{LayerSet, Memory, TripNo};
 
 /// A search of the plans of an instance: a tree of cases that workers split and close, with one history.
@@ -93,6 +94,16 @@ impl Model for Tree {
       finished = a.finished;
       sets = a.sets.items;
     }) };
+}
+
+// Workers share a search by a turn, as its opening and the steps that it made.
+impl Kept for Tree {
+    ghost use Rattle.std.specs.Prelude.{map};
+    ghost use Rattle.vs_tree.specs.Entries.{entry_of, opening_entry};
+
+    ghost opening = { λ t. opening_entry t.opening };
+
+    ghost entries = { λ t. map entry_of t.steps };
 }
 
 impl Tree {
