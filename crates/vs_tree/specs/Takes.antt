@@ -51,3 +51,10 @@ pub record IsSized (p : Problem) (table : Table) : Type 0 where
   pub into : length table.into.items ≡ length p.layers * length p.trips
   pub from : length table.from.items ≡ length p.layers * length p.trips
   pub fleet : length table.fleet.items ≡ length p.layers
+
+-- where no leaf was taken, the buffers are as they were
+abbrev pub AreBuffersKept : Take → List LayerSet → List LayerSet → Table → Table → Type 0
+AreBuffersKept (Node leaf cost) sets new_sets table new_table = Unit {0}
+AreBuffersKept Wait sets new_sets table new_table = (new_sets ≡ sets) × (new_table ≡ table)
+AreBuffersKept Done sets new_sets table new_table = (new_sets ≡ sets) × (new_table ≡ table)
+AreBuffersKept Spent sets new_sets table new_table = (new_sets ≡ sets) × (new_table ≡ table)

@@ -10,7 +10,7 @@ ghost use Rattle.vs_prices.specs.Table.{Fits};
 ghost use Rattle.vs_prices.specs.Worth.{IsWorth};
 ghost use Rattle.vs_tree.specs.Tree.{IsProperPart, right_of, with_set};
 ghost use Rattle.vs_tree.specs.Report.{IsLeastOf, IsReport, bound_of};
-ghost use Rattle.vs_tree.specs.Takes.{IsSized, IsTake, taking};
+ghost use Rattle.vs_tree.specs.Takes.{AreBuffersKept, IsSized, IsTake, taking};
 ghost use Rattle.vs_tree.specs.Log.{plain_step};
 ghost use Rattle.vs_tree.specs.Prices.{no_prices, prices_of};
 ghost use Rattle.vs_tree.specs.Search.{IsHand, hand_at, is_busy, state};
@@ -168,7 +168,7 @@ impl Tree {
 
     /// Gives a worker that holds no leaf, and gave none back, the next free leaf, where one leaves room for a plan
     /// cheaper than the cheapest so far and the budget allows it. The layers and the prices of the leaf are then
-    /// written into the buffers.
+    /// written into the buffers, and else they stay as they were.
     pub fn take(&mut self, w: u32, sets: &mut [LayerSet], table: &mut Table) -> Take
         requires worker { w < self.old.opening.workers }
         requires idle { (k : ℕ) → ¬ (IsHeldBy (state self.old) w k) }
@@ -176,6 +176,7 @@ impl Tree {
         requires sets { length sets.old ≡ length self.old.opening.problem.trips }
         requires table { IsSized self.old.opening.problem table.old }
         ensures answer { IsTake self.old.opening (state self.old) sets.new table.new result }
+        ensures buffers { AreBuffersKept result sets.old sets.new table.old table.new }
         ensures search { self.new ≡ record self.old { steps = taking w self.old.steps result } }
     {
         let known = self.log.known();
