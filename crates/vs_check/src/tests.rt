@@ -1,3 +1,4 @@
+mod documents;
 mod instances;
 mod shapes;
 mod trees;

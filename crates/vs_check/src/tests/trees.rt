@@ -208,7 +208,7 @@ fn close_left(alloc: Global, tree: &mut Tree, instance: &Instance, told: &Told) 
 }
 
 /// A search whose two leaves were closed, each by the worker that had taken it.
-fn finished(alloc: Global, instance: &Instance) -> Result<Tree, Fail>
+pub fn finished(alloc: Global, instance: &Instance) -> Result<Tree, Fail>
     requires sizes { (length instance.now.layers ≡ 2) × (length instance.now.trips ≡ 1) }
     ensures problem { IfOk result (λ tree. tree.opening.problem ≡ instance.now) }
     ensures workers { IfOk result (λ tree. tree.opening.workers ≡ 2) }

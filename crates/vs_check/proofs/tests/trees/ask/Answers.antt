@@ -1,5 +1,5 @@
 use Rattle.std.proofs.Common.{◌≡◌, ℕ, refl, ap, ◌∙◌}
-use Rattle.vs_tree.specs.History.{State, Took, after, first_state}
+use Rattle.vs_tree.specs.History.{State, Took, first_state}
 use Rattle.vs_tree.specs.Search.{Search, state}
 use Rattle.vs_tree.specs.Takes.{taking}
 use Rattle.vs_tree.specs.declared.take.Take.{Take}

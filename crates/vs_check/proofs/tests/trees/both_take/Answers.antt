@@ -1,9 +1,9 @@
-use Rattle.std.proofs.Common.{◌≡◌, ℕ, List, [], ◌∷◌, ◌++◌, refl, sym, ap, ◌∙◌, subst, Option, None, ℤ, rules}
+use Rattle.std.proofs.Common.{◌≡◌, ℕ, List, [], ◌∷◌, ◌++◌, sym, ap, ◌∙◌, subst, Option, None, ℤ, rules}
 use Rattle.vs_types.specs.declared.layer_set.LayerSet.{LayerSet}
 use Rattle.vs_instance.specs.Problem.{Problem}
 use Rattle.vs_prices.specs.declared.table.Table.{Table}
 use Rattle.vs_tree.specs.History.{IsAmong, Split, Took, prices_at, sets_at}
-use Rattle.vs_tree.specs.Prices.{Prices, prices_of, zero_prices}
+use Rattle.vs_tree.specs.Prices.{prices_of, zero_prices}
 use Rattle.vs_tree.specs.Search.{Search, state}
 use Rattle.vs_tree.specs.Takes.{IsTake, taking}
 use Rattle.vs_tree.specs.declared.take.Take.{Take}

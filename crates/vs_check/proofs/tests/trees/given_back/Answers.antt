@@ -1,9 +1,9 @@
-use Rattle.std.proofs.Common.{◌≡◌, ℕ, zero, suc, List, [], ◌∷◌, ◌++◌, refl, sym, ap, ◌∙◌, subst, None}
+use Rattle.std.proofs.Common.{◌≡◌, ℕ, zero, suc, [], ◌∷◌, refl, sym, ap, ◌∙◌, subst, None}
 use Rattle.vs_types.specs.declared.layer_set.LayerSet.{LayerSet}
 use Rattle.vs_instance.specs.Problem.{Problem}
 use Rattle.vs_tree.specs.Calls.{GivesBack, HoldsSome, with_step}
 use Rattle.vs_tree.specs.History.{GaveBack, IsAmong, IsHeldBy, Split, Took, prices_at, sets_at}
-use Rattle.vs_tree.specs.Prices.{prices_of, zero_prices}
+use Rattle.vs_tree.specs.Prices.{zero_prices}
 use Rattle.vs_tree.specs.Search.{Search, state}
 use Rattle.vs_check.proofs.tests.trees.given_back.Goals as goal
 

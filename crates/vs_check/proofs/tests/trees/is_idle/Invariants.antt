@@ -1,4 +1,4 @@
-use Rattle.std.proofs.Common.{◌≡◌, ℕ, ◌<◌}
+use Rattle.std.proofs.Common.{ℕ, ◌<◌}
 use Rattle.vs_tree.specs.History.{IsHeldBy}
 use Rattle.vs_tree.specs.Search.{state}
 use Rattle.vs_check.proofs.tests.trees.is_idle.Given as goal
