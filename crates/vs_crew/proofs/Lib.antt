@@ -1,1 +1,3 @@
 pub mod leaves
+pub mod others
+pub mod Crews

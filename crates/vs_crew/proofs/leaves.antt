@@ -2,9 +2,11 @@
 pub mod Finding
 pub mod RootSets
 pub mod WorkedSteps
-pub mod InHand
+pub mod LetGo
 pub mod Offering
 pub mod Finishing
 pub mod Finished
 pub mod LeafTables
 pub mod Taking
+pub mod SharedSteps
+pub mod HandedIn

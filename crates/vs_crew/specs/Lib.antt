@@ -1,1 +1,6 @@
-pub mod Searching
+pub mod Sharing
+pub mod Found
+pub mod Leaves
+pub mod Crew
+pub mod Codes
+pub mod Workers

@@ -1,9 +1,17 @@
-//! The work of a search: leaves taken one after another, worked on, and finished, until the search is over.
+//! A crew: workers that share a search, take its leaves in turn, and work on them at the same time.
 #![tactic(auto)]
 
-mod searching;
+mod changes;
+mod crew;
+mod finding;
+mod gate;
+mod shared_tree;
+mod site;
+mod turns;
+mod worker;
 
-pub use searching::search;
+pub use crew::run;
+pub use gate::{Gate, NoGate};
 
 #[cfg(test)]
 mod tests;

@@ -1,11 +1,18 @@
-use crate::search;
+ghost use Rattle.std.specs.Prelude.{◌<◌, ◌≤◌};
+
+mod meeting;
+mod root;
+mod seats;
+
+use crate::{NoGate, run};
 use std::alloc::Global;
+use std::sync::Wait;
 use std::test::Fail;
-use vs_circ::Work;
+use std::thread::Threads;
 use vs_instance::Instance;
 use vs_need::layer_nets;
 use vs_reader::{MAX_BYTES, read};
-use vs_tree::{Claim, Report, Tree};
+use vs_tree::{Claim, MAX_WORKERS, Report, Tree};
 
 /// Three stops, a depot at one of them, and the ways between them.
 const STOPS: &str =
@@ -30,19 +37,28 @@ fn instance_of(alloc: Global, parts: &[&str]) -> Result<Instance, Fail> {
     }
 }
 
-/// What a search of 127 nodes at most reports of the instance that a text stands for.
-fn searched(alloc: Global, text: &[&str]) -> Result<Report, Fail> {
+/// What a search of 127 nodes at most by so many workers reports of the instance that a text stands for.
+fn searched<R: Threads + Wait + Sync>(
+    rt: &R,
+    alloc: Global,
+    text: &[&str],
+    workers: u32,
+) -> Result<Report, Fail>
+    requires some { 0 < workers }
+    requires few { workers ≤ MAX_WORKERS }
+{
     let instance = instance_of(alloc, text)?;
     let nets = layer_nets(alloc, &instance)?;
-    let mut scratch = Work::new(alloc, &nets)?;
-    let mut tree = Tree::start(alloc, instance.copy(alloc)?, 127, 1, None)?;
-    search(alloc, &instance, &nets, &mut tree, &mut scratch)?;
-    Ok(tree.report())
+    let tree = Tree::start(alloc, instance.copy(alloc)?, 127, workers, None)?;
+    match run(rt, alloc, &instance, &nets, tree, workers, &NoGate) {
+        Ok(tree) => Ok(tree.report()),
+        Err(_) => Err(Fail::new("memory")),
+    }
 }
 
 #[test]
 fn one_vehicle_runs_both_trips(rt: HostRuntime) -> Result<(), Fail> {
-    let report = searched(rt.alloc(), &[STOPS, TWO_TRIPS])?;
+    let report = searched(&rt, rt.alloc(), &[STOPS, TWO_TRIPS], 2)?;
     assert_eq!(rt; report.claim, Claim::Optimal);
     assert_eq!(rt; report.cost, Some(1080));
     assert_eq!(rt; report.bound, Some(1080));
@@ -56,7 +72,7 @@ const TWO_LAYERS: &str =
 
 #[test]
 fn a_trip_costs_the_same_in_both_layers(rt: HostRuntime) -> Result<(), Fail> {
-    let report = searched(rt.alloc(), &[STOPS, TWO_LAYERS])?;
+    let report = searched(&rt, rt.alloc(), &[STOPS, TWO_LAYERS], 1)?;
     assert_eq!(rt; report.claim, Claim::Optimal);
     assert_eq!(rt; report.cost, Some(500));
     assert_eq!(rt; report.bound, Some(500));
@@ -73,7 +89,7 @@ const HALVES: [&str; 4] = [
 
 #[test]
 fn there_is_no_plan_where_halves_of_blocks_would_be(rt: HostRuntime) -> Result<(), Fail> {
-    let report = searched(rt.alloc(), &HALVES)?;
+    let report = searched(&rt, rt.alloc(), &HALVES, 4)?;
     assert_eq!(rt; report.claim, Claim::Infeasible);
     assert_eq!(rt; report.cost, None);
     assert_eq!(rt; report.bound, None);

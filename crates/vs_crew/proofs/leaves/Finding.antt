@@ -20,7 +20,7 @@ use Rattle.vs_node.specs.NextSteps.{cost_of}
 use Rattle.vs_node.specs.Outcomes.{HasNext, HasPlan}
 use Rattle.vs_node.specs.SplitRule.{IsSplitTrip}
 use Rattle.vs_node.specs.WorkedStep.{IsWorked}
-use Rattle.vs_crew.specs.Searching.{IsLawfulNext}
+use Rattle.vs_crew.specs.Found.{IsLawfulNext}
 
 -- what is below the lesser of two costs is below both
 pub below-both : (worth : Bound) (a b : Option ℤ) → IsBelow worth (lesser_of a b) → IsBelow worth a × IsBelow worth b

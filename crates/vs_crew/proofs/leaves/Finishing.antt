@@ -17,10 +17,10 @@ use Rattle.vs_node.specs.WorkedHistory.{AreWorkedPrices}
 use Rattle.vs_node.specs.WorkedStep.{IsWorked}
 use Rattle.vs_node.specs.declared.outcome.Outcome.{Outcome}
 use Rattle.vs_node.specs.declared.task.Task.{Task}
-use Rattle.vs_crew.specs.Searching.{IsFound, IsLawfulNext}
+use Rattle.vs_crew.specs.Found.{IsFound, IsLawfulNext}
 use Rattle.vs_crew.proofs.leaves.WorkedSteps.{worked-along}
 
-module _ (o : Opening) (n : State) (leaf : ℕ) (task : Task) (outcome : Outcome) (holds : IsHeldBy n 0 leaf)
+module _ (o : Opening) (n : State) (w leaf : ℕ) (task : Task) (outcome : Outcome) (holds : IsHeldBy n w leaf)
     (sets : task.sets.items ≡ sets_at n leaf) (prices : prices_of task.table ≡ prices_at n leaf)
     (found : IsFound o.problem task outcome) where
   -- the new table is worth within the leaf's layers what its prices are
@@ -46,12 +46,12 @@ module _ (o : Opening) (n : State) (leaf : ℕ) (task : Task) (outcome : Outcome
   -- the leaf is closed or split
   pub may_finish : IsRestriction o.problem task.sets.items
       → ((worth : Bound) → IsBelow worth (known n) → IsOpen worth task.known outcome.plan)
-      → MayCome o n (finishing n 0 leaf (prices_of outcome.table) outcome.next)
+      → MayCome o n (finishing n w leaf (prices_of outcome.table) outcome.next)
   may_finish restriction room = by_next outcome.next found.next
     where
       by_next : (next : Next)
           → IsLawfulNext o.problem task.sets.items task.known outcome.table outcome.plan next
-          → MayCome o n (finishing n 0 leaf (prices_of outcome.table) next)
+          → MayCome o n (finishing n w leaf (prices_of outcome.table) next)
       by_next Close next = record {
         holds = holds;
         gives = gives;

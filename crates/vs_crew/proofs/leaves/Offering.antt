@@ -1,5 +1,5 @@
 -- The state of a search once the plan that was found, if any, was offered.
-use Rattle.std.proofs.Common.{◌≡◌, Bool, true, false, List, append-nil, refl, sym, ap, subst, arith, Option, Some, None, option_map, ℤ, ◌<ℤ◌, ◌≤ℤ◌}
+use Rattle.std.proofs.Common.{◌≡◌, ℕ, Bool, true, false, List, [], ◌∷◌, ◌++◌, append-nil, refl, sym, ap, subst, arith, Option, Some, None, option_map, ℤ, ◌<ℤ◌, ◌≤ℤ◌}
 use Rattle.std.specs.Prelude.{IsTrue, ◌↔◌, int_lt}
 use Rattle.std.specs.List.{last_or}
 use Rattle.std.proofs.lemmas.Int.{ints}
@@ -8,14 +8,15 @@ use Rattle.vs_prices.specs.Bounds.{IsBelow}
 use Rattle.vs_prices.specs.declared.bound.Bound.{Bound}
 use Rattle.vs_prices.specs.declared.bound.Bound.TheVariants.{AtLeast, NoPlan}
 use Rattle.vs_tree.specs.Calls.{offering, with_step}
-use Rattle.vs_tree.specs.History.{State, IsCheaper, after, first_state, known}
+use Rattle.vs_tree.specs.Entries.{worker_of}
+use Rattle.vs_tree.specs.History.{FullStep, State, IsCheaper, after, first_state, known}
 use Rattle.vs_tree.specs.Search.{Search, state}
 use Rattle.vs_tree.proofs.Accepted.{below-before, last-more}
 use Rattle.vs_tree.proofs.search.Facts.{state-last}
 use Rattle.vs_node.specs.NextSteps.{IsOpen}
-use Rattle.vs_node.specs.WorkedHistory.{AreWorked, IsWorkedStep}
-use Rattle.vs_crew.specs.Searching.{HasOffered}
-use Rattle.vs_crew.proofs.leaves.WorkedSteps.{worked-more}
+use Rattle.vs_node.specs.WorkedHistory.{AreWorkedFrom, IsWorkedStep}
+use Rattle.vs_crew.specs.Leaves.{HasOffered}
+use Rattle.vs_crew.specs.Sharing.{AreBy}
 
 -- only the cheapest plan is another one: a worth that is below its cost is below what was known, and below the plan's
 pub record IsAfterOffer (s n : State) (plan : Option Checked) : Type 0 where
@@ -47,16 +48,16 @@ below-dear (AtLeast n) cost (Some other) dear below =
     let no_less = not_less cost other dear in omega (arith, ints, no_less, below)
 
 -- where the plan was accepted, or not
-module _ (s : State) (plan : Checked) where
-  known-added : known (after s (offering s 0 plan true)) ≡ Some plan.cost
+module _ (w : ℕ) (s : State) (plan : Checked) where
+  known-added : known (after s (offering s w plan true)) ≡ Some plan.cost
   known-added = ap (λ (q : Option Checked). option_map (λ (c : Checked). c.cost) q) (last-more None s.accepted plan)
 
-  known-same : known (after s (offering s 0 plan false)) ≡ known s
+  known-same : known (after s (offering s w plan false)) ≡ known s
   known-same =
       ap (λ (qs : List Checked). option_map (λ (c : Checked). c.cost) (last_or None qs)) (append-nil s.accepted)
 
   after-step : (added : Bool) → (IsTrue added ↔ IsCheaper plan.cost (known s))
-      → IsAfterOffer s (after s (offering s 0 plan added)) (Some plan)
+      → IsAfterOffer s (after s (offering s w plan added)) (Some plan)
   after-step true is = record {
     places = refl;
     tables = refl;
@@ -92,29 +93,48 @@ after-none s = record {
   room = λ worth below. (below, below-none worth (known s) below);
 }
 
--- what holds of the search once the plan was offered
-pub record IsOffered (old new : Search) (plan : Option Checked) : Type 0 where
+-- what holds of the search once the worker offered the plan
+pub record IsOffered (w : ℕ) (old new : Search) (plan : Option Checked) : Type 0 where
   pub opening : new.opening ≡ old.opening
-  pub worked : AreWorked old.opening old.steps → AreWorked new.opening new.steps
+  pub added : List FullStep
+  pub goes_on : old.steps ++ added ≡ new.steps
+  pub by_worker : AreBy w added
+  pub worked : AreWorkedFrom old.opening (state old) added
   pub state_is : IsAfterOffer (state old) (state new) plan
 
-offered-step : (old : Search) (plan : Checked) (added : Bool) → (IsTrue added ↔ IsCheaper plan.cost (known (state old)))
-    → IsOffered old (with_step old (offering (state old) 0 plan added)) (Some plan)
-offered-step old plan added is = record {
+offered-step : (w : ℕ) (old : Search) (plan : Checked) (added : Bool)
+    → (IsTrue added ↔ IsCheaper plan.cost (known (state old)))
+    → IsOffered w old (with_step old (offering (state old) w plan added)) (Some plan)
+offered-step w old plan added is = record {
   opening = refl;
-  worked = λ worked. worked-more old (offering (state old) 0 plan added) worked (by_answer added);
+  added = offering (state old) w plan added ∷ [];
+  goes_on = refl;
+  by_worker = (by added, tt);
+  worked = (plain added, tt);
   state_is = subst (λ (n : State). IsAfterOffer (state old) n (Some plan))
-      (sym (state-last (first_state old.opening) old.steps (offering (state old) 0 plan added)))
-      (after-step (state old) plan added is);
+      (sym (state-last (first_state old.opening) old.steps (offering (state old) w plan added)))
+      (after-step w (state old) plan added is);
 }
   where
-    by_answer : (b : Bool) → IsWorkedStep old.opening (state old) (offering (state old) 0 plan b)
-    by_answer true = tt
-    by_answer false = tt
+    by : (b : Bool) → worker_of (offering (state old) w plan b) ≡ w
+    by true = refl
+    by false = refl
 
-pub offered : (old new : Search) (plan : Option Checked) → HasOffered old plan new → IsOffered old new plan
-offered old new None is =
-    subst (λ (t : Search). IsOffered old t None) (sym is)
-    (record { opening = refl; worked = λ worked. worked; state_is = after-none (state old) })
-offered old new (Some plan) is =
-    subst (λ (t : Search). IsOffered old t (Some plan)) (sym is.2) (offered-step old plan is.0 is.1)
+    plain : (b : Bool) → IsWorkedStep old.opening (state old) (offering (state old) w plan b)
+    plain true = tt
+    plain false = tt
+
+pub offered : (w : ℕ) (old new : Search) (plan : Option Checked) → HasOffered w old plan new
+    → IsOffered w old new plan
+offered w old new None is =
+    subst (λ (t : Search). IsOffered w old t None) (sym is)
+    (record {
+      opening = refl;
+      added = [];
+      goes_on = append-nil old.steps;
+      by_worker = tt;
+      worked = tt;
+      state_is = after-none (state old);
+    })
+offered w old new (Some plan) is =
+    subst (λ (t : Search). IsOffered w old t (Some plan)) (sym is.2) (offered-step w old plan is.0 is.1)

@@ -1,5 +1,6 @@
--- Histories in which each leaf was worked on, with one step more.
-use Rattle.std.proofs.Common.{◌≡◌, ℕ, Bool, true, false, List, [], ◌∷◌, ◌++◌, map, refl, ap, ◌∙◌, ℤ, ◌+ℤ◌, ◌-ℤ◌}
+-- Histories in which each leaf was worked on, with steps more.
+use Rattle.std.proofs.Common.{◌≡◌, ℕ, ◌≤◌, Bool, true, false, List, [], ◌∷◌, ◌++◌, length, map, take, drop, refl, sym, ap, ◌∙◌, subst, ℤ, ◌+ℤ◌, ◌-ℤ◌, take-append-drop}
+use Rattle.std.proofs.lemmas.List.{drop-append-le, take-append-le}
 use Rattle.vs_types.specs.LayerSet.{members}
 use Rattle.vs_types.specs.declared.layer_set.LayerSet.{LayerSet}
 use Rattle.vs_instance.specs.HoldingTable.{price_of, scaled}
@@ -11,31 +12,42 @@ use Rattle.vs_prices.specs.Bounds.{ReachesLagrangian}
 use Rattle.vs_prices.specs.Table.{prices_in}
 use Rattle.vs_prices.specs.Worth.{least}
 use Rattle.vs_prices.specs.declared.table.Table.{Table}
-use Rattle.vs_tree.specs.Calls.{finishing, with_step}
-use Rattle.vs_tree.specs.History.{FullStep, Opening, State, after, first_state, state_after}
+use Rattle.vs_tree.specs.Calls.{finishing}
+use Rattle.vs_tree.specs.History.{FullStep, Opening, State, after, first_state, state_after, state_of}
 use Rattle.vs_tree.specs.Prices.{Prices, prices_of}
-use Rattle.vs_tree.specs.Search.{Search, state}
 use Rattle.vs_tree.specs.declared.next.Next.{Next}
 use Rattle.vs_tree.specs.declared.next.Next.TheVariants.{Close, Split}
 use Rattle.vs_tree.proofs.LawfulPrices.{worth_of_table}
-use Rattle.vs_node.specs.WorkedHistory.{AreWorked, AreWorkedFrom, AreWorkedPrices, IsWorkedStep}
+use Rattle.vs_node.specs.WorkedHistory.{AreWorkedFrom, AreWorkedPrices, IsWorkedStep}
 use Rattle.vs_node.specs.WorkedStep.{IsWorked}
+use Rattle.vs_crew.specs.Crew.{AreWorkedAfter}
+use Rattle.vs_crew.proofs.others.Histories.{state-append}
 
-worked-last : (o : Opening) (s : State) (steps : List FullStep) (step : FullStep) → AreWorkedFrom o s steps
-    → IsWorkedStep o (state_after s steps) step → AreWorkedFrom o s (steps ++ step ∷ [])
-worked-last o s [] step worked is = (is, tt)
-worked-last o s (x ∷ steps) step worked is = (worked.0, worked-last o (after s x) steps step worked.1 is)
+-- where each leaf was worked on in some steps and in those that follow, it was in all
+pub worked-append : (o : Opening) (s : State) (xs ys : List FullStep) → AreWorkedFrom o s xs
+    → AreWorkedFrom o (state_after s xs) ys → AreWorkedFrom o s (xs ++ ys)
+worked-append o s [] ys first second = second
+worked-append o s (x ∷ xs) ys first second = (first.0, worked-append o (after s x) xs ys first.1 second)
 
--- where each leaf was worked on, so it is with one more
-pub worked-more : (t : Search) (step : FullStep) → AreWorked t.opening t.steps → IsWorkedStep t.opening (state t) step
-    → AreWorked (with_step t step).opening (with_step t step).steps
-worked-more t step worked is = worked-last t.opening (first_state t.opening) t.steps step worked is
+-- so it was since the search was handed in, where it was in the steps that came to it
+pub worked-later : (o : Opening) (n : ℕ) (steps added : List FullStep) → n ≤ length steps → AreWorkedAfter o n steps
+    → AreWorkedFrom o (state_of o steps) added → AreWorkedAfter o n (steps ++ added)
+worked-later o n steps added begun worked more =
+    let there : state_after (state_of o (take n steps)) (drop n steps) ≡ state_of o steps =
+    sym (state-append (first_state o) (take n steps) (drop n steps)) ∙ ap (state_of o) (take-append-drop n steps) in
+    let both : AreWorkedFrom o (state_of o (take n steps)) (drop n steps ++ added) =
+    worked-append o (state_of o (take n steps)) (drop n steps) added worked
+    (subst (λ (s : State). AreWorkedFrom o s added) (sym there) more) in
+    subst (λ (l : List FullStep). AreWorkedFrom o (state_of o l) (drop n (steps ++ added)))
+    (sym (take-append-le n steps added begun))
+    (subst (λ (l : List FullStep). AreWorkedFrom o (state_of o (take n steps)) l)
+    (sym (drop-append-le n steps added begun)) both)
 
 -- a leaf is worked on by the prices with which it is finished
-pub worked-finish : (o : Opening) (s : State) (leaf : ℕ) (prices : Prices) (next : Next)
-    → AreWorkedPrices o s leaf prices → IsWorkedStep o s (finishing s 0 leaf prices next)
-worked-finish o s leaf prices Close worked = worked
-worked-finish o s leaf prices (Split trip left) worked = worked
+pub worked-finish : (o : Opening) (s : State) (w leaf : ℕ) (prices : Prices) (next : Next)
+    → AreWorkedPrices o s leaf prices → IsWorkedStep o s (finishing s w leaf prices next)
+worked-finish o s w leaf prices Close worked = worked
+worked-finish o s w leaf prices (Split trip left) worked = worked
 
 -- what a trip pays, by the prices alone
 abbrev least_of : Problem → List LayerSet → ℕ → Prices → ℤ

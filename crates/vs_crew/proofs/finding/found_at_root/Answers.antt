@@ -6,7 +6,7 @@ use Rattle.vs_node.specs.NextSteps.{cost_of}
 use Rattle.vs_node.specs.Outcomes.{HasNext}
 use Rattle.vs_node.proofs.Comparing.{worth_no_less-trans}
 use Rattle.vs_crew.proofs.leaves.Finding.{next-lesser, plan-either, plan-turned, plan_of, worked-root}
-use Rattle.vs_crew.proofs.searching.found_at_root.Goals as goal
+use Rattle.vs_crew.proofs.finding.found_at_root.Goals as goal
 
 pub returns-clause-found : goal.returns-clause-found
 returns-clause-found c =
@@ -21,7 +21,7 @@ returns-clause-found c =
       fits = made.fits;
       holds = made.holds;
       no_less = worth_no_less-trans p task.sets.items outcome.table c.agree.new.table task.table made.no_less
-          (subst (λ (x : List LayerSet). IsWorthNoLess p x c.agree.new.table task.table) (sym c.requires.permitted)
+          (subst (λ (x : List LayerSet). IsWorthNoLess p x c.agree.new.table task.table) (sym (c.requires.lawful.root c.requires.root))
           c.agree.ensures.worth);
       worked = worked-root p task.root task.sets.items c.agree.new.table task.table outcome.table c.requires.root
           made.worked;

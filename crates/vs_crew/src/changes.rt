@@ -1,0 +1,36 @@
+use std::sync::{Condvar, Mutex, Wait};
+
+/// How often a shared search was changed so that a worker may find a leaf again. A worker that waits for a change sleeps.
+#[derive(Drop)]
+pub(crate) struct Changes {
+    count: Mutex<u64>,
+    changed: Condvar,
+}
+
+impl Changes {
+    pub(crate) fn new() -> Changes {
+        Changes {
+            count: Mutex::new(0),
+            changed: Condvar::new(),
+        }
+    }
+
+    /// How many there were.
+    pub(crate) fn count<R: Wait>(&self, rt: &R) -> u64 {
+        *self.count.lock(rt)
+    }
+
+    /// Tells those that wait that there was one more.
+    pub(crate) fn tell<R: Wait>(&self, rt: &R) {
+        let mut count = self.count.lock(rt);
+        *count = count.wrapping_add(1);
+        self.changed.notify_all();
+    }
+
+    /// Waits until there were others than these.
+    pub(crate) fn wait<R: Wait>(&self, rt: &R, seen: u64) {
+        let _count = self
+            .changed
+            .wait_while(rt, self.count.lock(rt), |count| *count == seen);
+    }
+}

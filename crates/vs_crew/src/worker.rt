@@ -1,0 +1,144 @@
+ghost use Rattle.std.specs.Prelude.{◌≡◌};
+ghost use Rattle.vs_crew.specs.Leaves.{HoldsLeaf};
+ghost use Rattle.vs_crew.specs.Sharing.{IsEnd, IsIdle, Knows};
+ghost use Rattle.vs_crew.specs.Workers.{HasRoom, IsAfter, IsDone, IsReady, IsSite};
+
+use crate::finding::found;
+use crate::gate::Gate;
+use crate::site::Site;
+use crate::turns::{ask, give_up, hand_in};
+use std::alloc::Global;
+use std::sync::Wait;
+use vs_circ::Work;
+use vs_node::Task;
+use vs_tree::Take;
+use vs_turn::Seat;
+use vs_types::Memory;
+
+/// One worker of a crew: its number, its seat at the turn, and the room that it works in.
+#[derive(Drop)]
+pub(crate) struct Worker {
+    pub number: u32,
+    pub seat: Option<Seat>,
+    pub task: Task,
+    pub scratch: Work,
+    /// Whether it was told that the search is over.
+    pub over: bool,
+}
+
+/// How a worker stands after it has asked for a leaf.
+#[derive(Clone, Copy)]
+pub(crate) enum After {
+    /// It may ask again.
+    Idle,
+    /// The search is over.
+    Over,
+    /// It found no memory, gave its leaf back, and takes no more.
+    Left,
+}
+
+/// Takes leaves one after another and works on them, until the search is over, or memory is wanting.
+pub(crate) fn take_part<R: Wait, G: Gate>(
+    rt: &R,
+    alloc: Global,
+    site: &Site<'_, G>,
+    worker: &mut Worker,
+)
+    requires site { IsSite site.now.instance.now site.now.nets.now site.now.start.now.value }
+    requires ready { IsReady site.now.turn.now.name site.now.start.now.value worker.old }
+    ensures done { IsDone site.now.turn.now.name site.now.start.now.value worker.old.number worker.new }
+{
+    match worker.seat.take() {
+        Some(seat) => {
+            let (seat, over) = go_on(rt, alloc, site, worker, seat);
+            worker.seat = Some(seat);
+            worker.over = over;
+        }
+        None => unreachable!(),
+    }
+}
+
+/// The same with the seat in hand, and whether the worker was told that the search is over.
+fn go_on<R: Wait, G: Gate>(
+    rt: &R,
+    alloc: Global,
+    site: &Site<'_, G>,
+    worker: &mut Worker,
+    mut seat: Seat,
+) -> (Seat, bool)
+    requires site { IsSite site.now.instance.now site.now.nets.now site.now.start.now.value }
+    requires room { HasRoom site.now.instance.now worker.old }
+    requires idle { Knows site.now.turn.now.name site.now.start.now.value worker.old.number
+        (IsIdle worker.old.number) seat }
+    ensures number { worker.new.number ≡ worker.old.number }
+    ensures ended { Knows site.now.turn.now.name site.now.start.now.value worker.old.number
+        (IsEnd result.1 worker.old.number) result.0 }
+{
+    for _ in rt.forever() {
+        let (next, after) = ask_once(rt, alloc, site, worker, seat);
+        match after {
+            After::Idle => seat = next,
+            After::Over => return (next, true),
+            After::Left => return (next, false),
+        }
+    }
+    unreachable!()
+}
+
+/// Asks for a leaf once, and works on it, or waits where others hold what there is.
+fn ask_once<R: Wait, G: Gate>(
+    rt: &R,
+    alloc: Global,
+    site: &Site<'_, G>,
+    worker: &mut Worker,
+    seat: Seat,
+) -> (Seat, After)
+    requires site { IsSite site.now.instance.now site.now.nets.now site.now.start.now.value }
+    requires room { HasRoom site.now.instance.now worker.old }
+    requires idle { Knows site.now.turn.now.name site.now.start.now.value worker.old.number
+        (IsIdle worker.old.number) seat }
+    ensures number { worker.new.number ≡ worker.old.number }
+    ensures room { HasRoom site.now.instance.now worker.new }
+    ensures after { Knows site.now.turn.now.name site.now.start.now.value worker.old.number
+        (IsAfter worker.old.number result.1) result.0 }
+{
+    let changes = site.changes.count(rt);
+    let (seat, take) = ask(rt, site, seat, worker.number, &mut worker.task);
+    match take {
+        Take::Node { leaf, .. } => {
+            site.gate.before(worker.number, leaf);
+            work_on(rt, alloc, site, worker, seat, leaf)
+        }
+        Take::Wait => {
+            site.changes.wait(rt, changes);
+            (seat, After::Idle)
+        }
+        Take::Done | Take::Spent => (seat, After::Over),
+    }
+}
+
+/// Works on the leaf that the worker holds, and hands in what is found. Where memory is wanting the leaf is given back.
+fn work_on<R: Wait, G: Gate>(
+    rt: &R,
+    alloc: Global,
+    site: &Site<'_, G>,
+    worker: &mut Worker,
+    seat: Seat,
+    leaf: u32,
+) -> (Seat, After)
+    requires site { IsSite site.now.instance.now site.now.nets.now site.now.start.now.value }
+    requires room { HasRoom site.now.instance.now worker.old }
+    requires holds { Knows site.now.turn.now.name site.now.start.now.value worker.old.number
+        (HoldsLeaf worker.old.number leaf worker.old.task) seat }
+    ensures number { worker.new.number ≡ worker.old.number }
+    ensures room { HasRoom site.now.instance.now worker.new }
+    ensures after { Knows site.now.turn.now.name site.now.start.now.value worker.old.number
+        (IsAfter worker.old.number result.1) result.0 }
+{
+    let number = worker.number;
+    let task = &mut worker.task;
+    match found(alloc, site.instance, site.nets, task, &mut worker.scratch) {
+        Ok(outcome) => (hand_in(rt, site, seat, number, leaf, outcome), After::Idle),
+        Err(Memory) => (give_up(rt, site, seat, number), After::Left),
+    }
+}
