@@ -1,6 +1,6 @@
 -- A search without a budget comes no further than where it begins: with the greedy rule's plan and the table of zeros.
 use Rattle.std.proofs.Common.{◌≡◌, ℕ, zero, suc, Bool, true, false, List, [], ◌∷◌, length, map, replicate, Option, Some, None, option_map, ℤ, pos, refl, sym, ap, ◌∙◌, subst, arith, if◌then◌else◌}
-use Rattle.std.specs.Prelude.{MatchOption, nat_lt}
+use Rattle.std.specs.Prelude.{MatchOption}
 use Rattle.std.specs.List.{All, last_or}
 use Rattle.std.proofs.lemmas.List.Elements.{All-head, All-replicate}
 use Rattle.vs_instance.specs.Plan.{LayerBlock}
@@ -14,7 +14,6 @@ use Rattle.vs_tree.specs.History.{FullStep, Opening, Took, Split, Closed, Offere
 use Rattle.vs_tree.specs.Prices.{Prices, prices_of, zero_prices}
 use Rattle.vs_tree.specs.StateTree.{IsTreeOf}
 use Rattle.vs_tree.specs.Tree as tree
-use Rattle.vs_cert.specs.DocumentText.{HasText}
 use Rattle.vs_cert.specs.StateDocument.{IsDocumentOf, first_times, known_blocks, tables_named}
 use Rattle.vs_cert.specs.TreeText.{prices_of_number}
 use Rattle.vs_cert.specs.declared.document.Document.{Document}

@@ -14,6 +14,7 @@ use Rattle.vs_cert.specs.declared.document.Document.{Document}
 use Rattle.vs_prices.specs.declared.table.Table.{Table}
 use Rattle.vs_tree.specs.Claims.{claim_found}
 use Rattle.vs_prices.specs.Worth.{IsWorth}
+use Rattle.mdvsp.specs.declared.command.Effort.{Effort}
 use Rattle.mdvsp.specs.declared.status.Status.{Status}
 use Rattle.mdvsp.specs.declared.status.Status.TheVariants as status
 use Rattle.mdvsp.specs.Laws.{IsDoneWhereShown}
@@ -21,6 +22,7 @@ use Rattle.mdvsp.specs.Owed.{OwesDocument, status_of}
 use Rattle.vs_reader.specs.Rows.{Row}
 use Rattle.vs_tree.specs.Tree.{Tree, Leaf, Split, LeafPlace, leaves, splits}
 use Rattle.vs_check.specs.Answers.{AreWorths, IsAnswer, IsBoundOf}
+use Rattle.mdvsp.specs.Budgets.{budget_of}
 use Rattle.mdvsp.specs.SolveAnswer.{SolveAnswer}
 use Rattle.mdvsp.proofs.FirstStates.{given_budget, greedy_plan, zero_listed}
 
@@ -115,19 +117,20 @@ status_tells cost n claim answer e t = record {
 }
 
 -- a search without a budget is done where its plan costs no more than the zero table is worth
-pub done_where_shown : (bytes : List ℕ) (answer : Status) (rows : List Row)
-    (owed : OwesDocument (Some 0) bytes answer rows) → IsDoneWhereShown bytes answer rows owed
-done_where_shown bytes answer rows owed =
+pub done_where_shown : (effort : Effort) (bytes : List ℕ) (answer : Status) (rows : List Row)
+    (owed : OwesDocument effort bytes answer rows) → effort.nodes ≡ Some 0 → IsDoneWhereShown effort bytes answer rows owed
+done_where_shown effort bytes answer rows owed none =
     let p = owed.problem in
     let d = owed.document in
-    let solves = subst (λ (n : ℕ). SolveAnswer p n 1 d) (given_budget p 0 owed.budget owed.budget_is) owed.solves in
-    let zero = zero_listed p 1 d solves in
+    let given = given_budget p 0 owed.budget (sym (ap (budget_of p) none) ∙ owed.budget_is) in
+    let solves = subst (λ (n : ℕ). SolveAnswer p n effort.workers d) given owed.solves in
+    let zero = zero_listed p effort.workers d solves in
     let w = worth_is p d zero.0 solves.answer zero.1 zero.2.cost in
     let bound = subst (λ (ws : List Bound). IsBoundOf d.cost ws d.bound) w.2 solves.answer.bound in
     let t = status_tells d.cost w.0 _ answer owed.status_is
     (subst (Tells d.cost w.0) (sym solves.answer.holds.claim) (bound_tells d.cost d.bound w.0 bound)) in
     record {
-      plan = greedy_plan p 1 d solves;
+      plan = greedy_plan p effort.workers d solves;
       table = zero.0;
       only = zero.1;
       zero = zero.2;

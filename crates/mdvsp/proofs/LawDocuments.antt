@@ -1,5 +1,5 @@
 -- A document that `solve` owes is judged `yes` behind its instance's records.
-use Rattle.std.proofs.Common.{◌≡◌, ℕ, ◌<◌, List, [], ◌∷◌, ◌++◌, length, take, refl, sym, subst, inl, inr, arith, ◌∙◌, Option}
+use Rattle.std.proofs.Common.{◌≡◌, ℕ, ◌<◌, List, [], ◌∷◌, ◌++◌, length, take, refl, sym, subst, inl, inr, arith, ◌∙◌}
 use Rattle.std.proofs.lemmas.List.{get_or_default, length_push}
 use Rattle.std.proofs.lemmas.List.Elements.{All-nil, All-push}
 use Rattle.std.proofs.lemmas.List.Quantifiers.{all_pairs_push}
@@ -14,6 +14,7 @@ use Rattle.vs_reader.proofs.texts.TextLemmas.{stands_counts}
 use Rattle.vs_cert.specs.DocumentRows.{document_rows}
 use Rattle.vs_cert.proofs.written.WrittenForms.{stands as stands_for}
 use Rattle.vs_cert.proofs.written.WrittenPlain.{plain_document}
+use Rattle.mdvsp.specs.declared.command.Effort.{Effort}
 use Rattle.mdvsp.specs.declared.status.Status.{Status}
 use Rattle.mdvsp.specs.Owed.{OwesDocument, OwesYes, yes_row}
 
@@ -64,10 +65,10 @@ instance_names bytes p names before rest stands =
     (record { layers = no_names; trips = no_names }))
 
 -- behind the records they are one text
-pub solved_holds : (nodes : Option ℕ) (bytes read : List ℕ) (answer : Status) (rows : List Row)
-    (owed : OwesDocument nodes bytes answer rows) → HasRows read (take owed.text.before owed.text.instance.rows) → EndsInLine read
+pub solved_holds : (effort : Effort) (bytes read : List ℕ) (answer : Status) (rows : List Row)
+    (owed : OwesDocument effort bytes answer rows) → HasRows read (take owed.text.before owed.text.instance.rows) → EndsInLine read
     → OwesYes (read ++ lines rows) (yes_row owed.document ∷ [])
-solved_holds nodes bytes read answer rows owed has ends =
+solved_holds effort bytes read answer rows owed has ends =
     let p = owed.problem in
     let names = owed.names in
     let d = owed.document in

@@ -1,7 +1,6 @@
 -- What a search comes to is an answer.
 use Rattle.std.proofs.Common.{◌≡◌, ℕ, ◌≤◌, List, Option, Some, None, IfSome, inl, inr, refl, sym, ap, subst, arith, ◌∙◌, ℤ}
 use Rattle.std.proofs.lemmas.Int.{ints}
-use Rattle.vs_instance.specs.Lagrangian.{IsStartingValue}
 use Rattle.vs_instance.specs.Problem.{Problem}
 use Rattle.vs_prices.specs.Bounds.{IsNoLess}
 use Rattle.vs_prices.specs.declared.bound.Bound.{Bound}

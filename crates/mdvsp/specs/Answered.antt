@@ -57,9 +57,10 @@ pub record HasSizes (problem : Problem) (names : NameLists) (answer : Answer) : 
   pub status_is : answer.status ≡ Done
   pub text_is : answer.text.items ≡ lines rows
 
--- the text is that of a document that a search with this budget answers, and the status that of its claim
-pub record IsDocumentOf (problem : Problem) (names : NameLists) (budget : ℕ) (answer : Answer) : Type 0 where
+-- the text is that of a document that a search with this budget and so many workers answers, and the status that of its
+-- claim
+pub record IsDocumentOf (problem : Problem) (names : NameLists) (budget workers : ℕ) (answer : Answer) : Type 0 where
   pub document : Document
-  pub solves : SolveAnswer problem budget 1 document
+  pub solves : SolveAnswer problem budget workers document
   pub status_is : answer.status ≡ status_of document.claim
   pub text_is : answer.text.items ≡ lines (document_rows problem names document)

@@ -1,5 +1,5 @@
 -- What the answers of `solve` have to do with each other, and which commands owe one thing.
-use Rattle.std.specs.Prelude.{◌≡◌, ◌⊎◌, ℕ, false, List, [], ◌∷◌, MatchOption, Some, IfSome, IsSomeAnd, ℤ, ◌≤ℤ◌}
+use Rattle.std.specs.Prelude.{◌≡◌, ◌⊎◌, ℕ, false, List, [], ◌∷◌, MatchOption, IfSome, IsSomeAnd, ℤ, ◌≤ℤ◌}
 use Rattle.vs_instance.specs.Problem.{Problem}
 use Rattle.vs_instance.specs.Restriction.{permitted_sets}
 use Rattle.vs_plan.specs.Blocks.{blocks_of}
@@ -11,6 +11,7 @@ use Rattle.vs_prices.specs.Worth.{IsWorth}
 use Rattle.vs_cert.specs.declared.document.Document.{Document}
 use Rattle.vs_reader.specs.Rows.{Row}
 use Rattle.mdvsp.specs.declared.command.Command.{Command}
+use Rattle.mdvsp.specs.declared.command.Effort.{Effort}
 use Rattle.mdvsp.specs.declared.command.Command.TheVariants.{Solve}
 use Rattle.mdvsp.specs.declared.status.Status.{Status}
 use Rattle.mdvsp.specs.declared.status.Status.TheVariants as status
@@ -28,8 +29,8 @@ pub record IsZeroTable (p : Problem) (table : Table) : Type 0 where
 
 -- Without a node the document has the greedy rule's plan and no table but that of zeros, which is worth a number. The
 -- answer is done exactly where there is a plan that costs no more than it, and else open.
-pub record IsDoneWhereShown (bytes : List ℕ) (answer : Status) (rows : List Row)
-    (owed : OwesDocument (Some 0) bytes answer rows) : Type 0 where
+pub record IsDoneWhereShown (effort : Effort) (bytes : List ℕ) (answer : Status) (rows : List Row)
+    (owed : OwesDocument effort bytes answer rows) : Type 0 where
   pub plan : HasGreedyPlan owed.problem owed.document
   pub table : Table
   pub only : owed.document.tables.items ≡ table ∷ []
@@ -42,7 +43,7 @@ pub record IsDoneWhereShown (bytes : List ℕ) (answer : Status) (rows : List Ro
 
 -- what the command owes is one thing; of `solve` the definition leaves open which of several searches is made
 abbrev pub IsDetermined : Command → Type 0
-IsDetermined (Solve nodes) = ⊥
+IsDetermined (Solve effort) = ⊥
 IsDetermined _ = Unit {0}
 
 -- the answer settles what plans there are

@@ -1,5 +1,5 @@
 -- What a call has to answer, and what it has to write.
-use Rattle.std.specs.Prelude.{◌≡◌, ℕ, List, [], ◌∷◌, codes, Option, Some, None, IsSome, IfSome, ◌⊎◌}
+use Rattle.std.specs.Prelude.{◌≡◌, ℕ, List, [], ◌∷◌, codes, Some, None, IsSome, IfSome, ◌⊎◌}
 use Rattle.vs_instance.specs.Problem.{Problem}
 use Rattle.vs_tree.specs.declared.claim.Claim.{Claim}
 use Rattle.vs_tree.specs.declared.claim.Claim.TheVariants.{Optimal, Infeasible, StillOpen}
@@ -23,6 +23,7 @@ use Rattle.mdvsp.specs.FlawRows.{no_row}
 use Rattle.mdvsp.specs.Budgets.{budget_of}
 use Rattle.mdvsp.specs.SolveAnswer.{SolveAnswer}
 use Rattle.mdvsp.specs.declared.command.Command.{Command}
+use Rattle.mdvsp.specs.declared.command.Effort.{Effort}
 use Rattle.mdvsp.specs.declared.command.Command.TheVariants.{Check, Solve, Network, Blocks, Make}
 use Rattle.mdvsp.specs.Generator.{make_rows}
 use Rattle.mdvsp.specs.Network.{AreNetworkRows}
@@ -107,31 +108,31 @@ status_of Optimal = status.Done
 status_of Infeasible = status.Infeasible
 status_of StillOpen = status.StillOpen
 
--- `solve` is owed a document that a search of the instance answers, made by one worker within the budget, and that proves
--- what it claims, with the status of its claim
-pub record OwesDocument (nodes : Option ℕ) (bytes : List ℕ) (answer : Status) (rows : List Row) : Type 0 where
+-- `solve` is owed a document that a search of the instance answers, made by as many workers as are asked for within the
+-- budget, and that proves what it claims, with the status of its claim
+pub record OwesDocument (effort : Effort) (bytes : List ℕ) (answer : Status) (rows : List Row) : Type 0 where
   pub problem : Problem
   pub names : NameLists
   pub document : Document
   pub text : SolveText bytes problem names
   pub budget : ℕ
-  pub budget_is : budget_of problem nodes ≡ Some budget
-  pub solves : SolveAnswer problem budget 1 document
+  pub budget_is : budget_of problem effort.nodes ≡ Some budget
+  pub solves : SolveAnswer problem budget effort.workers document
   pub proves : ProvesItsClaim problem document
   pub status_is : answer ≡ status_of document.claim
   pub rows_are : rows ≡ document_rows problem names document
 
 -- and where so many nodes are too many for the instance, a refusal
-pub record OwesTooLarge (nodes : Option ℕ) (bytes : List ℕ) (rows : List Row) : Type 0 where
+pub record OwesTooLarge (effort : Effort) (bytes : List ℕ) (rows : List Row) : Type 0 where
   pub problem : Problem
   pub names : NameLists
   pub text : SolveText bytes problem names
-  pub too_large : budget_of problem nodes ≡ None
+  pub too_large : budget_of problem effort.nodes ≡ None
   pub rows_are : rows ≡ too_large_row ∷ []
 
 -- a text that is no instance text is refused first
-abbrev pub OwesNoSearch : Option ℕ → List ℕ → List Row → Type 0
-OwesNoSearch nodes bytes rows = OwesRefusal bytes rows ⊎ OwesTooLarge nodes bytes rows
+abbrev pub OwesNoSearch : Effort → List ℕ → List Row → Type 0
+OwesNoSearch effort bytes rows = OwesRefusal bytes rows ⊎ OwesTooLarge effort bytes rows
 
 -- what `check` has to answer for these bytes, and which rows it has to write
 abbrev pub CheckOwes : List ℕ → Status → List Row → Type 0
@@ -140,13 +141,13 @@ CheckOwes bytes status.SaysNo rows = OwesNo bytes rows
 CheckOwes bytes status.BadInput rows = OwesNoCase bytes rows
 CheckOwes bytes _ rows = ⊥
 
--- the same of `solve`, with so many nodes, where they are given
-abbrev pub SolveOwes : Option ℕ → List ℕ → Status → List Row → Type 0
-SolveOwes nodes bytes status.Done rows = OwesDocument nodes bytes status.Done rows
-SolveOwes nodes bytes status.Infeasible rows = OwesDocument nodes bytes status.Infeasible rows
-SolveOwes nodes bytes status.StillOpen rows = OwesDocument nodes bytes status.StillOpen rows
-SolveOwes nodes bytes status.BadInput rows = OwesNoSearch nodes bytes rows
-SolveOwes nodes bytes _ rows = ⊥
+-- the same of `solve`, with this effort
+abbrev pub SolveOwes : Effort → List ℕ → Status → List Row → Type 0
+SolveOwes effort bytes status.Done rows = OwesDocument effort bytes status.Done rows
+SolveOwes effort bytes status.Infeasible rows = OwesDocument effort bytes status.Infeasible rows
+SolveOwes effort bytes status.StillOpen rows = OwesDocument effort bytes status.StillOpen rows
+SolveOwes effort bytes status.BadInput rows = OwesNoSearch effort bytes rows
+SolveOwes effort bytes _ rows = ⊥
 
 -- of `network`
 abbrev pub NetworkOwes : List ℕ → Status → List Row → Type 0
@@ -169,7 +170,7 @@ MakeOwes n _ rows = ⊥
 -- what a command has to answer for the bytes that it read, and which rows it has to write
 abbrev pub Owes : Command → List ℕ → Status → List Row → Type 0
 Owes Check bytes answer rows = CheckOwes bytes answer rows
-Owes (Solve nodes) bytes answer rows = SolveOwes nodes bytes answer rows
+Owes (Solve effort) bytes answer rows = SolveOwes effort bytes answer rows
 Owes Network bytes answer rows = NetworkOwes bytes answer rows
 Owes Blocks bytes answer rows = BlocksOwes bytes answer rows
 Owes (Make n) bytes answer rows = MakeOwes n answer rows

@@ -1,5 +1,5 @@
 -- The row that tells why a text is refused.
-use Rattle.std.specs.Prelude.{ℕ, ◌+◌, List, [], ◌∷◌, ◌++◌, codes, decimal}
+use Rattle.std.specs.Prelude.{ℕ, ◌+◌, List, [], ◌∷◌, codes, decimal}
 use Rattle.vs_instance.specs.declared.misfit.Misfit.{Misfit}
 use Rattle.vs_instance.specs.declared.misfit.Misfit.TheVariants.{Range, SelfDeadhead, DeadheadTwice, EndNotAfterStart, NotClosed, LongerMinutes, LongerMetres}
 use Rattle.vs_instance.specs.declared.misfit.Field.{Field as RangeField}

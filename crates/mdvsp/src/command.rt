@@ -1,10 +1,18 @@
+/// How much a search may take: how many workers share it, 1 to 64, and on how many nodes it may work at most, 0 to
+/// 100,000, where a number is given.
+#[derive(Clone, Copy, Debug, PartialEq, Eq)]
+pub struct Effort {
+    pub workers: u32,
+    pub nodes: Option<u32>,
+}
+
 /// What the program is asked to do.
 #[derive(Clone, Copy, Debug, PartialEq, Eq)]
 pub enum Command {
     /// Judge a document.
     Check,
-    /// Plan an instance by a search of so many nodes at most, 0 to 100,000, where a number is given.
-    Solve(Option<u32>),
+    /// Plan an instance by a search.
+    Solve(Effort),
     /// Tell how large the nets of an instance's layers are.
     Network,
     /// Print the timetable of a document's plan.

@@ -1,10 +1,11 @@
 //! What holds of every input, whichever way it is answered.
 
-ghost use Rattle.std.specs.Prelude.{◌≡◌, ◌≢◌, ℕ, ◌+◌, ◌*◌, ◌≤◌, List, [], ◌∷◌, ◌++◌, take, Option, Some};
+ghost use Rattle.std.specs.Prelude.{◌≡◌, ◌≢◌, ℕ, ◌+◌, ◌*◌, ◌≤◌, List, [], ◌∷◌, ◌++◌, take, Some};
 ghost use Rattle.vs_reader.specs.Texts.{HasRows, EndsInLine};
 ghost use Rattle.vs_instance.specs.Restriction.{permitted_sets};
 ghost use Rattle.vs_check.specs.Answers.{choices};
 ghost use Rattle.mdvsp.specs.declared.command.Command.{Command};
+ghost use Rattle.mdvsp.specs.declared.command.Effort.{Effort};
 ghost use Rattle.mdvsp.specs.declared.status.Status.{Status};
 ghost use Rattle.mdvsp.specs.declared.status.Status.TheVariants as status;
 ghost use Rattle.mdvsp.specs.Laws.{IsDetermined, IsDoneWhereShown, MayBothBe, NeverPasses};
@@ -15,8 +16,8 @@ ghost use Rattle.vs_reader.specs.Rows.{Row, lines};
 /// What `solve` has to write for an instance is true: behind the instance's records, the last of which is
 /// ended by a line end, `check` has to answer `yes`.
 pub fn solved_documents_hold()
-    ensures { (nodes : Option ℕ) (bytes read : List ℕ) (answer : Status) (rows : List Row)
-        (owed : OwesDocument nodes bytes answer rows)
+    ensures { (effort : Effort) (bytes read : List ℕ) (answer : Status) (rows : List Row)
+        (owed : OwesDocument effort bytes answer rows)
         → HasRows read (take owed.text.before owed.text.instance.rows) → EndsInLine read
         → CheckOwes (read ++ lines rows) status.Done (yes_row owed.document ∷ []) }
 {}
@@ -35,10 +36,10 @@ pub fn one_status()
         → Owes command bytes a r → Owes command bytes b s → MayBothBe a b }
 {}
 
-/// Of two searches of one instance, with whatever numbers of nodes, neither has a bound above what the other's plan
-/// costs. So two plans that are optimal cost the same.
+/// Of two searches of one instance, with whatever efforts, neither has a bound above what the other's plan costs. So two
+/// plans that are optimal cost the same.
 pub fn bounds_never_pass_costs()
-    ensures { (m n : Option ℕ) (bytes : List ℕ) (a b : Status) (r s : List Row)
+    ensures { (m n : Effort) (bytes : List ℕ) (a b : Status) (r s : List Row)
         (owed : OwesDocument m bytes a r) (also : OwesDocument n bytes b s)
         → NeverPasses owed.document also.document }
 {}
@@ -46,15 +47,16 @@ pub fn bounds_never_pass_costs()
 /// Without a node a run is done exactly where there is a greedy plan and it costs no more than the table of zeros is
 /// worth. Else it is open.
 pub fn done_where_shown()
-    ensures { (bytes : List ℕ) (answer : Status) (rows : List Row) (owed : OwesDocument (Some 0) bytes answer rows)
-        → IsDoneWhereShown bytes answer rows owed }
+    ensures { (effort : Effort) (bytes : List ℕ) (answer : Status) (rows : List Row)
+        (owed : OwesDocument effort bytes answer rows)
+        → effort.nodes ≡ Some 0 → IsDoneWhereShown effort bytes answer rows owed }
 {}
 
 /// Each trip's layer can be chosen in so many ways, and all layers together in the product of these numbers. A run with
 /// a budget of twice that product less one, or more, isn't left open.
 pub fn enough_nodes_leave_nothing_open()
-    ensures { (nodes : Option ℕ) (bytes : List ℕ) (answer : Status) (rows : List Row)
-        (owed : OwesDocument nodes bytes answer rows)
+    ensures { (effort : Effort) (bytes : List ℕ) (answer : Status) (rows : List Row)
+        (owed : OwesDocument effort bytes answer rows)
         → 2 * choices (permitted_sets owed.problem) ≤ owed.budget + 1 → answer ≢ status.StillOpen }
 {}
 

@@ -13,17 +13,23 @@ use crate::status::Status;
 use crate::timetable::answer_blocks;
 use crate::words::command_of;
 use std::alloc::Global;
+use std::sync::Wait;
+use std::thread::Threads;
+use vs_crew::Gate;
 use vs_io::{Sink, SlurpError, Source, slurp};
 use vs_reader::MAX_BYTES;
 use vs_types::Memory;
 
 /// Does what the words ask for, and says how it ended. The input is read to its end, and nothing is
-/// written before the whole output stands. Where the words are wrong, and by `make`, nothing is read.
-pub fn run<I: Source, O: Sink>(
+/// written before the whole output stands. Where the words are wrong, and by `make`, nothing is read. The workers of a
+/// search pass the gate before each leaf that they work on.
+pub fn run<R: Threads + Wait + Sync, I: Source, O: Sink, G: Gate + Sync>(
+    rt: &R,
     alloc: Global,
     words: &[String],
     input: &mut I,
     output: &mut O,
+    gate: &G,
 ) -> Status
     ensures ends { Ends (record {
       words = words_of words.now;
@@ -40,17 +46,19 @@ pub fn run<I: Source, O: Sink>(
     ensures never_falls { (I.faults input.old ≤ I.faults input.new) × (O.faults output.old ≤ O.faults output.new) }
 {
     match command_of(words) {
-        Ok(command) => obey(alloc, command, input, output),
+        Ok(command) => obey(rt, alloc, command, input, output, gate),
         Err(bad) => say(Answer::bad_word(alloc, bad), output),
     }
 }
 
 /// Reads what the command takes, does what it asks for, and says how it ended.
-fn obey<I: Source, O: Sink>(
+fn obey<R: Threads + Wait + Sync, I: Source, O: Sink, G: Gate + Sync>(
+    rt: &R,
     alloc: Global,
     command: Command,
     input: &mut I,
     output: &mut O,
+    gate: &G,
 ) -> Status
     requires { IsWithinLimits command }
     ensures ends { (words : List Word) → AskFor words command → Ends (record {
@@ -68,7 +76,7 @@ fn obey<I: Source, O: Sink>(
     ensures never_falls { (I.faults input.old ≤ I.faults input.new) × (O.faults output.old ≤ O.faults output.new) }
 {
     match input_of(alloc, command, input) {
-        Ok(bytes) => say(answer_to(alloc, command, &bytes), output),
+        Ok(bytes) => say(answer_to(rt, alloc, command, &bytes, gate), output),
         Err(SlurpError::ReadFault) => Status::ReadFault,
         Err(SlurpError::TooLong) => Status::TooLong,
         Err(SlurpError::Memory) => Status::NoMemory,
@@ -95,14 +103,20 @@ fn input_of<I: Source>(
 }
 
 /// What the command answers for the bytes of its input.
-fn answer_to(alloc: Global, command: Command, bytes: &[u8]) -> Result<Answer, Memory>
+fn answer_to<R: Threads + Wait + Sync, G: Gate + Sync>(
+    rt: &R,
+    alloc: Global,
+    command: Command,
+    bytes: &[u8],
+    gate: &G,
+) -> Result<Answer, Memory>
     requires few { length bytes.now ≤ input_limit }
     requires limits { IsWithinLimits command }
     ensures { IfOk result (IsOwedFor command bytes.now) }
 {
     match command {
         Command::Check => answer_check(alloc, bytes),
-        Command::Solve(nodes) => answer_solve(alloc, nodes, bytes),
+        Command::Solve(effort) => answer_solve(rt, alloc, effort, bytes, gate),
         Command::Network => answer_network(alloc, bytes),
         Command::Blocks => answer_blocks(alloc, bytes),
         Command::Make(n) => answer_make(alloc, n),

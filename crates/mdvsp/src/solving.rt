@@ -1,22 +1,24 @@
-ghost use Rattle.std.specs.Prelude.{◌≡◌, ◌≤◌, ◌∷◌, [], length, IfOk, IfSome};
+ghost use Rattle.std.specs.Prelude.{◌≡◌, ◌≤◌, ◌∷◌, [], length, IfOk};
 ghost use Rattle.vs_reader.specs.Names.{HaveCounts};
 ghost use Rattle.vs_tree.specs.Search.{state};
 ghost use Rattle.vs_tree.specs.Takes.{IsOver};
-ghost use Rattle.vs_tree.specs.declared.limits.TheConstants.{MAX_BUDGET};
+ghost use Rattle.vs_tree.specs.declared.limits.TheConstants.{MAX_BUDGET, MAX_WORKERS};
 ghost use Rattle.vs_node.specs.WorkedHistory.{AreWorked};
 ghost use Rattle.mdvsp.specs.Answered.{IsOwedFor, IsDocumentOf};
 ghost use Rattle.mdvsp.specs.Outcome.{input_limit};
 ghost use Rattle.mdvsp.specs.Owed.{status_of};
 ghost use Rattle.mdvsp.specs.SolveAnswer.{BeginsFor};
+ghost use Rattle.mdvsp.specs.Words.{IsWithinLimits};
 
 use crate::answer::Answer;
 use crate::budget::budget_of;
-use crate::command::Command;
+use crate::command::{Command, Effort};
 use crate::status::Status;
 use std::alloc::Global;
+use std::sync::Wait;
+use std::thread::Threads;
 use vs_cert::write;
-use vs_circ::Work;
-use vs_crew::search;
+use vs_crew::{Gate, run};
 use vs_instance::Instance;
 use vs_need::layer_nets;
 use vs_plan::greedy;
@@ -24,16 +26,21 @@ use vs_reader::{Input, ReadError, read};
 use vs_tree::{Claim, Tree};
 use vs_types::Memory;
 
-/// What `solve` answers for the bytes of an instance, whatever follows its records, with so many nodes where a number is
-/// given.
-pub fn answer_solve(alloc: Global, nodes: Option<u32>, bytes: &[u8]) -> Result<Answer, Memory>
+/// What `solve` answers for the bytes of an instance, whatever follows its records, with this effort.
+pub fn answer_solve<R: Threads + Wait + Sync, G: Gate + Sync>(
+    rt: &R,
+    alloc: Global,
+    effort: Effort,
+    bytes: &[u8],
+    gate: &G,
+) -> Result<Answer, Memory>
     requires bytes { length bytes.now ≤ input_limit }
-    requires nodes { IfSome nodes (λ n. n ≤ MAX_BUDGET) }
-    ensures { IfOk result (IsOwedFor (Command.Solve nodes) bytes.now) }
+    requires effort { IsWithinLimits (Command.Solve effort) }
+    ensures { IfOk result (IsOwedFor (Command.Solve effort) bytes.now) }
 {
     match read(alloc, bytes) {
-        Ok(input) => match budget_of(&input.instance, nodes) {
-            Some(budget) => plan_of(alloc, &input, budget),
+        Ok(input) => match budget_of(&input.instance, effort.nodes) {
+            Some(budget) => plan_of(rt, alloc, &input, budget, effort.workers, gate),
             None => Answer::too_large(alloc),
         },
         Err(ReadError::Refused(refused)) => Answer::refused(alloc, refused),
@@ -41,13 +48,22 @@ pub fn answer_solve(alloc: Global, nodes: Option<u32>, bytes: &[u8]) -> Result<A
     }
 }
 
-/// The answer for an instance that was read, by a search with this budget.
-fn plan_of(alloc: Global, input: &Input, budget: u32) -> Result<Answer, Memory>
+/// The answer for an instance that was read, by a search with this budget that so many workers share.
+fn plan_of<R: Threads + Wait + Sync, G: Gate + Sync>(
+    rt: &R,
+    alloc: Global,
+    input: &Input,
+    budget: u32,
+    workers: u32,
+    gate: &G,
+) -> Result<Answer, Memory>
     requires counts { HaveCounts input.now.instance input.now.names }
     requires budget { budget ≤ MAX_BUDGET }
-    ensures { IfOk result (IsDocumentOf input.now.instance input.now.names budget) }
+    requires some_workers { 1 ≤ workers }
+    requires few_workers { workers ≤ MAX_WORKERS }
+    ensures { IfOk result (IsDocumentOf input.now.instance input.now.names budget workers) }
 {
-    let tree = searched(alloc, &input.instance, budget)?;
+    let tree = searched(rt, alloc, &input.instance, budget, workers, gate)?;
     let _instance = tree.instance();
     let text = write(alloc, &tree, &input.names)?;
     Ok(Answer {
@@ -56,19 +72,29 @@ fn plan_of(alloc: Global, input: &Input, budget: u32) -> Result<Answer, Memory>
     })
 }
 
-/// A search of the instance by one worker that begins with the greedy rule's plan, once it is over.
-fn searched(alloc: Global, instance: &Instance, budget: u32) -> Result<Tree, Memory>
-    requires { budget ≤ MAX_BUDGET }
-    ensures begins { IfOk result (λ tree. BeginsFor instance.now budget 1 tree.opening) }
+/// A search of the instance by so many workers that begins with the greedy rule's plan, once it is over.
+fn searched<R: Threads + Wait + Sync, G: Gate + Sync>(
+    rt: &R,
+    alloc: Global,
+    instance: &Instance,
+    budget: u32,
+    workers: u32,
+    gate: &G,
+) -> Result<Tree, Memory>
+    requires budget { budget ≤ MAX_BUDGET }
+    requires some_workers { 1 ≤ workers }
+    requires few_workers { workers ≤ MAX_WORKERS }
+    ensures begins { IfOk result (λ tree. BeginsFor instance.now budget workers tree.opening) }
     ensures worked { IfOk result (λ tree. AreWorked tree.opening tree.steps) }
     ensures over { IfOk result (λ tree. IsOver tree.opening (state tree)) }
 {
     let nets = layer_nets(alloc, instance)?;
-    let mut scratch = Work::new(alloc, &nets)?;
     let first = greedy(alloc, instance)?;
-    let mut tree = Tree::start(alloc, instance.copy(alloc)?, budget, 1, first)?;
-    search(alloc, instance, &nets, &mut tree, &mut scratch)?;
-    Ok(tree)
+    let tree = Tree::start(alloc, instance.copy(alloc)?, budget, workers, first)?;
+    match run(rt, alloc, instance, &nets, tree, workers, gate) {
+        Ok(tree) => Ok(tree),
+        Err((_, Memory)) => Err(Memory),
+    }
 }
 
 /// The status that goes with a claim.

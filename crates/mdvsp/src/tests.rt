@@ -1,7 +1,10 @@
 use crate::running::run;
 use crate::status::Status;
 use std::alloc::{AllocError, Global};
+use std::sync::Wait;
 use std::test::Fail;
+use std::thread::Threads;
+use vs_crew::{Gate, NoGate};
 use vs_io::{MemSink, MemSource, slurp};
 
 /// Three stops, a depot at one of them, and a vehicle for two trips that follow each other at once.
@@ -545,20 +548,75 @@ fn owned(alloc: Global, words: &[&str]) -> Result<Vec<String>, AllocError> {
     Ok(all)
 }
 
-/// How a run ends, and what it writes.
-fn outcome(alloc: Global, words: &[&str], input: &[&str]) -> Result<(Status, Vec<u8>), Fail> {
+/// How a run on these bytes ends whose workers pass the gate, and what it writes.
+fn ran_past<R: Threads + Wait + Sync, G: Gate + Sync>(
+    rt: &R,
+    alloc: Global,
+    words: &[&str],
+    input: Vec<u8>,
+    gate: &G,
+) -> Result<(Status, Vec<u8>), Fail> {
     let words = owned(alloc, words)?;
-    let mut source = MemSource::new(joined(alloc, input)?, 4096, Vec::new(alloc));
-    let mut sink = MemSink::new(alloc, 65_536, 4096, Vec::new(alloc)).map_err(|_| AllocError)?;
-    let status = run(alloc, &words, &mut source, &mut sink);
+    let mut source = MemSource::new(input, 4096, Vec::new(alloc));
+    let mut sink = MemSink::new(alloc, 1 << 21, 4096, Vec::new(alloc)).map_err(|_| AllocError)?;
+    let status = run(rt, alloc, &words, &mut source, &mut sink, gate);
     let written = sink.taken().to_vec(alloc)?;
     Ok((status, written))
+}
+
+/// How a run on these bytes ends, and what it writes.
+fn ran<R: Threads + Wait + Sync>(
+    rt: &R,
+    alloc: Global,
+    words: &[&str],
+    input: Vec<u8>,
+) -> Result<(Status, Vec<u8>), Fail> {
+    ran_past(rt, alloc, words, input, &NoGate)
+}
+
+/// How a run ends, and what it writes.
+fn outcome<R: Threads + Wait + Sync>(
+    rt: &R,
+    alloc: Global,
+    words: &[&str],
+    input: &[&str],
+) -> Result<(Status, Vec<u8>), Fail> {
+    ran(rt, alloc, words, joined(alloc, input)?)
+}
+
+/// How planning ends, the document that is written, how judging it ends, and the row of the verdict.
+#[derive(Drop)]
+struct Audited {
+    status: Status,
+    document: Vec<u8>,
+    verdict: Status,
+    row: Vec<u8>,
+}
+
+/// Plans with these words what is read, and judges the document that this writes beside the instance.
+fn audit<R: Threads + Wait + Sync>(
+    rt: &R,
+    alloc: Global,
+    words: &[&str],
+    input: &[u8],
+    instance: &[u8],
+) -> Result<Audited, Fail> {
+    let (status, document) = ran(rt, alloc, words, input.to_vec(alloc)?)?;
+    let mut both = instance.to_vec(alloc)?;
+    both.extend_from_slice(&document)?;
+    let (verdict, row) = ran(rt, alloc, &["check"], both)?;
+    Ok(Audited {
+        status,
+        document,
+        verdict,
+        row,
+    })
 }
 
 #[test]
 fn judges_documents(rt: HostRuntime) -> Result<(), Fail> {
     for (case, input, status, written) in DOCUMENTS {
-        let (ended, text) = outcome(rt.alloc(), &["check"], input)?;
+        let (ended, text) = outcome(&rt, rt.alloc(), &["check"], input)?;
         assert_eq!(rt; ended, status, "{case}");
         assert_eq!(rt; text.as_slice(), written.as_bytes(), "{case}");
     }
@@ -575,7 +633,7 @@ fn refuses_what_is_no_instance(rt: HostRuntime) -> Result<(), Fail> {
             &["blocks"],
         ];
         for words in commands {
-            let (ended, text) = outcome(rt.alloc(), words, input)?;
+            let (ended, text) = outcome(&rt, rt.alloc(), words, input)?;
             assert_eq!(rt; ended, Status::BadInput, "{case}");
             assert_eq!(rt; text.as_slice(), written.as_bytes(), "{case}");
         }
@@ -589,7 +647,7 @@ fn refuses_what_is_no_document(rt: HostRuntime) -> Result<(), Fail> {
         let mut input = Vec::from_slice(rt.alloc(), &[STOPS, LAYER, TRIPS])?;
         input.extend_from_slice(behind)?;
         for command in ["check", "blocks"] {
-            let (ended, text) = outcome(rt.alloc(), &[command], &input)?;
+            let (ended, text) = outcome(&rt, rt.alloc(), &[command], &input)?;
             assert_eq!(rt; ended, Status::BadInput, "{case}");
             assert_eq!(rt; text.as_slice(), written.as_bytes(), "{case}");
         }
@@ -597,103 +655,117 @@ fn refuses_what_is_no_document(rt: HostRuntime) -> Result<(), Fail> {
     Ok(())
 }
 
-/// What a timetable is, its text, how planning it ends, and what is written.
-const PLANS: [(&str, &[&str], Status, &[&str]); 6] = [
-    (
-        "two trips",
-        &[STOPS, LAYER, TRIPS],
-        Status::StillOpen,
-        &[ZERO_HEAD, BLOCK, ZERO_TABLE, END],
-    ),
-    (
-        "what follows isn't read",
-        &[STOPS, LAYER, TRIPS, "result,\"\r\nstop"],
-        Status::StillOpen,
-        &[ZERO_HEAD, BLOCK, ZERO_TABLE, END],
-    ),
-    (
-        "quoted fields, and lines that end otherwise",
-        &[QUOTED_STOPS, QUOTED_LAYER, QUOTED_TRIPS],
-        Status::StillOpen,
-        &[ZERO_HEAD, BLOCK, ZERO_TABLE, END],
-    ),
-    (
-        "until 47:59",
-        &[STOPS, LAYER, LONG_TRIPS],
-        Status::StillOpen,
-        &[
+/// What a plan without a search is of: a timetable, the text that is read, that of the instance, how planning it ends,
+/// the document that is written, and the verdict on it.
+struct Unsearched {
+    case: &'static str,
+    input: &'static [&'static str],
+    instance: &'static [&'static str],
+    status: Status,
+    document: &'static [&'static str],
+    verdict: &'static str,
+}
+
+const ZERO_HEAD: &str = "result,1,open\ncost,1080\nbound,60\nnodes,0\n";
+
+const UNSEARCHED: [Unsearched; 6] = [
+    Unsearched {
+        case: "two trips",
+        input: &[STOPS, LAYER, TRIPS],
+        instance: &[STOPS, LAYER, TRIPS],
+        status: Status::StillOpen,
+        document: &[ZERO_HEAD, BLOCK, ZERO_TABLE, END],
+        verdict: "yes,open,1080,60\n",
+    },
+    Unsearched {
+        case: "what follows isn't read",
+        input: &[STOPS, LAYER, TRIPS, "result,\"\r\nstop"],
+        instance: &[STOPS, LAYER, TRIPS],
+        status: Status::StillOpen,
+        document: &[ZERO_HEAD, BLOCK, ZERO_TABLE, END],
+        verdict: "yes,open,1080,60\n",
+    },
+    Unsearched {
+        case: "quoted fields, and lines that end otherwise",
+        input: &[QUOTED_STOPS, QUOTED_LAYER, QUOTED_TRIPS],
+        instance: &[QUOTED_STOPS, QUOTED_LAYER, QUOTED_TRIPS, "\r\n"],
+        status: Status::StillOpen,
+        document: &[ZERO_HEAD, BLOCK, ZERO_TABLE, END],
+        verdict: "yes,open,1080,60\n",
+    },
+    Unsearched {
+        case: "until 47:59",
+        input: &[STOPS, LAYER, LONG_TRIPS],
+        instance: &[STOPS, LAYER, LONG_TRIPS],
+        status: Status::StillOpen,
+        document: &[
             "result,1,open\ncost,4469\nbound,2429\nnodes,0\n",
             "block,L1,t1\nblock,L1,t2\n",
             ZERO_TABLE,
             END,
         ],
-    ),
-    (
-        "one vehicle short",
-        &[STOPS, ONE_VEHICLE, LATE_TRIPS],
-        Status::StillOpen,
-        &[
+        verdict: "yes,open,4469,2429\n",
+    },
+    Unsearched {
+        case: "one vehicle short",
+        input: &[STOPS, ONE_VEHICLE, LATE_TRIPS],
+        instance: &[STOPS, ONE_VEHICLE, LATE_TRIPS],
+        status: Status::StillOpen,
+        document: &[
             "result,1,open\ncost,none\nbound,61\nnodes,0\n",
             ZERO_TABLE,
             END,
         ],
-    ),
-    (
-        "no trips",
-        &[STOPS, LAYER],
-        Status::Done,
-        &[
+        verdict: "yes,open,none,61\n",
+    },
+    Unsearched {
+        case: "no trips",
+        input: &[STOPS, LAYER],
+        instance: &[STOPS, LAYER],
+        status: Status::Done,
+        document: &[
             "result,1,optimal\ncost,0\nbound,0\nnodes,0\n",
             "table,1,cost\nfleet,L1,0\n",
             END,
         ],
-    ),
+        verdict: "yes,optimal,0,0\n",
+    },
 ];
-
-const ZERO_HEAD: &str = "result,1,open\ncost,1080\nbound,60\nnodes,0\n";
 
 #[test]
 fn plans_without_a_search(rt: HostRuntime) -> Result<(), Fail> {
-    for (case, input, status, written) in PLANS {
-        let (ended, text) = outcome(rt.alloc(), &["solve", "--nodes", "0"], input)?;
-        let wanted = joined(rt.alloc(), written)?;
-        assert_eq!(rt; ended, status, "{case}");
-        assert_eq!(rt; text.as_slice(), wanted.as_slice(), "{case}");
-    }
-    Ok(())
-}
-
-#[test]
-fn judges_what_it_plans(rt: HostRuntime) -> Result<(), Fail> {
-    let cases: [(&str, &str, &str); 2] = [
-        (LAYER, TRIPS, "yes,open,1080,60\n"),
-        (ONE_VEHICLE, LATE_TRIPS, "yes,open,none,61\n"),
-    ];
-    for (layer, trips, verdict) in cases {
-        let (_, plan) = outcome(
+    for planned in &UNSEARCHED {
+        let input = joined(rt.alloc(), planned.input)?;
+        let instance = joined(rt.alloc(), planned.instance)?;
+        let document = joined(rt.alloc(), planned.document)?;
+        let told = audit(
+            &rt,
             rt.alloc(),
             &["solve", "--nodes", "0"],
-            &[STOPS, layer, trips],
+            &input,
+            &instance,
         )?;
-        let mut both = joined(rt.alloc(), &[STOPS, layer, trips])?;
-        both.extend_from_slice(&plan)?;
-        let words = owned(rt.alloc(), &["check"])?;
-        let mut source = MemSource::new(both, 64, Vec::new(rt.alloc()));
-        let mut sink = MemSink::new(rt.alloc(), 64, 64, Vec::new(rt.alloc())).map_err(
-            |_| AllocError,
-        )?;
+        assert_eq!(rt; told.status, planned.status, "{}", planned.case);
         assert_eq!(rt;
-            run(rt.alloc(), &words, &mut source, &mut sink),
-            Status::Done
+            told.document.as_slice(),
+            document.as_slice(),
+            "{}",
+            planned.case
         );
-        assert_eq!(rt; sink.taken(), verdict.as_bytes());
+        assert_eq!(rt; told.verdict, Status::Done, "{}", planned.case);
+        assert_eq!(rt;
+            told.row.as_slice(),
+            planned.verdict.as_bytes(),
+            "{}",
+            planned.case
+        );
     }
     Ok(())
 }
 
 #[test]
 fn tells_wrong_words(rt: HostRuntime) -> Result<(), Fail> {
-    let cases: [(&[&str], &str); 16] = [
+    let cases: [(&[&str], &str); 23] = [
         (&[], "words,1\n"),
         (&["plan"], "words,1\n"),
         (&["check", "x"], "words,2\n"),
@@ -705,6 +777,16 @@ fn tells_wrong_words(rt: HostRuntime) -> Result<(), Fail> {
         (&["solve", "--nodes", "100001"], "words,3\n"),
         (&["solve", "--nodes", "0", "x"], "words,4\n"),
         (&["solve", "--nodes", "5", "--nodes", "6"], "words,4\n"),
+        (&["solve", "--workers"], "words,3\n"),
+        (&["solve", "--workers", "0"], "words,3\n"),
+        (&["solve", "--workers", "65"], "words,3\n"),
+        (&["solve", "--workers", "2", "--workers", "3"], "words,4\n"),
+        (&["solve", "--workers", "2", "--nodes"], "words,5\n"),
+        (&["solve", "--nodes", "5", "--workers", "65"], "words,5\n"),
+        (
+            &["solve", "--nodes", "5", "--workers", "2", "x"],
+            "words,6\n",
+        ),
         (&["make"], "words,2\n"),
         (&["make", "+1"], "words,2\n"),
         (&["make", "2001"], "words,2\n"),
@@ -718,7 +800,7 @@ fn tells_wrong_words(rt: HostRuntime) -> Result<(), Fail> {
             |_| AllocError,
         )?;
         assert_eq!(rt;
-            run(rt.alloc(), &words, &mut source, &mut sink),
+            run(&rt, rt.alloc(), &words, &mut source, &mut sink, &NoGate),
             Status::BadWords
         );
         assert_eq!(rt; sink.taken(), written.as_bytes());
@@ -770,7 +852,10 @@ fn ends_where_a_stream_fails(rt: HostRuntime) -> Result<(), Fail> {
         let puts = failing_puts.to_vec(rt.alloc())?;
         let mut source = MemSource::new(joined(rt.alloc(), input)?, 16, takes);
         let mut sink = MemSink::new(rt.alloc(), 4096, 16, puts).map_err(|_| AllocError)?;
-        assert_eq!(rt; run(rt.alloc(), &words, &mut source, &mut sink), status);
+        assert_eq!(rt;
+            run(&rt, rt.alloc(), &words, &mut source, &mut sink, &NoGate),
+            status
+        );
         assert_eq!(rt; sink.taken(), written.as_bytes());
     }
     Ok(())

@@ -1,9 +1,9 @@
 ghost use Rattle.std.specs.Prelude.{◌≡◌, ℕ, ◌≤◌, codes, IsTrue, MatchOption, ◌↔◌};
-ghost use Rattle.mdvsp.specs.Words.{Answers, IsAlone, IsNumberUpTo, IsWordAt, command_name, words_of};
+ghost use Rattle.mdvsp.specs.Words.{Answers, IsAlone, IsNumberFor, IsNumberUpTo, IsWordAt, Word, command_name, least_of, most_of, other_setting, setting_name, with_setting, words_of};
 
-use crate::command::Command;
+use crate::command::{Command, Effort};
 use vs_instance::MAX_TRIPS;
-use vs_tree::MAX_BUDGET;
+use vs_tree::{MAX_BUDGET, MAX_WORKERS};
 
 /// The first bad word, counted from 1. Where a word is missing it is one more than there are.
 #[derive(Clone, Copy, Debug, PartialEq, Eq)]
@@ -12,8 +12,83 @@ pub struct BadWord(pub usize);
 /// How many digits a number among the words has at most.
 pub const MAX_DIGITS: usize = 6;
 
-/// What the words ask for: `check`, `network`, `blocks`, `solve` with or without `--nodes` and a number, or `make` and a
-/// number.
+/// How many workers share a search where the words don't say.
+pub const DEFAULT_WORKERS: u32 = 4;
+
+/// The effort of a search where the words don't say.
+const DEFAULT_EFFORT: Effort = Effort {
+    workers: DEFAULT_WORKERS,
+    nodes: None,
+};
+
+/// An option of `solve`, behind which a number stands.
+#[derive(Clone, Copy, Debug, PartialEq, Eq)]
+pub enum Setting {
+    /// How many workers share the search.
+    Workers,
+    /// On how many nodes it may work at most.
+    Nodes,
+}
+
+impl Setting {
+    /// The word that it begins with.
+    fn name(self) -> &'static str
+        ensures { result.now ≡ setting_name self }
+    {
+        match self {
+            Setting::Workers => "--workers",
+            Setting::Nodes => "--nodes",
+        }
+    }
+
+    /// The least number that it takes.
+    fn least(self) -> u32
+        ensures { result ≡ least_of self }
+    {
+        match self {
+            Setting::Workers => 1,
+            Setting::Nodes => 0,
+        }
+    }
+
+    /// The greatest number that it takes.
+    fn most(self) -> u32
+        ensures { result ≡ most_of self }
+    {
+        match self {
+            Setting::Workers => MAX_WORKERS,
+            Setting::Nodes => MAX_BUDGET,
+        }
+    }
+
+    /// The option that may still be given behind this one.
+    fn other(self) -> Setting
+        ensures { result ≡ other_setting self }
+    {
+        match self {
+            Setting::Workers => Setting::Nodes,
+            Setting::Nodes => Setting::Workers,
+        }
+    }
+
+    /// The effort with this number in it.
+    fn set(self, effort: Effort, n: u32) -> Effort
+        ensures { result ≡ with_setting self effort n }
+    {
+        match self {
+            Setting::Workers => Effort {
+                workers: n,
+                ..effort
+            },
+            Setting::Nodes => Effort {
+                nodes: Some(n),
+                ..effort
+            },
+        }
+    }
+}
+
+/// What the words ask for: `check`, `network`, `blocks`, `solve` with or without its options, or `make` and a number.
 #[tactic(auto, using(crate::proofs::grammar::CommandWords::no_command))]
 pub fn command_of(words: &[String]) -> Result<Command, BadWord>
     ensures { Answers (words_of words.now) result }
@@ -46,26 +121,59 @@ fn alone(words: &[String], command: Command) -> Result<Command, BadWord>
     }
 }
 
-/// `solve`, with a number of nodes or without.
-
+/// `solve`, with options or without.
 fn solve_of(words: &[String]) -> Result<Command, BadWord>
     requires { IsWordAt (words_of words.now) 0 (codes "solve") }
     ensures { Answers (words_of words.now) result }
 {
     if words.len() == 1 {
-        return Ok(Command::Solve(None));
+        Ok(Command::Solve(DEFAULT_EFFORT))
+    } else if is_word(words, 1, "--workers") {
+        options_of(words, Setting::Workers)
+    } else if is_word(words, 1, "--nodes") {
+        options_of(words, Setting::Nodes)
+    } else {
+        Err(BadWord(2))
     }
-    if !is_word(words, 1, "--nodes") {
-        return Err(BadWord(2));
-    }
-    let Some(nodes) = words.get(2) else {
+}
+
+/// `solve` with this option first, and maybe the other one behind its number.
+fn options_of(words: &[String], first: Setting) -> Result<Command, BadWord>
+    requires name { IsWordAt (words_of words.now) 0 (codes "solve") }
+    requires option { IsWordAt (words_of words.now) 1 (setting_name first) }
+    ensures { Answers (words_of words.now) result }
+{
+    let Some(n) = number_at(words, 2, first) else {
         return Err(BadWord(3));
     };
-    match number_up_to(nodes.as_str(), MAX_BUDGET) {
-        None => Err(BadWord(3)),
-        Some(n) if words.len() == 3 => Ok(Command::Solve(Some(n))),
-        Some(_) => Err(BadWord(4)),
+    let effort = first.set(DEFAULT_EFFORT, n);
+    if words.len() == 3 {
+        return Ok(Command::Solve(effort));
     }
+    let second = first.other();
+    if !is_word(words, 3, second.name()) {
+        return Err(BadWord(4));
+    }
+    let Some(m) = number_at(words, 4, second) else {
+        return Err(BadWord(5));
+    };
+    if words.len() == 5 {
+        Ok(Command::Solve(second.set(effort, m)))
+    } else {
+        Err(BadWord(6))
+    }
+}
+
+/// The number that the word at this place, counted from 0, writes for the option. None where there is no word, or it
+/// isn't one of the option's numbers.
+fn number_at(words: &[String], place: usize, setting: Setting) -> Option<u32>
+    ensures { MatchOption result
+        ((word : Word) (n : ℕ) → IsWordAt (words_of words.now) place word → ¬ (IsNumberFor setting word n))
+        (λ n. (word : Word) × IsWordAt (words_of words.now) place word × IsNumberFor setting word n) }
+{
+    let word = words.get(place)?;
+    let n = number_up_to(word.as_str(), setting.most())?;
+    if setting.least() <= n { Some(n) } else { None }
 }
 
 /// `make`, with a count of trips.

@@ -229,4 +229,4 @@ one_answer Blocks bytes a b r s is x y =
     one_of_three _ _ _ (blocks_once bytes) a b r s (blocks_three bytes a r x) (blocks_three bytes b s y)
 one_answer (Make n) bytes a b r s is x y =
     let one = make_done n a r x in let other = make_done n b s y in (one.0 ∙ sym other.0, one.1 ∙ sym other.1)
-one_answer (Solve nodes) bytes a b r s is x y = absurd is
+one_answer (Solve effort) bytes a b r s is x y = absurd is

@@ -1,21 +1,10 @@
 -- A text stands for one case, or what follows its instance is refused in one way.
-use Rattle.std.proofs.Common.{◌≡◌, ℕ, ◌⊎◌, inl, inr, List, [], ◌∷◌, Option, Some, None, refl, sym, ap, ◌∙◌, subst, ℤ}
-use Rattle.std.specs.Prelude.{IfSome, IsSome}
-use Rattle.std.proofs.lemmas.Bool.{false≢true}
-use Rattle.std.proofs.lemmas.Option.{same_Some}
-use Rattle.vs_instance.specs.Firsts.{first}
+use Rattle.std.proofs.Common.{◌≡◌, ℕ, inl, inr, List, [], ◌∷◌, sym, ap, ◌∙◌, subst}
 use Rattle.vs_instance.specs.Instance.{IsInstance}
-use Rattle.vs_instance.specs.Plan.{IsPlan, LayerBlock}
 use Rattle.vs_instance.specs.Problem.{Problem}
-use Rattle.vs_plan.specs.Blocks.{blocks_of}
-use Rattle.vs_plan.specs.PlanFaults.{faults_of}
-use Rattle.vs_plan.specs.declared.plan_fault.PlanFault.{PlanFault}
-use Rattle.vs_reader.specs.NameRules.{AreNames}
-use Rattle.vs_reader.specs.Names.{HaveCounts, NameLists}
+use Rattle.vs_reader.specs.Names.{NameLists}
 use Rattle.vs_reader.specs.Rows.{Row}
-use Rattle.vs_reader.specs.Texts.{StandsFor}
-use Rattle.vs_reader.proofs.texts.TextLemmas.{one_reading, refused_none, stands_counts}
-use Rattle.vs_tree.specs.declared.claim.Claim.{Claim}
+use Rattle.vs_reader.proofs.texts.TextLemmas.{one_reading, refused_none}
 use Rattle.vs_cert.specs.Alike.{AreAlike}
 use Rattle.vs_cert.specs.DocumentRefusals.{AreRefused}
 use Rattle.vs_cert.specs.DocumentText.{DocumentText}
@@ -24,19 +13,11 @@ use Rattle.vs_cert.specs.declared.refused.DocWhy.{DocWhy}
 use Rattle.vs_cert.proofs.alike.AlikeDocuments.{alike as alike_documents}
 use Rattle.vs_cert.proofs.rows.RefusedOnce.{document_not_refused, refused_once}
 use Rattle.vs_cert.proofs.alike.Suiting.{suits-text}
-use Rattle.vs_check.specs.Flaws.{flaws_of}
-use Rattle.vs_check.specs.HoldingDocument.{HoldingDocument}
 use Rattle.vs_check.specs.Laws.{AreJudgedAlike}
-use Rattle.vs_check.specs.declared.flaw.Flaw.{Flaw}
-use Rattle.vs_check.specs.declared.flaw.Flaw.TheVariants.{Plan}
 use Rattle.vs_check.proofs.AlikeDocuments.{judged_alike}
-use Rattle.mdvsp.specs.declared.status.Status.{Status}
-use Rattle.mdvsp.specs.declared.status.Status.TheVariants as status
-use Rattle.mdvsp.specs.Cases.{CheckText, LacksDocument}
-use Rattle.mdvsp.specs.FlawRows.{no_row}
-use Rattle.mdvsp.specs.Owed.{BlocksOwes, CheckOwes, OwesDocumentRefusal, OwesNo, OwesNoCase, OwesNoTimetable, OwesRefusal, OwesTimetable, OwesYes, yes_row}
+use Rattle.mdvsp.specs.Cases.{CheckText}
+use Rattle.mdvsp.specs.Owed.{OwesDocumentRefusal, OwesNoCase}
 use Rattle.mdvsp.specs.RefusalRows.{document_refusal_row}
-use Rattle.mdvsp.specs.Timetable.{rows_beside}
 use Rattle.mdvsp.proofs.LawDocuments.{instance_names}
 
 -- two readings of the same bytes behind which documents stand

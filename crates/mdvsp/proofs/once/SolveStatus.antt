@@ -1,26 +1,24 @@
 -- What two searches of one instance have to do with each other.
-use Rattle.std.proofs.Common.{◌≡◌, ◌≢◌, ℕ, ◌+◌, ◌*◌, ◌≤◌, ◌⊎◌, inl, inr, refl, List, [], ◌∷◌, Option, Some, None, IfSome, IfNone, sym, ap, ◌∙◌, subst, ℤ, pos, ◌≤ℤ◌, arith}
+use Rattle.std.proofs.Common.{◌≡◌, ◌≢◌, ℕ, ◌+◌, ◌*◌, ◌≤◌, inl, inr, refl, List, Option, Some, None, IfSome, sym, ◌∙◌, subst, ℤ, pos, ◌≤ℤ◌, arith}
 use Rattle.std.proofs.lemmas.Int.{ints}
 use Rattle.vs_instance.specs.Plan.{IsPlan, LayerBlock, plan_cost}
 use Rattle.vs_instance.specs.Problem.{Problem}
 use Rattle.vs_instance.specs.Restriction.{permitted_sets}
 use Rattle.vs_plan.specs.Blocks.{blocks_of}
-use Rattle.vs_reader.specs.Names.{NameLists}
 use Rattle.vs_reader.specs.Rows.{Row}
 use Rattle.vs_reader.proofs.texts.TextLemmas.{one_reading, refused_none}
 use Rattle.vs_tree.specs.declared.claim.Claim.{Claim}
 use Rattle.vs_tree.specs.declared.claim.Claim.TheVariants.{Optimal, Infeasible, StillOpen}
-use Rattle.vs_tree.specs.Claims.{claim_found}
 use Rattle.vs_cert.specs.declared.document.Document.{Document}
 use Rattle.vs_check.specs.Answers.{choices}
 use Rattle.vs_check.specs.HoldingDocument.{ProvesItsClaim}
 use Rattle.vs_check.proofs.EnoughBudgets.{enough_budgets_leave_nothing_open}
+use Rattle.mdvsp.specs.declared.command.Effort.{Effort}
 use Rattle.mdvsp.specs.declared.status.Status.{Status}
 use Rattle.mdvsp.specs.declared.status.Status.TheVariants as status
 use Rattle.mdvsp.specs.Budgets.{budget_of}
-use Rattle.mdvsp.specs.Cases.{SolveText}
-use Rattle.mdvsp.specs.Laws.{IsSettled, MayBothBe, NeverPasses}
-use Rattle.mdvsp.specs.Owed.{OwesDocument, OwesNoSearch, OwesRefusal, OwesTooLarge, SolveOwes, status_of}
+use Rattle.mdvsp.specs.Laws.{MayBothBe, NeverPasses}
+use Rattle.mdvsp.specs.Owed.{OwesDocument, OwesNoSearch, SolveOwes, status_of}
 
 -- what two documents prove of the same instance
 bound_and_cost : (p : Problem) (d e : Document) (bound cost : Option ℤ) → d.bound ≡ bound → e.cost ≡ cost
@@ -40,7 +38,7 @@ bound_and_cost p d e (Some b) (Some c) is so proves also =
 never_passes : (p : Problem) (d e : Document) → ProvesItsClaim p d → ProvesItsClaim p e → NeverPasses d e
 never_passes p d e proves also = bound_and_cost p d e d.bound e.cost refl refl proves also
 
-module _ (bytes : List ℕ) (m n : Option ℕ) (a b : Status) (r s : List Row) (owed : OwesDocument m bytes a r)
+module _ (bytes : List ℕ) (m n : Effort) (a b : Status) (r s : List Row) (owed : OwesDocument m bytes a r)
     (also : OwesDocument n bytes b s) where
   same : also.problem ≡ owed.problem
   same = (one_reading bytes owed.problem also.problem owed.names also.names owed.text.before also.text.before
@@ -70,7 +68,7 @@ claims_agree StillOpen Optimal never nor = inr (inl (refl, tt))
 claims_agree StillOpen Infeasible never nor = inr (inl (refl, tt))
 claims_agree StillOpen StillOpen never nor = inl refl
 
-written_both : (bytes : List ℕ) (n : Option ℕ) (a b : Status) (r s : List Row) → OwesDocument n bytes a r
+written_both : (bytes : List ℕ) (n : Effort) (a b : Status) (r s : List Row) → OwesDocument n bytes a r
     → OwesDocument n bytes b s → MayBothBe a b
 written_both bytes n a b r s owed also =
     rw (owed.status_is, also.status_is)
@@ -78,45 +76,45 @@ written_both bytes n a b r s owed also =
     (not_both bytes n n b a s r also owed))
 
 -- what `solve` may owe
-data Solved (nodes : Option ℕ) (bytes : List ℕ) (answer : Status) (rows : List Row) : Type 0 where
-  Written : OwesDocument nodes bytes answer rows → Solved nodes bytes answer rows
-  Refused : answer ≡ status.BadInput → OwesNoSearch nodes bytes rows → Solved nodes bytes answer rows
+data Solved (effort : Effort) (bytes : List ℕ) (answer : Status) (rows : List Row) : Type 0 where
+  Written : OwesDocument effort bytes answer rows → Solved effort bytes answer rows
+  Refused : answer ≡ status.BadInput → OwesNoSearch effort bytes rows → Solved effort bytes answer rows
 
-solved : (nodes : Option ℕ) (bytes : List ℕ) (answer : Status) (rows : List Row) → SolveOwes nodes bytes answer rows
-    → Solved nodes bytes answer rows
-solved nodes bytes status.Done rows owed = Written owed
-solved nodes bytes status.Infeasible rows owed = Written owed
-solved nodes bytes status.StillOpen rows owed = Written owed
-solved nodes bytes status.BadInput rows owed = Refused refl owed
-solved nodes bytes _ rows owed = absurd owed
+solved : (effort : Effort) (bytes : List ℕ) (answer : Status) (rows : List Row) → SolveOwes effort bytes answer rows
+    → Solved effort bytes answer rows
+solved effort bytes status.Done rows owed = Written owed
+solved effort bytes status.Infeasible rows owed = Written owed
+solved effort bytes status.StillOpen rows owed = Written owed
+solved effort bytes status.BadInput rows owed = Refused refl owed
+solved effort bytes _ rows owed = absurd owed
 
 -- an instance that is searched isn't refused
-read_or_refused : (nodes : Option ℕ) (bytes : List ℕ) (answer : Status) (r s : List Row)
-    → OwesDocument nodes bytes answer r → OwesNoSearch nodes bytes s → ⊥
-read_or_refused nodes bytes answer r s owed (inl refusal) =
+read_or_refused : (effort : Effort) (bytes : List ℕ) (answer : Status) (r s : List Row)
+    → OwesDocument effort bytes answer r → OwesNoSearch effort bytes s → ⊥
+read_or_refused effort bytes answer r s owed (inl refusal) =
     refused_none bytes refusal.refused owed.problem owed.names owed.text.before owed.text.rest refusal.is_refused
     owed.text.instance
-read_or_refused nodes bytes answer r s owed (inr large) =
+read_or_refused effort bytes answer r s owed (inr large) =
     let same = (one_reading bytes owed.problem large.problem owed.names large.names owed.text.before large.text.before
     owed.text.rest large.text.rest owed.text.instance large.text.instance).0 in
-    let none : budget_of owed.problem nodes ≡ None =
-    subst (λ (x : Problem). budget_of x nodes ≡ None) same large.too_large in
+    let none : budget_of owed.problem effort.nodes ≡ None =
+    subst (λ (x : Problem). budget_of x effort.nodes ≡ None) same large.too_large in
     let some = owed.budget_is in
     cc
 
-one_of_two : (nodes : Option ℕ) (bytes : List ℕ) (a b : Status) (r s : List Row) → Solved nodes bytes a r
-    → Solved nodes bytes b s → MayBothBe a b
-one_of_two nodes bytes a b r s (Written owed) (Written also) = written_both bytes nodes a b r s owed also
-one_of_two nodes bytes a b r s (Written owed) (Refused is none) =
-    absurd (read_or_refused nodes bytes a r s owed none)
-one_of_two nodes bytes a b r s (Refused is none) (Written owed) =
-    absurd (read_or_refused nodes bytes b s r owed none)
-one_of_two nodes bytes a b r s (Refused is none) (Refused so other) = inl (is ∙ sym so)
+one_of_two : (effort : Effort) (bytes : List ℕ) (a b : Status) (r s : List Row) → Solved effort bytes a r
+    → Solved effort bytes b s → MayBothBe a b
+one_of_two effort bytes a b r s (Written owed) (Written also) = written_both bytes effort a b r s owed also
+one_of_two effort bytes a b r s (Written owed) (Refused is none) =
+    absurd (read_or_refused effort bytes a r s owed none)
+one_of_two effort bytes a b r s (Refused is none) (Written owed) =
+    absurd (read_or_refused effort bytes b s r owed none)
+one_of_two effort bytes a b r s (Refused is none) (Refused so other) = inl (is ∙ sym so)
 
-pub solve_status : (nodes : Option ℕ) (bytes : List ℕ) (a b : Status) (r s : List Row) → SolveOwes nodes bytes a r
-    → SolveOwes nodes bytes b s → MayBothBe a b
-solve_status nodes bytes a b r s owed also =
-    one_of_two nodes bytes a b r s (solved nodes bytes a r owed) (solved nodes bytes b s also)
+pub solve_status : (effort : Effort) (bytes : List ℕ) (a b : Status) (r s : List Row) → SolveOwes effort bytes a r
+    → SolveOwes effort bytes b s → MayBothBe a b
+solve_status effort bytes a b r s owed also =
+    one_of_two effort bytes a b r s (solved effort bytes a r owed) (solved effort bytes b s also)
 
 -- enough nodes leave nothing open
 open_claim : (claim : Claim) → status_of claim ≡ status.StillOpen → claim ≡ StillOpen
@@ -124,10 +122,10 @@ open_claim Optimal e = cc
 open_claim Infeasible e = cc
 open_claim StillOpen e = refl
 
-pub enough_nodes_leave_nothing_open : (nodes : Option ℕ) (bytes : List ℕ) (answer : Status) (rows : List Row)
-    (owed : OwesDocument nodes bytes answer rows)
+pub enough_nodes_leave_nothing_open : (effort : Effort) (bytes : List ℕ) (answer : Status) (rows : List Row)
+    (owed : OwesDocument effort bytes answer rows)
     → 2 * choices (permitted_sets owed.problem) ≤ owed.budget + 1 → answer ≢ status.StillOpen
-enough_nodes_leave_nothing_open nodes bytes answer rows owed enough still =
+enough_nodes_leave_nothing_open effort bytes answer rows owed enough still =
     let by = owed.solves.searched in
     let of_state = by.of_state in
     enough_budgets_leave_nothing_open by.opening by.steps owed.document by.is_opening by.history by.over of_state

@@ -14,6 +14,7 @@ use Rattle.mdvsp.specs.declared.answer.Answer.{Answer}
 use Rattle.mdvsp.specs.declared.status.Status.{Status}
 use Rattle.mdvsp.specs.declared.status.Status.TheVariants as status
 use Rattle.mdvsp.specs.declared.command.Command.{Command}
+use Rattle.mdvsp.specs.declared.command.Effort.{Effort}
 use Rattle.mdvsp.specs.declared.command.Command.TheVariants.{Check, Solve, Network}
 use Rattle.mdvsp.specs.Answered.{HasSizes, IsDocumentOf, IsNoCase, IsOwedFor, RefusesCase, case_error}
 use Rattle.vs_cert.specs.DocumentRefusals.{AreRefused}
@@ -50,22 +51,22 @@ refusal : (bytes : List ℕ) (refused : Refused) → IsRefused bytes refused
 refusal bytes refused is = record { refused = refused; is_refused = is; rows_are = refl }
 
 -- a text that is refused is owed its refusal
-pub solve_refusal_owed : (nodes : Option ℕ) (bytes : List ℕ) (refused : Refused) (r : Result Answer Memory)
+pub solve_refusal_owed : (effort : Effort) (bytes : List ℕ) (refused : Refused) (r : Result Answer Memory)
     → IsRefused bytes refused → IfOk r (TellsRow status.BadInput (refusal_row refused))
-    → IfOk r (IsOwedFor (Solve nodes) bytes)
-solve_refusal_owed nodes bytes refused (Ok a) is says =
-    owed_so (Solve nodes) bytes a status.BadInput (refusal_row refused ∷ []) (inl (refusal bytes refused is)) says.0
+    → IfOk r (IsOwedFor (Solve effort) bytes)
+solve_refusal_owed effort bytes refused (Ok a) is says =
+    owed_so (Solve effort) bytes a status.BadInput (refusal_row refused ∷ []) (inl (refusal bytes refused is)) says.0
     says.1
-solve_refusal_owed nodes bytes refused (Err m) is says = tt
+solve_refusal_owed effort bytes refused (Err m) is says = tt
 
 -- and so is a search of too many nodes
-pub too_large_owed : (nodes : Option ℕ) (bytes : List ℕ) (p : Problem) (names : NameLists) (r : Result Answer Memory)
-    → SolveText bytes p names → budget_of p nodes ≡ None → IfOk r (TellsRow status.BadInput too_large_row)
-    → IfOk r (IsOwedFor (Solve nodes) bytes)
-too_large_owed nodes bytes p names (Ok a) text none says =
-    owed_so (Solve nodes) bytes a status.BadInput (too_large_row ∷ [])
+pub too_large_owed : (effort : Effort) (bytes : List ℕ) (p : Problem) (names : NameLists) (r : Result Answer Memory)
+    → SolveText bytes p names → budget_of p effort.nodes ≡ None → IfOk r (TellsRow status.BadInput too_large_row)
+    → IfOk r (IsOwedFor (Solve effort) bytes)
+too_large_owed effort bytes p names (Ok a) text none says =
+    owed_so (Solve effort) bytes a status.BadInput (too_large_row ∷ [])
     (inr (record { problem = p; names = names; text = text; too_large = none; rows_are = refl })) says.0 says.1
-too_large_owed nodes bytes p names (Err m) text none says = tt
+too_large_owed effort bytes p names (Err m) text none says = tt
 
 pub network_refusal_owed : (bytes : List ℕ) (refused : Refused) (r : Result Answer Memory) → IsRefused bytes refused
     → IfOk r (TellsRow status.BadInput (refusal_row refused)) → IfOk r (IsOwedFor Network bytes)
@@ -157,18 +158,18 @@ first_of_verdict None verdict flaw is refused = cc
 first_of_verdict (Some other) verdict flaw is refused = cc
 
 -- a document with its claim's status is what solve owes
-solve_owes : (nodes : Option ℕ) (bytes : List ℕ) (claim : Claim) (rows : List Row)
-    → OwesDocument nodes bytes (status_of claim) rows → SolveOwes nodes bytes (status_of claim) rows
-solve_owes nodes bytes Optimal rows o = o
-solve_owes nodes bytes Infeasible rows o = o
-solve_owes nodes bytes StillOpen rows o = o
+solve_owes : (effort : Effort) (bytes : List ℕ) (claim : Claim) (rows : List Row)
+    → OwesDocument effort bytes (status_of claim) rows → SolveOwes effort bytes (status_of claim) rows
+solve_owes effort bytes Optimal rows o = o
+solve_owes effort bytes Infeasible rows o = o
+solve_owes effort bytes StillOpen rows o = o
 
-pub document_owed : (nodes : Option ℕ) (bytes : List ℕ) (p : Problem) (names : NameLists) (budget : ℕ)
-    (r : Result Answer Memory) → SolveText bytes p names → budget_of p nodes ≡ Some budget
-    → IfOk r (IsDocumentOf p names budget) → IfOk r (IsOwedFor (Solve nodes) bytes)
-document_owed nodes bytes p names budget (Ok a) text budget_is d =
-    owed_so (Solve nodes) bytes a (status_of d.document.claim) (document_rows p names d.document)
-    (solve_owes nodes bytes d.document.claim (document_rows p names d.document) (record {
+pub document_owed : (effort : Effort) (bytes : List ℕ) (p : Problem) (names : NameLists) (budget : ℕ)
+    (r : Result Answer Memory) → SolveText bytes p names → budget_of p effort.nodes ≡ Some budget
+    → IfOk r (IsDocumentOf p names budget effort.workers) → IfOk r (IsOwedFor (Solve effort) bytes)
+document_owed effort bytes p names budget (Ok a) text budget_is d =
+    owed_so (Solve effort) bytes a (status_of d.document.claim) (document_rows p names d.document)
+    (solve_owes effort bytes d.document.claim (document_rows p names d.document) (record {
       problem = p;
       names = names;
       document = d.document;
@@ -180,7 +181,7 @@ document_owed nodes bytes p names budget (Ok a) text budget_is d =
       status_is = refl;
       rows_are = refl;
     })) d.status_is d.text_is
-document_owed nodes bytes p names budget (Err m) text budget_is d = tt
+document_owed effort bytes p names budget (Err m) text budget_is d = tt
 
 -- the sizes of the nets are what network owes
 pub sizes_owed : (bytes : List ℕ) (p : Problem) (names : NameLists) (r : Result Answer Memory)

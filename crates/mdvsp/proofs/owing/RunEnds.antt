@@ -21,11 +21,11 @@ answered_ends run Check bytes Done rows o w = w
 answered_ends run Check bytes SaysNo rows o w = w
 answered_ends run Check bytes BadInput rows o w = w
 answered_ends run Check bytes _ rows o w = absurd o
-answered_ends run (Solve nodes) bytes Done rows o w = w
-answered_ends run (Solve nodes) bytes BadInput rows o w = w
-answered_ends run (Solve nodes) bytes Infeasible rows o w = w
-answered_ends run (Solve nodes) bytes StillOpen rows o w = w
-answered_ends run (Solve nodes) bytes _ rows o w = absurd o
+answered_ends run (Solve effort) bytes Done rows o w = w
+answered_ends run (Solve effort) bytes BadInput rows o w = w
+answered_ends run (Solve effort) bytes Infeasible rows o w = w
+answered_ends run (Solve effort) bytes StillOpen rows o w = w
+answered_ends run (Solve effort) bytes _ rows o w = absurd o
 answered_ends run Network bytes Done rows o w = w
 answered_ends run Network bytes BadInput rows o w = w
 answered_ends run Network bytes _ rows o w = absurd o
@@ -56,7 +56,7 @@ took_few : (command : Command) (left left_after : Told) (bytes : List ℕ) → H
 took_few (Make n) left left_after bytes h =
     ([], subst (λ (told : Told). Takes left told []) (sym h.1) (takes_none left), omega arith)
 took_few Check left left_after bytes h = (bytes, takes_all left left_after bytes h.0, h.1)
-took_few (Solve nodes) left left_after bytes h = (bytes, takes_all left left_after bytes h.0, h.1)
+took_few (Solve effort) left left_after bytes h = (bytes, takes_all left left_after bytes h.0, h.1)
 took_few Network left left_after bytes h = (bytes, takes_all left left_after bytes h.0, h.1)
 took_few Blocks left left_after bytes h = (bytes, takes_all left left_after bytes h.0, h.1)
 

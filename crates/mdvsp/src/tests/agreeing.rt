@@ -22,15 +22,15 @@ pub(crate) fn instance_of(alloc: Global, text: &[u8]) -> Result<Instance, Fail> 
 }
 
 /// The instance that `make` writes for so many trips.
-fn made(alloc: Global, trips: &str) -> Result<Instance, Fail> {
-    let (_, text) = outcome(alloc, &["make", trips], &[])?;
+fn made<R: Threads + Wait + Sync>(rt: &R, alloc: Global, trips: &str) -> Result<Instance, Fail> {
+    let (_, text) = outcome(rt, alloc, &["make", trips], &[])?;
     instance_of(alloc, &text)
 }
 
 #[test]
 fn agrees_on_cheap_plans(rt: HostRuntime) -> Result<(), Fail> {
     let alloc = rt.alloc();
-    let instance = made(alloc, "100")?;
+    let instance = made(&rt, alloc, "100")?;
     let nets = layer_nets(alloc, &instance)?;
     let sets = permitted_sets(alloc, &instance)?;
     let mut work = Work::new(alloc, &nets)?;
@@ -73,7 +73,7 @@ fn ends_where_there_is_no_plan(rt: HostRuntime) -> Result<(), Fail> {
 #[test]
 fn later_rounds_are_worth_more(rt: HostRuntime) -> Result<(), Fail> {
     let alloc = rt.alloc();
-    let instance = made(alloc, "30")?;
+    let instance = made(&rt, alloc, "30")?;
     let nets = layer_nets(alloc, &instance)?;
     let sets = permitted_sets(alloc, &instance)?;
     let mut work = Work::new(alloc, &nets)?;

@@ -27,7 +27,7 @@ fn tells_sizes_of_nets(rt: HostRuntime) -> Result<(), Fail> {
         ),
     ];
     for (trips, written) in cases {
-        let (ended, text) = outcome(rt.alloc(), &["network"], &[STOPS, LAYER, trips])?;
+        let (ended, text) = outcome(&rt, rt.alloc(), &["network"], &[STOPS, LAYER, trips])?;
         assert_eq!(rt; ended, Status::Done);
         assert_eq!(rt; text.as_slice(), written.as_bytes());
     }
@@ -40,11 +40,11 @@ trip,T2,S10,18:08,S3,18:44,9000,L1,L3
 
 #[test]
 fn makes_instances(rt: HostRuntime) -> Result<(), Fail> {
-    let (ended, two) = outcome(rt.alloc(), &["make", "2"], &["left"])?;
+    let (ended, two) = outcome(&rt, rt.alloc(), &["make", "2"], &["left"])?;
     assert_eq!(rt; ended, Status::Done);
     assert_eq!(rt; two.ends_with(LAST_ROWS_OF_TWO.as_bytes()), true);
     for (n, rows) in [("0", 149), ("2", 151), ("007", 156), ("300", 449)] {
-        let (_, text) = outcome(rt.alloc(), &["make", n], &[])?;
+        let (_, text) = outcome(&rt, rt.alloc(), &["make", n], &[])?;
         assert_eq!(rt; text.iter().filter(|byte| **byte == b'\n').count(), rows);
     }
     Ok(())
@@ -58,7 +58,7 @@ fn makes_without_reading(rt: HostRuntime) -> Result<(), Fail> {
         |_| AllocError,
     )?;
     assert_eq!(rt;
-        run(rt.alloc(), &words, &mut source, &mut sink),
+        run(&rt, rt.alloc(), &words, &mut source, &mut sink, &NoGate),
         Status::Done
     );
     let left = slurp(rt.alloc(), &mut source, 9).map_err(|_| AllocError)?;
@@ -98,7 +98,7 @@ const TIMETABLES: [(&str, &str, Status, &str); 4] = [
 fn prints_timetables(rt: HostRuntime) -> Result<(), Fail> {
     for (case, blocks, status, written) in TIMETABLES {
         let input = [STOPS, LAYER, TRIPS, "result,1,open\n", blocks, TABLE, END];
-        let (ended, text) = outcome(rt.alloc(), &["blocks"], &input)?;
+        let (ended, text) = outcome(&rt, rt.alloc(), &["blocks"], &input)?;
         assert_eq!(rt; ended, status, "{case}");
         assert_eq!(rt; text.as_slice(), written.as_bytes(), "{case}");
     }

@@ -1,9 +1,11 @@
 //! `solve`, and `check` on what it writes.
 
 use super::*;
+use std::sync::atomic::{AtomicBool, AtomicU64, Ordering};
+use std::thread::yield_now;
 
-/// What a timetable is like, its text, how planning it ends, the first rows that are written, how many cases may be
-/// worked on, and the verdict on the document.
+/// What a timetable is like, its text, the last words of the calls that plan it, how they end, the first rows that are
+/// written, and the verdict on the document.
 struct Searched {
     case: &'static str,
     input: &'static [&'static str],
@@ -30,7 +32,7 @@ const SEARCHES: [Searched; 9] = [
     Searched {
         case: "no trips",
         input: &[STOPS, LAYER],
-        words: &["solve"],
+        words: &[],
         status: Status::Done,
         head: "result,1,optimal\ncost,0\nbound,0\nnodes,0\ntable,1,cost\nfleet,L1,0\nleaf,1\nend\n",
         verdict: "yes,optimal,0,0\n",
@@ -38,7 +40,7 @@ const SEARCHES: [Searched; 9] = [
     Searched {
         case: "two trips",
         input: &[STOPS, LAYER, TRIPS],
-        words: &["solve"],
+        words: &[],
         status: Status::Done,
         head: "result,1,optimal\ncost,1080\nbound,1080\nnodes,1\nblock,L1,t1,t2\ntable,1,cost\n",
         verdict: "yes,optimal,1080,1080\n",
@@ -46,7 +48,7 @@ const SEARCHES: [Searched; 9] = [
     Searched {
         case: "late second trip",
         input: &[STOPS, LAYER, LATE_TRIPS],
-        words: &["solve"],
+        words: &[],
         status: Status::Done,
         head: "result,1,optimal\ncost,2101\nbound,2101\nnodes,1\nblock,L1,t1\nblock,L1,t2\n",
         verdict: "yes,optimal,2101,2101\n",
@@ -54,7 +56,7 @@ const SEARCHES: [Searched; 9] = [
     Searched {
         case: "one vehicle short",
         input: &[STOPS, ONE_VEHICLE, LATE_TRIPS],
-        words: &["solve"],
+        words: &[],
         status: Status::Infeasible,
         head: "result,1,infeasible\ncost,none\nbound,none\nnodes,1\ntable,1,ray\n",
         verdict: "yes,infeasible,none,none\n",
@@ -62,7 +64,7 @@ const SEARCHES: [Searched; 9] = [
     Searched {
         case: "first minute",
         input: &[STOPS, LAYER, FIRST_MINUTE],
-        words: &["solve"],
+        words: &[],
         status: Status::Done,
         head: "result,1,optimal\ncost,1020\nbound,1020\n",
         verdict: "yes,optimal,1020,1020\n",
@@ -70,7 +72,7 @@ const SEARCHES: [Searched; 9] = [
     Searched {
         case: "too early",
         input: &[STOPS, LAYER, TOO_EARLY],
-        words: &["solve"],
+        words: &[],
         status: Status::Infeasible,
         head: "result,1,infeasible\ncost,none\nbound,none\n",
         verdict: "yes,infeasible,none,none\n",
@@ -78,7 +80,7 @@ const SEARCHES: [Searched; 9] = [
     Searched {
         case: "two layers apart",
         input: &[STOPS, LAYER, OTHER_LAYER, TRIPS_APART],
-        words: &["solve", "--nodes", "1"],
+        words: &["--nodes", "1"],
         status: Status::Done,
         head: "result,1,optimal\ncost,2095\nbound,2095\nnodes,1\nblock,L1,t1\nblock,L2,t2\n",
         verdict: "yes,optimal,2095,2095\n",
@@ -86,7 +88,7 @@ const SEARCHES: [Searched; 9] = [
     Searched {
         case: "halves of blocks",
         input: &HALVES,
-        words: &["solve", "--nodes", "127"],
+        words: &["--nodes", "127"],
         status: Status::Infeasible,
         head: "result,1,infeasible\ncost,none\nbound,none\n",
         verdict: "yes,infeasible,none,none\n",
@@ -94,62 +96,129 @@ const SEARCHES: [Searched; 9] = [
     Searched {
         case: "a trip in either of two layers",
         input: &[STOPS, TWO_LAYERS],
-        words: &["solve"],
+        words: &[],
         status: Status::Done,
         head: "result,1,optimal\ncost,500\nbound,500\n",
         verdict: "yes,optimal,500,500\n",
     },
 ];
 
-/// How `check` ends on an instance and a document, and what it writes.
-fn judged(alloc: Global, instance: &[u8], document: &[u8]) -> Result<(Status, Vec<u8>), Fail> {
-    let mut both = instance.to_vec(alloc)?;
-    both.extend_from_slice(document)?;
-    let words = owned(alloc, &["check"])?;
-    let mut source = MemSource::new(both, 4096, Vec::new(alloc));
-    let mut sink = MemSink::new(alloc, 256, 256, Vec::new(alloc)).map_err(|_| AllocError)?;
-    let status = run(alloc, &words, &mut source, &mut sink);
-    let written = sink.taken().to_vec(alloc)?;
-    Ok((status, written))
+/// Plans a timetable by so many workers, and judges the document.
+fn searched_by<R: Threads + Wait + Sync>(
+    rt: &R,
+    alloc: Global,
+    searched: &Searched,
+    workers: &str,
+) -> Result<Audited, Fail> {
+    let mut words = Vec::from_slice(alloc, &["solve", "--workers", workers])?;
+    words.extend_from_slice(searched.words)?;
+    let instance = joined(alloc, searched.input)?;
+    audit(rt, alloc, &words, &instance, &instance)
 }
 
 #[test]
 fn searches_for_plans(rt: HostRuntime) -> Result<(), Fail> {
     for searched in &SEARCHES {
-        let (ended, document) = outcome(rt.alloc(), searched.words, searched.input)?;
-        assert_eq!(rt; ended, searched.status, "{}", searched.case);
-        assert_eq!(rt;
-            document.starts_with(searched.head.as_bytes()),
-            true,
-            "{}",
-            searched.case
-        );
-        let instance = joined(rt.alloc(), searched.input)?;
-        let (verdict, row) = judged(rt.alloc(), &instance, &document)?;
-        assert_eq!(rt; verdict, Status::Done, "{}", searched.case);
-        assert_eq!(rt;
-            row.as_slice(),
-            searched.verdict.as_bytes(),
-            "{}",
-            searched.case
-        );
+        for workers in ["1", "2", "4"] {
+            let told = searched_by(&rt, rt.alloc(), searched, workers)?;
+            assert_eq!(rt;
+                told.status,
+                searched.status,
+                "{}, {workers}",
+                searched.case
+            );
+            assert_eq!(rt;
+                told.document.starts_with(searched.head.as_bytes()),
+                true,
+                "{}, {workers}",
+                searched.case
+            );
+            assert_eq!(rt; told.verdict, Status::Done, "{}, {workers}", searched.case);
+            assert_eq!(rt;
+                told.row.as_slice(),
+                searched.verdict.as_bytes(),
+                "{}, {workers}",
+                searched.case
+            );
+        }
     }
     Ok(())
 }
 
-/// A timetable of three hundred trips and more is planned, and its document holds.
+/// A gate that holds the first worker that comes for a leaf other than the root until one has come for another such leaf.
+#[derive(Drop)]
+struct Meeting {
+    came: AtomicU64,
+    met: AtomicBool,
+}
+
+/// How often the first worker looks for the other one at most.
+const MOST_LOOKS: u32 = 1_000_000_000;
+
+impl Gate for Meeting {
+    fn before(&self, _worker: u32, leaf: u32) {
+        if leaf == 0 || self.came.fetch_add(1, Ordering::SeqCst) != 0 {
+            return;
+        }
+        for _ in 0..MOST_LOOKS {
+            if self.came.load(Ordering::SeqCst) != 1 {
+                self.met.store(true, Ordering::SeqCst);
+                return;
+            }
+            yield_now();
+        }
+    }
+}
+
+/// How planning by two workers and judging the document end, and whether both worked on leaves at one time.
+fn met<R: Threads + Wait + Sync>(rt: &R, alloc: Global) -> Result<(Status, Status, bool), Fail> {
+    let meeting = Meeting {
+        came: AtomicU64::new(0),
+        met: AtomicBool::new(false),
+    };
+    let words = ["solve", "--workers", "2", "--nodes", "127"];
+    let mut both = joined(alloc, &HALVES)?;
+    let (status, document) = ran_past(rt, alloc, &words, both.clone()?, &meeting)?;
+    both.extend_from_slice(&document)?;
+    let (verdict, _) = ran(rt, alloc, &["check"], both)?;
+    Ok((status, verdict, meeting.met.load(Ordering::SeqCst)))
+}
+
+#[test]
+fn two_workers_work_at_one_time(rt: HostRuntime) -> Result<(), Fail> {
+    let (status, verdict, met) = met(&rt, rt.alloc())?;
+    assert_eq!(rt; status, Status::Infeasible);
+    assert_eq!(rt; verdict, Status::Done);
+    assert_eq!(rt; met, true);
+    Ok(())
+}
+
+/// Any number of workers plans a timetable of a hundred trips, and the document holds.
+#[test]
+fn plans_by_many_workers(rt: HostRuntime) -> Result<(), Fail> {
+    let (_, instance) = outcome(&rt, rt.alloc(), &["make", "100"], &[])?;
+    for workers in ["1", "4", "16", "64"] {
+        let words = ["solve", "--workers", workers, "--nodes", "200"];
+        let told = audit(&rt, rt.alloc(), &words, &instance, &instance)?;
+        assert!(rt; told.status == Status::Done || told.status == Status::StillOpen);
+        assert_eq!(rt; told.verdict, Status::Done, "{workers}");
+    }
+    Ok(())
+}
+
+/// A timetable of three hundred trips is planned, and its document holds.
 #[test]
 fn plans_three_hundred_trips(rt: HostRuntime) -> Result<(), Fail> {
-    let (_, instance) = outcome(rt.alloc(), &["make", "300"], &[])?;
-    let words = owned(rt.alloc(), &["solve", "--nodes", "20"])?;
-    let mut source = MemSource::new(instance.clone()?, 4096, Vec::new(rt.alloc()));
-    let mut sink = MemSink::new(rt.alloc(), 1 << 20, 4096, Vec::new(rt.alloc())).map_err(
-        |_| AllocError,
+    let (_, instance) = outcome(&rt, rt.alloc(), &["make", "300"], &[])?;
+    let told = audit(
+        &rt,
+        rt.alloc(),
+        &["solve", "--workers", "4", "--nodes", "20"],
+        &instance,
+        &instance,
     )?;
-    let status = run(rt.alloc(), &words, &mut source, &mut sink);
-    assert!(rt; status == Status::Done || status == Status::StillOpen);
-    let (verdict, _) = judged(rt.alloc(), &instance, sink.taken())?;
-    assert_eq!(rt; verdict, Status::Done);
+    assert!(rt; told.status == Status::Done || told.status == Status::StillOpen);
+    assert_eq!(rt; told.verdict, Status::Done);
     Ok(())
 }
 
@@ -169,24 +238,23 @@ fn largest(alloc: Global) -> Result<Vec<u8>, Fail> {
 #[test]
 fn refuses_nodes_that_are_too_many(rt: HostRuntime) -> Result<(), Fail> {
     let text = largest(rt.alloc())?;
-    let head = "result,1,optimal\ncost,0\nbound,0\nnodes,0\n";
-    let cases: [(&[&str], Status, &str); 3] = [
-        (
-            &["solve", "--nodes", "94"],
-            Status::BadInput,
-            "refused,0,40,TooLarge\n",
-        ),
-        (&["solve", "--nodes", "93"], Status::Done, head),
-        (&["solve"], Status::Done, head),
-    ];
-    for (words, status, written) in cases {
-        let words = owned(rt.alloc(), words)?;
-        let mut source = MemSource::new(text.clone()?, 4096, Vec::new(rt.alloc()));
-        let mut sink = MemSink::new(rt.alloc(), 1 << 21, 4096, Vec::new(rt.alloc())).map_err(
-            |_| AllocError,
-        )?;
-        assert_eq!(rt; run(rt.alloc(), &words, &mut source, &mut sink), status);
-        assert_eq!(rt; sink.taken().starts_with(written.as_bytes()), true);
+    let (status, row) = ran(&rt, rt.alloc(), &["solve", "--nodes", "94"], text)?;
+    assert_eq!(rt; status, Status::BadInput);
+    assert_eq!(rt; row.as_slice(), b"refused,0,40,TooLarge\n".as_slice());
+    Ok(())
+}
+
+#[test]
+fn plans_the_largest_timetable(rt: HostRuntime) -> Result<(), Fail> {
+    let text = largest(rt.alloc())?;
+    let cases: [&[&str]; 2] = [&["solve", "--nodes", "93"], &["solve"]];
+    for words in cases {
+        let told = audit(&rt, rt.alloc(), words, &text, &text)?;
+        let head = b"result,1,optimal\ncost,0\nbound,0\nnodes,0\n";
+        assert_eq!(rt; told.status, Status::Done);
+        assert_eq!(rt; told.document.starts_with(head), true);
+        assert_eq!(rt; told.verdict, Status::Done);
+        assert_eq!(rt; told.row.as_slice(), b"yes,optimal,0,0\n".as_slice());
     }
     Ok(())
 }

@@ -1,4 +1,4 @@
-use Rattle.std.proofs.Common.{◌≡◌, rules, ℕ, ℤ, List, [], ◌∷◌, ◌++◌, FitsSigned, w64, sym, ap, ◌∙◌}
+use Rattle.std.proofs.Common.{rules, ℤ, List, [], ◌∷◌, ◌++◌, FitsSigned, w64, sym, ap, ◌∙◌}
 use Rattle.std.specs.Fmt.{signed_decimal}
 use Rattle.std.specs.Prelude.{codes}
 use Rattle.std.proofs.lemmas.Int.{to_z-of_z}

@@ -1,4 +1,4 @@
-use Rattle.std.proofs.Common.{◌≡◌, ℕ, List, inl}
+use Rattle.std.proofs.Common.{ℕ, List, inl}
 use Rattle.vs_reader.specs.Rows.{Row}
 use Rattle.mdvsp.specs.Laws.{MayBothBe}
 use Rattle.mdvsp.specs.Owed.{Owes}
@@ -12,7 +12,7 @@ use Rattle.mdvsp.proofs.laws.one_status.Goals as goal
 by_command : (command : Command) (bytes : List ℕ) (a b : Status) (r s : List Row) → Owes command bytes a r
     → Owes command bytes b s → MayBothBe a b
 by_command Check bytes a b r s owed also = inl (one_answer Check bytes a b r s tt owed also).0
-by_command (Solve nodes) bytes a b r s owed also = solve_status nodes bytes a b r s owed also
+by_command (Solve effort) bytes a b r s owed also = solve_status effort bytes a b r s owed also
 by_command Network bytes a b r s owed also = inl (one_answer Network bytes a b r s tt owed also).0
 by_command Blocks bytes a b r s owed also = inl (one_answer Blocks bytes a b r s tt owed also).0
 by_command (Make n) bytes a b r s owed also = inl (one_answer (Make n) bytes a b r s tt owed also).0

@@ -8,14 +8,14 @@ use Rattle.mdvsp.proofs.SearchAnswers.{one_claim, search_answers}
 use Rattle.mdvsp.proofs.solving.plan_of.Goals as goal
 
 pub returns : goal.returns
-returns c =
+returns g c =
     let t = c.in_ok-tree.tree in
     let made = c.in_ok-tree.ensures in
     let known = c.instance-instance.ensures in
     let text = c.in_ok-text.ensures in
     record {
       document = text.document;
-      solves = search_answers c.args.input.now.instance c.args.budget 1 t.opening t.steps text.document known.opening
+      solves = search_answers c.args.input.now.instance c.args.budget c.args.workers t.opening t.steps text.document known.opening
           known.history made.begins made.worked made.over text.of_state text.has_text;
       status_is = c.claim_status.ensures
           ∙ ap status_of (one_claim t.opening.problem (state t) c.report.result text.of_state.report c.report.ensures
