@@ -19,6 +19,7 @@ test:
 
 bench: bin/mdvsp
 	@bench/solve.sh
+	@bench/crew.sh
 
 clean:
 	rm -rf bin crates/*/out
