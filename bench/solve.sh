@@ -1,5 +1,6 @@
 #!/usr/bin/env bash
-# Times `solve` on timetables of `make N`, with 20 nodes and with the default budget, and on the smallest with 1,000 nodes.
+# Times `solve` by one worker on timetables of `make N`, with 20 nodes and with the default budget, and on the smallest with
+# 1,000 nodes. One worker comes to the same document each time.
 # It prints a row for each: the greedy plan's cost, the plan's cost, the bound, how far they are apart, the nodes that were
 # worked on, and the seconds of the processor; and has each document judged. Where cbc is installed (Debian's
 # coinor-cbc), it is given the same timetables as a MIP (bench/time_space_model.py) for at most 600 seconds each. It asserts
@@ -23,7 +24,7 @@ timed() {
   local trips=$1 greedy seconds
   shift
   greedy=$(bin/mdvsp solve --nodes 0 < "$work/make $trips" | sed -n 's/^cost,//p')
-  seconds=$({ time bin/mdvsp solve "$@" < "$work/make $trips" > "$work/plan"; } 2>&1)
+  seconds=$({ time bin/mdvsp solve --workers 1 "$@" < "$work/make $trips" > "$work/plan"; } 2>&1)
   cat "$work/make $trips" "$work/plan" > "$work/both"
   row "make $trips ${*:-(default)}" "$greedy" "$(told cost)" "$(told bound)" "$(apart "$(told cost)" "$(told bound)")" \
     "$(told nodes)" "$seconds" "$(bin/mdvsp check < "$work/both" | cut -d, -f1)"
