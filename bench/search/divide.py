@@ -14,6 +14,7 @@ import re
 import struct
 import subprocess
 import sys
+import tempfile
 
 PARTS = {
     "search_times::time_rounds": "30 rounds",
@@ -71,7 +72,7 @@ def lines_of(*command):
 
 def samples(program, path, instance):
     """The chains of callers at each sample of a run."""
-    kept = f"/tmp/search-{os.getpid()}.perf"
+    kept = tempfile.NamedTemporaryFile(suffix=".perf").name
     sampled = ["perf", "record", "-q", "-e", "cpu-clock", "-F", "1999", "--call-graph", "dwarf,8192", "-o", kept, path]
     with open(instance) as given:
         subprocess.run(["setarch", "-R", *sampled], stdin=given, stdout=subprocess.DEVNULL, stderr=subprocess.DEVNULL, check=True)
