@@ -2,6 +2,7 @@
 use Rattle.std.specs.Prelude.{◌≡◌, ℕ, ◌<◌, List, length, Some, slice_get}
 use Rattle.vs_layer.specs.Graph.{Graph}
 use Rattle.vs_circ.specs.declared.space.Space.{Space}
+use Rattle.vs_circ.specs.declared.start.Start.{Start}
 use Rattle.vs_circ.specs.declared.work.Kept.{Kept}
 use Rattle.vs_circ.specs.Mirror.{IsMirror}
 use Rattle.vs_circ.specs.Shipments.{IsSized}
@@ -14,10 +15,16 @@ pub record IsSpaceFor (nodes : ℕ) (space : Space) : Type 0 where
   pub entering : length space.entering.items ≡ nodes
   pub leaving : length space.leaving.items ≡ nodes
 
--- the shipment has a number for each arc and each node of the net, so have the search and the space, and the mirror is
--- the net's
+-- it has a number for each arc and each node of the net
+pub record IsStartFor (g : Graph) (start : Start) : Type 0 where
+  pub units : length start.units.items ≡ length g.arcs
+  pub prices : length start.prices.items ≡ g.nodes
+
+-- the shipment and the start have a number for each arc and each node of the net, so have the search and the space, and
+-- the mirror is the net's
 pub record IsKeptFor (g : Graph) (kept : Kept) : Type 0 where
   pub sized : IsSized g kept.shipment
+  pub before : IsStartFor g kept.before
   pub nodes : kept.search.nodes ≡ g.nodes
   pub mirror : IsMirror g kept.mirror
   pub space : IsSpaceFor g.nodes kept.space

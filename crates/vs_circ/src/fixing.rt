@@ -41,7 +41,7 @@ pub fn fixed(
     fix(alloc, net, must, &mut work.kept[place])
 }
 
-/// The same, from what is kept for the net.
+/// The same, with what is kept for the net. It begins with no units, so what the last call left is kept for the next.
 fn fix(alloc: Global, net: &LayerNet, must: &[bool], kept: &mut Kept) -> Result<FixedFlow, Memory>
     requires of_layer { (p : Problem) × (l : LayerNo) × IsInstance p × IsLawful p l.0 net.now
         × AreMust p l.0 must.now }
@@ -50,6 +50,7 @@ fn fix(alloc: Global, net: &LayerNet, must: &[bool], kept: &mut Kept) -> Result<
         → IsLawful p l.0 net.now → AreMust p l.0 must.now → IsFixed p l net.now must.now f) }
 {
     let arcs = net.net();
+    kept.exchange();
     supply(net, must, &mut kept.shipment);
     match drain(arcs, &mut kept.search, &mut kept.shipment) {
         None => covered(alloc, net, must, &kept.shipment, &mut kept.space),

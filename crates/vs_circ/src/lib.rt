@@ -12,6 +12,7 @@ mod laws;
 mod layer_prices;
 mod leeways;
 mod mirror;
+mod misfits;
 mod offers;
 mod preparing;
 mod price_tables;
@@ -20,6 +21,7 @@ mod running;
 mod settling;
 mod shipment;
 mod space;
+mod start;
 mod supplying;
 mod work;
 

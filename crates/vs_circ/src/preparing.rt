@@ -20,7 +20,7 @@ pub(crate) const UNLIMITED: u32 = 4_294_967_295;
 pub(crate) const MAX_UNITS: u32 = 2_000;
 
 /// What an arc costs once a trip's multiplier is taken off, in 1/1000 of a cost unit.
-fn offered_cost(offers: &[Option<i64>], kind: ArcKind, arc: Arc) -> i64
+pub(crate) fn offered_cost(offers: &[Option<i64>], kind: ArcKind, arc: Arc) -> i64
     requires no_gain { pos 0 ≤ℤ arc.cost }
     requires cost { arc.cost ≤ℤ MAX_ARC_COST }
     requires offers { AreSmallOffers offers.now }
@@ -36,7 +36,7 @@ fn offered_cost(offers: &[Option<i64>], kind: ArcKind, arc: Arc) -> i64
 }
 
 /// How many units an arc takes.
-fn offered_room(offers: &[Option<i64>], kind: ArcKind, arc: Arc) -> u32
+pub(crate) fn offered_room(offers: &[Option<i64>], kind: ArcKind, arc: Arc) -> u32
     ensures { result ≡ offered_room offers.now kind arc }
 {
     match kind {
@@ -69,7 +69,7 @@ pub(crate) fn offer_arcs(net: &LayerNet, offers: &[Option<i64>], cost: &mut [i64
 
 /// The units that suit an arc on which a unit more costs so much, no more than it carries where
 /// any number does. None where it would carry more than the net lets it.
-fn suiting(loss: i64, room: u32, most: u32, units: u32) -> Option<u32>
+pub(crate) fn suiting(loss: i64, room: u32, most: u32, units: u32) -> Option<u32>
     ensures { MatchOption result ((most < room) × (loss <ℤ pos 0)) (DoSuit loss room most) }
 {
     if loss > 0 {
@@ -84,7 +84,7 @@ fn suiting(loss: i64, room: u32, most: u32, units: u32) -> Option<u32>
 }
 
 /// What a unit more on an arc costs by the prices of the nodes.
-fn loss_on(arc: Arc, cost: i64, prices: &[i64]) -> i64
+pub(crate) fn loss_on(arc: Arc, cost: i64, prices: &[i64]) -> i64
     requires from { arc.from < length prices.now }
     requires to { arc.to < length prices.now }
     requires cost { IsWithin MAX_COST cost }
@@ -119,7 +119,7 @@ fn suit(net: &Net, costs: &Costs, prices: &[i64], units: &mut [u32]) -> bool
 }
 
 /// Whether units can be sent from these prices on.
-fn are_first_prices(prices: &[i64]) -> bool
+pub(crate) fn are_first_prices(prices: &[i64]) -> bool
     ensures { IsTrue result ↔ AllWithin MAX_FIRST_PRICE prices.now }
 {
     for price in prices {

@@ -61,6 +61,7 @@ fn relaxed_from(
         → IsLeastCirculation p l net.now offers.now c) }
 {
     let graph = net.net();
+    kept.recall(net, offers);
     settle(net, offers, &mut kept.search, &mut kept.shipment);
     take_centred(graph, kept);
     let circ = circ_of(alloc, net, offers, &kept.shipment, &mut kept.space)?;

@@ -1,22 +1,27 @@
-ghost use Rattle.std.specs.Prelude.{IfOk, IsTrue};
+ghost use Rattle.std.specs.Prelude.{◌≡◌, IfOk, IsTrue};
 ghost use Rattle.vs_circ.specs.Mirror.{IsMirror};
+ghost use Rattle.vs_circ.specs.Prepared.{AreSmallOffers, HasSmallArcs};
 ghost use Rattle.vs_circ.specs.Shipments.{IsSized};
 ghost use Rattle.vs_circ.specs.Works.{IsKeptAt, IsKeptFor};
 
 use crate::mirror::{mirror_of, turned};
+use crate::misfits::misfits;
 use crate::shipment::Shipment;
 use crate::space::Space;
+use crate::start::Start;
 use std::alloc::Global;
+use std::mem::swap;
 use vs_layer::{Flow, Net};
 use vs_match::LayerNet;
 use vs_path::{Costs, Search};
 use vs_types::Memory;
 
-/// What is kept for a net: the units that were sent last, the searches, the net turned round, and
-/// space to work in.
+/// What is kept for a net: the units that were sent last, what a call can begin with instead, the searches, the net turned
+/// round, and space to work in.
 #[derive(Drop)]
 pub(crate) struct Kept {
     pub shipment: Shipment,
+    pub before: Start,
     pub search: Search,
     pub mirror: Net,
     pub space: Space,
@@ -36,6 +41,7 @@ impl Kept {
     {
         Ok(Kept {
             shipment: empty_shipment(alloc, net)?,
+            before: Start::new(alloc, net)?,
             search: Search::new(alloc, net.nodes())?,
             mirror: mirror_of(alloc, net)?,
             space: Space::new(alloc, net.nodes())?,
@@ -47,9 +53,44 @@ impl Kept {
         ensures { IsTrue result → IsKeptFor net.now self.now }
     {
         is_sized(&self.shipment, net)
+            && self.before.is_of(net)
             && self.search.nodes() == net.nodes() as usize
             && self.space.is_for(net.nodes())
             && is_mirror(&self.mirror, net)
+    }
+
+    /// Lets a call begin with the units and prices that the last call left or with those that the one before it did,
+    /// whichever need fewer changes. Where multipliers swing to and fro, that is the call before.
+    pub(crate) fn recall(&mut self, net: &LayerNet, offers: &[Option<i64>])
+        requires arcs { HasSmallArcs net.now }
+        requires offers { AreSmallOffers offers.now }
+        requires kept { IsKeptFor net.now.graph self.old }
+        ensures kept { IsKeptFor net.now.graph self.new }
+    {
+        let shipment = &self.shipment;
+        let last = misfits(net, offers, &shipment.flow.units, &shipment.prices);
+        let before = misfits(net, offers, &self.before.units, &self.before.prices);
+        if before < last {
+            self.exchange();
+        } else {
+            self.before.take(&self.shipment);
+        }
+    }
+
+    /// Exchanges the units and prices that the last call left with those that the one before it did.
+    pub(crate) fn exchange(&mut self)
+        ensures units { self.new.shipment.flow.units ≡ self.old.before.units }
+        ensures prices { self.new.shipment.prices ≡ self.old.before.prices }
+        ensures before_units { self.new.before.units ≡ self.old.shipment.flow.units }
+        ensures before_prices { self.new.before.prices ≡ self.old.shipment.prices }
+        ensures costs { self.new.shipment.costs ≡ self.old.shipment.costs }
+        ensures surplus { self.new.shipment.surplus ≡ self.old.shipment.surplus }
+        ensures search { self.new.search ≡ self.old.search }
+        ensures mirror { self.new.mirror ≡ self.old.mirror }
+        ensures space { self.new.space ≡ self.old.space }
+    {
+        swap(&mut self.shipment.flow.units, &mut self.before.units);
+        swap(&mut self.shipment.prices, &mut self.before.prices);
     }
 }
 

@@ -1,0 +1,60 @@
+ghost use Rattle.std.specs.Prelude.{◌≡◌, ◌<◌, length};
+ghost use Rattle.vs_layer.specs.Graph.{IsNet};
+ghost use Rattle.vs_path.specs.Residual.{AllWithin};
+ghost use Rattle.vs_circ.specs.declared.shipment.TheConstants.{MAX_FIRST_PRICE};
+ghost use Rattle.vs_circ.specs.Prepared.{AreSmallOffers, HasSmallArcs};
+
+use crate::preparing::{are_first_prices, loss_on, offered_cost, offered_room, suiting};
+use vs_match::{ArcKind, LayerNet};
+
+/// How many trips change from being run to not being run, or the other way, where a call with these offers begins with
+/// these units and prices. It decides only how long the call takes.
+pub(crate) fn misfits(
+    net: &LayerNet,
+    offers: &[Option<i64>],
+    units: &[u32],
+    prices: &[i64],
+) -> u32
+    requires arcs { HasSmallArcs net.now }
+    requires offers { AreSmallOffers offers.now }
+    requires units { length units.now ≡ length net.now.graph.arcs }
+    requires each_node { length prices.now ≡ net.now.graph.nodes }
+{
+    let arcs = net.net().arcs();
+    if !are_first_prices(prices) {
+        return arcs;
+    }
+    let mut count = 0;
+    for k in 0..arcs {
+        if is_misfit(net, offers, units, prices, k) {
+            count += 1;
+        }
+    }
+    count
+}
+
+/// Whether an arc is a trip's that the units on it don't suit.
+fn is_misfit(
+    net: &LayerNet,
+    offers: &[Option<i64>],
+    units: &[u32],
+    prices: &[i64],
+    k: u32,
+) -> bool
+    requires net { IsNet net.now.graph }
+    requires arc { k < length net.now.graph.arcs }
+    requires arcs { HasSmallArcs net.now }
+    requires offers { AreSmallOffers offers.now }
+    requires units { length units.now ≡ length net.now.graph.arcs }
+    requires each_node { length prices.now ≡ net.now.graph.nodes }
+    requires prices { AllWithin MAX_FIRST_PRICE prices.now }
+{
+    let kind = net.kind(k);
+    let ArcKind::Trip(_) = kind else {
+        return false;
+    };
+    let arc = net.net().arc(k);
+    let loss = loss_on(arc, offered_cost(offers, kind, arc), prices);
+    let n = units[k as usize];
+    suiting(loss, offered_room(offers, kind, arc), arc.room, n) != Some(n)
+}
