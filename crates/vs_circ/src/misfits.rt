@@ -9,12 +9,7 @@ use vs_match::{ArcKind, LayerNet};
 
 /// How many trips change from being run to not being run, or the other way, where a call with these offers begins with
 /// these units and prices. It decides only how long the call takes.
-pub(crate) fn misfits(
-    net: &LayerNet,
-    offers: &[Option<i64>],
-    units: &[u32],
-    prices: &[i64],
-) -> u32
+pub(crate) fn misfits(net: &LayerNet, offers: &[Option<i64>], units: &[u32], prices: &[i64]) -> u32
     requires arcs { HasSmallArcs net.now }
     requires offers { AreSmallOffers offers.now }
     requires units { length units.now ≡ length net.now.graph.arcs }
@@ -34,13 +29,7 @@ pub(crate) fn misfits(
 }
 
 /// Whether an arc is a trip's that the units on it don't suit.
-fn is_misfit(
-    net: &LayerNet,
-    offers: &[Option<i64>],
-    units: &[u32],
-    prices: &[i64],
-    k: u32,
-) -> bool
+fn is_misfit(net: &LayerNet, offers: &[Option<i64>], units: &[u32], prices: &[i64], k: u32) -> bool
     requires net { IsNet net.now.graph }
     requires arc { k < length net.now.graph.arcs }
     requires arcs { HasSmallArcs net.now }

@@ -1,7 +1,5 @@
 -- What one take or put after another does to the bytes.
-use Rattle.std.proofs.Common.{◌≡◌, ℕ, ◌+◌, ◌<◌, ◌≤◌, Option, Some, None, List, [], ◌++◌, length, take, drop, refl, sym, ap, ◌∙◌, arith, ◌-◌, append-nil, append_assoc, length-drop, length-append}
-use Rattle.std.specs.Prelude.{IfSome}
-use Rattle.std.specs.Io.KnownBytes.{IsAtEnd}
+use Rattle.std.proofs.Common.{◌≡◌, ℕ, ◌+◌, ◌≤◌, Option, Some, None, List, [], ◌++◌, length, take, drop, refl, sym, ap, ◌∙◌, arith, ◌-◌, append-nil, append_assoc, length-drop}
 use Rattle.std.proofs.Math.Seq.{take-add}
 use Rattle.std.proofs.lemmas.List.{take_rest, take_at, take-append-drop, length-take, drop-drop}
 use Rattle.vs_io.specs.Bytes.{Takes, TakesAll, Appends}
@@ -24,22 +22,11 @@ pub Takes-told : (old new : Option (List ℕ)) (gone xs : List ℕ) → Takes ol
 Takes-told old None gone xs taken told = cc
 Takes-told old (Some rest) gone xs taken told = (rest, cc, refl)
 
--- at the end, those taken were all
-pub Takes-all : (old new : Option (List ℕ)) (gone : List ℕ) → Takes old new gone → IsAtEnd new → TakesAll old new gone
-Takes-all old None gone taken end = rw taken (tt, refl)
-Takes-all old (Some rest) gone taken end = rw (taken, end) (append-nil gone, refl)
-
 -- all that was told to be left was taken
 pub TakesAll-told : (old new : Option (List ℕ)) (bytes xs : List ℕ) → TakesAll old new bytes → old ≡ Some xs
     → (xs ≡ bytes) × (new ≡ Some [])
 TakesAll-told None new bytes xs all told = cc
 TakesAll-told (Some ys) new bytes xs all told = (cc, cc)
-
--- no fewer bytes were left than were taken
-pub Takes-longer : (old new : Option (List ℕ)) (gone : List ℕ) (n : ℕ) → Takes old new gone → n < length gone
-    → IfSome old (λ xs. n < length xs)
-Takes-longer old None gone n taken more = rw taken tt
-Takes-longer old (Some rest) gone n taken more = rw taken (omega (arith, length-append gone rest))
 
 -- no byte was put
 pub Appends-none : (taken : Option (List ℕ)) → Appends taken taken []

@@ -11,7 +11,7 @@ use Rattle.vs_plan.specs.CheckedPlan.{Checked}
 use Rattle.vs_prices.specs.declared.table.Table.{Table}
 use Rattle.vs_penalty.specs.Penalties.{AreGiven, IsPlanOf}
 
-module _ (p : Problem) (chosen : List LayerSet) (are : AreGiven p chosen) where
+module _ (p : Problem) (runs chosen : List LayerSet) (are : AreGiven p runs chosen) where
   -- they are a restriction
   pub given-restrict : IsRestriction p chosen
   given-restrict = record {

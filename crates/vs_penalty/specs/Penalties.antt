@@ -1,40 +1,82 @@
 -- What layers are offered for trips while they come to agree on which of them runs which.
-use Rattle.std.specs.Prelude.{◌≡◌, ◌⊎◌, ◌↔◌, ℕ, ◌<◌, List, length, Option, IfSome, ℤ}
-use Rattle.vs_types.specs.LayerSet.{Has}
+use Rattle.std.specs.Prelude.{◌≡◌, ◌≢◌, ◌⊎◌, ◌↔◌, ℕ, ◌<◌, ◌/◌, List, length, Option, Some, None, IsSomeAnd, MatchOption, ℤ, pos, ◌+ℤ◌, ◌-ℤ◌, ◌≤ℤ◌}
+use Rattle.vs_types.specs.LayerSet.{Has, members}
 use Rattle.vs_types.specs.declared.layer_set.LayerSet.{LayerSet}
 use Rattle.vs_circ.specs.Offers.{offer_of}
+use Rattle.vs_instance.specs.Lagrangian.{multiplier_of}
 use Rattle.vs_instance.specs.Problem.{Problem}
 use Rattle.vs_instance.specs.Restriction.{set_of}
-use Rattle.vs_instance.specs.Ways.{Permitted}
-use Rattle.vs_multi.specs.Multipliers.{AreMultipliers, IsMultiplier}
+use Rattle.vs_instance.specs.Ways.{Permitted, trip_of}
+use Rattle.vs_multi.specs.Multipliers.{AreMultipliers, IsMultiplier, limited}
 use Rattle.vs_plan.specs.CheckedPlan.{Checked, IsChecked}
 use Rattle.vs_penalty.specs.declared.penalties.Penalties.{Penalties}
 
--- trip i is one that layer l may run, where it is offered
-abbrev pub IsOfferIn : Problem → ℕ → List (Option ℤ) → ℕ → Type 0
-IsOfferIn p l offers i = IfSome (offer_of offers i) (λ m. Permitted p l i × IsMultiplier m)
+-- what a layer is offered for a trip that these other layers run: half a step more than the multiplier where there are
+-- none, half a step less where there are some
+pub record IsBidBeside (multiplier : ℤ) (rate : ℕ) (others : LayerSet) (bid : ℤ) : Type 0 where
+  pub alone : length (members others) ≡ 0 → bid ≡ limited (multiplier +ℤ pos (rate / 2))
+  pub beside : 0 < length (members others) → bid ≡ limited (multiplier -ℤ pos (rate / 2))
+
+-- what layer l is offered for a trip that it is one of the permitted layers of, and that these layers run now
+pub record IsBid (permitted : LayerSet) (l : ℕ) (multiplier : ℤ) (rate : ℕ) (runs : LayerSet) (bid : ℤ) : Type 0 where
+  pub may : Has permitted l
+  pub within : IsMultiplier bid
+  pub others : LayerSet
+  pub but : (k : ℕ) → Has others k ↔ (Has runs k × (k ≢ l))
+  pub beside : IsBidBeside multiplier rate others bid
+
+-- the offer of trip i to layer l, none where that may not run it
+abbrev pub IsOfferIn : Problem → ℕ → List ℤ → ℕ → List LayerSet → List (Option ℤ) → ℕ → Type 0
+IsOfferIn p l multipliers rate runs offers i =
+    MatchOption (offer_of offers i) (¬ (Permitted p l i))
+    (IsBid (trip_of p i).layers l (multiplier_of multipliers i) rate (set_of runs i))
+
+-- an offer of each trip
+pub record AreBids (p : Problem) (l : ℕ) (multipliers : List ℤ) (rate : ℕ) (runs : List LayerSet)
+    (offers : List (Option ℤ)) : Type 0 where
+  pub each_trip : length offers ≡ length p.trips
+  pub each : (i : ℕ) → i < length p.trips → IsOfferIn p l multipliers rate runs offers i
 
 -- penalties of an instance have an entry for each trip
 pub record ArePenalties (p : Problem) (penalties : Penalties) : Type 0 where
   pub multipliers : AreMultipliers p penalties.multipliers.items
   pub runs : length penalties.runs.items ≡ length p.trips
 
--- the set has one layer, which may run trip i
-pub record IsGiven (p : Problem) (i : ℕ) (set : LayerSet) : Type 0 where
+-- layer l is the lowest of the set
+pub record IsLowest (set : LayerSet) (l : ℕ) : Type 0 where
+  pub has : Has set l
+  pub least : (k : ℕ) → Has set k → (k ≡ l) ⊎ (l < k)
+
+-- the lowest of the layers that run a trip, where that may run it, else the lowest that may
+abbrev pub IsLowestRun : LayerSet → LayerSet → ℕ → Type 0
+IsLowestRun permitted runs layer =
+    (IsLowest runs layer × Has permitted layer)
+    ⊎ (IsLowest permitted layer × ((l : ℕ) → IsLowest runs l → ¬ (Has permitted l)))
+
+-- the set has one layer, which is the lowest of those that run trip i
+pub record IsGiven (p : Problem) (i : ℕ) (runs set : LayerSet) : Type 0 where
   pub layer : ℕ
+  pub lowest : IsLowestRun (trip_of p i).layers runs layer
   pub permitted : Permitted p layer i
   pub few : layer < 16
   pub alone : (l : ℕ) → Has set l ↔ (l ≡ layer)
 
 -- a set for each trip, with one layer
-pub record AreGiven (p : Problem) (chosen : List LayerSet) : Type 0 where
+pub record AreGiven (p : Problem) (runs chosen : List LayerSet) : Type 0 where
   pub each_trip : length chosen ≡ length p.trips
-  pub given : (i : ℕ) → i < length p.trips → IsGiven p i (set_of chosen i)
+  pub given : (i : ℕ) → i < length p.trips → IsGiven p i (set_of runs i) (set_of chosen i)
 
 -- a checked plan of the instance
 abbrev pub IsPlanOf : Problem → Checked → Type 0
 IsPlanOf p plan = (plan.problem ≡ p) × IsChecked plan
 
--- one of two plans, or of two that may be none
-abbrev pub IsOneOf : Option Checked → Option Checked → Option Checked → Type 0
-IsOneOf plan first second = (plan ≡ first) ⊎ (plan ≡ second)
+-- a plan that costs no more than the other one, where that is there
+abbrev pub IsNoDearer : Option Checked → Option Checked → Type 0
+IsNoDearer plan None = Unit {0}
+IsNoDearer plan (Some other) = IsSomeAnd plan (λ p. p.cost ≤ℤ other.cost)
+
+-- the cheaper of two plans, or of two that may be none
+pub record IsCheaperOf (plan first second : Option Checked) : Type 0 where
+  pub one_of : (plan ≡ first) ⊎ (plan ≡ second)
+  pub than_first : IsNoDearer plan first
+  pub than_second : IsNoDearer plan second

@@ -1,13 +1,13 @@
-ghost use Rattle.std.specs.Prelude.{◌≡◌, ◌/◌, ◌<◌, ◌≤◌, pos, ◌+ℤ◌, ◌-ℤ◌, IfOk, IfSome, length};
-ghost use Rattle.vs_types.specs.LayerSet.{members};
+ghost use Rattle.std.specs.Prelude.{◌≡◌, ◌<◌, ◌≤◌, IfOk, IfSome, MatchOption, length};
+ghost use Rattle.vs_types.specs.LayerSet.{Has};
 ghost use Rattle.vs_instance.specs.Restriction.{IsRestriction};
 ghost use Rattle.vs_prices.specs.Table.{Fits};
 ghost use Rattle.vs_circ.specs.Offers.{AreOffers};
 ghost use Rattle.vs_match.specs.LayerNets.{AreLayerNets};
-ghost use Rattle.vs_multi.specs.Multipliers.{AreMultipliers, AreWithin, IsMultiplier, limited};
+ghost use Rattle.vs_multi.specs.Multipliers.{AreMultipliers, AreWithin, IsMultiplier};
 ghost use Rattle.vs_penalty.specs.Moves.{AreMoved};
 ghost use Rattle.vs_penalty.specs.Noted.{AreNoted, IsNoted};
-ghost use Rattle.vs_penalty.specs.Penalties.{ArePenalties, IsPlanOf};
+ghost use Rattle.vs_penalty.specs.Penalties.{AreBids, ArePenalties, IsBid, IsBidBeside, IsPlanOf};
 ghost use Rattle.vs_penalty.specs.declared.rate.TheConstants.{MAX_RATE};
 
 use crate::choosing::{cheaper, lowest_layers};
@@ -157,8 +157,7 @@ impl Penalties {
 fn offer(multiplier: i64, rate: u64, others: LayerSet) -> i64
     requires multiplier { IsMultiplier multiplier }
     requires rate { rate ≤ MAX_RATE }
-    ensures alone { length (members others) ≡ 0 → result ≡ limited (multiplier +ℤ pos (rate / 2)) }
-    ensures beside { 0 < length (members others) → result ≡ limited (multiplier -ℤ pos (rate / 2)) }
+    ensures bid { IsBidBeside multiplier rate others result }
     ensures within { IsMultiplier result }
 {
     let half = (rate / 2) as i64;
@@ -168,6 +167,20 @@ fn offer(multiplier: i64, rate: u64, others: LayerSet) -> i64
         multiplier - half
     };
     offered.max(0).min(MAX_MULTIPLIER)
+}
+
+/// What a layer is offered for a trip that these layers run now. None where it isn't among those that may run it.
+fn bid(permitted: LayerSet, l: LayerNo, multiplier: i64, rate: u64, runs: LayerSet) -> Option<i64>
+    requires layer { l.0 < 16 }
+    requires multiplier { IsMultiplier multiplier }
+    requires rate { rate ≤ MAX_RATE }
+    ensures { MatchOption result (¬ (Has permitted l.0)) (IsBid permitted l.0 multiplier rate runs) }
+{
+    if permitted.has(l) {
+        Some(offer(multiplier, rate, runs.without(l)))
+    } else {
+        None
+    }
 }
 
 /// Offers a layer the trips that it may run.
@@ -184,16 +197,14 @@ fn offer_all(
     requires runs { length runs.now ≡ length instance.now.trips }
     requires rate { rate ≤ MAX_RATE }
     requires offers { length offers.old ≡ length instance.now.trips }
-    ensures { AreOffers instance.now l.0 offers.new }
+    ensures offers { AreOffers instance.now l.0 offers.new }
+    ensures bids { AreBids instance.now l.0 multipliers.now rate runs.now offers.new }
 {
     prove!(l.0 < instance.layers());
     for i in 0..instance.trips() {
         let place = i as usize;
-        offers[place] = if instance.trip(TripNo(i)).layers.has(l) {
-            Some(offer(multipliers[place], rate, runs[place].without(l)))
-        } else {
-            None
-        };
+        let permitted = instance.trip(TripNo(i)).layers;
+        offers[place] = bid(permitted, l, multipliers[place], rate, runs[place]);
     }
 }
 

@@ -1,5 +1,6 @@
 //! Plans and tables on which layers agree, beside those of rules that are simpler.
 
+use super::texts::*;
 use super::*;
 use vs_circ::Work;
 use vs_instance::Instance;

@@ -1,6 +1,8 @@
 //! `network`, `make` and `blocks`.
 
+use super::texts::*;
 use super::*;
+use vs_io::slurp;
 
 /// Six trips: four from D to P, and two from Q to D.
 const SIX_TRIPS: &str =

@@ -1,5 +1,6 @@
 //! `solve`, and `check` on what it writes.
 
+use super::texts::*;
 use super::*;
 use std::sync::atomic::{AtomicBool, AtomicU64, Ordering};
 use std::thread::yield_now;

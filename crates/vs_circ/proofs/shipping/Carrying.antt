@@ -1,5 +1,5 @@
 -- The units on the arcs while a unit goes along a path, step by step.
-use Rattle.std.proofs.Common.{◌≡◌, ◌≢◌, ◌<◌, ◌≤◌, ◌+◌, ◌-◌, ◌^◌, ◌∙◌, ℕ, List, [], ◌∷◌, ◌++◌, length, take, set, get_or, refl, sym, ap, subst, arith, inl, inr, ℤ, ◌+ℤ◌, length-set, add-one}
+use Rattle.std.proofs.Common.{◌≡◌, ◌≢◌, ◌<◌, ◌≤◌, ◌+◌, ◌-◌, ◌^◌, ◌∙◌, ℕ, List, [], ◌∷◌, ◌++◌, length, take, set, get_or, sym, ap, subst, arith, inl, inr, ℤ, ◌+ℤ◌, length-set, add-one}
 use Rattle.std.proofs.Math.Seq.{take-suc}
 use Rattle.std.proofs.lemmas.Int.{ints}
 use Rattle.std.proofs.lemmas.Bool.{cases_eq, cases_lt}
@@ -12,14 +12,6 @@ use Rattle.vs_circ.specs.Balance.{steps_gain, step_gain}
 use Rattle.vs_circ.specs.Shipments.{CanTake, CanTakeAll, IsAmong, IsSentAlong, GainAlong}
 use Rattle.vs_circ.proofs.balance.Numbers.{total-map_append}
 use Rattle.vs_circ.proofs.balance.Gained.{gained-more, gained-less}
-
-pub sent-none : (units : List ℕ) (path : List Step) → IsSentAlong units units path 0
-sent-none units path = record {
-  each_arc = refl;
-  one = λ k. omega arith;
-  more = λ k above. absurd (omega arith);
-  less = λ k below. absurd (omega arith);
-}
 
 module _ (old now : List ℕ) (path : List Step) (count : ℕ) (can : CanTakeAll old path) (within : count < length path)
     (sent : IsSentAlong old now path count) where
@@ -144,9 +136,6 @@ steps_gain-more weight arcs path count s within here =
     let both = total-map_append (step_gain weight arcs) (take count path) (s ∷ []) in
     let same = ap (λ (ss : List Step). steps_gain weight arcs ss) split in
     omega (arith, ints, both, same)
-
-pub gain-none : (units : List ℕ) (path : List Step) → GainAlong units units (take 0 path)
-gain-none units path weight arcs sized = omega (arith, ints)
 
 module _ (old now : List ℕ) (path : List Step) (count k : ℕ) (within : count < length path)
     (each_arc : length now ≡ length old)

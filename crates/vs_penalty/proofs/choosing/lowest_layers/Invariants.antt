@@ -5,4 +5,4 @@ use Rattle.vs_penalty.proofs.choosing.lowest_layers.Given as goal
 
 -- the trips so far have one layer
 abbrev pub invariant-loop-i : goal.invariant-loop-i
-invariant-loop-i l = (j : ℕ) → j < l.i → IsGiven l.instance j (set_of l.chosen j)
+invariant-loop-i l = (j : ℕ) → j < l.i → IsGiven l.instance j (set_of l.runs j) (set_of l.chosen j)

@@ -11,5 +11,5 @@ runs-requires-clause-of_layer c =
       c.requires.nets.instance,
       lawful_net p c.args.nets.now l _ c.requires.nets
           (omega (arith, c.loop-l-test.true, c.layers-l-end.ensures.count)) c.index-nets-l.is,
-      c.offer_all.ensures,
+      c.offer_all.ensures.offers,
     )
