@@ -118,7 +118,8 @@ status_tells cost n claim answer e t = record {
 
 -- a search without a budget is done where its plan costs no more than the zero table is worth
 pub done_where_shown : (effort : Effort) (bytes : List ℕ) (answer : Status) (rows : List Row)
-    (owed : OwesDocument effort bytes answer rows) → effort.nodes ≡ Some 0 → IsDoneWhereShown effort bytes answer rows owed
+    (owed : OwesDocument effort bytes answer rows) → effort.nodes ≡ Some 0 → IsDoneWhereShown effort bytes
+    answer rows owed
 done_where_shown effort bytes answer rows owed none =
     let p = owed.problem in
     let d = owed.document in

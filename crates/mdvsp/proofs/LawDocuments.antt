@@ -66,7 +66,8 @@ instance_names bytes p names before rest stands =
 
 -- behind the records they are one text
 pub solved_holds : (effort : Effort) (bytes read : List ℕ) (answer : Status) (rows : List Row)
-    (owed : OwesDocument effort bytes answer rows) → HasRows read (take owed.text.before owed.text.instance.rows) → EndsInLine read
+    (owed : OwesDocument effort bytes answer rows) → HasRows read (take owed.text.before owed.text.instance.rows)
+    → EndsInLine read
     → OwesYes (read ++ lines rows) (yes_row owed.document ∷ [])
 solved_holds effort bytes read answer rows owed has ends =
     let p = owed.problem in

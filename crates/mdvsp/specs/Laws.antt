@@ -52,7 +52,8 @@ IsSettled status.Done = Unit {0}
 IsSettled status.Infeasible = Unit {0}
 IsSettled _ = ⊥
 
--- two answers to the same words and bytes may both be right: they are the same, or one leaves open what the other settles
+-- two answers to the same words and bytes may both be right: they are the same, or one leaves open what the other
+-- settles
 abbrev pub MayBothBe : Status → Status → Type 0
 MayBothBe a b = (a ≡ b) ⊎ ((a ≡ status.StillOpen) × IsSettled b) ⊎ ((b ≡ status.StillOpen) × IsSettled a)
 

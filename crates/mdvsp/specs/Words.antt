@@ -135,7 +135,8 @@ IsAlone _ = ⊥
 -- an instance may have as many trips as the command asks for, and a search as many workers and nodes
 abbrev pub IsWithinLimits : Command → Type 0
 IsWithinLimits (Make n) = n ≤ MAX_TRIPS
-IsWithinLimits (Solve effort) = (1 ≤ effort.workers) × (effort.workers ≤ MAX_WORKERS) × IfSome effort.nodes (λ n. n ≤ MAX_BUDGET)
+IsWithinLimits (Solve effort) = (1 ≤ effort.workers) × (effort.workers ≤ MAX_WORKERS) × IfSome effort.nodes
+    (λ n. n ≤ MAX_BUDGET)
 IsWithinLimits _ = Unit {0}
 
 -- the command takes input

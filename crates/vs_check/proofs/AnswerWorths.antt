@@ -119,7 +119,8 @@ module _ (o : Opening) (s : State) (sound : IsSound o s) (d : Document) (is : Is
       spots in
       subst (λ (i : TripNo). Have i part) (sym same.0)
       (subst (λ (set : LayerSet). Have trip set) (sym same.1)
-      (both_parts (leaves (with_set sets trip left) first) (leaves (with_set sets trip (right_of sets trip left)) second)
+      (both_parts (leaves (with_set sets trip left) first) (leaves
+      (with_set sets trip (right_of sets trip left)) second)
       at.first at.second spots at.spots_are
       (worths_at lower first at.lower (with_set sets trip left) at.first at.is_lower same.2)
       (worths_at upper second at.upper (with_set sets trip (right_of sets trip left)) at.second at.is_upper same.3)))

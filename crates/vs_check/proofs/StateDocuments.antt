@@ -40,7 +40,8 @@ first_times-All P (n ∷ rest) each =
     (All-filter (λ m. not (m == n)) P (first_times rest) (first_times-All P rest (All-tail P n rest each)))
 
 -- a tree is as good where its leaves name their tables otherwise
-pub renumbered_good : (numbers : List ℕ) (t u : Tree) (sets : List LayerSet) → IsRenumbered numbers t u → IsGoodTree sets t
+pub renumbered_good : (numbers : List ℕ) (t u : Tree) (sets : List LayerSet) → IsRenumbered numbers t u
+    → IsGoodTree sets t
     → IsGoodTree sets u
 renumbered_good numbers (Leaf table) (Leaf place) sets same good = tt
 renumbered_good numbers (Leaf table) (Split also part first second) sets same good = absurd same
@@ -197,7 +198,8 @@ module _ (o : Opening) (s : State) (sound : IsSound o s) (d : Document) (is : Is
       (All-append (IsStrongLeaf p tables d.bound) (leaves (with_set sets trip left) first)
       (leaves (with_set sets trip (right_of sets trip left)) second)
       (strong_leaves lower first at.lower (with_set sets trip left) at.first at.is_lower same.2)
-      (strong_leaves upper second at.upper (with_set sets trip (right_of sets trip left)) at.second at.is_upper same.3)))
+      (strong_leaves upper second at.upper (with_set sets trip (right_of sets trip left)) at.second
+      at.is_upper same.3)))
 
   -- the blocks are the cheapest plan's
   pub has_plan : HasPlan p d

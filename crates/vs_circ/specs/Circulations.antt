@@ -30,7 +30,8 @@ paid_by_units multipliers (kind ∷ kinds) (n ∷ units) =
 abbrev pub RunTrip : LayerGraph → List ℕ → ℕ → Type 0
 RunTrip n units i = (k : ℕ) × IsArcOfTrip n.kinds i k × (0 < slice_index units k)
 
--- A circulation of offered trips, whose value is its cost less their multipliers. No blocks of offered trips have a lower
+-- A circulation of offered trips, whose value is its cost less their multipliers. No blocks of offered trips have a
+-- lower
 -- reduced cost, and some have that.
 pub record IsLeastFlow (p : Problem) (l : LayerNo) (n : LayerGraph) (offers : List (Option ℤ)) (units : List ℕ)
     (value : ℤ) : Type 0 where
@@ -40,7 +41,8 @@ pub record IsLeastFlow (p : Problem) (l : LayerNo) (n : LayerGraph) (offers : Li
   pub low : IsLowOf p l (IsOffered offers) (multipliers_of offers) value
 
 -- such a circulation with prices, which hold and show its value
-pub record IsLeastCirculation (p : Problem) (l : LayerNo) (n : LayerGraph) (offers : List (Option ℤ)) (c : Circ) : Type 0 where
+pub record IsLeastCirculation (p : Problem) (l : LayerNo) (n : LayerGraph) (offers : List (Option ℤ)) (c : Circ) :
+    Type 0 where
   pub least : IsLeastFlow p l n offers c.flow.units.items c.value
   pub holding : AreHolding p l.0 false c.prices
   pub shows : shown_of_offers p l.0 offers c.prices ≡ c.value
@@ -64,8 +66,10 @@ pub record CoverExactly (n : LayerGraph) (must : List Bool) (units : List ℕ) :
   pub only : (i : ℕ) → RunTrip n units i → MustRun must i
   pub each : (i : ℕ) → MustRun must i → RunTrip n units i
 
--- Covered: a circulation that runs exactly these trips at the cost; neither a circulation nor blocks that do so cost less; the
--- prices hold, and show so. Short: there is neither such a circulation nor such blocks, as the prices show, which hold as a ray.
+-- Covered: a circulation that runs exactly these trips at the cost; neither a circulation nor blocks that do so cost
+-- less; the
+-- prices hold, and show so. Short: there is neither such a circulation nor such blocks, as the prices show, which
+-- hold as a ray.
 abbrev pub IsFixed : Problem → LayerNo → LayerGraph → List Bool → FixedFlow → Type 0
 IsFixed p l n must (Covered flow prices cost) =
     CoverExactly n must flow.units.items

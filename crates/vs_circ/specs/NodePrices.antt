@@ -20,7 +20,8 @@ IsEmptyMove _ = ⊥
 abbrev pub arc_cost : Bool → Arc → ℤ
 arc_cost ray a = if ray then pos 0 else a.cost
 
--- no empty move is worth more than it costs, from the price of the node that it leaves to that of the node that it reaches
+-- no empty move is worth more than it costs, from the price of the node that it leaves to that of the node that it
+-- reaches
 abbrev pub AreMovePrices : LayerGraph → Bool → List ℤ → Type 0
 AreMovePrices n ray prices = (k : ℕ) → k < length n.graph.arcs → IsEmptyMove (kind_of n k)
     → price_at prices (arc_of n.graph k).to

@@ -19,8 +19,10 @@ last_arc n = length n.graph.arcs - 1
 abbrev pub end_node : LayerGraph → ℕ
 end_node n = n.graph.nodes - 1
 
--- Nothing is left at any node, no trip is run twice, and no more vehicles are used than there are. Empty moves that are made
--- are worth what they cost. A vehicle that is left is worth nothing, and one that is used is worth no less than nothing.
+-- Nothing is left at any node, no trip is run twice, and no more vehicles are used than there are. Empty moves that
+-- are made
+-- are worth what they cost. A vehicle that is left is worth nothing, and one that is used is worth no less than
+-- nothing.
 pub record IsPricedFlow (n : LayerGraph) (units : List ℕ) (prices : List ℤ) : Type 0 where
   pub each_arc : length units ≡ length n.graph.arcs
   pub balanced : (weight : ℕ → ℤ) → gained weight n.graph.arcs units ≡ pos 0
@@ -64,8 +66,10 @@ must_on must _ = 0
 abbrev pub must_units : LayerGraph → List Bool → List ℕ
 must_units n must = map (must_on must) n.kinds
 
--- Nodes that units are stuck at: more is supplied to them by the trips that have to run than leaves them, though no empty move leaves them,
--- and every vehicle is used where the depot's end is among them and its beginning isn't. Here a node has the price -1 where it is one of them, else 0.
+-- Nodes that units are stuck at: more is supplied to them by the trips that have to run than leaves them, though no
+-- empty move leaves them,
+-- and every vehicle is used where the depot's end is among them and its beginning isn't. Here a node has the price -1
+-- where it is one of them, else 0.
 pub record IsStuckAt (n : LayerGraph) (must : List Bool) (prices : List ℤ) : Type 0 where
   pub moves : AreMovePrices n true prices
   pub more : (vehicle_price n prices *ℤ pos (arc_of n.graph (last_arc n)).room)

@@ -50,7 +50,8 @@ pub record GoesOnBy (worker : ℕ) (old new : Shared) : Type 0 where
   pub goes_on : old.search.steps ++ added ≡ new.search.steps
   pub by_worker : AreBy worker added
 
--- by its seat a worker of the turn knows that this holds of the state after the steps that it has seen, which go on from
+-- by its seat a worker of the turn knows that this holds of the state after the steps that it has seen, which go on
+-- from
 -- those of the search that was handed in
 pub record Knows (turn : TableId) (start : Search) (worker : ℕ) (Q : Says) (seat : SeatModel) : Type 0 where
   pub more : List FullStep
@@ -94,7 +95,8 @@ pub record WasOver (o : Opening) (steps : List FullStep) : Type 0 where
   pub goes_on : first ++ rest ≡ steps
   pub over : IsOver o (state_of o first)
 
--- a seat of as many workers, from this one on, all of which have ended; and whether one of them was told that the search
+-- a seat of as many workers, from this one on, all of which have ended; and whether one of them was told that the
+-- search
 -- is over
 pub record KnowsEnds (turn : TableId) (start : Search) (lowest many : ℕ) (told : Bool) (seat : SeatModel) : Type 0 where
   pub more : List FullStep
@@ -102,7 +104,8 @@ pub record KnowsEnds (turn : TableId) (start : Search) (lowest many : ℕ) (told
   pub opens : seat.opening ≡ length start.steps ∷ opening_entry start.opening
   pub tickets : length seat.tickets ≡ many
   pub seen : seat.seen ≡ map entry_of (start.steps ++ more)
-  pub ended : (worker : ℕ) → lowest ≤ worker → worker < lowest + many → HasEnded worker start.opening (start.steps ++ more)
+  pub ended : (worker : ℕ) → lowest ≤ worker → worker < lowest + many → HasEnded worker start.opening
+      (start.steps ++ more)
   pub over : told ≡ true → WasOver start.opening (start.steps ++ more)
 
 -- no worker holds a leaf

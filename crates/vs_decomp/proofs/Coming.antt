@@ -112,7 +112,8 @@ module _ (n : LayerGraph) (l : LayerNo) where
         let within : v < length stands = omega (arith, up, inner, nodes) in
         let left = leaves stands v go.left go.vehicle within (sym come.are ∙ go.leaves) in
         let gone = set stands v left.before in
-        let within' : w < length gone = let same = length-set stands v left.before in omega (arith, inner, nodes, same) in
+        let within' : w < length gone = let same = length-set stands v left.before in omega
+        (arith, inner, nodes, same) in
         let there : vehicles_at go.left w ≡ have_run (paths_at stands w) =
         ap (λ (s : List (List LayerBlock)). vehicles_at s w) left.left_is ∙ run_at gone w within'
         ∙ ap have_run (get_or-set_other stands v w left.before [] (λ e. omega (arith, e, up))) in

@@ -87,7 +87,8 @@ module _ (p : Problem) (l : ℕ) (layer : l < length p.layers) where
       from = subst (All IsPrice) (sym is.from)
           (All-with_row (length p.trips) l (length p.layers) old.from.items prices.from.items layer fits.from_size
           given.from_size IsPrice fits.from given.from);
-      fleet = subst (All IsPrice) (sym is.fleet) (All-set IsPrice old.fleet.items l prices.fleet given.fleet fits.fleet);
+      fleet = subst (All IsPrice) (sym is.fleet) (All-set IsPrice old.fleet.items l prices.fleet given.fleet
+          fits.fleet);
     }
 
     in_other : (k : ℕ) → k < length p.layers → k ≢ l → HoldingTable p old

@@ -20,7 +20,8 @@ use Rattle.vs_multi.specs.Rounds.{AreCovers, IsCountBelow, IsCounted, IsLastRoun
 use Rattle.vs_multi.proofs.Counts.{count_le, count_same}
 
 -- the layers below n have run with these circulations
-pub record HaveRun (p : Problem) (nets : List LayerGraph) (sets : List LayerSet) (multipliers : List ℤ) (n : ℕ) (round : Round) : Type 0 where
+pub record HaveRun (p : Problem) (nets : List LayerGraph) (sets : List LayerSet) (multipliers : List ℤ) (n : ℕ)
+    (round : Round) : Type 0 where
   pub circs : List Circ
   pub each : length circs ≡ n
   pub least : (l : LayerNo) → l.0 < n → (c : Circ) × (slice_get circs l.0 ≡ Some c)

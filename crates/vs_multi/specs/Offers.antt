@@ -21,9 +21,11 @@ pub record IsOfferFor (set : LayerSet) (multiplier : ℤ) (l : ℕ) (offer : Opt
   pub left_out : ¬ (Has set l) → offer ≡ None
 
 -- so for each trip
-pub record AreOffersTo (p : Problem) (sets : List LayerSet) (multipliers : List ℤ) (l : ℕ) (offers : List (Option ℤ)) : Type 0 where
+pub record AreOffersTo (p : Problem) (sets : List LayerSet) (multipliers : List ℤ) (l : ℕ)
+    (offers : List (Option ℤ)) : Type 0 where
   pub each_trip : length offers ≡ length p.trips
-  pub each : (i : ℕ) → i < length p.trips → IsOfferFor (set_of sets i) (multiplier_of multipliers i) l (offer_of offers i)
+  pub each : (i : ℕ) → i < length p.trips → IsOfferFor (set_of sets i) (multiplier_of multipliers i) l
+      (offer_of offers i)
 
 -- a least circulation of layer l's net, where these are its offers
 abbrev pub IsLeastAt : Problem → LayerGraph → List LayerSet → List ℤ → LayerNo → Circ → Type 0
@@ -34,7 +36,8 @@ IsLeastAt p net sets multipliers l c =
 abbrev pub IsWithout : ℕ → LayerSet → LayerSet → Type 0
 IsWithout l set rest = (k : ℕ) → Has rest k ↔ (Has set k × (k ≢ l))
 
--- the least that trip i pays in these layers, within the limits of multipliers; the greatest multiplier where there are none
+-- the least that trip i pays in these layers, within the limits of multipliers; the greatest multiplier where there
+-- are none
 abbrev pub least_among : Problem → Table → ℕ → List ℕ → ℤ
 least_among p table i [] = MAX_MULTIPLIER
 least_among p table i (l ∷ layers) = limited (least (map (trip_price p table i) (l ∷ layers)))

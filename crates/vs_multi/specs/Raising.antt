@@ -22,7 +22,8 @@ pub record IsCostTable (p : Problem) (table : Table) : Type 0 where
   pub costs : table.ray ≡ false
 
 -- Such a table, which is worth no less than so much, and just what is given, if that is a worth.
-pub record IsRaised (p : Problem) (sets : List LayerSet) (least : Bound) (table : Table) (given : Result Bound Memory) : Type 0 where
+pub record IsRaised (p : Problem) (sets : List LayerSet) (least : Bound) (table : Table)
+    (given : Result Bound Memory) : Type 0 where
   pub lawful : IsCostTable p table
   pub no_less : (worth : Bound) → IsWorth p sets table worth → IsNoLess worth least
   pub worth : IfOk given (IsWorth p sets table)

@@ -18,7 +18,8 @@ use Rattle.vs_multi.specs.Multipliers.{AreMultipliers}
 use Rattle.vs_multi.specs.Offers.{IsLeastAt}
 
 -- for each layer, in order, a least circulation of the trips whose sets have it
-pub record AreOfRound (p : Problem) (nets : List LayerGraph) (sets : List LayerSet) (multipliers : List ℤ) (circs : List Circ) : Type 0 where
+pub record AreOfRound (p : Problem) (nets : List LayerGraph) (sets : List LayerSet) (multipliers : List ℤ)
+    (circs : List Circ) : Type 0 where
   pub each_layer : length circs ≡ length p.layers
   pub least : (l : LayerNo) → IfSome (slice_get circs l.0) (IsLeastAt p (net_at nets l.0) sets multipliers l)
 
@@ -56,7 +57,8 @@ pub record AreCounted (net : LayerGraph) (units : List ℕ) (old new : List ℕ)
   pub count : (i : ℕ) → i < length old → IsCounted net units i (slice_index old i) (slice_index new i)
 
 -- a round after layer l has run with this circulation
-pub record IsRunIn (p : Problem) (net : LayerGraph) (sets : List LayerSet) (multipliers : List ℤ) (l : LayerNo) (old new : Round) (c : Circ) : Type 0 where
+pub record IsRunIn (p : Problem) (net : LayerGraph) (sets : List LayerSet) (multipliers : List ℤ) (l : LayerNo)
+    (old new : Round) (c : Circ) : Type 0 where
   pub least : IsLeastAt p net sets multipliers l c
   pub prices : HasPrices p new.table l.0 c.prices
   pub others : AgreeBut p l.0 old.table new.table

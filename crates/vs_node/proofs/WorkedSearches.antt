@@ -74,7 +74,8 @@ module _ (o : Opening) (opening : IsOpening o) (value : ℤ) (start : IsStarting
 
   -- where a leaf of a state becomes another kind of leaf with the same table
   module _ (s n : State) (k : ℕ) (spot : Spot) (within : k < length s.places)
-      (places : n.places ≡ with_spot s.places k spot) (tables : n.tables ≡ s.tables) (finished : n.finished ≡ s.finished)
+      (places : n.places ≡ with_spot s.places k spot) (tables : n.tables ≡ s.tables)
+      (finished : n.finished ≡ s.finished)
       (was : is_inner (spot_at s k) ≡ false) (leaf : is_inner spot ≡ false)
       (same_table : table_of spot ≡ table_of (spot_at s k)) (sound : IsSound o s) (begun : IsBegun s) where
     leaf_before : (j : ℕ) → IsLeaf n j → IsLeaf s j
@@ -84,7 +85,8 @@ module _ (o : Opening) (opening : IsOpening o) (value : ℤ) (start : IsStarting
     table-kept j =
         elim (cases_eq j k) [
           | inl here ↦
-              ap (λ (i : ℕ). table_of (spot_at n i)) here ∙ ap table_of (spot-here s n k spot within places) ∙ same_table
+              ap (λ (i : ℕ). table_of (spot_at n i)) here ∙ ap table_of (spot-here s n k spot within places)
+              ∙ same_table
               ∙ ap (λ (i : ℕ). table_of (spot_at s i)) (sym here)
           | inr apart ↦ ap table_of (spot-there s n k spot within places j apart)
         ]
@@ -245,7 +247,8 @@ module _ (o : Opening) (opening : IsOpening o) (value : ℤ) (start : IsStarting
     split_reach j worth is is_worth =
         elim (where_is size leaf j) [
           | split here ↦
-              let at = split-here s.places leaf inner (left_part s leaf table trip left) (right_part s leaf table trip left)
+              let at = split-here s.places leaf inner (left_part s leaf table trip left)
+              (right_part s leaf table trip left)
               split_within in
               let inner-is : is_inner (spot_at parted j) ≡ true =
               ap (λ (i : ℕ). is_inner (spot_at parted i)) here ∙ ap (λ (q : Place). is_inner q.spot) at in

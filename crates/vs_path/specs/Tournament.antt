@@ -29,4 +29,5 @@ AreCovered count keys = (k : ℕ) → 0 < k → k < count → IsCovered keys k
 -- each node either has no key any more, or its key and its leaf are as before
 abbrev pub AreTakenOut : Keys → Keys → Keys → Keys → Type 0
 AreTakenOut tree-old tree keys-old keys = (v : ℕ) → (key_at keys v ≡ None)
-    ⊎ ((key_at keys v ≡ key_at keys-old v) × (key_at tree (length keys-old + v) ≡ key_at tree-old (length keys-old + v)))
+    ⊎ ((key_at keys v ≡ key_at keys-old v) × (key_at tree (length keys-old + v) ≡ key_at tree-old
+    (length keys-old + v)))

@@ -40,7 +40,8 @@ last-get {X} (x ∷ xs) = from_first None x xs
         from_first (Some y) z ys ∙ ap (slice_get (z ∷ ys)) here ∙ ap (slice_get (y ∷ z ∷ ys)) (sym next)
 
 -- what is true of all of a list is true of its last
-pub last-is : {X : Type 0} (P : X → Type 0) (o : Option X) (xs : List X) (x : X) → All P xs → ((y : X) → o ≡ Some y → P y)
+pub last-is : {X : Type 0} (P : X → Type 0) (o : Option X) (xs : List X) (x : X) → All P xs
+    → ((y : X) → o ≡ Some y → P y)
     → last_or o xs ≡ Some x → P x
 last-is P o [] x each first is = first x is
 last-is P o (y ∷ ys) x each first is =
@@ -82,7 +83,8 @@ cheaper-more plans plan each less k d inside =
           ap (λ (i : ℕ). get_or (plans ++ plan ∷ []) i d) at_end ∙ get_or-append-add plans (plan ∷ []) 0 d in
           let one_before = get_or_append_left plans (plan ∷ []) d k (omega (arith, end)) in
           let last : IsCheaper plan.cost (Some (get_or plans k d).cost) =
-          subst (λ (q : Option Checked). IsCheaper plan.cost (option_map cost_of q)) (last-at None plans k d end) less in
+          subst (λ (q : Option Checked). IsCheaper plan.cost (option_map cost_of q))
+          (last-at None plans k d end) less in
           rw (here, one_before) last
     ]
 

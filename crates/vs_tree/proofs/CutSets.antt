@@ -183,7 +183,8 @@ places_of-set (s ∷ spots) (here ∷ sets) (suc k) spot =
 
 pub places_of-last : (spots : List Spot) (sets : List (List LayerSet)) (spot : Spot) (here : List LayerSet)
     → length spots ≡ length sets
-    → places_of (spots ++ spot ∷ []) (sets ++ here ∷ []) ≡ places_of spots sets ++ record { spot = spot; sets = here } ∷ []
+    → places_of (spots ++ spot ∷ []) (sets ++ here ∷ []) ≡ places_of spots sets ++ record
+    { spot = spot; sets = here } ∷ []
 places_of-last [] [] spot here size = refl
 places_of-last [] (x ∷ sets) spot here size = absurd (omega arith)
 places_of-last (s ∷ spots) [] spot here size = absurd (omega arith)

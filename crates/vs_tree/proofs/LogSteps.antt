@@ -44,7 +44,8 @@ steps-kept tables more plans others (step ∷ steps) each =
     cc
 
 -- a step is the same without what it adds
-plain-full : (tables : List Prices) (plans : List Checked) (step : Step) → plain_step (full_step tables plans step) ≡ step
+plain-full : (tables : List Prices) (plans : List Checked) (step : Step) → plain_step
+    (full_step tables plans step) ≡ step
 plain-full tables plans (Took worker leaf) = refl
 plain-full tables plans (Split worker leaf table trip left) = refl
 plain-full tables plans (Closed worker leaf table) = refl
@@ -80,6 +81,7 @@ zeros-are p table fits zeros costs =
     cc
 
 -- tables and plans by number, once one more came
-pub map-last : (tables : List Table) (table : Table) → map prices_of (tables ++ table ∷ []) ≡ map prices_of tables ++ prices_of table ∷ []
+pub map-last : (tables : List Table) (table : Table) → map prices_of (tables ++ table ∷ []) ≡ map prices_of tables ++
+    prices_of table ∷ []
 map-last [] table = refl
 map-last (t ∷ tables) table = ap (λ (x : List Prices). prices_of t ∷ x) (map-last tables table)

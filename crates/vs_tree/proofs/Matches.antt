@@ -122,7 +122,8 @@ played-more entries count place first some inner size is_first played k pos with
           other (2 * place + 1) (λ e. omega arith) in
           rw (same, here, left, right) is_first
       | inr ne ↦
-          played-same entries new k (other k ne) (other (2 * k) (λ e. omega arith)) (other (2 * k + 1) (λ e. omega arith))
+          played-same entries new k (other k ne) (other (2 * k) (λ e. omega arith))
+          (other (2 * k + 1) (λ e. omega arith))
           (played k pos within ne)
     ]
 
@@ -171,7 +172,8 @@ root-first entries count v t =
           (root-first_from entries count (suc (count + v)) (count + v) t (omega arith) (omega (arith, t.some))
           (omega arith))
       | inr past ↦
-          let none : entry_at entries (count + v) ≡ None = get_or_past entries (count + v) None (omega (arith, t.size)) in
+          let none : entry_at entries (count + v) ≡ None = get_or_past entries (count + v) None
+          (omega (arith, t.size)) in
           rw (get_or-drop, none) (first-none (entry_at entries 1))
     ]
 
@@ -216,7 +218,8 @@ root-is_first entries count entry t root =
       spot = found.0;
       stands = found.1 ∙ root;
       least = λ w other has.
-          let first : IsNotAfter (entry_at entries 1) (entry_at (drop count entries) w) = root-first entries count w t in
+          let first : IsNotAfter (entry_at entries 1) (entry_at (drop count entries) w) = root-first entries
+          count w t in
           let P : Option Entry → Type 0 = λ a. IsNotAfter a (entry_at (drop count entries) w) in
           let Q : Option Entry → Type 0 = λ b. IsNotAfter (Some entry) b in
           subst Q has (subst P root first);

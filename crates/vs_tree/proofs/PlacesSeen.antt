@@ -79,7 +79,8 @@ module _ (permitted : List LayerSet) (spots : Vec Spot Global) (cuts : Vec Cut G
       ∙ ap (λ (x : List LayerSet). seen.places ++ record { spot = spot; sets = x } ∷ []) same
 
   -- sets that were laid going up from a spot, and then at the root, are those of the spot
-  pub seen-laid : (k : ℕ) → k < length spots.items → (root : List LayerSet) (ups : List Cut) (before sets : List LayerSet)
+  pub seen-laid : (k : ℕ) → k < length spots.items → (root : List LayerSet) (ups : List Cut)
+      (before sets : List LayerSet)
       → root ≡ permitted → ups ≡ cuts.items → length before ≡ length permitted → length sets ≡ length before
       → AreLaid (get_or (sets_of root ups) k []) root before
       → ((i : ℕ) → i < length sets → set_of sets i ≡ laid (set_of before i) (set_of root i))

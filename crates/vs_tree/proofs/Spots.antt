@@ -105,7 +105,8 @@ split-steps places relabelled first second k trip left right table within inner 
     ap (λ (x : List Place). (place_at x k).sets) lower
     ∙ ap (λ (q : Place). q.sets) (get_or_append_left relabelled (part_at relabelled k trip left table ∷ []) no_place k
     (omega (arith, size, same, within))) in
-    let part : List LayerSet → LayerSet → Place = λ x layers. record { spot = Free table; sets = with_set x trip layers } in
+    let part : List LayerSet → LayerSet → Place = λ x layers. record
+    { spot = Free table; sets = with_set x trip layers } in
     let is_left : part_at relabelled k trip left table ≡ on_left = ap (λ (x : List LayerSet). part x left) sets_then in
     let is_right : part_at first k trip right table ≡ on_right =
     ap (λ (x : List LayerSet). part x right) (sets_next ∙ sets_then) in

@@ -29,7 +29,8 @@ abbrev pub full_step : List Prices → List Checked → Step → FullStep
 full_step tables plans (Took worker leaf) = full.Took worker leaf
 full_step tables plans (Split worker leaf table trip left) =
     full.Split worker leaf table trip left (slice_index_or tables table no_prices)
-full_step tables plans (Closed worker leaf table) = full.Closed worker leaf table (slice_index_or tables table no_prices)
+full_step tables plans (Closed worker leaf table) = full.Closed worker leaf table
+    (slice_index_or tables table no_prices)
 full_step tables plans (Offered worker cost plan) = full.Offered worker cost plan (plan_of plans plan)
 full_step tables plans (GaveBack worker leaf) = full.GaveBack worker leaf
 

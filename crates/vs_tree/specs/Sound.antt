@@ -33,7 +33,8 @@ pub record IsOpening (o : Opening) : Type 0 where
 -- each plan costs less than the one before
 abbrev pub EachIsCheaper : List Checked → Type 0
 EachIsCheaper plans =
-    (k : ℕ) (d : Checked) → suc k < length plans → (slice_index_or plans (suc k) d).cost <ℤ (slice_index_or plans k d).cost
+    (k : ℕ) (d : Checked) → suc k < length plans → (slice_index_or plans (suc k) d).cost <ℤ
+    (slice_index_or plans k d).cost
 
 pub record IsSound (o : Opening) (s : State) : Type 0 where
   pub shared_out : (blocks : List LayerBlock) → IsPlan o.problem blocks → IsInOneLeaf s blocks

@@ -378,7 +378,14 @@ length-words words = rw length-map refl
 
 -- `make` and a count
 make_begins : (a : Word) → a ≡ codes "make" → Begin (a ∷ [])
-make_begins a is = (codes "1" ∷ [], (Make 1, asks a (codes "1" ∷ []) (Make 1) is (codes "1", refl, one_up_to MAX_TRIPS (omega arith))))
+make_begins a is = (
+  codes "1" ∷ [],
+  (
+    Make 1,
+    asks a (codes "1" ∷ []) (Make 1) is
+        (codes "1", refl, one_up_to MAX_TRIPS (omega arith)),
+  ),
+)
 
 -- it is missing, or is none
 pub make_bad_second : (words : List Word) → IsWordAt words 0 (codes "make")

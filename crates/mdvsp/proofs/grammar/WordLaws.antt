@@ -25,7 +25,8 @@ one_effort words c d (inr (inl one)) (inr (inl also)) =
     let name : setting_name one.setting ≡ setting_name also.setting = cc in
     let word : one.word ≡ also.word = cc in
     let setting = same_setting one.setting also.setting name in
-    let number = one_number one.setting also.setting one.word also.word one.n also.n word one.number_is also.number_is in
+    let number = one_number one.setting also.setting one.word also.word one.n also.n word one.number_is
+    also.number_is in
     let e = one.effort_is in
     let f = also.effort_is in
     cc

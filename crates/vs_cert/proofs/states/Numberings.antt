@@ -87,7 +87,8 @@ module _ (places : List (Option ℕ)) (numbers : List ℕ) (n : ℕ) (are : AreP
         omega (arith, one, before, are.count, length-append numbers (n ∷ []));
     stands = λ m k at. elim (cases_eq m n) [
       | inl same ↦
-          let here : place_in grown n ≡ Some (length numbers) = get_or-set_same places n (Some (length numbers)) None within in
+          let here : place_in grown n ≡ Some (length numbers) = get_or-set_same places n (Some (length numbers))
+          None within in
           let there : place_in grown n ≡ Some k = ap (place_in grown) (sym same) ∙ at in
           let k_is : length numbers ≡ k = cc in
           subst (λ (j : ℕ). slice_get (numbers ++ n ∷ []) j ≡ Some m) k_is

@@ -20,7 +20,8 @@ named_in-append (shape.Leaf table ∷ rows) more = ap (λ ns. table ∷ ns) (nam
 named_in-append (shape.Split trip left ∷ rows) more = named_in-append rows more
 
 -- one row more
-pub named_in-leaf : (rows : List Shape) (table : ℕ) → named_in (rows ++ shape.Leaf table ∷ []) ≡ named_in rows ++ table ∷ []
+pub named_in-leaf : (rows : List Shape) (table : ℕ) → named_in (rows ++ shape.Leaf table ∷ []) ≡ named_in rows
+    ++ table ∷ []
 named_in-leaf rows table = named_in-append rows (shape.Leaf table ∷ [])
 
 pub named_in-split : (rows : List Shape) (s : Shape) → named_in (s ∷ []) ≡ []

@@ -52,7 +52,8 @@ module _ (o : Opening) (s : State) (instance : IsInstance o.problem) (sound : Is
   reached_fits n at =
       let worth = at.worth in
       let fits =
-      number_fits o s sound (table_of (spot_at s at.leaf)) worth.table (sound.numbers at.leaf at.is_leaf) worth.listed in
+      number_fits o s sound (table_of (spot_at s at.leaf)) worth.table (sound.numbers at.leaf at.is_leaf)
+      worth.listed in
       let within = worth_within p instance worth.table fits (sets_at s at.leaf) n worth.worth in
       (omega (arith, ints), omega (arith, ints))
 

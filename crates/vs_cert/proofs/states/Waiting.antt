@@ -216,9 +216,11 @@ module _ (o : Opening) (s : State) where
           let comes : more ≡ with_number numbers table =
           named.placed.numbers ∙ ap (with_number numbers) (sym table_is) in
           let kept : (j n : ℕ) → slice_get numbers j ≡ Some n → slice_get more j ≡ Some n =
-          λ j n stands. subst (λ (ns : List ℕ). slice_get ns j ≡ Some n) (sym comes) (stands-more numbers table j n stands) in
+          λ j n stands. subst (λ (ns : List ℕ). slice_get ns j ≡ Some n) (sym comes)
+          (stands-more numbers table j n stands) in
           let placed_row : IsPlacedRow more (shape.Leaf table) row =
-          subst (IsPlacedRow more (shape.Leaf table)) (sym named.placed.row_is) (named.placed.named ∙ ap Some (sym table_is)) in
+          subst (IsPlacedRow more (shape.Leaf table)) (sym named.placed.row_is)
+          (named.placed.named ∙ ap Some (sym table_is)) in
           record {
             tree = are.tree;
             is_tree = are.is_tree;
@@ -263,7 +265,8 @@ module _ (o : Opening) (s : State) where
                 ∙ ap (λ rs. are.done ++ rs) (sym rows_are) ∙ are.all;
             numbers_are = is.numbers ∙ are.numbers_are
                 ∙ ap first_times (sym (named_in-split are.done (shape.Split trip left) refl));
-            placed = subst (λ (ns : List ℕ). ArePlacedRows ns (are.done ++ shape.Split trip left ∷ []) (rows ++ row ∷ []))
+            placed = subst (λ (ns : List ℕ). ArePlacedRows ns (are.done ++ shape.Split trip left ∷ [])
+                (rows ++ row ∷ []))
                 (sym is.numbers)
                 (placed-push numbers are.done rows (shape.Split trip left) row are.placed placed_row);
           }

@@ -76,7 +76,8 @@ module _ (g : Graph) (s : Shipment) (source : ℕ) (nodes : List ℕ) (sized : I
             | inl has_room ↦
                 let open_ : IsOpen (residual_of g s) (Forward k) = record { arc = within; room = has_room } in
                 let to_is =
-                is_in-from nodes (arc_of g k).to (stuck.cut.closed (Forward k) open_ (is_in-to nodes (arc_of g k).from e)) in
+                is_in-from nodes (arc_of g k).to (stuck.cut.closed (Forward k) open_
+                (is_in-to nodes (arc_of g k).from e)) in
                 absurd (cc)
             | inr full ↦ (omega (arith, ints), omega (arith, ints))
           ]
@@ -85,7 +86,8 @@ module _ (g : Graph) (s : Shipment) (source : ℕ) (nodes : List ℕ) (sized : I
             | inl carries ↦
                 let open_ : IsOpen (residual_of g s) (Back k) = record { arc = within; room = carries } in
                 let from_is =
-                is_in-from nodes (arc_of g k).from (stuck.cut.closed (Back k) open_ (is_in-to nodes (arc_of g k).to f)) in
+                is_in-from nodes (arc_of g k).from (stuck.cut.closed (Back k) open_
+                (is_in-to nodes (arc_of g k).to f)) in
                 absurd (cc)
             | inr empty ↦ (omega (arith, ints), omega (arith, ints))
           ]

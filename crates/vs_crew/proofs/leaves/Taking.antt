@@ -30,7 +30,8 @@ use Rattle.vs_crew.proofs.leaves.RootSets.{root_leaf}
 
 module _ (o : Opening) (steps : List FullStep) (w leaf : ℕ) (opening : IsOpening o) (history : IsHistory o steps)
     (free : IsFree (state_of o steps) leaf) (task : Task) (sets : task.sets.items ≡ sets_at (state_of o steps) leaf)
-    (prices : prices_of task.table ≡ prices_at (state_of o steps) leaf) (known_is : task.known ≡ known (state_of o steps))
+    (prices : prices_of task.table ≡ prices_at (state_of o steps) leaf)
+    (known_is : task.known ≡ known (state_of o steps))
     (root : task.root ≡ (leaf == 0)) where
   abbrev s : State
   s = state_of o steps
@@ -93,7 +94,8 @@ fits_sized p table fits = record { into = fits.into_size; from = fits.from_size;
 
 module _ (t new : Search) (w : ℕ) (sets : List LayerSet) (table : Table) (task : Task) where
   -- where the answer is a leaf, the worker holds it
-  pub told_node : (leaf : ℕ) (cost : Option ℤ) → IsOpening t.opening → IsHistory t.opening t.steps → w < t.opening.workers
+  pub told_node : (leaf : ℕ) (cost : Option ℤ) → IsOpening t.opening → IsHistory t.opening t.steps → w <
+      t.opening.workers
       → IsTake t.opening (state t) sets table (Node leaf cost) → task.sets.items ≡ sets → task.table ≡ table
       → task.known ≡ cost → task.root ≡ (leaf == 0) → new ≡ record t { steps = taking w t.steps (Node leaf cost) }
       → HoldsLeaf w leaf task new.opening (state new)

@@ -49,9 +49,11 @@ over-rest o s [] over may = refl
 over-rest o s (step ∷ steps) over may = absurd (over-last o s step over may.0)
 
 -- so a search that was over is over
-pub still_over : (o : Opening) (steps : List FullStep) → IsHistory o steps → WasOver o steps → IsOver o (state_of o steps)
+pub still_over : (o : Opening) (steps : List FullStep) → IsHistory o steps → WasOver o steps → IsOver o
+    (state_of o steps)
 still_over o steps history was =
-    let whole : IsHistory o (was.first ++ was.rest) = subst (λ (l : List FullStep). IsHistory o l) (sym was.goes_on) history in
+    let whole : IsHistory o (was.first ++ was.rest) = subst (λ (l : List FullStep). IsHistory o l)
+    (sym was.goes_on) history in
     let none = over-rest o (state_of o was.first) was.rest was.over
     (follow-rest o (first_state o) was.first was.rest whole) in
     let same : was.first ≡ steps =
@@ -72,7 +74,8 @@ still_left s [] worker among = among
 still_left s (step ∷ steps) worker among = still_left (after s step) steps worker (step_left s step worker among)
 
 -- the worker of a step is one of the search's, where those that hold leaves are
-step_worker : (o : Opening) (s : State) (step : FullStep) → ((worker leaf : ℕ) → IsHeldBy s worker leaf → worker < o.workers)
+step_worker : (o : Opening) (s : State) (step : FullStep) → ((worker leaf : ℕ) → IsHeldBy s worker leaf → worker
+    < o.workers)
     → MayCome o s step → worker_of step < o.workers
 step_worker o s (Took worker leaf) each may = may.is_worker
 step_worker o s (Split worker leaf table trip left prices) each may = each worker leaf may.holds

@@ -24,7 +24,8 @@ module _ (turn : TableId) (start : Search) (workers : ℕ) (fresh : IsFresh work
   }
 
   -- what the worker of one ticket knows by a seat like the first
-  knows_first : (k : ℕ) (seat : SeatModel) → k < workers → seat.turn ≡ turn → seat.opening ≡ length start.steps ∷ opening_entry start.opening → seat.tickets ≡ k ∷ []
+  knows_first : (k : ℕ) (seat : SeatModel) → k < workers → seat.turn ≡ turn → seat.opening ≡ length start.steps ∷
+      opening_entry start.opening → seat.tickets ≡ k ∷ []
       → seat.seen ≡ map entry_of start.steps → Knows turn start k (IsIdle k) seat
   knows_first k seat inside of_turn opens ticket seen = record {
     more = [];
@@ -32,7 +33,8 @@ module _ (turn : TableId) (start : Search) (workers : ℕ) (fresh : IsFresh work
     opens = opens;
     ticket = ticket;
     seen = seen ∙ ap (map entry_of) (sym (append-nil start.steps));
-    holds = subst (λ (l : List FullStep). IsIdle k start.opening (state_of start.opening l)) (sym (append-nil start.steps))
+    holds = subst (λ (l : List FullStep). IsIdle k start.opening (state_of start.opening l))
+        (sym (append-nil start.steps))
         (fresh_idle k inside);
   }
 
@@ -108,7 +110,8 @@ module _ (turn : TableId) (start : Search) (p : Problem) (crew : List Worker) (f
       let i = k - 1 in
       let same : k ≡ i + 1 = omega (arith, two) in
       let worker : Worker = record (get_or crew i d) { seat = Some last } in
-      let first : IsFirstSeat turn start (i + 1) seat = subst (λ (n : ℕ). IsFirstSeat turn start n seat) same given.first in
+      let first : IsFirstSeat turn start (i + 1) seat = subst (λ (n : ℕ). IsFirstSeat turn start n seat) same
+      given.first in
       let within : i < length crew = omega (arith, same, few) in
       let has : IsSeated turn start i worker =
       seated turn start p i (get_or crew i d) last problem (given.others i d (omega (arith, same)))

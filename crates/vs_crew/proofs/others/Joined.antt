@@ -41,7 +41,13 @@ over-later o steps rest later goes_on was = record {
 -- a worker's own end
 own_end : (o : Opening) (worker : ℕ) (over : Bool) (steps : List FullStep) → IsEnd over worker o (state_of o steps)
     → HasEnded worker o steps
-own_end o worker over steps is = record { first = steps; rest = []; goes_on = append-nil steps; over = over; is_end = is }
+own_end o worker over steps is = record {
+  first = steps;
+  rest = [];
+  goes_on = append-nil steps;
+  over = over;
+  is_end = is;
+}
 
 own_over : (o : Opening) (worker : ℕ) (over : Bool) (steps : List FullStep) → IsEnd over worker o (state_of o steps)
     → over ≡ true → WasOver o steps
@@ -70,7 +76,8 @@ one_ends turn start worker over seat knows = record {
 
 module _ (turn : TableId) (start : Search) (worker lowest many : ℕ) (over told : Bool) (a b both : SeatModel)
     (mine : Knows turn start worker (IsEnd over worker) a) (theirs : KnowsEnds turn start lowest many told b)
-    (below : suc worker ≡ lowest) (is : both ≡ both_seats a b) (tickets : length both.tickets ≡ length a.tickets + length b.tickets)
+    (below : suc worker ≡ lowest) (is : both ≡ both_seats a b)
+    (tickets : length both.tickets ≡ length a.tickets + length b.tickets)
     (a_begins : IsPrefix a.seen both.seen) (b_begins : IsPrefix b.seen both.seen) where
   -- what both have seen are the entries of some steps of the search
   both_more : (more : List FullStep) × (both.seen ≡ map entry_of (start.steps ++ more))

@@ -148,7 +148,8 @@ offered-room o s worker cost number added may worth below =
           let same : known (after s (Offered worker cost number added)) ≡ known s =
           ap (λ (q : Option Checked).
           option_map (λ (c : Checked). c.cost) (last_or None (s.accepted ++ plans_of q))) none
-          ∙ ap (λ (qs : List Checked). option_map (λ (c : Checked). c.cost) (last_or None qs)) (append-nil s.accepted) in
+          ∙ ap (λ (qs : List Checked). option_map (λ (c : Checked). c.cost) (last_or None qs))
+          (append-nil s.accepted) in
           subst (IsBelow worth) same below
     ]
 

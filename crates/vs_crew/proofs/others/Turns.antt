@@ -11,7 +11,8 @@ use Rattle.vs_tree.proofs.Entries.{same_opening}
 use Rattle.vs_crew.specs.Sharing.{GoesOnBy, HeldWhenLeft, Knows, Says, Shared, shared_entries, shared_opening}
 use Rattle.vs_crew.proofs.others.Histories.{are_called, not_called, steps_begin}
 
--- what a worker finds when it holds the turn: the search that was handed in has gone on, and what the worker knew was so
+-- what a worker finds when it holds the turn: the search that was handed in has gone on, and what the worker knew was
+-- so
 -- when it let it go
 pub record AtHold (start : Search) (worker : ℕ) (Q : Says) (a : Shared) : Type 0 where
   pub before : a.before ≡ length start.steps
@@ -107,7 +108,8 @@ module _ (turn : TableId) (start : Search) (worker : ℕ) (Q : Says) (seat : Sea
           ticket = knows.ticket;
           seen = ap (map entry_of) steps;
           holds =
-              subst (λ (o : Opening). R o (state_of o (start.steps ++ (knows.more ++ (rest.0 ++ goes_on.added))))) opening
+              subst (λ (o : Opening). R o (state_of o (start.steps ++ (knows.more ++ (rest.0 ++ goes_on.added)))))
+              opening
               (subst (λ (l : List FullStep). R new.search.opening (state_of new.search.opening l)) steps now);
         }
 

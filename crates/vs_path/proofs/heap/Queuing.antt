@@ -156,7 +156,8 @@ taken-near keys rest floor far v q =
           let is_far = sym (at u) ∙ has in
           elim (cases_eq u v) [
             | inl same ↦
-                let e : None ≡ Some key = sym here.1 ∙ ap (λ (w : ℕ). key_at far (length keys + w)) (sym same) ∙ is_far in
+                let e : None ≡ Some key = sym here.1 ∙ ap (λ (w : ℕ). key_at far (length keys + w)) (sym same)
+                ∙ is_far in
                 absurd (cc)
             | inr ne ↦ none-other keys v u ne ∙ q.far_too u key is_far
           ];

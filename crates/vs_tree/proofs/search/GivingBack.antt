@@ -19,7 +19,8 @@ has-hand o s sound worker leaf (Has other offered) held is =
     (offered, ap (λ (k : ℕ). Has k offered) (sound.one_leaf worker other leaf is.0 held))
 has-hand o s sound worker leaf Gone held is = absurd (sound.gone worker leaf is held)
 
-module _ (o : Opening) (a : Parts) (is : IsSearch o a) (worker leaf : ℕ) (held : IsHeldBy (state_of o a.log.steps) worker leaf)
+module _ (o : Opening) (a : Parts) (is : IsSearch o a) (worker leaf : ℕ)
+    (held : IsHeldBy (state_of o a.log.steps) worker leaf)
   where
     pub worker_inside : worker < length a.hands
     worker_inside = is.parts.workers_hold worker leaf held

@@ -39,7 +39,8 @@ module _ (o : Opening) (a : Parts) (is : IsSearch o a) (worker leaf : ℕ)
       let sum = sum-after offers_left a.hands worker (Has leaf false) Idle inside had in
       omega (arith, few, sum, is.parts.few_plans, is.parts.plans_room)
 
-  module _ (cost : ℤ) (number : Option ℕ) (added : Option Checked) (may : MayOffer o s worker cost number added) (b : Parts)
+  module _ (cost : ℤ) (number : Option ℕ) (added : Option Checked) (may : MayOffer o s worker cost number added)
+      (b : Parts)
       (steps : b.log.steps ≡ a.log.steps ++ Offered worker cost number added ∷ [])
       (tables : b.log.tables ≡ a.log.tables) (plans : b.log.plans ≡ a.log.plans ++ plans_of added)
       (step_room : b.log.step_room ≡ a.log.step_room) (table_room : b.log.table_room ≡ a.log.table_room)

@@ -24,7 +24,8 @@ counted : (leaf : ℕ) (offered : Bool) → IsCounted 0 (Has leaf offered) Gone
 counted leaf true = record { steps = omega arith; plans = omega arith }
 counted leaf false = record { steps = omega arith; plans = omega arith }
 
-module _ (o : Opening) (a : Parts) (is : IsSearch o a) (worker leaf : ℕ) (held : IsHeldBy (state_of o a.log.steps) worker leaf)
+module _ (o : Opening) (a : Parts) (is : IsSearch o a) (worker leaf : ℕ)
+    (held : IsHeldBy (state_of o a.log.steps) worker leaf)
   where
     abbrev s : State
     s = state_of o a.log.steps
@@ -83,7 +84,8 @@ module _ (o : Opening) (a : Parts) (is : IsSearch o a) (worker leaf : ℕ) (held
         (alike-others s n worker leaf held elsewhere (held-before s n leaf spot within refl refl)
         (λ w apart among. (suc among.0, among.1)) still refl)
         (counted leaf has.0) (omega (arith, less))
-        (same-worth o.problem n s leaf (worth_at a.worths leaf) (sym (sets-kept s n leaf spot within refl leaf)) same_prices
+        (same-worth o.problem n s leaf (worth_at a.worths leaf) (sym (sets-kept s n leaf spot within refl leaf))
+        same_prices
         (is.parts.worths leaf was))
         steps (tables ∙ sym (append-nil a.log.tables)) plans step_room table_room plan_room places room hands frees
         (worths ∙ sym (set-get_or a.worths leaf NoPlan)) (omega (arith, finished)) sets

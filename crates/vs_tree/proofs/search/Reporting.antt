@@ -24,7 +24,8 @@ least-is o a is cost least knows of =
       leaves = λ k worth leaf is_worth.
           let below = leaf_is o a is k leaf in
           let same : worth_at a.worths k ≡ worth =
-          one_worth o.problem (sets_at s k) (prices_at s k) (worth_at a.worths k) worth (is.parts.worths k leaf) is_worth in
+          one_worth o.problem (sets_at s k) (prices_at s k) (worth_at a.worths k) worth (is.parts.worths k leaf)
+          is_worth in
           subst (λ (x : Bound). IsNoLess x least) same
           (of.leaves k below (ap is_inner (sym (spot-is o a is k)) ∙ leaf));
       cost = subst (λ (x : Option ℤ). IsNoLess (bound_of x) least) knows of.cost;
@@ -40,7 +41,8 @@ least-is o a is cost least knows of =
       ];
     }
 
-pub not-inner : (spot : Spot) → ((trip : TripNo) (left : LayerSet) (lower upper : ℕ) → spot ≡ Inner trip left lower upper → ⊥)
+pub not-inner : (spot : Spot) → ((trip : TripNo) (left : LayerSet) (lower upper : ℕ) → spot ≡ Inner trip left
+    lower upper → ⊥)
     → is_inner spot ≡ false
 not-inner (Inner trip left lower upper) none = absurd (none trip left lower upper refl)
 not-inner (Free table) none = refl

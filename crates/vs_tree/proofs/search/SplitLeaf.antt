@@ -97,11 +97,13 @@ module _ (o : Opening) (a : Parts) (is : IsSearch o a) (worker leaf number : ℕ
 
   spot_lower : (j : ℕ) → j ≡ size → spot_at n j ≡ Free number
   spot_lower j here =
-      ap (λ (q : Place). q.spot) (parts.at_lower o s worker leaf number trip left prices may is.opening.instance sound j here)
+      ap (λ (q : Place). q.spot) (parts.at_lower o s worker leaf number trip left prices may is.opening.instance
+      sound j here)
 
   spot_upper : (j : ℕ) → j ≡ size + 1 → spot_at n j ≡ Free number
   spot_upper j here =
-      ap (λ (q : Place). q.spot) (parts.at_upper o s worker leaf number trip left prices may is.opening.instance sound j here)
+      ap (λ (q : Place). q.spot) (parts.at_upper o s worker leaf number trip left prices may is.opening.instance
+      sound j here)
 
   before : (w j : ℕ) → IsHeldBy n w j → IsHeldBy s w j
   before = parts.before o s worker leaf number trip left prices may is.opening.instance sound
@@ -120,7 +122,8 @@ module _ (o : Opening) (a : Parts) (is : IsSearch o a) (worker leaf number : ℕ
   mine = (
     λ k now.
         let same : k ≡ leaf = sound.one_leaf worker k leaf (before worker k now) held in
-        let at : Inner trip left size (size + 1) ≡ Held worker now.0 = sym at_leaf ∙ ap (spot_at n) (sym same) ∙ now.1 in
+        let at : Inner trip left size (size + 1) ≡ Held worker now.0 = sym at_leaf ∙ ap (spot_at n)
+        (sym same) ∙ now.1 in
         absurd cc,
     λ among. sound.gone worker leaf among held,
   )
@@ -197,7 +200,8 @@ module _ (o : Opening) (a : Parts) (is : IsSearch o a) (worker leaf number : ℕ
   now_free k below =
       elim (where_is size leaf k) [
         | split here ↦
-            no_entry k (λ e. omega (arith, e, here, within, same_size)) (λ e. omega (arith, e, here, within, same_size)) below
+            no_entry k (λ e. omega (arith, e, here, within, same_size))
+            (λ e. omega (arith, e, here, within, same_size)) below
             (ap (λ (j : ℕ). free_entry (spot_at s j) (worth_at a.worths j) j) here
             ∙ ap (λ (x : Spot). free_entry x (worth_at a.worths leaf) leaf) held.1)
             (ap (λ (j : ℕ). free_entry (spot_at n j) (worth_at b.worths j) j) here
@@ -247,14 +251,16 @@ module _ (o : Opening) (a : Parts) (is : IsSearch o a) (worker leaf number : ℕ
   now_worths k leaf_k =
       elim (where_is size leaf k) [
         | split here ↦
-            absurd (parts.leaf_no_more o s worker leaf number trip left prices may is.opening.instance sound k here leaf_k)
+            absurd (parts.leaf_no_more o s worker leaf number trip left prices may is.opening.instance sound k
+            here leaf_k)
         | other apart inside_old ↦
             let was : IsLeaf s k = ap is_inner (sym (spot_other k apart inside_old)) ∙ leaf_k in
             let kept = prices-kept s n k (prices ∷ []) refl (sound.numbers k was) (spot_other k apart inside_old) in
             let layers = parts.sets_other o s worker leaf number trip left prices may is.opening.instance sound k apart
             inside_old in
             subst (λ (x : Bound). IsLeafWorth o.problem n k x)
-            (sym (worth_other k (λ e. omega (arith, e, inside_old, same_size)) (λ e. omega (arith, e, inside_old, same_size))))
+            (sym (worth_other k (λ e. omega (arith, e, inside_old, same_size))
+            (λ e. omega (arith, e, inside_old, same_size))))
             (same-worth o.problem n s k (worth_at a.worths k) (sym layers) (sym kept) (is.parts.worths k was))
         | lower here ↦
             part_worth k _ lower_worth (ap (λ (q : Place). q.sets)

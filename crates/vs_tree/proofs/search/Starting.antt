@@ -18,7 +18,8 @@ use Rattle.vs_tree.specs.Search.{ArePartsOf, IsHandOf, IsSearch, Parts, free_ent
 use Rattle.vs_tree.specs.Sound.{IsOpening}
 use Rattle.vs_tree.proofs.sound.Histories.{not_held, only_root}
 
-module _ (o : Opening) (b : Parts) (opening : IsOpening o) (few : o.budget ≤ MAX_BUDGET) (few_workers : o.workers ≤ MAX_WORKERS)
+module _ (o : Opening) (b : Parts) (opening : IsOpening o) (few : o.budget ≤ MAX_BUDGET)
+    (few_workers : o.workers ≤ MAX_WORKERS)
     (least : Bound) (worth : AreWorth o.problem (permitted_sets o.problem) (zero_prices o.problem) least)
     (steps : b.log.steps ≡ []) (tables : b.log.tables ≡ zero_prices o.problem ∷ [])
     (plans : b.log.plans ≡ plans_of o.first)

@@ -17,7 +17,8 @@ use Rattle.vs_tree.proofs.search.Hands.{IsAlike, among-filter, count-after, filt
 use Rattle.vs_tree.proofs.sound.Relabelled.{count-more, leaves-kept, same-worth, sets-kept, spot-here, spot-there}
 use Rattle.vs_tree.proofs.Spots.{leaf_within, length-with_spot}
 
-module _ (o : Opening) (a : Parts) (is : IsSearch o a) (worker leaf : ℕ) (may : MayTake o (state_of o a.log.steps) worker leaf)
+module _ (o : Opening) (a : Parts) (is : IsSearch o a) (worker leaf : ℕ)
+    (may : MayTake o (state_of o a.log.steps) worker leaf)
   where
     abbrev s : State
     s = state_of o a.log.steps

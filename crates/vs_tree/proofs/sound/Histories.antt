@@ -89,4 +89,5 @@ module _ (o : Opening) (opening : IsOpening o) where
 
 -- the law
 pub histories_are_sound : HistoriesAreSound
-histories_are_sound o steps opening history = steps_sound o opening (first_state o) steps history (first_sound o opening)
+histories_are_sound o steps opening history = steps_sound o opening (first_state o) steps history
+    (first_sound o opening)

@@ -80,7 +80,11 @@ module _ (places : List Place) (k : ℕ) (within : k < length places) (was : is_
 
   abbrev upper_place : Place
   upper_place =
-      record { spot = Free table; sets = with_set (place_at places k).sets trip (right_of (place_at places k).sets trip left) }
+      record {
+        spot = Free table;
+        sets = with_set (place_at places k).sets trip
+            (right_of (place_at places k).sets trip left);
+      }
 
   abbrev spot : Spot
   spot = Inner trip left n (n + 1)
@@ -119,7 +123,8 @@ module _ (places : List Place) (k : ℕ) (within : k < length places) (was : is_
     once_grown j =
         elim (where_is n k j) [
           | split is ↦
-              let gone = times-split k n (λ same. omega (arith, within, same)) (λ same. omega (arith, within, same)) spots in
+              let gone = times-split k n (λ same. omega (arith, within, same))
+              (λ same. omega (arith, within, same)) spots in
               let times-are = ap (λ (i : ℕ). times i (parted k n spots)) is in
               let here : place_at grown_places j ≡ record { spot = spot; sets = (place_at places k).sets } =
               ap (place_at grown_places) is ∙ split-here places k spot lower_place upper_place within in
@@ -160,12 +165,14 @@ module _ (places : List Place) (k : ℕ) (within : k < length places) (was : is_
               )
         ]
 
-  module _ (inside : trip.0 < length (place_at places k).sets) (part : IsProperPart left (set_of (place_at places k).sets trip.0)) where
+  module _ (inside : trip.0 < length (place_at places k).sets)
+      (part : IsProperPart left (set_of (place_at places k).sets trip.0)) where
     tree_grown : (sets : List LayerSet) → HasTreeOn places sets
         → HasTreeOn (new places k within was trip left table) sets
     tree_grown sets has =
         let old = has.is in
-        let from = grown places k within was trip left table inside part has.tree 0 sets old.spots old.is_tree old.good in
+        let from = grown places k within was trip left table inside part has.tree 0 sets old.spots old.is_tree
+        old.good in
         let none = ap {B = ℕ} (λ (b : Bool). cond b 1 0) was in
         record {
           tree = from.tree;

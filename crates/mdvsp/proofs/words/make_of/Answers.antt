@@ -18,12 +18,14 @@ returns-in-None c =
     let found = c.in-Some.ensures.lookup in
     let read = word_read c.args.words.now 1 c.in-Some.count.now (ltb-true _ _ (sym found.0)) found.1 in
     make_bad_second _ c.requires (λ count second n is. c.in-None.ensures n
-    (subst (λ (x : Word). IsNumberUpTo MAX_TRIPS x n) (sym second.word_is ∙ read.word_is ∙ sym c.as_str.ensures.value) is))
+    (subst (λ (x : Word). IsNumberUpTo MAX_TRIPS x n) (sym second.word_is ∙ read.word_is ∙ sym
+    c.as_str.ensures.value) is))
 
 pub returns-in-Some-2 : goal.returns-in-Some-2
 returns-in-Some-2 c =
     let found = c.in-Some.ensures.lookup in
     let read = word_read c.args.words.now 1 c.in-Some.count.now (ltb-true _ _ (sym found.0)) found.1 in
     make_bad_third _ _ c.in-Some-number_up_to.n c.requires read
-    (subst (λ (x : Word). IsNumberUpTo MAX_TRIPS x c.in-Some-number_up_to.n) c.as_str.ensures.value c.in-Some-number_up_to.ensures)
+    (subst (λ (x : Word). IsNumberUpTo MAX_TRIPS x c.in-Some-number_up_to.n) c.as_str.ensures.value
+    c.in-Some-number_up_to.ensures)
     (λ two. c.if-words-eq2.false (sym (length-words c.args.words.now) ∙ two))

@@ -47,7 +47,8 @@ returns-in_default c = solve_bad_third _ c.args.first c.requires.name c.requires
 
 pub returns-then-not-is_word : goal.returns-then-not-is_word
 returns-then-not-is_word c =
-    let wanted = other_name c.args.first c.other-second.result c.name.result.now c.other-second.ensures c.name.ensures in
+    let wanted = other_name c.args.first c.other-second.result c.name.result.now c.other-second.ensures
+    c.name.ensures in
     solve_bad_fourth _ c.args.first c.in-Some.n
     (opened_by _ c.args.first c.in-Some.n c.requires.name c.requires.option c.in-Some.ensures)
     (λ fourth.
@@ -57,7 +58,8 @@ returns-then-not-is_word c =
 
 pub returns-in_default-number_at : goal.returns-in_default-number_at
 returns-in_default-number_at c =
-    let wanted = other_name c.args.first c.other-second.result c.name.result.now c.other-second.ensures c.name.ensures in
+    let wanted = other_name c.args.first c.other-second.result c.name.result.now c.other-second.ensures
+    c.name.ensures in
     solve_bad_fifth _ c.args.first c.in-Some.n
     (opened_by _ c.args.first c.in-Some.n c.requires.name c.requires.option c.in-Some.ensures)
     (subst (IsWordAt _ 3) wanted (c.is_word.ensures.0 (let no = c.if-not-is_word.false in cc)))

@@ -71,7 +71,8 @@ loop-worker-preserved g c =
       done = done-before name start crew worker all;
       fewer = omega (arith, size, fewer);
       ends =
-          subst (λ (n : ℕ). KnowsEnds name start (length crew) n (c.end_of-own.result.1 || c.loop-worker.over) c.join-seat.result) more
+          subst (λ (n : ℕ). KnowsEnds name start (length crew) n (c.end_of-own.result.1 || c.loop-worker.over)
+          c.join-seat.result) more
           (both_end name start (length crew) (length before) (total - length before) c.end_of-own.result.1
           c.loop-worker.over c.end_of-own.result.0 c.loop-worker.seat c.join-seat.result knows
           c.loop-worker.invariant.ends below join.seat join.tickets join.begins.0 join.begins.1);

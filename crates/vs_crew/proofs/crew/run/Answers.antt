@@ -50,7 +50,8 @@ returns-then-over-clause-goes_on g c =
     let after = c.into_tree-tree.result in
     let workers_are = ap (λ (t : Search). t.opening.workers) c.of-start.ensures ∙ (c.requires.workers ∙ sym count) in
     subst (λ (t : Search). HasGoneOn t after) c.of-start.ensures
-    (has_gone_on c.in-Ok-new.made.0.name start after _ c.joined-seat.result.1 c.joined-seat.result.0 c.joined-seat.ensures
+    (has_gone_on c.in-Ok-new.made.0.name start after _ c.joined-seat.result.1 c.joined-seat.result.0
+    c.joined-seat.ensures
     c.close.result c.close.ensures.seen c.close.ensures.entries c.into_tree-tree.ensures.tree workers_are
     c.into_tree-tree.ensures.worked c.into_tree-tree.ensures.opening c.into_tree-tree.ensures.history)
 
@@ -85,6 +86,7 @@ returns-clause-memory g c =
     let after = c.into_tree-tree.result in
     let workers_are = ap (λ (t : Search). t.opening.workers) c.of-start.ensures ∙ (c.requires.workers ∙ sym count) in
     subst (λ (t : Search). HasGoneOn t after) c.of-start.ensures
-    (has_gone_on c.in-Ok-new.made.0.name start after _ c.joined-seat.result.1 c.joined-seat.result.0 c.joined-seat.ensures
+    (has_gone_on c.in-Ok-new.made.0.name start after _ c.joined-seat.result.1 c.joined-seat.result.0
+    c.joined-seat.ensures
     c.close.result c.close.ensures.seen c.close.ensures.entries c.into_tree-tree.ensures.tree workers_are
     c.into_tree-tree.ensures.worked c.into_tree-tree.ensures.opening c.into_tree-tree.ensures.history)

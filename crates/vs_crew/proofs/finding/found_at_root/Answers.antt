@@ -21,7 +21,8 @@ returns-clause-found c =
       fits = made.fits;
       holds = made.holds;
       no_less = worth_no_less-trans p task.sets.items outcome.table c.agree.new.table task.table made.no_less
-          (subst (λ (x : List LayerSet). IsWorthNoLess p x c.agree.new.table task.table) (sym (c.requires.lawful.root c.requires.root))
+          (subst (λ (x : List LayerSet). IsWorthNoLess p x c.agree.new.table task.table)
+          (sym (c.requires.lawful.root c.requires.root))
           c.agree.ensures.worth);
       worked = worked-root p task.root task.sets.items c.agree.new.table task.table outcome.table c.requires.root
           made.worked;

@@ -64,7 +64,8 @@ loop-to-preserved c =
     elim c.if-ne.branch [
       | then-ne+in-Some+in_ok-push_matches b ↦
           let within : s < p.stops = omega (arith, c.loop-to-test.true, c.stops-to-end.ensures.count) in
-          let there = at_this_stop p.stops nodes.departures.items c.args.departures.now c.requires.departures s within in
+          let there = at_this_stop p.stops nodes.departures.items c.args.departures.now c.requires.departures
+          s within in
           let apart = eqb-false k s (not-true _ (sym c.ne.ensures ∙ b.if-ne.true)) in
           let arcs = ap (λ (v : Vec LayerArc Global). v.items) b.arcs-is in
           let few = c.at_stop-arrivals.ensures.few in

@@ -16,7 +16,8 @@ pass-requires-clause-net g c =
     ∙ length-prices g.p c.args.l.0 c.args.table.now.into.items given.layer given.fits.into_size in
     let of_net = subst (λ (m : ℕ). c.args.l.0 < m) (sym given.nets_are.of_layers.each_layer) given.layer in
     subst (CanBePassed n) (sym size)
-    (can_be_passed g.p c.args.l.0 n (given.nets_are.of_layers.lawful c.args.l.0 of_net) (given.nets_are.rising c.args.l.0 of_net))
+    (can_be_passed g.p c.args.l.0 n (given.nets_are.of_layers.lawful c.args.l.0 of_net)
+    (given.nets_are.rising c.args.l.0 of_net))
 
 pub returns-clause-found : goal.returns-clause-found
 returns-clause-found g c =
@@ -26,5 +27,6 @@ returns-clause-found g c =
     c.deref.ensures.value in
     let of_net = subst (λ (m : ℕ). c.args.l.0 < m) (sym given.nets_are.of_layers.each_layer) given.layer in
     let P : List ℤ → Type 0 = λ into. AreGains n into c.args.table.now.ray c.args.aim c.pass.new.found in
-    found_for g.p c.args.l.0 n (given.nets_are.of_layers.lawful c.args.l.0 of_net) c.args.table.now c.pass.new.found c.args.aim
+    found_for g.p c.args.l.0 n (given.nets_are.of_layers.lawful c.args.l.0 of_net) c.args.table.now
+    c.pass.new.found c.args.aim
     (subst P cut c.pass.ensures.found)

@@ -9,7 +9,8 @@ narrow-requires-clause-fits g c i within =
     let same : c.deref.result.now ≡ c.find_nexts.new.self.nexts.items = c.deref.ensures.value in
     let P : List (Option ℤ) → Type 0 = λ found. IfSome (get_or found i None) (FitsSigned w64) in
     subst P (sym same)
-    (needs_fit g.p c.args.table.now c.args.l.0 given.can_judge.nets_are.of_layers.instance given.can_judge.fits given.layer
+    (needs_fit g.p c.args.table.now c.args.l.0 given.can_judge.nets_are.of_layers.instance given.can_judge.fits
+    given.layer
     c.find_nexts.new.self.nexts.items c.find_nexts.ensures.found i (omega (arith, within, given.each_trip)))
 
 pub returns-clause-needs : goal.returns-clause-needs

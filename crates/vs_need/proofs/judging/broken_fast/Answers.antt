@@ -37,5 +37,6 @@ loop-l-preserved g c =
           c.broken_in_layer-found.ensures.kept;
       so_far =
           first_below-step (layer_breaks g.p c.args.table.now) c.loop-l.l (length g.p.layers) _
-          c.loop-l.invariant.so_far (omega (arith, within, given.nets_are.of_layers.each_layer)) c.in_default.ensures.first;
+          c.loop-l.invariant.so_far (omega (arith, within, given.nets_are.of_layers.each_layer))
+          c.in_default.ensures.first;
     }

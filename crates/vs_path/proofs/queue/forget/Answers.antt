@@ -19,7 +19,12 @@ loop-node-preserved c v =
     let nodes = c.args.nodes.now in
     let i = c.loop-node.node-index in
     let node : ℕ = get_or nodes i 0 in
-    let within : node < length keys = omega (arith, c.loop-node.auto.keys, c.requires node (i, c.loop-node-test.true, refl)) in
+    let within : node < length keys = omega (
+      arith,
+      c.loop-node.auto.keys,
+      c.requires node
+          (i, c.loop-node-test.true, refl),
+    ) in
     elim (cases_eq v node) [
       | inl same ↦
           inl (ap (key_at (set keys node None)) same ∙ get_or-set_same keys node None None within)

@@ -19,9 +19,11 @@ loop-spot-preserved c =
     record {
       within = omega (arith, before.before, inv.within);
       size = length-set c.loop-spot.sets t c.laid.result ∙ inv.size;
-      laid = subst (λ (x : LayerSet). AreLaid target (slice_index_or all (cut_at cuts k).parent []) (set c.loop-spot.sets t x))
+      laid = subst (λ (x : LayerSet). AreLaid target (slice_index_or all (cut_at cuts k).parent [])
+          (set c.loop-spot.sets t x))
           (sym c.laid.ensures)
-          (laid-up c.args.permitted.now cuts c.requires.cuts target c.loop-spot.sets k (omega (arith, inv.within)) inv.size
+          (laid-up c.args.permitted.now cuts c.requires.cuts target c.loop-spot.sets k
+          (omega (arith, inv.within)) inv.size
           here);
     }
 

@@ -7,7 +7,8 @@ abbrev pub invariant-loop-spot : goal.invariant-loop-spot
 invariant-loop-spot l = record {
   within : l.spot ≤ length l.cuts;
   size : length l.sets ≡ length l.permitted;
-  laid : AreLaid (slice_index_or (sets_of l.permitted l.cuts) l.k []) (slice_index_or (sets_of l.permitted l.cuts) l.spot [])
+  laid : AreLaid (slice_index_or (sets_of l.permitted l.cuts) l.k [])
+      (slice_index_or (sets_of l.permitted l.cuts) l.spot [])
       l.sets;
 }
 

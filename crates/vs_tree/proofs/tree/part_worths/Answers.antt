@@ -15,7 +15,8 @@ worth-upper-requires-clause-restriction c =
     set-set sets c.args.trip.0 c.args.left c.rest_of-right.result
     ∙ ap (λ (x : LayerSet). set sets c.args.trip.0 x) c.rest_of-right.ensures.value in
     subst (λ (x : List LayerSet). IsRestriction c.args.instance.now x) (sym written)
-    (right-restricts c.args.instance.now sets c.args.trip c.args.left c.requires.trip c.requires.part c.requires.restriction)
+    (right-restricts c.args.instance.now sets c.args.trip c.args.left c.requires.trip c.requires.part
+    c.requires.restriction)
 
 pub returns-clause-upper : goal.returns-clause-upper
 returns-clause-upper c =

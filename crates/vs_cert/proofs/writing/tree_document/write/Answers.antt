@@ -39,7 +39,8 @@ write_shapes-requires c =
     let known = c.instance-instance.ensures in
     let sound = histories_are_sound t.opening t.steps known.opening known.history in
     let numbers = c.in_ok-all.all.tables.items in let rows = c.in_ok-all.all.rows.items in
-    let few = few_numbers t.opening (state t) known.opening.instance known.budget sound numbers rows c.in_ok-all.ensures in
+    let few = few_numbers t.opening (state t) known.opening.instance known.budget sound numbers rows
+    c.in_ok-all.ensures in
     All-weaker (IsShapeOf p (length numbers)) (λ s. HasForm names (shape_row s))
     (λ s is. shape_form p names known.opening.instance c.requires (length numbers) s (omega (arith, few)) is) rows
     (shapes_are t.opening (state t) known.opening.instance known.budget sound numbers rows c.in_ok-all.ensures)
@@ -53,14 +54,16 @@ returns c =
     let numbers = c.in_ok-all.all.tables.items in let rows = c.in_ok-all.all.rows in
     let head = head_of r.claim r.cost r.bound in
     let begun : c.write_head.new.text ≡ lines (written_rows names (head r.finished)) =
-    c.in_ok-write_head.ensures ∙ ap (λ text. text ++ lines (written_rows names (head c.from-nodes.result))) c.new-text.ensures
+    c.in_ok-write_head.ensures ∙ ap (λ text. text ++ lines (written_rows names (head c.from-nodes.result)))
+    c.new-text.ensures
     ∙ ap (λ n. lines (written_rows names (head n))) c.from-nodes.ensures in
     let bytes = written_in_turn names (head r.finished) (map BlockRow (blocks_of plan))
     (numbered_rows p (state t) numbers) (map shape_row rows.items) c.write_head.new.text c.write_blocks.new.text
     c.write_numbered.new.text c.write_shapes.new.text c.into_bytes.result.items begun c.in_ok-write_blocks.ensures
     c.in_ok-write_numbered.ensures c.in_ok-write_shapes.ensures
     (c.into_bytes.ensures ∙ c.in_ok-end_row.ensures ∙ ap (λ text. text ++ 10 ∷ []) c.in_ok-begin_row.ensures) in
-    let says = document_says t.opening (state t) known.opening.instance known.budget sound r c.report-report.ensures plan
+    let says = document_says t.opening (state t) known.opening.instance known.budget sound r
+    c.report-report.ensures plan
     c.known_plan-plan.ensures numbers rows c.in_ok-all.ensures in
     record {
       document = document t.opening (state t) known.opening.instance known.budget sound r c.report-report.ensures plan

@@ -58,12 +58,15 @@ loop-k-preserved c =
     let inside : k < length numbers = omega (arith, ap (λ (ns : List ℕ). length ns) same) in
     let xs : List Prices = map (prices_of_number (state t)) numbers in
     let place =
-    numbered_at (state t) numbers c.deref-number-items.result.now k (prices_of table) same inside c.table-table.ensures in
-    let added = subst (λ (q : Problem). AddsRows names (table_rows q (k + 1, table)) c.loop-k.text c.write_table.new.text)
+    numbered_at (state t) numbers c.deref-number-items.result.now k (prices_of table) same inside
+    c.table-table.ensures in
+    let added = subst (λ (q : Problem). AddsRows names (table_rows q (k + 1, table)) c.loop-k.text
+    c.write_table.new.text)
     c.instance-instance.ensures.value c.in_ok-write_table.ensures in
     wrote_more bytes c.args.text.now c.loop-k.text c.write_table.new.text (enumerate_from 1 xs) k
     (k + 1, prices_of table)
-    (omega (arith, inside, length-enumerate_from 1 xs, length-map numbers (prices_of_number (state t)))) c.loop-k.invariant
+    (omega (arith, inside, length-enumerate_from 1 xs, length-map numbers (prices_of_number (state t))))
+    c.loop-k.invariant
     (added ∙ ap (λ e. c.loop-k.text ++ bytes e) (sym place))
 
 pub returns : goal.returns
@@ -76,5 +79,6 @@ returns c =
     let same = ap (λ (ns : List ℕ). length ns) c.deref-number-items.ensures.value in
     wrote_all (λ (e : ℕ × Prices). lines (written_rows names (prices_rows p e))) c.args.text.now c.loop-k.text numbered
     c.loop-k.k
-    (omega (arith, same, length-enumerate_from 1 xs, length-map numbers (prices_of_number (state t)))) c.loop-k.invariant
+    (omega (arith, same, length-enumerate_from 1 xs, length-map numbers (prices_of_number (state t))))
+    c.loop-k.invariant
     ∙ ap (λ rest. c.args.text.now ++ rest) (sym (written-flat_map names (prices_rows p) numbered))

@@ -45,7 +45,8 @@ taken o s spots waiting numbers k rows are is = subst (λ (w : List ℕ). AreUnd
 pub loop-k-init : goal.loop-k-init
 loop-k-init c =
     let t = c.args.tree.now in
-    let found = states_are_trees t.opening t.steps c.instance-instance.ensures.opening c.instance-instance.ensures.history in
+    let found = states_are_trees t.opening t.steps c.instance-instance.ensures.opening
+    c.instance-instance.ensures.history in
     record {
       underway = along t.opening (state t) c.push.new.self.items (0 ∷ []) c.in_ok-numbering.numbering.numbers []
           c.in_ok-rows.rows.items []

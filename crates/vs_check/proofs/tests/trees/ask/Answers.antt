@@ -18,4 +18,5 @@ taking-gone t worker Spent = refl
 
 pub returns-clause-gone : goal.returns-clause-gone
 returns-clause-gone c =
-    ap (λ (t : Search). (state t).gone) c.take-take.ensures.search ∙ taking-gone c.args.tree.now c.args.w c.take-take.result
+    ap (λ (t : Search). (state t).gone) c.take-take.ensures.search ∙ taking-gone c.args.tree.now c.args.w
+    c.take-take.result

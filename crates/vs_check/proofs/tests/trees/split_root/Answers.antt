@@ -78,7 +78,8 @@ finish-requires c =
     let instance : IsInstance o.problem = subst IsInstance
     (ap (λ (x : Search). x.opening.problem) (c.tree.view_is ∙ root)) c.tree.invariant.opening.instance in
     let size = ap (λ (xs : List LayerSet). length xs) sets in
-    let some : 0 < length c.in_ok-take.field-0.sets.items = omega (arith, size, copied, length-map o.problem.trips (λ (x : Trip). x.layers)) in
+    let some : 0 < length c.in_ok-take.field-0.sets.items = omega
+    (arith, size, copied, length-map o.problem.trips (λ (x : Trip). x.layers)) in
     let at : c.index.result.now ≡ set_of c.in_ok-take.field-0.sets.items 0 =
     get_or_read c.in_ok-take.field-0.sets.items _ _ some c.index.ensures (record { 0 = 0 }) in
     may_split o n c.in_ok-left.left (prices_of c.in_ok-take.field-0.table) instance copied root prices

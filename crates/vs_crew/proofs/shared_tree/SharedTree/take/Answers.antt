@@ -81,7 +81,8 @@ returns-clause-table c =
           (subst (IsTake old.opening (state old) c.take.new.sets c.take.new.table) w.in-Node.is c.take.ensures.answer)
           (ap (λ (t : Task). t.sets.items) w.task-is ∙ written) (ap (λ (t : Task). t.table) w.task-is)
           (ap (λ (t : Task). t.known) w.task-is) (ap (λ (t : Task). t.root) w.task-is)
-          (c.take.ensures.search ∙ ap (λ (t : Take). record old { steps = taking c.args.w old.steps t }) w.in-Node.is) in
+          (c.take.ensures.search ∙ ap (λ (t : Take). record old { steps = taking c.args.w old.steps t })
+          w.in-Node.is) in
           subst (λ (p : Problem). IsSized p c.match-take.task.table)
           (ap (λ (t : Search). t.opening.problem) c.take.ensures.search ∙ problem)
           (fits_sized c.take.new.self.opening.problem c.match-take.task.table holds.lawful.fits)

@@ -19,7 +19,8 @@ pub returns-clause-none_held : goal.returns-clause-none_held
 returns-clause-none_held c =
     let o = c.split_root.new.tree.opening in
     let split = c.if-not-split_root.ensures.split refl in
-    subst (λ (l : List FullStep). NoneIsHeld (state_of o l)) (sym split.1) (none_held o split.0 (zero_prices c.in_ok-tree.tree.opening.problem))
+    subst (λ (l : List FullStep). NoneIsHeld (state_of o l)) (sym split.1)
+    (none_held o split.0 (zero_prices c.in_ok-tree.tree.opening.problem))
 
 pub returns-clause-none_gone : goal.returns-clause-none_gone
 returns-clause-none_gone c =

@@ -23,7 +23,8 @@ may_split : (n : Search) (left : LayerSet) (prices : Prices) → IsInstance n.op
     → MaySplit n.opening (state n) 0 0 (length (state n).tables) (record { 0 = 0 }) left prices
 may_split n left prices instance trips root zero part =
     let o : Opening = n.opening in
-    subst (λ (l : List FullStep). MaySplit o (state_of o l) 0 0 (length (state_of o l).tables) (record { 0 = 0 }) left prices)
+    subst (λ (l : List FullStep). MaySplit o (state_of o l) 0 0 (length (state_of o l).tables) (record { 0 = 0 })
+    left prices)
     (sym root)
     (record {
       holds = (0, refl);

@@ -57,7 +57,8 @@ split_root-split-requires-clause-sized g c =
 pub release-requires-clause-entries : goal.release-requires-clause-entries
 release-requires-clause-entries g c =
     let hold = c.hold-held in
-    let ticket : hold.result.seat.tickets ≡ 0 ∷ [] = ap (λ (s : SeatModel). s.tickets) hold.ensures.seat ∙ c.requires.ticket in
+    let ticket : hold.result.seat.tickets ≡ 0 ∷ [] = ap (λ (s : SeatModel). s.tickets) hold.ensures.seat
+    ∙ c.requires.ticket in
     elim c.if-is_empty.branch [
       | then-is_empty w ↦
           let none = no_steps c.value-tree.result.now.steps

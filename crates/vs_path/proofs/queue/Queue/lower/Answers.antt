@@ -24,7 +24,8 @@ returns c =
     let stacked = simp to_z-of_z at c.stack-far_key.ensures.stacked in
     let floor = simp to_z-of_z at c.lower_floor.ensures.floor in
     let done : AreQueued (set keys c.args.node (Some c.args.key)) after.near.items low.floor new =
-    lowered-queue keys c.args.node c.args.key c.requires.node low.near.items after.near.items low.floor low.far.items new
+    lowered-queue keys c.args.node c.args.key c.requires.node low.near.items after.near.items low.floor
+    low.far.items new
     c.stack-far_key.result c.lower_floor.ensures.queue floor c.requires.lower c.requires.less stacked put in
     let items = with_items_is after.far new (c.put.auto.keys ∙ c.deref_mut.ensures.len) in
     let P : ℤ → Type 0 = λ z. AreQueued (set keys c.args.node (Some c.args.key)) after.near.items z new in

@@ -19,7 +19,8 @@ put-requires-clause-tournament c =
 pub put-requires-clause-node : goal.put-requires-clause-node
 put-requires-clause-node c =
     let q = c.loop-node.invariant.queue in
-    let P : List ℕ → Type 0 = λ stack. AreQueued c.args.keys.now stack c.loop-node.self.floor c.loop-node.self.far.items in
+    let P : List ℕ → Type 0 = λ stack. AreQueued c.args.keys.now stack c.loop-node.self.floor
+    c.loop-node.self.far.items in
     let before = subst P c.in-Some.ensures.items q in
     within-keys c.args.keys.now c.in-Some.node c.loop-node.self.floor
     (before.near_too c.in-Some.node (on-top c.pop.new.self.items c.in-Some.node)).0

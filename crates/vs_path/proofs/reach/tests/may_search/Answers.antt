@@ -30,4 +30,5 @@ returns-clause-no_negative c = λ yes.
     let same : c.new-residual.result ≡ without_return net flow costs =
     c.new-residual.ensures ∙ ap (λ (n : ℕ). of_arcs (n - 1)) c.arcs.ensures.count in
     subst HasNoNegativeCycle same
-    (c.sign_rule_leaves_no_negative_cycle.ensures c.new-residual.result c.args.prices.now (c.keeps_sign_rule.ensures.0 yes))
+    (c.sign_rule_leaves_no_negative_cycle.ensures c.new-residual.result c.args.prices.now
+    (c.keeps_sign_rule.ensures.0 yes))

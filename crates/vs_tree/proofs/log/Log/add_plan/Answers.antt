@@ -19,9 +19,11 @@ returns-clause-log c =
     let kept : map (full_step (old ++ []) (i.plans.items ++ more)) i.steps.items
     ≡ map (full_step old i.plans.items) i.steps.items =
     steps-kept old [] i.plans.items more i.steps.items each in
-    let same : map (full_step old (i.plans.items ++ more)) i.steps.items ≡ map (full_step old i.plans.items) i.steps.items =
+    let same : map (full_step old (i.plans.items ++ more)) i.steps.items ≡ map (full_step old i.plans.items)
+    i.steps.items =
     ap (λ (x : List Prices). map (full_step x (i.plans.items ++ more)) i.steps.items) (sym (append-nil old)) ∙ kept in
-    let steps : map (full_step old c.push.new.self.items) i.steps.items ≡ map (full_step old i.plans.items) i.steps.items =
+    let steps : map (full_step old c.push.new.self.items) i.steps.items ≡ map (full_step old i.plans.items)
+    i.steps.items =
     ap (λ (x : List Checked). map (full_step old x) i.steps.items) c.in-Ok.ensures.items ∙ same in
     let with : List FullStep → List Checked → Log = λ steps plans. record {
       steps = steps;

@@ -22,7 +22,8 @@ returns-clause-log c =
     let kept : map (full_step (old ++ more) (i.plans.items ++ [])) i.steps.items
     ≡ map (full_step old i.plans.items) i.steps.items =
     steps-kept old more i.plans.items [] i.steps.items each in
-    let same : map (full_step (old ++ more) i.plans.items) i.steps.items ≡ map (full_step old i.plans.items) i.steps.items =
+    let same : map (full_step (old ++ more) i.plans.items) i.steps.items ≡ map (full_step old i.plans.items)
+    i.steps.items =
     ap (λ (x : List Checked). map (full_step (old ++ more) x) i.steps.items) (sym (append-nil i.plans.items)) ∙ kept in
     let steps : map (full_step (map prices_of c.push.new.self.items) i.plans.items) i.steps.items
     ≡ map (full_step old i.plans.items) i.steps.items =

@@ -34,7 +34,8 @@ invariant_of-self c =
     let size = seen-size i.permitted.items i.spots i.cuts i.room c.args.self.now are c.self.view_is in
     let trips = seen-sets_size i.permitted.items i.spots i.cuts i.room c.args.self.now are c.self.view_is 0
     (omega (arith, size, c.requires.parent)) in
-    let is : IsCut (length i.permitted.items) (length i.cuts.items) (cut c.args.parent c.args.trip c.args.layers) = record {
+    let is : IsCut (length i.permitted.items) (length i.cuts.items)
+    (cut c.args.parent c.args.trip c.args.layers) = record {
       before = omega (arith, size, c.requires.parent, are.each);
       inside = omega (arith, trips, c.requires.trip);
       some = c.requires.some;
@@ -46,7 +47,8 @@ invariant_of-self c =
     record {
       each = omega (arith, spots, cuts, one_spot, one_cut, are.each);
       are_cuts = subst (λ (x : List Cut). AreCuts (length i.permitted.items) x) (sym c.in-Ok-push.ensures.items)
-          (are_cuts-more (length i.permitted.items) i.cuts.items (cut c.args.parent c.args.trip c.args.layers) are.are_cuts is);
+          (are_cuts-more (length i.permitted.items) i.cuts.items (cut c.args.parent c.args.trip c.args.layers)
+          are.are_cuts is);
       spots_room = omega (arith, are.spots_room, c.in-Ok.ensures.capacity);
       cuts_room = omega (arith, are.cuts_room, c.in-Ok-push.ensures.capacity);
     }
@@ -56,6 +58,7 @@ returns-clause-places c =
     let i = c.self.inside in
     let are = c.self.invariant in
     let size = seen-size i.permitted.items i.spots i.cuts i.room c.args.self.now are c.self.view_is in
-    seen-more i.permitted.items i.spots i.cuts i.room c.args.self.now are c.self.view_is (Free c.args.table) (cut c.args.parent c.args.trip c.args.layers)
+    seen-more i.permitted.items i.spots i.cuts i.room c.args.self.now are c.self.view_is (Free c.args.table)
+    (cut c.args.parent c.args.trip c.args.layers)
     c.push.new.self.items c.push-2.new.self.items c.in-Ok.ensures.items c.in-Ok-push.ensures.items
     (omega (arith, size, c.requires.parent))

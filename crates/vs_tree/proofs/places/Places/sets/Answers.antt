@@ -25,7 +25,15 @@ lay_permitted-requires c =
     let size = seen-size i.permitted.items i.spots i.cuts i.room c.args.self.now c.self.invariant c.self.view_is in
     let sets = seen-sets_size i.permitted.items i.spots i.cuts i.room c.args.self.now c.self.invariant c.self.view_is
     c.args.k (omega (arith, size, c.requires.spot)) in
-    omega (arith, sets, c.requires.size, c.fill.ensures.len, c.deref-3.ensures.len, i.permitted.ok.0, c.lay_cuts.auto.sets)
+    omega (
+      arith,
+      sets,
+      c.requires.size,
+      c.fill.ensures.len,
+      c.deref-3.ensures.len,
+      i.permitted.ok.0,
+      c.lay_cuts.auto.sets,
+    )
 
 pub returns : goal.returns
 returns c =

@@ -17,4 +17,5 @@ returns c =
     let inside : c.args.k < length i.spots.items = omega (arith, size, c.requires) in
     c.index.ensures ∙ get_or_default i.spots.items c.args.k c.index.result.now no_place.spot inside
     ∙ ap (λ (x : Place). x.spot)
-    (sym (seen-at i.permitted.items i.spots i.cuts i.room c.args.self.now c.self.invariant c.self.view_is c.args.k inside))
+    (sym (seen-at i.permitted.items i.spots i.cuts i.room c.args.self.now c.self.invariant c.self.view_is
+    c.args.k inside))

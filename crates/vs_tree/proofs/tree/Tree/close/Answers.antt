@@ -27,7 +27,8 @@ sets-requires-clause-size c =
     let is = c.self.invariant in
     let w = c.args.w in
     let leaf = c.args.leaf in
-    let may = subst (λ (t : Search). MayClose t.opening (state t) w leaf (length (state t).tables) (prices_of c.args.table))
+    let may = subst (λ (t : Search). MayClose t.opening (state t) w leaf (length (state t).tables)
+    (prices_of c.args.table))
     (sym c.self.view_is) c.requires in
     let leaf_inside = leaf_is o a is leaf (ap is_inner may.holds.1) in
     let inside = worker_inside o a is w leaf may.holds in
@@ -45,7 +46,8 @@ worth-least-requires-clause-restriction c =
     let is = c.self.invariant in
     let w = c.args.w in
     let leaf = c.args.leaf in
-    let may = subst (λ (t : Search). MayClose t.opening (state t) w leaf (length (state t).tables) (prices_of c.args.table))
+    let may = subst (λ (t : Search). MayClose t.opening (state t) w leaf (length (state t).tables)
+    (prices_of c.args.table))
     (sym c.self.view_is) c.requires in
     let leaf_inside = leaf_is o a is leaf (ap is_inner may.holds.1) in
     let inside = worker_inside o a is w leaf may.holds in
@@ -55,7 +57,13 @@ worth-least-requires-clause-restriction c =
     omega (arith, c.deref_mut.ensures.len, i.sets.ok.0, is.parts.sets_size, each.each_trip) in
     let written : c.deref.result.now ≡ (place_at i.places.places leaf).sets =
     c.deref.ensures.value ∙ with_items_is i.sets c.sets.new.sets
-    (omega (arith, ap (λ (x : List LayerSet). length x) c.sets.ensures, each.each_trip, is.parts.sets_size, i.sets.ok.0))
+    (omega (
+      arith,
+      ap (λ (x : List LayerSet). length x) c.sets.ensures,
+      each.each_trip,
+      is.parts.sets_size,
+      i.sets.ok.0,
+    ))
     ∙ c.sets.ensures in
     subst (λ (x : List LayerSet). IsRestriction i.instance x) (sym written) each
 
@@ -67,7 +75,8 @@ add_table-number-requires c =
     let is = c.self.invariant in
     let w = c.args.w in
     let leaf = c.args.leaf in
-    let may = subst (λ (t : Search). MayClose t.opening (state t) w leaf (length (state t).tables) (prices_of c.args.table))
+    let may = subst (λ (t : Search). MayClose t.opening (state t) w leaf (length (state t).tables)
+    (prices_of c.args.table))
     (sym c.self.view_is) c.requires in
     let leaf_inside = leaf_is o a is leaf (ap is_inner may.holds.1) in
     let inside = worker_inside o a is w leaf may.holds in
@@ -84,7 +93,8 @@ index_mut-requires c =
     let is = c.self.invariant in
     let w = c.args.w in
     let leaf = c.args.leaf in
-    let may = subst (λ (t : Search). MayClose t.opening (state t) w leaf (length (state t).tables) (prices_of c.args.table))
+    let may = subst (λ (t : Search). MayClose t.opening (state t) w leaf (length (state t).tables)
+    (prices_of c.args.table))
     (sym c.self.view_is) c.requires in
     let leaf_inside = leaf_is o a is leaf (ap is_inner may.holds.1) in
     let inside = worker_inside o a is w leaf may.holds in
@@ -99,7 +109,8 @@ index_mut-requires-2 c =
     let is = c.self.invariant in
     let w = c.args.w in
     let leaf = c.args.leaf in
-    let may = subst (λ (t : Search). MayClose t.opening (state t) w leaf (length (state t).tables) (prices_of c.args.table))
+    let may = subst (λ (t : Search). MayClose t.opening (state t) w leaf (length (state t).tables)
+    (prices_of c.args.table))
     (sym c.self.view_is) c.requires in
     let leaf_inside = leaf_is o a is leaf (ap is_inner may.holds.1) in
     let inside = worker_inside o a is w leaf may.holds in
@@ -114,7 +125,8 @@ overflow_add-self c =
     let is = c.self.invariant in
     let w = c.args.w in
     let leaf = c.args.leaf in
-    let may = subst (λ (t : Search). MayClose t.opening (state t) w leaf (length (state t).tables) (prices_of c.args.table))
+    let may = subst (λ (t : Search). MayClose t.opening (state t) w leaf (length (state t).tables)
+    (prices_of c.args.table))
     (sym c.self.view_is) c.requires in
     let leaf_inside = leaf_is o a is leaf (ap is_inner may.holds.1) in
     let inside = worker_inside o a is w leaf may.holds in
@@ -130,7 +142,8 @@ add-requires-clause-room c =
     let is = c.self.invariant in
     let w = c.args.w in
     let leaf = c.args.leaf in
-    let may = subst (λ (t : Search). MayClose t.opening (state t) w leaf (length (state t).tables) (prices_of c.args.table))
+    let may = subst (λ (t : Search). MayClose t.opening (state t) w leaf (length (state t).tables)
+    (prices_of c.args.table))
     (sym c.self.view_is) c.requires in
     let leaf_inside = leaf_is o a is leaf (ap is_inner may.holds.1) in
     let inside = worker_inside o a is w leaf may.holds in
@@ -148,7 +161,8 @@ invariant_of-self c =
     let is = c.self.invariant in
     let w = c.args.w in
     let leaf = c.args.leaf in
-    let may = subst (λ (t : Search). MayClose t.opening (state t) w leaf (length (state t).tables) (prices_of c.args.table))
+    let may = subst (λ (t : Search). MayClose t.opening (state t) w leaf (length (state t).tables)
+    (prices_of c.args.table))
     (sym c.self.view_is) c.requires in
     let leaf_inside = leaf_is o a is leaf (ap is_inner may.holds.1) in
     let inside = worker_inside o a is w leaf may.holds in
@@ -158,7 +172,13 @@ invariant_of-self c =
     omega (arith, c.deref_mut.ensures.len, i.sets.ok.0, is.parts.sets_size, each.each_trip) in
     let written : c.deref.result.now ≡ (place_at i.places.places leaf).sets =
     c.deref.ensures.value ∙ with_items_is i.sets c.sets.new.sets
-    (omega (arith, ap (λ (x : List LayerSet). length x) c.sets.ensures, each.each_trip, is.parts.sets_size, i.sets.ok.0))
+    (omega (
+      arith,
+      ap (λ (x : List LayerSet). length x) c.sets.ensures,
+      each.each_trip,
+      is.parts.sets_size,
+      i.sets.ok.0,
+    ))
     ∙ c.sets.ensures in
     let number = c.add_table-number.result in
     let prices = prices_of c.args.table in
@@ -200,5 +220,11 @@ invariant_of-self c =
     (ap (λ (x : Log). x.plan_room) c.add.ensures ∙ ap (λ (x : Log). x.plan_room) c.add_table-number.ensures.log)
     c.relabel.ensures.places c.relabel.ensures.room refl refl refl refl
     (ap (λ (x : List LayerSet). length x) (with_items_is i.sets c.sets.new.sets
-    (omega (arith, ap (λ (x : List LayerSet). length x) c.sets.ensures, each.each_trip, is.parts.sets_size, i.sets.ok.0)))
+    (omega (
+      arith,
+      ap (λ (x : List LayerSet). length x) c.sets.ensures,
+      each.each_trip,
+      is.parts.sets_size,
+      i.sets.ok.0,
+    )))
     ∙ omega (arith, ap (λ (x : List LayerSet). length x) c.sets.ensures, each.each_trip, is.parts.sets_size)))

@@ -174,7 +174,8 @@ invariant_of-self c =
     (ap (λ (x : Log). x.table_room) c.add.ensures) (ap (λ (x : Log). x.plan_room) c.add.ensures)
     (c.relabel.ensures.places ∙ ap (λ (n : ℕ). with_spot i.places.places c.in-Has.leaf (Free n)) named)
     c.relabel.ensures.room refl
-    (c.put.ensures ∙ ap (λ (x : Bound). set i.free c.in-Has.leaf (Some (record { worth = x; leaf = c.in-Has.leaf }))) least)
+    (c.put.ensures ∙ ap (λ (x : Bound). set i.free c.in-Has.leaf
+    (Some (record { worth = x; leaf = c.in-Has.leaf }))) least)
     refl refl refl)
 
 pub returns : goal.returns

@@ -12,7 +12,8 @@ use Rattle.vs_tree.proofs.tree.Tree.hold.Goals as goal
 pub sets-requires-clause-size : goal.sets-requires-clause-size
 sets-requires-clause-size c =
     let i = c.self.inside in
-    let may = subst (λ (t : Search). MayTake t.opening (state t) c.args.w c.args.leaf) (sym c.self.view_is) c.requires.may in
+    let may = subst (λ (t : Search). MayTake t.opening (state t) c.args.w c.args.leaf) (sym c.self.view_is)
+    c.requires.may in
     let inside = leaf_is (opening_of i) (parts_of i) c.self.invariant c.args.leaf (ap is_inner may.next.free.1) in
     let each = restriction-at (opening_of i) (parts_of i) c.self.invariant c.args.leaf inside in
     let trips = ap (λ (t : Search). length t.opening.problem.trips) c.self.view_is in
@@ -21,7 +22,8 @@ sets-requires-clause-size c =
 pub table-requires : goal.table-requires
 table-requires c =
     let i = c.self.inside in
-    let may = subst (λ (t : Search). MayTake t.opening (state t) c.args.w c.args.leaf) (sym c.self.view_is) c.requires.may in
+    let may = subst (λ (t : Search). MayTake t.opening (state t) c.args.w c.args.leaf) (sym c.self.view_is)
+    c.requires.may in
     let named = ap table_of (sym c.in-Free.is ∙ c.spot.ensures
     ∙ sym (spot-is (opening_of i) (parts_of i) c.self.invariant c.args.leaf)) in
     number-inside (opening_of i) (parts_of i) c.self.invariant c.args.leaf c.in-Free.table
@@ -30,33 +32,38 @@ table-requires c =
 pub copy_prices-requires-clause-into : goal.copy_prices-requires-clause-into
 copy_prices-requires-clause-into c =
     let i = c.self.inside in
-    let may = subst (λ (t : Search). MayTake t.opening (state t) c.args.w c.args.leaf) (sym c.self.view_is) c.requires.may in
+    let may = subst (λ (t : Search). MayTake t.opening (state t) c.args.w c.args.leaf) (sym c.self.view_is)
+    c.requires.may in
     let named = ap table_of (sym c.in-Free.is ∙ c.spot.ensures
     ∙ sym (spot-is (opening_of i) (parts_of i) c.self.invariant c.args.leaf)) in
     let inside = number-inside (opening_of i) (parts_of i) c.self.invariant c.args.leaf c.in-Free.table
     (ap is_inner may.next.free.1) named in
     let fits = table-fits (opening_of i) (parts_of i) c.self.invariant c.in-Free.table c.table.result.now inside
     c.table.ensures in
-    c.requires.table.into ∙ ap (λ (t : Search). length t.opening.problem.layers * length t.opening.problem.trips) (sym c.self.view_is)
+    c.requires.table.into ∙ ap (λ (t : Search). length t.opening.problem.layers * length t.opening.problem.trips)
+    (sym c.self.view_is)
     ∙ sym fits.into_size
 
 pub copy_prices-requires-clause-from : goal.copy_prices-requires-clause-from
 copy_prices-requires-clause-from c =
     let i = c.self.inside in
-    let may = subst (λ (t : Search). MayTake t.opening (state t) c.args.w c.args.leaf) (sym c.self.view_is) c.requires.may in
+    let may = subst (λ (t : Search). MayTake t.opening (state t) c.args.w c.args.leaf) (sym c.self.view_is)
+    c.requires.may in
     let named = ap table_of (sym c.in-Free.is ∙ c.spot.ensures
     ∙ sym (spot-is (opening_of i) (parts_of i) c.self.invariant c.args.leaf)) in
     let inside = number-inside (opening_of i) (parts_of i) c.self.invariant c.args.leaf c.in-Free.table
     (ap is_inner may.next.free.1) named in
     let fits = table-fits (opening_of i) (parts_of i) c.self.invariant c.in-Free.table c.table.result.now inside
     c.table.ensures in
-    c.requires.table.from ∙ ap (λ (t : Search). length t.opening.problem.layers * length t.opening.problem.trips) (sym c.self.view_is)
+    c.requires.table.from ∙ ap (λ (t : Search). length t.opening.problem.layers * length t.opening.problem.trips)
+    (sym c.self.view_is)
     ∙ sym fits.from_size
 
 pub copy_prices-requires-clause-fleet : goal.copy_prices-requires-clause-fleet
 copy_prices-requires-clause-fleet c =
     let i = c.self.inside in
-    let may = subst (λ (t : Search). MayTake t.opening (state t) c.args.w c.args.leaf) (sym c.self.view_is) c.requires.may in
+    let may = subst (λ (t : Search). MayTake t.opening (state t) c.args.w c.args.leaf) (sym c.self.view_is)
+    c.requires.may in
     let named = ap table_of (sym c.in-Free.is ∙ c.spot.ensures
     ∙ sym (spot-is (opening_of i) (parts_of i) c.self.invariant c.args.leaf)) in
     let inside = number-inside (opening_of i) (parts_of i) c.self.invariant c.args.leaf c.in-Free.table

@@ -67,7 +67,8 @@ invariant_of-self c =
     ap (λ (x : List Hand). hand_at x w) c.deref.ensures.value ∙ have in
     let same : c.leaf_in_hand-leaf.result ≡ held.0 =
     has-leaf _ _ _ _ (sym c.leaf_in_hand-leaf.ensures.1 ∙ at) in
-    let dear = subst (λ (t : Search). ¬ (IsCheaper c.args.cost (known (state t)))) (sym c.self.view_is) c.requires.dear in
+    let dear = subst (λ (t : Search). ¬ (IsCheaper c.args.cost (known (state t)))) (sym c.self.view_is)
+    c.requires.dear in
     let may : MayOffer o (state_of o a.log.steps) w c.args.cost None None = record {
       leaf = held.0;
       holds = held.1;
@@ -88,8 +89,10 @@ invariant_of-self c =
     (sym (length-set i.hands.items w (Has c.leaf_in_hand-leaf.result true)))
     (offered_search o a is w held.0 held.1 new c.args.cost None None may b
     (ap (λ (x : Log). x.steps) c.add.ensures
-    ∙ ap (λ (x : ℤ). a.log.steps ++ full.Offered w x None None ∷ []) (let fits : SFits w64 c.args.cost = search rules in rw to_z-of_z refl))
+    ∙ ap (λ (x : ℤ). a.log.steps ++ full.Offered w x None None ∷ [])
+    (let fits : SFits w64 c.args.cost = search rules in rw to_z-of_z refl))
     (ap (λ (x : Log). x.tables) c.add.ensures)
-    (ap (λ (x : Log). x.plans) c.add.ensures ∙ sym (append-nil a.log.plans)) (ap (λ (x : Log). x.step_room) c.add.ensures)
+    (ap (λ (x : Log). x.plans) c.add.ensures ∙ sym (append-nil a.log.plans))
+    (ap (λ (x : Log). x.step_room) c.add.ensures)
     (ap (λ (x : Log). x.table_room) c.add.ensures) (ap (λ (x : Log). x.plan_room) c.add.ensures)
     refl (ap (λ (k : ℕ). set i.hands.items w (Has k true)) same) refl refl refl refl)

@@ -29,7 +29,8 @@ returns c =
     let a = parts_of i in
     let is = c.self.invariant in
     let knows : c.known-cost.result ≡ known (state_of o a.log.steps) = c.known-cost.ensures ∙ known-is o a is in
-    let of : IsLeastOf i.places.places i.worths.items c.known-cost.result (length i.places.places) c.least_bound.result =
+    let of : IsLeastOf i.places.places i.worths.items c.known-cost.result (length i.places.places)
+    c.least_bound.result =
     subst (λ (x : List Bound). IsLeastOf i.places.places x c.known-cost.result (length i.places.places)
     c.least_bound.result) c.deref.ensures.value c.least_bound.ensures in
     let lesser : IsLesser o.problem (state_of o a.log.steps) c.least_bound.result =
@@ -42,7 +43,8 @@ returns c =
     } in
     subst (λ (t : Search). IsReport t.opening.problem (state t) found) c.self.view_is (record {
       cost = knows;
-      bound = subst (λ (x : Bound). IsLesser o.problem (state_of o a.log.steps) x) (sym c.number_of-bound.ensures) lesser;
+      bound = subst (λ (x : Bound). IsLesser o.problem (state_of o a.log.steps) x)
+          (sym c.number_of-bound.ensures) lesser;
       claim = c.claim_found.ensures;
       finished = sym is.parts.finished;
     })

@@ -33,7 +33,8 @@ sets-requires-clause-size c =
     let is = c.self.invariant in
     let w = c.args.w in
     let leaf = c.args.leaf in
-    let may = subst (λ (t : Search). MaySplit t.opening (state t) w leaf (length (state t).tables) c.args.trip c.args.left
+    let may = subst (λ (t : Search). MaySplit t.opening (state t) w leaf (length (state t).tables) c.args.trip
+    c.args.left
     (prices_of c.args.table)) (sym c.self.view_is) c.requires in
     let leaf_inside = leaf_is o a is leaf (ap is_inner may.holds.1) in
     let each = restriction-at o a is leaf leaf_inside in
@@ -49,7 +50,8 @@ part_worths-parts-requires-clause-restriction c =
     let is = c.self.invariant in
     let w = c.args.w in
     let leaf = c.args.leaf in
-    let may = subst (λ (t : Search). MaySplit t.opening (state t) w leaf (length (state t).tables) c.args.trip c.args.left
+    let may = subst (λ (t : Search). MaySplit t.opening (state t) w leaf (length (state t).tables) c.args.trip
+    c.args.left
     (prices_of c.args.table)) (sym c.self.view_is) c.requires in
     let leaf_inside = leaf_is o a is leaf (ap is_inner may.holds.1) in
     let each = restriction-at o a is leaf leaf_inside in
@@ -57,7 +59,13 @@ part_worths-parts-requires-clause-restriction c =
     omega (arith, c.deref_mut.ensures.len, i.sets.ok.0, is.parts.sets_size, each.each_trip) in
     let written : c.deref_mut-2.result.now ≡ (place_at i.places.places leaf).sets =
     c.deref_mut-2.ensures.value ∙ with_items_is i.sets c.sets.new.sets
-    (omega (arith, ap (λ (x : List LayerSet). length x) c.sets.ensures, each.each_trip, is.parts.sets_size, i.sets.ok.0))
+    (omega (
+      arith,
+      ap (λ (x : List LayerSet). length x) c.sets.ensures,
+      each.each_trip,
+      is.parts.sets_size,
+      i.sets.ok.0,
+    ))
     ∙ c.sets.ensures in
     subst (λ (x : List LayerSet). IsRestriction i.instance x) (sym written) each
 
@@ -69,7 +77,8 @@ part_worths-parts-requires-clause-trip c =
     let is = c.self.invariant in
     let w = c.args.w in
     let leaf = c.args.leaf in
-    let may = subst (λ (t : Search). MaySplit t.opening (state t) w leaf (length (state t).tables) c.args.trip c.args.left
+    let may = subst (λ (t : Search). MaySplit t.opening (state t) w leaf (length (state t).tables) c.args.trip
+    c.args.left
     (prices_of c.args.table)) (sym c.self.view_is) c.requires in
     let leaf_inside = leaf_is o a is leaf (ap is_inner may.holds.1) in
     let each = restriction-at o a is leaf leaf_inside in
@@ -77,7 +86,13 @@ part_worths-parts-requires-clause-trip c =
     omega (arith, c.deref_mut.ensures.len, i.sets.ok.0, is.parts.sets_size, each.each_trip) in
     let written : c.deref_mut-2.result.now ≡ (place_at i.places.places leaf).sets =
     c.deref_mut-2.ensures.value ∙ with_items_is i.sets c.sets.new.sets
-    (omega (arith, ap (λ (x : List LayerSet). length x) c.sets.ensures, each.each_trip, is.parts.sets_size, i.sets.ok.0))
+    (omega (
+      arith,
+      ap (λ (x : List LayerSet). length x) c.sets.ensures,
+      each.each_trip,
+      is.parts.sets_size,
+      i.sets.ok.0,
+    ))
     ∙ c.sets.ensures in
     let same = ap (λ (x : List LayerSet). length x) written in
     omega (arith, same, each.each_trip, may.of_instance)
@@ -90,7 +105,8 @@ part_worths-parts-requires-clause-part c =
     let is = c.self.invariant in
     let w = c.args.w in
     let leaf = c.args.leaf in
-    let may = subst (λ (t : Search). MaySplit t.opening (state t) w leaf (length (state t).tables) c.args.trip c.args.left
+    let may = subst (λ (t : Search). MaySplit t.opening (state t) w leaf (length (state t).tables) c.args.trip
+    c.args.left
     (prices_of c.args.table)) (sym c.self.view_is) c.requires in
     let leaf_inside = leaf_is o a is leaf (ap is_inner may.holds.1) in
     let each = restriction-at o a is leaf leaf_inside in
@@ -98,9 +114,16 @@ part_worths-parts-requires-clause-part c =
     omega (arith, c.deref_mut.ensures.len, i.sets.ok.0, is.parts.sets_size, each.each_trip) in
     let written : c.deref_mut-2.result.now ≡ (place_at i.places.places leaf).sets =
     c.deref_mut-2.ensures.value ∙ with_items_is i.sets c.sets.new.sets
-    (omega (arith, ap (λ (x : List LayerSet). length x) c.sets.ensures, each.each_trip, is.parts.sets_size, i.sets.ok.0))
+    (omega (
+      arith,
+      ap (λ (x : List LayerSet). length x) c.sets.ensures,
+      each.each_trip,
+      is.parts.sets_size,
+      i.sets.ok.0,
+    ))
     ∙ c.sets.ensures in
-    subst (λ (x : List LayerSet). IsProperPart c.args.left (set_of x c.args.trip.0)) (sets-are o a is leaf ∙ sym written)
+    subst (λ (x : List LayerSet). IsProperPart c.args.left (set_of x c.args.trip.0))
+    (sets-are o a is leaf ∙ sym written)
     may.part
 
 pub add_table-number-requires : goal.add_table-number-requires
@@ -111,7 +134,8 @@ add_table-number-requires c =
     let is = c.self.invariant in
     let w = c.args.w in
     let leaf = c.args.leaf in
-    let may = subst (λ (t : Search). MaySplit t.opening (state t) w leaf (length (state t).tables) c.args.trip c.args.left
+    let may = subst (λ (t : Search). MaySplit t.opening (state t) w leaf (length (state t).tables) c.args.trip
+    c.args.left
     (prices_of c.args.table)) (sym c.self.view_is) c.requires in
     let more = unfinished o a is w leaf may.holds in
     let are = tables_are o a is in
@@ -125,7 +149,8 @@ split-lower-requires-clause-trip c =
     let is = c.self.invariant in
     let w = c.args.w in
     let leaf = c.args.leaf in
-    let may = subst (λ (t : Search). MaySplit t.opening (state t) w leaf (length (state t).tables) c.args.trip c.args.left
+    let may = subst (λ (t : Search). MaySplit t.opening (state t) w leaf (length (state t).tables) c.args.trip
+    c.args.left
     (prices_of c.args.table)) (sym c.self.view_is) c.requires in
     let leaf_inside = leaf_is o a is leaf (ap is_inner may.holds.1) in
     let root = restriction-at o a is 0 (omega (arith, leaf_inside)) in
@@ -139,7 +164,8 @@ split-lower-requires-clause-left c =
     let is = c.self.invariant in
     let w = c.args.w in
     let leaf = c.args.leaf in
-    let may = subst (λ (t : Search). MaySplit t.opening (state t) w leaf (length (state t).tables) c.args.trip c.args.left
+    let may = subst (λ (t : Search). MaySplit t.opening (state t) w leaf (length (state t).tables) c.args.trip
+    c.args.left
     (prices_of c.args.table)) (sym c.self.view_is) c.requires in
     some-layers c.args.left may.part.some
 
@@ -151,7 +177,8 @@ split-lower-requires-clause-right c =
     let is = c.self.invariant in
     let w = c.args.w in
     let leaf = c.args.leaf in
-    let may = subst (λ (t : Search). MaySplit t.opening (state t) w leaf (length (state t).tables) c.args.trip c.args.left
+    let may = subst (λ (t : Search). MaySplit t.opening (state t) w leaf (length (state t).tables) c.args.trip
+    c.args.left
     (prices_of c.args.table)) (sym c.self.view_is) c.requires in
     let leaf_inside = leaf_is o a is leaf (ap is_inner may.holds.1) in
     let each = restriction-at o a is leaf leaf_inside in
@@ -159,9 +186,16 @@ split-lower-requires-clause-right c =
     omega (arith, c.deref_mut.ensures.len, i.sets.ok.0, is.parts.sets_size, each.each_trip) in
     let written : c.deref_mut-2.result.now ≡ (place_at i.places.places leaf).sets =
     c.deref_mut-2.ensures.value ∙ with_items_is i.sets c.sets.new.sets
-    (omega (arith, ap (λ (x : List LayerSet). length x) c.sets.ensures, each.each_trip, is.parts.sets_size, i.sets.ok.0))
+    (omega (
+      arith,
+      ap (λ (x : List LayerSet). length x) c.sets.ensures,
+      each.each_trip,
+      is.parts.sets_size,
+      i.sets.ok.0,
+    ))
     ∙ c.sets.ensures in
-    let right : right_of (sets_at (state_of o a.log.steps) leaf) c.args.trip c.args.left ≡ c.part_worths-parts.result.right =
+    let right : right_of (sets_at (state_of o a.log.steps) leaf) c.args.trip c.args.left ≡
+    c.part_worths-parts.result.right =
     ap (λ (x : List LayerSet). right_of x c.args.trip c.args.left) (sets-are o a is leaf ∙ sym written)
     ∙ sym c.part_worths-parts.ensures.right in
     some-layers c.part_worths-parts.result.right (subst (λ (x : LayerSet). members x ≢ []) right may.part.others)
@@ -174,7 +208,8 @@ split-lower-requires-clause-room c =
     let is = c.self.invariant in
     let w = c.args.w in
     let leaf = c.args.leaf in
-    let may = subst (λ (t : Search). MaySplit t.opening (state t) w leaf (length (state t).tables) c.args.trip c.args.left
+    let may = subst (λ (t : Search). MaySplit t.opening (state t) w leaf (length (state t).tables) c.args.trip
+    c.args.left
     (prices_of c.args.table)) (sym c.self.view_is) c.requires in
     let more = unfinished o a is w leaf may.holds in
     omega (arith, more, is.parts.few_places, is.parts.places_room)
@@ -187,7 +222,8 @@ overflow_add-upper c =
     let is = c.self.invariant in
     let w = c.args.w in
     let leaf = c.args.leaf in
-    let may = subst (λ (t : Search). MaySplit t.opening (state t) w leaf (length (state t).tables) c.args.trip c.args.left
+    let may = subst (λ (t : Search). MaySplit t.opening (state t) w leaf (length (state t).tables) c.args.trip
+    c.args.left
     (prices_of c.args.table)) (sym c.self.view_is) c.requires in
     let more = unfinished o a is w leaf may.holds in
     omega (arith, more, is.parts.few_places, c.split-lower.ensures.number, is.few_leaves)
@@ -200,7 +236,8 @@ put-requires c =
     let is = c.self.invariant in
     let w = c.args.w in
     let leaf = c.args.leaf in
-    let may = subst (λ (t : Search). MaySplit t.opening (state t) w leaf (length (state t).tables) c.args.trip c.args.left
+    let may = subst (λ (t : Search). MaySplit t.opening (state t) w leaf (length (state t).tables) c.args.trip
+    c.args.left
     (prices_of c.args.table)) (sym c.self.view_is) c.requires in
     let more = unfinished o a is w leaf may.holds in
     omega (arith, more, is.parts.few_places, c.split-lower.ensures.number, is.parts.free_size)
@@ -213,11 +250,13 @@ put-requires-2 c =
     let is = c.self.invariant in
     let w = c.args.w in
     let leaf = c.args.leaf in
-    let may = subst (λ (t : Search). MaySplit t.opening (state t) w leaf (length (state t).tables) c.args.trip c.args.left
+    let may = subst (λ (t : Search). MaySplit t.opening (state t) w leaf (length (state t).tables) c.args.trip
+    c.args.left
     (prices_of c.args.table)) (sym c.self.view_is) c.requires in
     let more = unfinished o a is w leaf may.holds in
     let same = ap (λ (x : Entries). length x) c.put.ensures in
-    let kept = length-set i.free c.split-lower.result (Some (record { worth = c.part_worths-parts.result.lower; leaf = c.split-lower.result })) in
+    let kept = length-set i.free c.split-lower.result (Some (record
+    { worth = c.part_worths-parts.result.lower; leaf = c.split-lower.result })) in
     omega (arith, more, same, kept, is.parts.few_places, c.split-lower.ensures.number, is.parts.free_size)
 
 pub index_mut-requires : goal.index_mut-requires
@@ -228,7 +267,8 @@ index_mut-requires c =
     let is = c.self.invariant in
     let w = c.args.w in
     let leaf = c.args.leaf in
-    let may = subst (λ (t : Search). MaySplit t.opening (state t) w leaf (length (state t).tables) c.args.trip c.args.left
+    let may = subst (λ (t : Search). MaySplit t.opening (state t) w leaf (length (state t).tables) c.args.trip
+    c.args.left
     (prices_of c.args.table)) (sym c.self.view_is) c.requires in
     let more = unfinished o a is w leaf may.holds in
     omega (arith, more, is.parts.few_places, c.split-lower.ensures.number, is.parts.worths_size, i.worths.ok.0)
@@ -241,7 +281,8 @@ index_mut-requires-2 c =
     let is = c.self.invariant in
     let w = c.args.w in
     let leaf = c.args.leaf in
-    let may = subst (λ (t : Search). MaySplit t.opening (state t) w leaf (length (state t).tables) c.args.trip c.args.left
+    let may = subst (λ (t : Search). MaySplit t.opening (state t) w leaf (length (state t).tables) c.args.trip
+    c.args.left
     (prices_of c.args.table)) (sym c.self.view_is) c.requires in
     let more = unfinished o a is w leaf may.holds in
     omega (arith, more, is.parts.few_places, c.split-lower.ensures.number, is.parts.worths_size, i.worths.ok.0)
@@ -254,7 +295,8 @@ index_mut-requires-3 c =
     let is = c.self.invariant in
     let w = c.args.w in
     let leaf = c.args.leaf in
-    let may = subst (λ (t : Search). MaySplit t.opening (state t) w leaf (length (state t).tables) c.args.trip c.args.left
+    let may = subst (λ (t : Search). MaySplit t.opening (state t) w leaf (length (state t).tables) c.args.trip
+    c.args.left
     (prices_of c.args.table)) (sym c.self.view_is) c.requires in
     let inside = worker_inside o a is w leaf may.holds in
     omega (arith, inside, i.hands.ok.0)
@@ -267,7 +309,8 @@ overflow_add-self c =
     let is = c.self.invariant in
     let w = c.args.w in
     let leaf = c.args.leaf in
-    let may = subst (λ (t : Search). MaySplit t.opening (state t) w leaf (length (state t).tables) c.args.trip c.args.left
+    let may = subst (λ (t : Search). MaySplit t.opening (state t) w leaf (length (state t).tables) c.args.trip
+    c.args.left
     (prices_of c.args.table)) (sym c.self.view_is) c.requires in
     let all = within_budget o a is in
     omega (arith, all, is.few_leaves)
@@ -280,7 +323,8 @@ add-requires-clause-room c =
     let is = c.self.invariant in
     let w = c.args.w in
     let leaf = c.args.leaf in
-    let may = subst (λ (t : Search). MaySplit t.opening (state t) w leaf (length (state t).tables) c.args.trip c.args.left
+    let may = subst (λ (t : Search). MaySplit t.opening (state t) w leaf (length (state t).tables) c.args.trip
+    c.args.left
     (prices_of c.args.table)) (sym c.self.view_is) c.requires in
     let room = room_for_step o a is w leaf may.holds in
     let steps = ap (λ (x : Log). length x.steps) c.add_table-number.ensures.log in
@@ -295,7 +339,8 @@ invariant_of-self c =
     let is = c.self.invariant in
     let w = c.args.w in
     let leaf = c.args.leaf in
-    let may = subst (λ (t : Search). MaySplit t.opening (state t) w leaf (length (state t).tables) c.args.trip c.args.left
+    let may = subst (λ (t : Search). MaySplit t.opening (state t) w leaf (length (state t).tables) c.args.trip
+    c.args.left
     (prices_of c.args.table)) (sym c.self.view_is) c.requires in
     let leaf_inside = leaf_is o a is leaf (ap is_inner may.holds.1) in
     let each = restriction-at o a is leaf leaf_inside in
@@ -303,7 +348,13 @@ invariant_of-self c =
     omega (arith, c.deref_mut.ensures.len, i.sets.ok.0, is.parts.sets_size, each.each_trip) in
     let written : c.deref_mut-2.result.now ≡ (place_at i.places.places leaf).sets =
     c.deref_mut-2.ensures.value ∙ with_items_is i.sets c.sets.new.sets
-    (omega (arith, ap (λ (x : List LayerSet). length x) c.sets.ensures, each.each_trip, is.parts.sets_size, i.sets.ok.0))
+    (omega (
+      arith,
+      ap (λ (x : List LayerSet). length x) c.sets.ensures,
+      each.each_trip,
+      is.parts.sets_size,
+      i.sets.ok.0,
+    ))
     ∙ c.sets.ensures in
     let number = c.add_table-number.result in
     let prices = prices_of c.args.table in
@@ -313,7 +364,8 @@ invariant_of-self c =
     let named : number ≡ length (state_of o a.log.steps).tables =
     c.add_table-number.ensures.number ∙ ap (λ (x : List Prices). length x) (sym is.parts.tables) in
     let tables : new.tables ≡ a.log.tables ++ prices ∷ [] = ap (λ (x : Log). x.tables) c.add_table-number.ensures.log in
-    let added : full_step new.tables new.plans (Split w leaf number trip left) ≡ full.Split w leaf number trip left prices =
+    let added : full_step new.tables new.plans (Split w leaf number trip left) ≡ full.Split w leaf number trip
+    left prices =
     ap (λ (x : Prices). full.Split w leaf number trip left x)
     (ap (λ (x : List Prices). slice_index_or x number no_prices) tables
     ∙ last-prices a.log.tables prices number c.add_table-number.ensures.number) in
@@ -323,9 +375,11 @@ invariant_of-self c =
     ∙ ap (λ (x : Log). x.steps ++ full.Split w leaf number trip left prices ∷ []) c.add_table-number.ensures.log in
     let may_split : MaySplit o (state_of o a.log.steps) w leaf number trip left prices =
     subst (λ (n : ℕ). MaySplit o (state_of o a.log.steps) w leaf n trip left prices) (sym named) may in
-    let at_leaf : c.deref_mut-2.result.now ≡ sets_at (state_of o a.log.steps) leaf = written ∙ sym (sets-are o a is leaf) in
+    let at_leaf : c.deref_mut-2.result.now ≡ sets_at (state_of o a.log.steps) leaf = written ∙ sym
+    (sets-are o a is leaf) in
     let two = c.part_worths-parts.result in
-    let on_left : AreWorth o.problem (with_set (sets_at (state_of o a.log.steps) leaf) trip left) prices two.lower = record {
+    let on_left : AreWorth o.problem (with_set (sets_at (state_of o a.log.steps) leaf) trip left) prices
+    two.lower = record {
       table = c.args.table;
       listed = refl;
       worth = subst (λ (x : List LayerSet). IsWorth i.instance (with_set x trip left) c.args.table two.lower) at_leaf
@@ -335,7 +389,8 @@ invariant_of-self c =
     (right_of (sets_at (state_of o a.log.steps) leaf) trip left)) prices two.upper = record {
       table = c.args.table;
       listed = refl;
-      worth = subst (λ (x : List LayerSet). IsWorth i.instance (with_set x trip (right_of x trip left)) c.args.table two.upper)
+      worth = subst (λ (x : List LayerSet). IsWorth i.instance (with_set x trip (right_of x trip left))
+          c.args.table two.upper)
           at_leaf c.part_worths-parts.ensures.upper;
     } in
     let right : two.right ≡ right_of (place_at i.places.places leaf).sets trip left =
@@ -366,9 +421,23 @@ invariant_of-self c =
     ∙ ap (λ (m : ℕ). set (set i.free m (Some (record { worth = two.lower; leaf = m }))) (m + 1)
     (Some (record { worth = two.upper; leaf = m + 1 }))) first_is)
     (ap (λ (m : ℕ). set (set i.worths.items m two.lower) (m + 1) two.upper) first_is) refl
-    (ap (λ (x : List LayerSet). length x) (with_items_is (with_items i.sets c.sets.new.sets) c.part_worths-parts.new.sets
-    (omega (arith, c.part_worths-parts.ensures.size, ap (λ (x : List LayerSet). length x) written, each.each_trip, is.parts.sets_size, i.sets.ok.0)))
-    ∙ omega (arith, c.part_worths-parts.ensures.size, ap (λ (x : List LayerSet). length x) written, each.each_trip, is.parts.sets_size)))
+    (ap (λ (x : List LayerSet). length x) (with_items_is (with_items i.sets c.sets.new.sets)
+    c.part_worths-parts.new.sets
+    (omega (
+      arith,
+      c.part_worths-parts.ensures.size,
+      ap (λ (x : List LayerSet). length x) written,
+      each.each_trip,
+      is.parts.sets_size,
+      i.sets.ok.0,
+    )))
+    ∙ omega (
+      arith,
+      c.part_worths-parts.ensures.size,
+      ap (λ (x : List LayerSet). length x) written,
+      each.each_trip,
+      is.parts.sets_size,
+    )))
 
 pub returns : goal.returns
 returns c =
@@ -378,7 +447,8 @@ returns c =
     let is = c.self.invariant in
     let w = c.args.w in
     let leaf = c.args.leaf in
-    let may = subst (λ (t : Search). MaySplit t.opening (state t) w leaf (length (state t).tables) c.args.trip c.args.left
+    let may = subst (λ (t : Search). MaySplit t.opening (state t) w leaf (length (state t).tables) c.args.trip
+    c.args.left
     (prices_of c.args.table)) (sym c.self.view_is) c.requires in
     let number = c.add_table-number.result in
     let prices = prices_of c.args.table in
@@ -388,7 +458,8 @@ returns c =
     let named : number ≡ length (state_of o a.log.steps).tables =
     c.add_table-number.ensures.number ∙ ap (λ (x : List Prices). length x) (sym is.parts.tables) in
     let tables : new.tables ≡ a.log.tables ++ prices ∷ [] = ap (λ (x : Log). x.tables) c.add_table-number.ensures.log in
-    let added : full_step new.tables new.plans (Split w leaf number trip left) ≡ full.Split w leaf number trip left prices =
+    let added : full_step new.tables new.plans (Split w leaf number trip left) ≡ full.Split w leaf number trip
+    left prices =
     ap (λ (x : Prices). full.Split w leaf number trip left x)
     (ap (λ (x : List Prices). slice_index_or x number no_prices) tables
     ∙ last-prices a.log.tables prices number c.add_table-number.ensures.number) in

@@ -44,5 +44,6 @@ invariant_of-result c =
     (hands ∙ ap (λ (n : ℕ). replicate n Idle) (sym workers))
     (c.put.ensures
     ∙ ap (λ (x : Entries). set x 0 (Some (record { worth = c.worth-least.result; leaf = 0 }))) c.in_ok-free.ensures)
-    (ap (λ (x : List Bound). set x 0 c.worth-least.result) (c.in_ok-worths.ensures.items_if_clones_equal (search rules)))
+    (ap (λ (x : List Bound). set x 0 c.worth-least.result) (c.in_ok-worths.ensures.items_if_clones_equal
+    (search rules)))
     refl (ap (λ (x : List LayerSet). length x) c.in_ok-sets.ensures.sets ∙ length-map p.trips _)
