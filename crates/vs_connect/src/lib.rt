@@ -8,4 +8,4 @@ mod pieces;
 
 pub use connections::connects;
 pub use laws::pieces_exist_where_moves_do;
-pub use pieces::{MAX_PIECE, in_cost, link_cost, out_cost, scaled, trip_cost};
+pub use pieces::{MAX_PIECE, in_cost, lesser, link_cost, out_cost, scaled, trip_cost};

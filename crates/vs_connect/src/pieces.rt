@@ -1,5 +1,5 @@
 ghost use Rattle.std.specs.Prelude.{◌≡◌, ℕ, ◌+◌, ◌*◌, ◌<◌, ◌≤◌, length, option_map, IfSome, ℤ, pos, ◌≤ℤ◌};
-ghost use Rattle.vs_connect.specs.Cost.{IsCost};
+ghost use Rattle.vs_connect.specs.Cost.{IsCost, lesser_of};
 ghost use Rattle.vs_instance.specs.HoldingTable.{scaled};
 ghost use Rattle.vs_instance.specs.Pieces.{out_piece, trip_piece, link_piece, in_piece};
 
@@ -92,4 +92,15 @@ pub fn scaled(ray: bool, cost: i64) -> i64
     ensures { (piece : ℕ) → cost ≡ pos piece → result ≡ scaled ray piece }
 {
     if ray { 0 } else { SCALE * cost }
+}
+
+/// The lesser of two costs, where there are both, else the one that there is.
+pub fn lesser(one: Option<i64>, other: Option<i64>) -> Option<i64>
+    ensures { result ≡ lesser_of one other }
+{
+    match (one, other) {
+        (Some(one), Some(other)) => Some(one.min(other)),
+        (None, other) => other,
+        (one, None) => one,
+    }
 }

@@ -1,6 +1,7 @@
 ghost use Rattle.std.specs.Prelude.{◌≡◌, IfOk, IfErr};
 ghost use Rattle.vs_plan.specs.Blocks.{CanBeJudged, blocks_of};
-ghost use Rattle.vs_plan.specs.CheckedPlan.{IsChecked};
+ghost use Rattle.vs_connect.specs.Cost.{lesser_of};
+ghost use Rattle.vs_plan.specs.CheckedPlan.{IsCheaperOf, IsChecked, cost_of};
 ghost use Rattle.vs_plan.specs.PlanFaults.{IsFault, IsFirstFault};
 ghost use Rattle.vs_instance.specs.Plan.{IsPlan};
 
@@ -49,8 +50,8 @@ impl CheckedPlan {
     ghost use Rattle.vs_plan.specs.declared.costs.TheConstants.{MAX_PLAN_COST};
     ghost use Rattle.vs_instance.specs.Plan.{IsPlan};
 
-    /// A plan with what it costs.
-    pub(crate) fn of(instance: &Instance, plan: Plan) -> CheckedPlan
+    /// Blocks that are known to be a plan, with what they cost; they aren't judged again.
+    pub fn of(instance: &Instance, plan: Plan) -> CheckedPlan
         requires { IsPlan instance.now (blocks_of plan) }
         ensures problem { result.problem ≡ instance.now }
         ensures blocks { result.blocks ≡ blocks_of plan }
@@ -113,5 +114,30 @@ pub fn check_plan(
             cost,
         }),
         Err(error) => Err((plan, error)),
+    }
+}
+
+/// What a plan costs, where there is one.
+pub fn cost_of(plan: &Option<CheckedPlan>) -> Option<i64>
+    ensures { result ≡ cost_of plan.now }
+{
+    plan.as_ref().map(|plan| plan.cost())
+}
+
+/// The cheaper of two plans, where there are both, else the one that there is; the first of two that cost the same.
+pub fn cheaper(first: Option<CheckedPlan>, second: Option<CheckedPlan>) -> Option<CheckedPlan>
+    ensures cheaper { IsCheaperOf result first second }
+    ensures cost { cost_of result ≡ lesser_of (cost_of first) (cost_of second) }
+{
+    match (first, second) {
+        (None, second) => second,
+        (first, None) => first,
+        (Some(first), Some(second)) => {
+            if second.cost() < first.cost() {
+                Some(second)
+            } else {
+                Some(first)
+            }
+        }
     }
 }

@@ -9,4 +9,3 @@ pub mod NoBreaks
 pub mod FirstBreaks
 pub mod Worths
 pub mod RealBreaks
-pub mod Examples

@@ -2,12 +2,13 @@
 use Rattle.std.proofs.Common.{◌≡◌, ℕ, zero, suc, ◌+◌, ◌*◌, ◌<◌, ◌≤◌, Bool, true, false, cond, List, [], ◌∷◌, ◌++◌, map, refl, sym, ap, ◌∙◌, subst, arith, Option, Some, None, ℤ, pos, negsuc, ◌+ℤ◌, ◌-ℤ◌, ◌≤ℤ◌, neg_ℤ, ◌*ℤ◌, unwrap_or, to_z, of_z, FitsSigned, w64}
 use Rattle.std.specs.Int.{int_min}
 use Rattle.std.specs.List.{range_with_len, filter}
-use Rattle.std.specs.Option.{option_map_or, IfSome}
+use Rattle.std.specs.Option.{IfSome}
 use Rattle.std.proofs.lemmas.Int.{ints, clamps}
 use Rattle.std.proofs.lemmas.List.{map_push}
 use Rattle.std.proofs.lemmas.List.Elements.{filter-append}
 use Rattle.std.proofs.lemmas.List.FromFn.{map-range_with_len_more}
 use Rattle.std.proofs.lemmas.Nat.{mul-le}
+use Rattle.vs_connect.specs.Cost.{lesser_of}
 use Rattle.vs_prices.specs.Table.{IsPrice}
 use Rattle.vs_instance.specs.Lagrangian.{total}
 use Rattle.vs_prices.specs.Worth.{least}
@@ -35,7 +36,7 @@ minimum [] = None
 minimum (x ∷ xs) = Some (least (x ∷ xs))
 
 pub minimum-push : (xs : List ℤ) (y : ℤ)
-    → minimum (xs ++ y ∷ []) ≡ Some (option_map_or (λ x. int_min x y) (minimum xs) y)
+    → minimum (xs ++ y ∷ []) ≡ lesser_of (minimum xs) (Some y)
 minimum-push [] y = refl
 minimum-push (x ∷ xs) y = ap Some (least-push x xs y)
 
@@ -145,43 +146,28 @@ same_sum x x' y y' e f = ap (λ z. z +ℤ y) e ∙ ap (λ z. x' +ℤ z) f
 pub same_product : (x x' : ℤ) (n n' : ℕ) → x ≡ x' → n ≡ n' → x *ℤ pos n ≡ x' *ℤ pos n'
 same_product x x' n n' e f = ap (λ z. z *ℤ pos n) e ∙ ap (λ m. x' *ℤ pos m) f
 
--- the lesser of the least so far and a price, which stands for what a trip pays
-pub lesser_push : (xs : List ℤ) (least : Option ℤ) (price paid lesser : ℤ) → least ≡ minimum xs → price ≡ paid
-    → lesser ≡ option_map_or (λ x. int_min x price) least price
-    → Some lesser ≡ minimum (xs ++ paid ∷ [])
-lesser_push xs least price paid lesser e f g =
-    ap Some (g
-    ∙ (ap (λ o. option_map_or (λ x. int_min x price) o price) e
-    ∙ ap (λ y. option_map_or (λ x. int_min x y) (minimum xs) y) f)) ∙ sym (minimum-push xs paid)
-
 -- of prices within limits the lesser is too
-pub lesser_limits : (least : Option ℤ) (price lesser : ℤ)
+pub lesser_limits : (least : Option ℤ) (price : ℤ)
     → IfSome least (λ n. (neg_ℤ (pos 3000000000000000000) ≤ℤ n) × (n ≤ℤ pos 3000000000000000000))
     → neg_ℤ (pos 3000000000000000000) ≤ℤ price → price ≤ℤ pos 3000000000000000000
-    → lesser ≡ option_map_or (λ x. int_min x price) least price
-    → (neg_ℤ (pos 3000000000000000000) ≤ℤ lesser) × (lesser ≤ℤ pos 3000000000000000000)
-lesser_limits None price lesser h low high e = (omega (arith, ints), omega (arith, ints))
-lesser_limits (Some x) price lesser h low high e = (omega (arith, ints, clamps), omega (arith, ints, clamps))
+    → IfSome (lesser_of least (Some price))
+    (λ n. (neg_ℤ (pos 3000000000000000000) ≤ℤ n) × (n ≤ℤ pos 3000000000000000000))
+lesser_limits None price h low high = (low, high)
+lesser_limits (Some x) price h low high = (omega (arith, ints, clamps), omega (arith, ints, clamps))
 
--- one more price for the least
-pub lesser_step : (xs : List ℤ) (least after : Option ℤ) (price paid lesser : ℤ) → least ≡ minimum xs → price ≡ paid
+-- one more price for the least, which stands for what a trip pays
+pub lesser_step : (xs : List ℤ) (least after : Option ℤ) (price paid : ℤ) → least ≡ minimum xs → price ≡ paid
     → IfSome least (λ n. (neg_ℤ (pos 3000000000000000000) ≤ℤ n) × (n ≤ℤ pos 3000000000000000000))
     → neg_ℤ (pos 3000000000000000000) ≤ℤ price → price ≤ℤ pos 3000000000000000000
-    → lesser ≡ option_map_or (λ x. int_min x (to_z w64 (of_z w64 price))) least (to_z w64 (of_z w64 price))
-    → after ≡ Some (to_z w64 (of_z w64 lesser))
+    → after ≡ lesser_of least (Some price)
     → (after ≡ minimum (xs ++ paid ∷ []))
     × IfSome after (λ n. (neg_ℤ (pos 3000000000000000000) ≤ℤ n) × (n ≤ℤ pos 3000000000000000000))
-lesser_step xs least after price paid lesser e f limits low high g h =
-    let passed : to_z w64 (of_z w64 price) ≡ price = omega (arith, ints) in
-    let is : lesser ≡ option_map_or (λ x. int_min x price) least price =
-    subst (λ q. lesser ≡ option_map_or (λ x. int_min x q) least q) passed g in
-    let within = lesser_limits least price lesser limits low high is in
-    let same : to_z w64 (of_z w64 lesser) ≡ lesser = omega (arith, ints) in
-    let after_is : after ≡ Some lesser = h ∙ ap Some same in (
-      after_is ∙ lesser_push xs least price paid lesser e f is,
-      subst (λ o. IfSome o (λ n. (neg_ℤ (pos 3000000000000000000) ≤ℤ n) × (n ≤ℤ pos 3000000000000000000)))
-          (sym after_is) within,
-    )
+lesser_step xs least after price paid e f limits low high h = (
+  h ∙ ap (λ (o : Option ℤ). lesser_of o (Some price)) e ∙ ap (λ (y : ℤ). lesser_of (minimum xs) (Some y)) f
+      ∙ sym (minimum-push xs paid),
+  subst (λ (o : Option ℤ). IfSome o (λ n. (neg_ℤ (pos 3000000000000000000) ≤ℤ n) × (n ≤ℤ pos 3000000000000000000)))
+      (sym h) (lesser_limits least price limits low high),
+)
 
 pub difference_passed : (a b a' b' : ℤ) → a ≡ a' → b ≡ b'
     → neg_ℤ (pos 10000000000000000000000) ≤ℤ a → a ≤ℤ pos 10000000000000000000000

@@ -14,7 +14,4 @@ pub use broken_at::{BrokenAt, broken};
 pub use laws::prices_bound_plans;
 pub use restriction::permitted_sets;
 pub use table::{MAX_PRICE, Table};
-pub use table_worth::{least_price, worth};
-
-#[cfg(test)]
-mod tests;
+pub use table_worth::{least_price, trip_price, worth};

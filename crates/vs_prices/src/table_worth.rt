@@ -1,6 +1,4 @@
 ghost use Rattle.std.specs.Prelude.{◌≡◌, ℕ, ◌<◌, length, map, ℤ, pos, neg_ℤ, ◌≤ℤ◌, ◌*ℤ◌};
-ghost use Rattle.std.specs.Int.{int_min};
-ghost use Rattle.std.specs.Option.{option_map_or};
 ghost use Rattle.vs_instance.specs.Instance.{IsInstance};
 ghost use Rattle.vs_instance.specs.Restriction.{IsRestriction};
 ghost use Rattle.vs_types.specs.LayerSet.{Has, members};
@@ -10,12 +8,13 @@ ghost use Rattle.vs_prices.specs.Worth.{least, trip_price, trips_pay, vehicles_p
 
 use crate::bound::Bound;
 use crate::table::Table;
-use vs_connect::{scaled, trip_cost};
+use vs_connect::{lesser, scaled, trip_cost};
 use vs_instance::Instance;
 use vs_types::{LayerNo, LayerSet, SCALE, TripNo};
 
-/// What trip i pays in layer l, in 1/1000 of a cost unit.
-fn trip_price(instance: &Instance, table: &Table, l: LayerNo, i: TripNo) -> i64
+/// What trip i pays in layer l, in 1/1000 of a cost unit: the price for entering it and its own cost, which a ray leaves
+/// out, less the price for leaving it.
+pub fn trip_price(instance: &Instance, table: &Table, l: LayerNo, i: TripNo) -> i64
     requires fits { Fits instance.now table.now }
     requires layer { l.0 < length instance.now.layers }
     requires trip { i.0 < length instance.now.trips }
@@ -26,16 +25,6 @@ fn trip_price(instance: &Instance, table: &Table, l: LayerNo, i: TripNo) -> i64
     let into = table.into_price(instance, l, i);
     let from = table.from_price(instance, l, i);
     into + scaled(table.ray, trip_cost(instance, l, i)) - from
-}
-
-/// The lesser of the least price so far, where there is one, and another price.
-fn lesser(least: Option<i64>, price: i64) -> i64
-    ensures { result ≡ option_map_or (λ x. int_min x price) least price }
-{
-    match least {
-        None => price,
-        Some(least) => least.min(price),
-    }
 }
 
 /// What trip i pays in the cheapest layer of a set, in 1/1000 of a cost unit; 0 where the set is empty.
@@ -51,7 +40,7 @@ pub fn least_price(instance: &Instance, set: LayerSet, table: &Table, i: TripNo)
     for l in 0..instance.layers() {
         if set.has(LayerNo(l)) {
             let price = trip_price(instance, table, LayerNo(l), i);
-            least = Some(lesser(least, price));
+            least = lesser(least, Some(price));
         }
     }
     least.unwrap_or(0)

@@ -1,8 +1,9 @@
-use Rattle.std.proofs.Common.{◌≡◌, ap, sym, ◌∙◌, arith, w64, length, map}
+use Rattle.std.proofs.Common.{◌≡◌, ap, sym, ◌∙◌, arith, w64, length, map, Some, ℤ, to_z, of_z}
 use Rattle.std.specs.Prelude.{unwrap_or, pos}
 use Rattle.std.proofs.lemmas.Bool.{false≢true}
 use Rattle.std.proofs.lemmas.Int.{to_z-of_z}
 use Rattle.vs_types.specs.LayerSet.{members}
+use Rattle.vs_connect.specs.Cost.{lesser_of}
 use Rattle.vs_prices.specs.Worth.{trip_price}
 use Rattle.vs_prices.proofs.SetPrices.{prices_below, prices_below-yes, prices_below-no, prices_below-all}
 use Rattle.vs_prices.proofs.RunningTotals.{minimum, lesser_step, unwrap_or-minimum}
@@ -19,11 +20,12 @@ loop-l-preserved c =
     elim c.if-has.branch [
       | then-has w ↦
           let price = w.trip_price-price.ensures in
+          let paid = w.trip_price-price.result in
+          let passed : to_z w64 (of_z w64 paid) ≡ paid = to_z-of_z w64 paid (record { sfits = w.trip_price-price.type_inv }) in
+          let least_is = w.least-is ∙ (w.lesser-least.ensures ∙ ap (λ (x : ℤ). lesser_of c.loop-l.least (Some x)) passed) in
           let step =
-          lesser_step
-          (prices_below p table i set c.loop-l.l) c.loop-l.least c.if-has.least w.trip_price-price.result
-          (trip_price p table i c.loop-l.l) w.lesser.result
-          inv.value price.value inv.limits price.low price.high w.lesser.ensures w.least-is in
+          lesser_step (prices_below p table i set c.loop-l.l) c.loop-l.least c.if-has.least paid
+          (trip_price p table i c.loop-l.l) inv.value price.value inv.limits price.low price.high least_is in
           record {
             value =
                 step.0 ∙ ap minimum
