@@ -7,6 +7,3 @@ mod stand;
 mod underway;
 
 pub use blocks::blocks_of;
-
-#[cfg(test)]
-mod tests;

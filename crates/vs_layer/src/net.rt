@@ -127,6 +127,3 @@ fn fault_of(nodes: u32, count: usize, k: usize, arc: &Arc) -> Option<NetFault>
         Some(NetFault::NotForward(k as u32))
     }
 }
-
-#[cfg(test)]
-mod tests;

@@ -6,3 +6,4 @@ pub mod TripsRun
 pub mod TripIndexes
 pub mod WholeNet
 pub mod Counting
+pub mod Built

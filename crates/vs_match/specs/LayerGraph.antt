@@ -21,6 +21,9 @@ pub record IsLabelled (n : LayerGraph) : Type 0 where
   pub each_arc : length n.kinds ≡ length n.graph.arcs
   pub each_node : n.graph.nodes ≡ length n.events + 2
 
+abbrev pub arcs_in : LayerGraph → ℕ
+arcs_in n = length n.graph.arcs
+
 abbrev pub kind_at : List ArcKind → ℕ → ArcKind
 kind_at kinds k = slice_index_or kinds k Return
 

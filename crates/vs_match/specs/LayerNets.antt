@@ -1,8 +1,9 @@
 -- The nets of an instance, one for each layer.
-use Rattle.std.specs.Prelude.{◌≡◌, ℕ, ◌<◌, List, [], length, slice_index_or}
+use Rattle.std.specs.Prelude.{◌≡◌, ℕ, ◌<◌, ◌≤◌, List, [], length, slice_index_or}
+use Rattle.vs_layer.specs.Graph.{arc_of}
 use Rattle.vs_instance.specs.Problem.{Problem}
 use Rattle.vs_instance.specs.Instance.{IsInstance}
-use Rattle.vs_match.specs.LayerGraph.{LayerGraph}
+use Rattle.vs_match.specs.LayerGraph.{LayerGraph, arcs_in}
 use Rattle.vs_match.specs.LawfulNets.{IsLawful}
 
 -- what stands past the end of the nets
@@ -17,3 +18,12 @@ pub record AreLayerNets (p : Problem) (nets : List LayerGraph) : Type 0 where
   pub instance : IsInstance p
   pub each_layer : length nets ≡ length p.layers
   pub lawful : (l : ℕ) → l < length nets → IsLawful p l (net_at nets l)
+
+-- the arcs stand in the order of the nodes that they leave
+abbrev pub HasRisingArcs : LayerGraph → Type 0
+HasRisingArcs n = (j k : ℕ) → j < k → k < arcs_in n → (arc_of n.graph j).from ≤ (arc_of n.graph k).from
+
+-- the nets are those of an instance, with their arcs in order
+pub record AreNets (p : Problem) (nets : List LayerGraph) : Type 0 where
+  pub of_layers : AreLayerNets p nets
+  pub rising : (l : ℕ) → l < length nets → HasRisingArcs (net_at nets l)

@@ -24,8 +24,5 @@ mod waiting;
 
 pub use arc_kind::ArcKind;
 pub use layer_net::{LayerNet, MAX_ARC_COST};
-pub use matching::{first_match, latest_first_match};
+pub use matching::{first_match, latest_first_match, layer_nets};
 pub use sizes::{NetCounts, counts, full_count};
-
-#[cfg(test)]
-mod tests;

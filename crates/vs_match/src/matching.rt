@@ -2,6 +2,7 @@ ghost use Rattle.std.specs.Prelude.{◌<◌, IfOk, length};
 ghost use Rattle.vs_match.specs.declared.matching.Matching.TheVariants.{First, Latest};
 ghost use Rattle.vs_match.specs.LawfulNets.{IsLawful};
 ghost use Rattle.vs_match.specs.LayerGraph.{IsNetOf};
+ghost use Rattle.vs_match.specs.LayerNets.{AreNets};
 ghost use Rattle.vs_match.specs.WalkLaw.{HasWalkLaw};
 
 use crate::building::build;
@@ -42,4 +43,16 @@ pub fn latest_first_match(
     ensures lawful { IfOk result (IsLawful instance.now l.0) }
 {
     build(alloc, instance, l, Matching::Latest)
+}
+
+/// The net of each layer of an instance, by latest first match.
+pub fn layer_nets(alloc: Global, instance: &Instance) -> Result<Vec<LayerNet>, Memory>
+    ensures { IfOk result (λ nets. AreNets instance.now nets.items) }
+{
+    let mut nets = Vec::new(alloc);
+    for l in 0..instance.layers() {
+        let net = latest_first_match(alloc, instance, LayerNo(l))?;
+        nets.push(net)?;
+    }
+    Ok(nets)
 }

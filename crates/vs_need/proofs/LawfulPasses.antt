@@ -9,10 +9,11 @@ use Rattle.vs_match.specs.declared.arc_kind.ArcKind.{ArcKind}
 use Rattle.vs_match.specs.declared.arc_kind.ArcKind.TheVariants.{Trip, Waiting, Deadhead, PullOut, PullIn, Return}
 use Rattle.vs_match.specs.Events.{HasPlace}
 use Rattle.vs_match.specs.NetArcs.{IsTripArc}
-use Rattle.vs_match.specs.LayerGraph.{LayerGraph, IsArcOfTrip, kind_of}
+use Rattle.vs_match.specs.LayerGraph.{LayerGraph, IsArcOfTrip, arcs_in, kind_of}
+use Rattle.vs_match.specs.LayerNets.{HasRisingArcs}
 use Rattle.vs_match.specs.LawfulNets.{IsLawful, IsLawfulArc}
 use Rattle.vs_match.proofs.events.Places.{placed}
-use Rattle.vs_need.specs.Nets.{CanBePassed, IsRising, arcs_in}
+use Rattle.vs_need.specs.Nets.{CanBePassed}
 
 placed_above : (events : List Event) (v : ℕ) (e : Event) → HasPlace events v e → 0 < v
 placed_above events v e has = let is = placed events v e has in omega (arith, is.node)
@@ -42,7 +43,7 @@ module _ (p : Problem) (l : ℕ) (n : LayerGraph) (lawful : IsLawful p l n) wher
       let P : ArcKind → Type 0 = λ kind. IsLawfulArc p l n.events kind (arc_of n.graph k) in
       subst P is.1 (lawful.arcs k (omega (arith, is.0, lawful.labelled.each_arc)))
 
-  pub can_be_passed : IsRising n → CanBePassed n (length p.trips)
+  pub can_be_passed : HasRisingArcs n → CanBePassed n (length p.trips)
   can_be_passed rising = record {
     net = lawful.net;
     labelled = lawful.labelled;

@@ -10,4 +10,3 @@ pub mod PieceWorths
 pub mod FoundFor
 pub mod Suspecting
 pub mod Cuts
-pub mod Built

@@ -8,13 +8,13 @@ use Rattle.vs_layer.specs.Graph.{arc_of}
 use Rattle.vs_instance.specs.HoldingTable.{price_of}
 use Rattle.vs_match.specs.declared.arc_kind.ArcKind.{ArcKind}
 use Rattle.vs_match.specs.declared.arc_kind.ArcKind.TheVariants.{Trip, Waiting, Deadhead, PullOut, PullIn, Return}
-use Rattle.vs_match.specs.LayerGraph.{LayerGraph, IsArcOfTrip, kind_of}
+use Rattle.vs_match.specs.LayerGraph.{LayerGraph, IsArcOfTrip, arcs_in, kind_of}
 use Rattle.vs_match.specs.WalkLaw.{IsMove}
 use Rattle.vs_match.proofs.matches.TripIndexes.{get_or-copies}
 use Rattle.vs_need.specs.declared.aim.Aim.{Aim}
 use Rattle.vs_need.specs.Greatest.{IsGreatest, IfWide, greater_of}
 use Rattle.vs_need.specs.Gains.{AreGains, IsGain, far_of, is_against, near_of, prize_of}
-use Rattle.vs_need.specs.Nets.{CanBePassed, arcs_in}
+use Rattle.vs_need.specs.Nets.{CanBePassed}
 use Rattle.vs_need.specs.Reading.{arc_after, noted, offer_of}
 use Rattle.vs_need.proofs.Greatest.{greatest-both, greatest-same}
 use Rattle.vs_need.proofs.Joined.{IsThrough, far_by, gain-through, near_by, through-gain}

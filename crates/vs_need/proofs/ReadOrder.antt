@@ -3,8 +3,8 @@ use Rattle.std.proofs.Common.{◌≡◌, ◌≢◌, ℕ, ◌+◌, ◌-◌, ◌<�
 use Rattle.std.proofs.lemmas.Bool.{cases_lt}
 use Rattle.vs_layer.specs.Graph.{arc_of}
 use Rattle.vs_match.specs.declared.arc_kind.ArcKind.TheVariants.{Return}
-use Rattle.vs_match.specs.LayerGraph.{LayerGraph, kind_of}
-use Rattle.vs_need.specs.Nets.{CanBePassed, arcs_in}
+use Rattle.vs_match.specs.LayerGraph.{LayerGraph, arcs_in, kind_of}
+use Rattle.vs_need.specs.Nets.{CanBePassed}
 use Rattle.vs_need.proofs.Joined.{far_by, near_by}
 
 -- arc k of so many is among the first that are read, from the last on or from the first

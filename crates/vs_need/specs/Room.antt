@@ -6,8 +6,7 @@ use Rattle.vs_match.specs.LayerGraph.{LayerGraph}
 use Rattle.vs_prices.specs.declared.table.Table.{Table}
 use Rattle.vs_prices.specs.Table.{Fits}
 use Rattle.vs_need.specs.declared.scratch.Scratch.{Scratch}
-use Rattle.vs_match.specs.LayerNets.{net_at}
-use Rattle.vs_need.specs.Nets.{AreNets}
+use Rattle.vs_match.specs.LayerNets.{AreNets, net_at}
 
 -- for each node of any of the nets, and for each trip that an instance can have
 pub record HasRoom (nets : List LayerGraph) (s : Scratch) : Type 0 where

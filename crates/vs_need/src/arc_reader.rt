@@ -1,9 +1,9 @@
 ghost use Rattle.std.specs.Prelude.{◌≡◌, ℕ, ◌<◌, ◌≤◌, List, length};
 ghost use Rattle.vs_layer.specs.Graph.{arc_of};
-ghost use Rattle.vs_match.specs.LayerGraph.{LayerGraph, IsLabelled, kind_of};
+ghost use Rattle.vs_match.specs.LayerGraph.{LayerGraph, arcs_in, kind_of};
 ghost use Rattle.vs_match.specs.TripIndex.{IsTripAt};
 ghost use Rattle.vs_match.specs.LayerNets.{net_at};
-ghost use Rattle.vs_need.specs.Nets.{arcs_in, one_more};
+ghost use Rattle.vs_need.specs.Nets.{one_more};
 ghost use Rattle.vs_instance.specs.declared.limits.TheConstants.{MAX_LAYERS};
 
 use vs_instance::MAX_LAYERS;

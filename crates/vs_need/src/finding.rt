@@ -2,7 +2,7 @@ ghost use Rattle.std.specs.Prelude.{◌≡◌, ℕ, ◌+◌, ◌*◌, ◌<◌, �
 ghost use mir.Syntax.{w64};
 ghost use Rattle.vs_instance.specs.Problem.{Problem};
 ghost use Rattle.vs_match.specs.LayerNets.{net_at};
-ghost use Rattle.vs_need.specs.Nets.{arcs_in};
+ghost use Rattle.vs_match.specs.LayerGraph.{arcs_in};
 ghost use Rattle.vs_need.specs.Needs.{AreNeeds, IsFoundFor};
 ghost use Rattle.vs_need.specs.Room.{CanFind, CanNeed, HasRoom};
 

@@ -5,7 +5,8 @@ ghost use Rattle.vs_instance.specs.Problem.{Problem};
 ghost use Rattle.vs_prices.specs.Breaks.{breaks_of, layer_breaks, links_breaks, trip_breaks};
 ghost use Rattle.vs_prices.specs.Table.{IsPrice, vehicle_price};
 ghost use Rattle.vs_match.specs.LayerNets.{net_at};
-ghost use Rattle.vs_need.specs.Nets.{all_arcs, arcs_in};
+ghost use Rattle.vs_match.specs.LayerGraph.{arcs_in};
+ghost use Rattle.vs_need.specs.Nets.{all_arcs};
 ghost use Rattle.vs_need.specs.Room.{CanJudge, CanNeed, HasRoom, IsKept};
 ghost use Rattle.vs_need.specs.Suspects.{CanLink, CanSuspect, IsFirstOf, is_above, trips_breaks};
 

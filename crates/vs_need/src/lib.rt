@@ -3,7 +3,6 @@
 
 mod aim;
 mod arc_reader;
-mod building;
 mod finding;
 mod judging;
 mod pass;
@@ -11,10 +10,7 @@ mod passes;
 mod scratch;
 
 pub use arc_reader::{ArcReader, Counted};
-pub use building::layer_nets;
 pub use finding::needs;
 pub use judging::{broken_fast, broken_for};
 pub use scratch::Scratch;
-
-#[cfg(test)]
-mod tests;
+pub use vs_match::layer_nets;

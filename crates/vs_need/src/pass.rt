@@ -1,10 +1,10 @@
 ghost use Rattle.std.specs.Prelude.{All, ◌≡◌, ℕ, ◌+◌, ◌<◌, ◌≤◌, ◌-ℤ◌, ℤ, None, Some, Option, length, option_map, set, slice_index_or};
 ghost use Rattle.vs_layer.specs.Graph.{arc_of};
-ghost use Rattle.vs_match.specs.LayerGraph.{kind_of};
+ghost use Rattle.vs_match.specs.LayerGraph.{arcs_in, kind_of};
 ghost use Rattle.vs_match.specs.TripIndex.{IsBelow};
 ghost use Rattle.vs_prices.specs.Table.{IsPrice};
 ghost use Rattle.vs_match.specs.LayerNets.{net_at};
-ghost use Rattle.vs_need.specs.Nets.{CanBePassed, arcs_in};
+ghost use Rattle.vs_need.specs.Nets.{CanBePassed};
 ghost use Rattle.vs_need.specs.Greatest.{IfWide, IsWide, greater_of};
 ghost use Rattle.vs_need.specs.Gains.{AreGains, far_of, fare, near_of, prize_of};
 ghost use Rattle.vs_need.specs.Reading.{noted, offer_of};

@@ -3,7 +3,7 @@ ghost use Rattle.vs_instance.specs.Problem.{Problem};
 ghost use Rattle.vs_instance.specs.Pieces.{in_piece, link_piece, out_piece};
 ghost use Rattle.vs_match.specs.Events.{MayRun};
 ghost use Rattle.vs_match.specs.LayerNets.{net_at};
-ghost use Rattle.vs_need.specs.Nets.{arcs_in};
+ghost use Rattle.vs_match.specs.LayerGraph.{arcs_in};
 ghost use Rattle.vs_need.specs.Needs.{AreNeeds, AreWorths};
 ghost use Rattle.vs_need.specs.Room.{CanNeed, IsKept};
 

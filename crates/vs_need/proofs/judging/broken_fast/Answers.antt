@@ -4,7 +4,7 @@ use Rattle.vs_instance.proofs.Firsts.{first_below-step, first_below-found}
 use Rattle.vs_match.specs.LayerGraph.{LayerGraph}
 use Rattle.vs_prices.specs.Breaks.{layer_breaks}
 use Rattle.vs_match.specs.LayerNets.{net_at, no_net}
-use Rattle.vs_need.specs.Nets.{arcs_in}
+use Rattle.vs_match.specs.LayerGraph.{arcs_in}
 use Rattle.vs_need.proofs.Cuts.{kept-kept}
 use Rattle.vs_need.proofs.judging.broken_fast.Goals as goal
 

@@ -2,7 +2,7 @@ use Rattle.std.proofs.Common.{◌≡◌, ◌+◌, ◌*◌, ◌≤◌, length, ta
 use Rattle.vs_instance.specs.Firsts.{first}
 use Rattle.vs_instance.proofs.Firsts.{first_below}
 use Rattle.vs_prices.specs.Breaks.{breaks_of, layer_breaks}
-use Rattle.vs_need.specs.Nets.{arcs_in}
+use Rattle.vs_match.specs.LayerGraph.{arcs_in}
 use Rattle.vs_need.specs.Room.{IsKept}
 use Rattle.vs_need.proofs.judging.broken_fast.Given as goal
 

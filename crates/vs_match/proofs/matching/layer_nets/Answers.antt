@@ -2,10 +2,9 @@ use Rattle.std.proofs.Common.{ℕ, ◌+◌, ◌<◌, List, arith, rules, sym, su
 use Rattle.vs_match.specs.declared.matching.Matching.TheVariants.{Latest}
 use Rattle.vs_match.specs.LayerGraph.{LayerGraph}
 use Rattle.vs_match.specs.LawfulNets.{IsLawful}
-use Rattle.vs_match.specs.LayerNets.{net_at}
-use Rattle.vs_need.specs.Nets.{IsRising}
-use Rattle.vs_need.proofs.Built.{net_rises, one_more_net}
-use Rattle.vs_need.proofs.building.layer_nets.Goals as goal
+use Rattle.vs_match.specs.LayerNets.{HasRisingArcs, net_at}
+use Rattle.vs_match.proofs.matches.Built.{net_rises, one_more_net}
+use Rattle.vs_match.proofs.matching.layer_nets.Goals as goal
 
 pub loop-l-preserved : goal.loop-l-preserved
 loop-l-preserved c =
@@ -13,14 +12,14 @@ loop-l-preserved c =
     let n = c.in_ok-net.net in
     let Lawful : List LayerGraph → Type 0 =
     λ nets. (k : ℕ) → k < c.loop-l.l + 1 → IsLawful c.args.instance.now k (net_at nets k) in
-    let Rising : List LayerGraph → Type 0 = λ nets. (k : ℕ) → k < c.loop-l.l + 1 → IsRising (net_at nets k) in
+    let Rising : List LayerGraph → Type 0 = λ nets. (k : ℕ) → k < c.loop-l.l + 1 → HasRisingArcs (net_at nets k) in
     record {
       each = search rules;
       lawful = subst Lawful (sym pushed)
           (one_more_net (IsLawful c.args.instance.now) c.loop-l.nets.items n c.loop-l.l c.loop-l.invariant.each
           c.loop-l.invariant.lawful c.in_ok-net.ensures.lawful);
       rising = subst Rising (sym pushed)
-          (one_more_net (λ k net. IsRising net) c.loop-l.nets.items n c.loop-l.l c.loop-l.invariant.each
+          (one_more_net (λ k net. HasRisingArcs net) c.loop-l.nets.items n c.loop-l.l c.loop-l.invariant.each
           c.loop-l.invariant.rising (net_rises c.args.instance.now c.loop-l.l Latest n c.in_ok-net.ensures.net));
     }
 

@@ -7,8 +7,7 @@ use Rattle.vs_instance.specs.Problem.{Problem}
 use Rattle.vs_match.specs.declared.matching.Matching.{Matching}
 use Rattle.vs_match.specs.LayerGraph.{LayerGraph, IsNetOf, kind_of}
 use Rattle.vs_match.specs.NetArcs.{IsArcBefore}
-use Rattle.vs_match.specs.LayerNets.{net_at, no_net}
-use Rattle.vs_need.specs.Nets.{IsRising}
+use Rattle.vs_match.specs.LayerNets.{HasRisingArcs, net_at, no_net}
 
 -- what holds of each net so far, and of one more
 pub one_more_net : (P : ℕ → LayerGraph → Type 0) (nets : List LayerGraph) (net : LayerGraph) (count : ℕ)
@@ -27,7 +26,7 @@ one_more_net P nets net count size each one k within = elim (cases_lt k count) [
 ]
 
 -- the arcs of a layer's net are in order
-pub net_rises : (p : Problem) (l : ℕ) (matching : Matching) (n : LayerGraph) → IsNetOf p l matching n → IsRising n
+pub net_rises : (p : Problem) (l : ℕ) (matching : Matching) (n : LayerGraph) → IsNetOf p l matching n → HasRisingArcs n
 net_rises p l matching n is j k before within = by_order (is.ordered j k before within)
   where
     by_order : IsArcBefore (arc_of n.graph j) (kind_of n j) (arc_of n.graph k) (kind_of n k)
