@@ -1,1 +1,5 @@
 pub mod Members
+pub mod Bits
+pub mod Rests
+pub mod ProperParts
+pub mod MembersFrom

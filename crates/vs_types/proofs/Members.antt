@@ -18,7 +18,7 @@ pub Has-below : (set : LayerSet) (l : ℕ) → set.0 < 2 ^ 16 → Has set l → 
 Has-below set l fits has = grind (arith, bit_at_above set.0 16 l)
 
 -- d numbers in order, from k on
-numbers_from : ℕ → ℕ → List ℕ
+unfoldable pub numbers_from : ℕ → ℕ → List ℕ
 numbers_from k zero = []
 numbers_from k (suc d) = k ∷ numbers_from (suc k) d
 
@@ -35,7 +35,7 @@ get_or-numbers_from k (suc d) (suc i) x within =
     let within' : i < d = omega arith in
     omega (arith, get_or-numbers_from (suc k) d i x within')
 
-layer_numbers-is : layer_numbers ≡ numbers_from 0 16
+pub layer_numbers-is : layer_numbers ≡ numbers_from 0 16
 unfolding layer_numbers numbers_from
 layer_numbers-is = refl
 

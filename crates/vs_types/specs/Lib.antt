@@ -1,1 +1,2 @@
 pub mod LayerSet
+pub mod Parts

@@ -1,16 +1,20 @@
+//! Sets of layers: what has, adds, takes away, counts and goes over their members.
+
 ghost use Rattle.std.specs.Prelude.{◌≡◌, ℕ, ◌<◌, ◌≢◌, ◌↔◌, ◌⊎◌, length, IsTrue, MatchOption, IfSome, []};
-ghost use Rattle.vs_types.specs.LayerSet.{Has, members};
+ghost use Rattle.vs_types.specs.LayerSet.{Has, IsNextFrom, members, members_from};
+ghost use Rattle.vs_types.specs.Parts.{IsProperPart, is_proper_part, rest_of};
+ghost use Rattle.vs_types.specs.declared.numbers.TheConstants.{MAX_LAYERS};
 
-use crate::numbers::LayerNo;
+use crate::numbers::{LayerNo, MAX_LAYERS};
 
-/// A set of layers. Bit l stands for layer l, so a layer that is named has a number below 16.
+/// A set of layers. Bit l stands for layer l, so a layer that is named has a number below `MAX_LAYERS`.
 #[derive(Clone, Copy, Debug, PartialEq, Eq, PartialOrd, Ord, Hash)]
 pub struct LayerSet(pub u16);
 
 impl LayerSet {
     /// The set of this layer alone.
     pub fn only(l: LayerNo) -> LayerSet
-        requires { l.0 < 16 }
+        requires { l.0 < MAX_LAYERS }
         ensures { (k : ℕ) → Has result k ↔ (k ≡ l.0) }
     {
         LayerSet(1 << l.0)
@@ -18,7 +22,7 @@ impl LayerSet {
 
     /// Whether the layer stands in the set.
     pub fn has(self, l: LayerNo) -> bool
-        requires { l.0 < 16 }
+        requires { l.0 < MAX_LAYERS }
         ensures { IsTrue result ↔ Has self l.0 }
     {
         self.0 & (1 << l.0) != 0
@@ -26,7 +30,7 @@ impl LayerSet {
 
     /// The set and this layer.
     pub fn with(self, l: LayerNo) -> LayerSet
-        requires { l.0 < 16 }
+        requires { l.0 < MAX_LAYERS }
         ensures { (k : ℕ) → Has result k ↔ (Has self k ⊎ (k ≡ l.0)) }
     {
         LayerSet(self.0 | (1 << l.0))
@@ -34,7 +38,7 @@ impl LayerSet {
 
     /// The set less this layer.
     pub fn without(self, l: LayerNo) -> LayerSet
-        requires { l.0 < 16 }
+        requires { l.0 < MAX_LAYERS }
         ensures { (k : ℕ) → Has result k ↔ (Has self k × (k ≢ l.0)) }
     {
         LayerSet(self.0 & !(1 << l.0))
@@ -51,7 +55,7 @@ impl LayerSet {
     pub fn lowest(self) -> Option<LayerNo>
         ensures least { MatchOption result (members self ≡ [])
             (λ l. Has self l.0 × ((k : ℕ) → Has self k → k ≡ l.0 ⊎ l.0 < k)) }
-        ensures named { IfSome result (λ l. l.0 < 16) }
+        ensures named { IfSome result (λ l. l.0 < MAX_LAYERS) }
     {
         if self.0 == 0 {
             None
@@ -59,27 +63,34 @@ impl LayerSet {
             Some(LayerNo(self.0.trailing_zeros()))
         }
     }
-}
 
-#[cfg(test)]
-mod tests {
-    use super::*;
-
-    #[test]
-    fn works_as_a_set(rt: HostRuntime) {
-        let set = LayerSet::only(LayerNo(15))
-            .with(LayerNo(3))
-            .with(LayerNo(9));
-        let cases = [
-            (LayerSet(0), 0, None),
-            (set, 3, Some(LayerNo(3))),
-            (set.without(LayerNo(3)), 2, Some(LayerNo(9))),
-            (LayerSet(0xffff), 16, Some(LayerNo(0))),
-        ];
-        for (case, count, lowest) in cases {
-            assert_eq!(rt; case.count(), count);
-            assert_eq!(rt; case.lowest(), lowest);
-            assert_eq!(rt; case.has(LayerNo(9)), count > 0);
+    /// The layer of the least number from this one on. None exactly where there is none. Asked from 0 and then from
+    /// behind each answer, it goes over the members in order.
+    pub fn next_from(self, from: u32) -> Option<LayerNo>
+        ensures next { MatchOption result (members_from self from ≡ []) (λ l. IsNextFrom self from l.0) }
+        ensures named { IfSome result (λ l. l.0 < MAX_LAYERS) }
+    {
+        for l in from..MAX_LAYERS {
+            if self.has(LayerNo(l)) {
+                return Some(LayerNo(l));
+            }
         }
+        None
+    }
+
+    /// What another set leaves of this one.
+    pub fn minus(self, other: LayerSet) -> LayerSet
+        ensures value { result ≡ rest_of self other }
+        ensures layers { (l : ℕ) → l < MAX_LAYERS → Has result l ↔ (Has self l × ¬ (Has other l)) }
+    {
+        LayerSet(self.0 & !other.0)
+    }
+
+    /// Whether the set has some of another's layers, and not all of them.
+    pub fn is_proper_part(self, whole: LayerSet) -> bool
+        ensures value { result ≡ is_proper_part self whole }
+        ensures part { IsTrue result ↔ IsProperPart self whole }
+    {
+        self.count() > 0 && self.minus(whole).count() == 0 && whole.minus(self).count() > 0
     }
 }

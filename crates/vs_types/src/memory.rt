@@ -1,3 +1,5 @@
+//! What a call answers that found no memory.
+
 ghost use Rattle.std.specs.Prelude.{◌≡◌};
 
 use std::alloc::{AllocError, AllocFailed};

@@ -1,9 +1,14 @@
+//! The numbers of stops, layers and trips, and the step of prices.
+
 /// How many steps of a price make one cost unit: prices count in 1/1000 of a unit.
 pub const SCALE: i64 = 1000;
 
 /// The number of a stop, counted from 0 in the order of declaration.
 #[derive(Clone, Copy, Debug, PartialEq, Eq, PartialOrd, Ord, Hash)]
 pub struct StopNo(pub u32);
+
+/// How many layers there are at most: the number of each is below this.
+pub const MAX_LAYERS: u32 = 16;
 
 /// The number of a layer, which is a pair of a depot and a vehicle type, counted from 0 in the
 /// order of declaration.
