@@ -7,3 +7,4 @@ pub mod Placing
 pub mod Faultless
 pub mod GreedyOnce
 pub mod CheckedPlans
+pub mod CallerLemmas

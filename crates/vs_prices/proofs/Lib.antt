@@ -9,3 +9,4 @@ pub mod NoBreaks
 pub mod FirstBreaks
 pub mod Worths
 pub mod RealBreaks
+pub mod CallerLemmas

@@ -1,0 +1,3 @@
+-- What crates above cite of these proofs.
+pub use Rattle.vs_plan.proofs.Faultless.{faultless, plan_from_faultless, refuses}
+pub use Rattle.vs_plan.proofs.PlanTrips.{plan_trips}
