@@ -1,7 +1,7 @@
 -- What a seat that isn't held knows of its view.
 use Rattle.std.proofs.Common.{◌≡◌, ℕ, ◌<◌, ◌≤◌, false, List, [], ◌∷◌, length, sym, ap, ◌∙◌, subst, arith}
 use Rattle.atomic_table.specs.Seated.{TableId}
-use Rattle.vs_turn.specs.declared.view.View.{View}
+use Rattle.vs_turn.specs.declared.seat.View.{View}
 use Rattle.vs_turn.specs.Calls.{calls_of}
 use Rattle.vs_turn.specs.Seats.{SeatModel, IsSeat, KnowsCalls, seat_at, seat_of}
 

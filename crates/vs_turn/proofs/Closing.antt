@@ -7,7 +7,7 @@ use native.Mathlib.Decide.{ℕ_discrete}
 use lib.ListN.{get_elem?}
 use Rattle.std.specs.Prelude.{Option, Some, slice_index}
 use Rattle.atomic_table.specs.Table.{Final, Seen}
-use Rattle.vs_turn.specs.declared.view.View.{View}
+use Rattle.vs_turn.specs.declared.seat.View.{View}
 use Rattle.vs_turn.specs.Calls.{has_ticket, AreMadeBelow}
 use Rattle.vs_turn.specs.Tickets.{lowest}
 use Rattle.vs_turn.specs.Rule.{Origin, IsAt, Stands, Ruled, IsRuled}

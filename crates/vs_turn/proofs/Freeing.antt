@@ -7,7 +7,7 @@ use Rattle.std.specs.Prelude.{Option, Some, None}
 use Rattle.atomic_table.specs.Seated.{TableId}
 use Rattle.atomic_table.specs.Table.{step, gives, Allows}
 use Rattle.atomic_table.proofs.Lists.{at_set, set_here}
-use Rattle.vs_turn.specs.declared.view.View.{View}
+use Rattle.vs_turn.specs.declared.seat.View.{View}
 use Rattle.vs_turn.specs.Calls.{calls_of, AreMadeBelow, GoOn, numbered, new_calls}
 use Rattle.vs_turn.specs.Seats.{SeatModel, seat_of, released_seat}
 use Rattle.vs_turn.specs.Rule.{Origin, IsAt, Stands, Ruled, IsRuled}

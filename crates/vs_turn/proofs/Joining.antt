@@ -6,7 +6,7 @@ use Rattle.std.specs.Prelude.{Option, nat_lt, slice_index}
 use Rattle.std.proofs.lemmas.Bool.{ltb-true, ltb-false}
 use Rattle.atomic_table.specs.Table.{Me, step, keeps, Allows, Joins}
 use Rattle.atomic_table.proofs.Lists.{at_set, set_else}
-use Rattle.vs_turn.specs.declared.view.View.{View}
+use Rattle.vs_turn.specs.declared.seat.View.{View}
 use Rattle.vs_turn.specs.Calls.{has_ticket, calls_of, NoCalls, merged_calls, longer}
 use Rattle.vs_turn.specs.Tickets.{lowest, merged_tickets}
 use Rattle.vs_turn.specs.Rule.{Origin, IsAt, Stands, Holder, Ruled, IsRuled}

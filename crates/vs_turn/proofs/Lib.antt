@@ -10,4 +10,4 @@ pub mod Closing
 pub mod MergedCalls
 pub mod AtRest
 pub mod Joining
-pub mod GoingOn
+pub mod CallerLemmas

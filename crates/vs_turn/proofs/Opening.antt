@@ -5,7 +5,7 @@ use mathlib.Core.Option.{some, some-injective, some-ne-none}
 use lib.ListN.{get_elem?}
 use Rattle.std.specs.Prelude.{Some}
 use Rattle.atomic_table.specs.Table.{opening}
-use Rattle.vs_turn.specs.declared.view.View.{View}
+use Rattle.vs_turn.specs.declared.seat.View.{View}
 use Rattle.vs_turn.specs.Calls.{AreMadeBelow}
 use Rattle.vs_turn.specs.Tickets.{all_tickets}
 use Rattle.vs_turn.specs.Rule.{origin, Stands, IsRuled}

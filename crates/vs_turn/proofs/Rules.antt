@@ -3,7 +3,7 @@ use Rattle.std.proofs.Common.{◌≡◌, ◌≢◌, ℕ, zero, suc, ◌+◌, ⊎
 use mathlib.Core.Option.{Option as Home, some, some-injective, some-ne-none}
 use lib.ListN.{get_elem?}
 use Rattle.std.specs.Prelude.{Option}
-use Rattle.vs_turn.specs.declared.view.View.{View}
+use Rattle.vs_turn.specs.declared.seat.View.{View}
 use Rattle.vs_turn.specs.Calls.{has_ticket}
 use Rattle.vs_turn.specs.Tickets.{lowest}
 use Rattle.vs_turn.specs.Rule.{Origin, IsAt, Ruled}

@@ -5,7 +5,7 @@ use lib.ListN.{get_elem?}
 use Rattle.std.specs.Prelude.{Option, slice_index}
 use Rattle.atomic_table.specs.Table.{Splits}
 use Rattle.atomic_table.proofs.Lists.{at_set, set_else, at_longer}
-use Rattle.vs_turn.specs.declared.view.View.{View}
+use Rattle.vs_turn.specs.declared.seat.View.{View}
 use Rattle.vs_turn.specs.Calls.{has_ticket, calls_of, NoCalls}
 use Rattle.vs_turn.specs.Tickets.{lowest}
 use Rattle.vs_turn.specs.Rule.{Origin, IsAt, Stands, Holder, Ruled, IsRuled}

@@ -9,7 +9,7 @@ use prog.Atomic.{either}
 use Rattle.std.specs.Prelude.{Option, Some}
 use Rattle.atomic_table.specs.Table.{State, Me, step, takes, keeps, stepped, Allows}
 use Rattle.atomic_table.proofs.Lists.{at_set, set_again}
-use Rattle.vs_turn.specs.declared.view.View.{View}
+use Rattle.vs_turn.specs.declared.seat.View.{View}
 use Rattle.vs_turn.specs.Calls.{has_ticket, calls_of, NoCalls}
 use Rattle.vs_turn.specs.Tickets.{lowest}
 use Rattle.vs_turn.specs.Rule.{Origin, IsAt, Stands, Rests, Ruled, IsRuled}

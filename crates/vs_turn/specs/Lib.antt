@@ -3,4 +3,3 @@ pub mod Tickets
 pub mod Seats
 pub mod Rule
 pub mod Steps
-pub mod Tallies

@@ -5,7 +5,7 @@ use mathlib.Core.Option.{Option as Home, some}
 use mathlib.Core.List.{IsPrefix}
 use lib.ListN.{get_elem?}
 use Rattle.atomic_table.specs.Table.{State}
-use Rattle.vs_turn.specs.declared.view.View.{View}
+use Rattle.vs_turn.specs.declared.seat.View.{View}
 use Rattle.vs_turn.specs.Calls.{has_ticket, calls_of, NoCalls, AreMadeBelow}
 use Rattle.vs_turn.specs.Tickets.{lowest, RiseFrom}
 

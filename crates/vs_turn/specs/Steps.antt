@@ -2,7 +2,7 @@
 use Rattle.std.specs.Prelude.{◌≡◌, ◌≢◌, ℕ, ◌^◌, ◌<◌, ◌≤◌, true, false, List, [], ◌∷◌, drop, length, Option, Some}
 use Rattle.atomic_table.specs.Table.{Me, Step}
 use mathlib.Core.List.{IsPrefix}
-use Rattle.vs_turn.specs.declared.view.View.{View}
+use Rattle.vs_turn.specs.declared.seat.View.{View}
 use Rattle.vs_turn.specs.Calls.{calls_of, NoCalls, GoOn, merged_calls, longer}
 use Rattle.vs_turn.specs.Tickets.{all_tickets, without_highest, only_highest, merged_tickets, RiseFrom}
 use Rattle.vs_turn.specs.Rule.{AllBegin}

@@ -1,3 +1,4 @@
+//! A seat that has the turn, with the value in its hands.
 ghost use Rattle.std.specs.Prelude.{◌≡◌, []};
 ghost use Rattle.std.specs.Borrow.{Lends, sem};
 ghost use mir.Syntax.{named};
@@ -5,11 +6,10 @@ ghost use Rattle.vs_turn.specs.contracts.held.Held.{the_row};
 ghost use Rattle.vs_turn.specs.Calls.{GoOn};
 ghost use Rattle.vs_turn.specs.Seats.{released_seat, with_value, KnowsCalls};
 
-use crate::kept::Kept;
 use crate::seat::Seat;
 use crate::steps::Place;
 use crate::tickets::Tickets;
-use crate::turn::Turn;
+use crate::turn::{Kept, Turn};
 use std::marker::Model;
 
 /// A seat that has the turn, with the value. It isn't `Drop`: it has to be released.

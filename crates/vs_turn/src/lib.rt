@@ -8,17 +8,12 @@
 #![tactic(auto)]
 
 mod held;
-mod kept;
 mod rule;
 mod seat;
 mod steps;
-#[cfg(test)]
-mod tests;
 mod tickets;
 mod turn;
-mod view;
 
 pub use held::Held;
-pub use kept::Kept;
 pub use seat::Seat;
-pub use turn::Turn;
+pub use turn::{Kept, Turn};

@@ -1,6 +1,6 @@
 //! The rule between any two atomic steps of a turn, and the steps by their names.
-use crate::kept::Kept;
-use crate::view::View;
+use crate::seat::View;
+use crate::turn::Kept;
 use atomic_table::{Join, Play, Split, TableRule};
 use std::snapshot::Snapshot;
 

@@ -1,4 +1,4 @@
-use crate::view::View;
+//! A caller's token of a turn, and what the table of atomic steps knows of it.
 use atomic_table::Badge;
 use std::collections::LinkedList;
 use std::marker::Model;
@@ -19,4 +19,19 @@ impl Model for Seat {
     ghost view = { λ s. seat_at s.badge.table_id s.badge.views };
 
     ghost invariant = { λ s. IsSeat s.badge.views s.tickets };
+}
+
+/// What the table knows of a seat. No value of it is made.
+pub struct View {
+    pub opening: LinkedList<u64>,
+    pub since: u64,
+    pub tickets: LinkedList<u32>,
+    pub seen: LinkedList<LinkedList<u64>>,
+    pub mine: LinkedList<(u64, LinkedList<u64>)>,
+    /// Whether it has the turn.
+    pub has_turn: bool,
+    /// The entries that it found when it took the turn.
+    pub found: LinkedList<LinkedList<u64>>,
+    /// What both seats of a join had seen.
+    pub olds: LinkedList<LinkedList<LinkedList<u64>>>,
 }

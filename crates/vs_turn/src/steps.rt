@@ -3,10 +3,9 @@ ghost use Rattle.std.specs.Prelude.{◌≡◌, ◌+◌, ◌<◌, true, false, []
 ghost use Rattle.vs_turn.specs.Steps.{Takes, HasPutBack, IsFreed};
 ghost use Rattle.vs_turn.specs.Tickets.{lowest};
 
-use crate::kept::Kept;
 use crate::rule::{Free, Take};
-use crate::turn::Turn;
-use crate::view::View;
+use crate::seat::View;
+use crate::turn::{Kept, Turn};
 use std::sync::Wait;
 
 /// A seat as the table has it.

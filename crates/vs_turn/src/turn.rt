@@ -1,22 +1,30 @@
-ghost use Rattle.std.specs.Prelude.{◌≡◌, ◌+◌, ◌≤◌, [], ◌∷◌, ◌++◌, Some, length, drop, IfOk, IfErr};
+//! The turn: a value that seats share, how it is made and taken, how seats are split and joined, and its end.
+ghost use Rattle.std.specs.Prelude.{◌≡◌, ℕ, ◌+◌, ◌≤◌, List, [], ◌∷◌, ◌++◌, Some, length, drop, IfOk, IfErr};
 ghost use mathlib.Core.List.{IsPrefix};
 ghost use Rattle.vs_turn.specs.Calls.{calls_of, NoCalls};
 ghost use Rattle.vs_turn.specs.Seats.{first_seat, with_tickets, both_seats, IsMadeWith, KnowsCalls};
 ghost use Rattle.vs_turn.specs.Tickets.{RiseFrom, without_highest, only_highest};
 
 use crate::held::Held;
-use crate::kept::Kept;
 use crate::rule::{AddUp, HandOn, Law, Look, Start};
-use crate::seat::Seat;
+use crate::seat::{Seat, View};
 use crate::steps::Place;
 use crate::tickets;
-use crate::view::View;
 use atomic_table::{Refused, Table};
 use std::alloc::Global;
 use std::marker::Model;
 use std::snapshot::Snapshot;
 use std::sync::Wait;
 use vs_types::Memory;
+
+/// A value that seats share by a turn. Contracts see two things of it, as lists of numbers.
+pub trait Kept {
+    /// What no change alters.
+    ghost opening: { Self → List ℕ };
+
+    /// What only grows. The first number of an entry is its maker, one of the tickets of the seat that adds it.
+    ghost entries: { Self → List (List ℕ) };
+}
 
 /// One value that seats share. A seat that holds it has it alone.
 pub struct Turn<S: Kept> {

@@ -6,7 +6,7 @@ use Rattle.atomic_table.specs.Seated.{TableId}
 use Rattle.vs_instance.specs.Problem.{Problem}
 use Rattle.vs_turn.specs.Seats.{SeatModel, with_tickets}
 use Rattle.vs_turn.specs.Tickets.{only_highest, without_highest}
-use Rattle.vs_turn.proofs.TicketLists.{only_highest-all, without_highest-all}
+use Rattle.vs_turn.proofs.CallerLemmas.{only_highest-all, without_highest-all}
 use Rattle.vs_tree.specs.Entries.{entry_of, opening_entry}
 use Rattle.vs_tree.specs.History.{FullStep, IsAmong, state_of}
 use Rattle.vs_tree.specs.Search.{Search, state}

@@ -1,5 +1,5 @@
 use Rattle.std.proofs.Common.{ℕ, List, length, sym, subst, ap, ◌∙◌, arith}
-use Rattle.vs_turn.proofs.TicketLists.{length-tickets_from}
+use Rattle.vs_turn.proofs.CallerLemmas.{length-tickets_from}
 use Rattle.vs_crew.specs.Workers.{IsFresh}
 use Rattle.vs_crew.proofs.others.FirstSeats.{given_all, given_one}
 use Rattle.vs_crew.proofs.crew.give_seats.Goals as goal

@@ -2,7 +2,7 @@ use Rattle.std.proofs.Common.{sym, ap, ◌∙◌}
 use mathlib.Core.List.{map}
 use Rattle.vs_tree.specs.Entries.{entry_of}
 use Rattle.vs_tree.specs.Search.{Search}
-use Rattle.vs_turn.proofs.GoingOn.{adds_none}
+use Rattle.vs_turn.proofs.CallerLemmas.{adds_none}
 use Rattle.vs_crew.proofs.tests.seats.look.Goals as goal
 
 pub release-requires-clause-entries : goal.release-requires-clause-entries

@@ -11,7 +11,7 @@ use Rattle.vs_tree.specs.declared.step.Step.{Step}
 use Rattle.vs_tree.proofs.Entries.{same_opening}
 use Rattle.vs_turn.specs.Calls.{AreCalls, GoOn}
 use Rattle.vs_turn.specs.Seats.{HeldModel, SeatModel}
-use Rattle.vs_turn.proofs.GoingOn.{adds_none}
+use Rattle.vs_turn.proofs.CallerLemmas.{adds_none}
 use Rattle.vs_crew.specs.Sharing.{AreBy}
 use Rattle.vs_crew.proofs.leaves.Taking.{fits_sized}
 use Rattle.vs_crew.proofs.others.Histories.{are_called}

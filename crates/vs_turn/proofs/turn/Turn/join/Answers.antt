@@ -1,7 +1,7 @@
 use Rattle.std.proofs.Common.{rules, ◌≡◌, ◌+◌, ◌≤◌, List, [], ◌∷◌, length, sym, ap, ◌∙◌, subst, arith}
 use Rattle.std.specs.Prelude.{Option}
 use Rattle.atomic_table.specs.Table.{Me}
-use Rattle.vs_turn.specs.declared.view.View.{View}
+use Rattle.vs_turn.specs.declared.seat.View.{View}
 use Rattle.vs_turn.specs.Calls.{calls_of}
 use Rattle.vs_turn.specs.Seats.{seat_at}
 use Rattle.vs_turn.specs.Steps.{joined}

@@ -1,7 +1,7 @@
 use Rattle.std.proofs.Common.{rules, ◌-◌, [], ◌∷◌, length, sym, ap, ◌∙◌, subst, arith, length-take, length-drop}
 use Rattle.std.specs.Prelude.{Option}
 use Rattle.atomic_table.specs.Table.{Me}
-use Rattle.vs_turn.specs.declared.view.View.{View}
+use Rattle.vs_turn.specs.declared.seat.View.{View}
 use Rattle.vs_turn.specs.Seats.{SeatModel}
 use Rattle.vs_turn.specs.Steps.{keeping, handed}
 use Rattle.vs_turn.specs.Tickets.{RiseFrom, without_highest, only_highest}
