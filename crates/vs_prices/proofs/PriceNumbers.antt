@@ -3,6 +3,7 @@ use Rattle.std.proofs.Common.{◌≡◌, ℕ, ◌≤◌, Bool, true, false, refl
 use Rattle.std.proofs.lemmas.Int.{ints, to_z-of_z}
 use Rattle.vs_connect.specs.Cost.{IsCost}
 use Rattle.vs_instance.specs.HoldingTable.{scaled}
+use Rattle.vs_prices.specs.declared.table_worth.TheConstants.{MAX_TRIP_PRICE}
 use Rattle.vs_prices.specs.Table.{IsPrice}
 use lib.Signed.{lt_z}
 
@@ -59,8 +60,8 @@ exceeds_by price other s more fits is_price is_scaled is =
 -- what a trip pays, put together of two prices and a scaled piece
 pub record IsDifference (x s y d : ℤ) : Type 0 where
   pub value : d ≡ x +ℤ s -ℤ y
-  pub low : neg_ℤ (pos 3000000000000000000) ≤ℤ d
-  pub high : d ≤ℤ pos 3000000000000000000
+  pub low : neg_ℤ MAX_TRIP_PRICE ≤ℤ d
+  pub high : d ≤ℤ MAX_TRIP_PRICE
 
 pub difference : (x s y : ℤ) → IsPrice x → IsScaled s → IsPrice y
     → IsDifference x s y

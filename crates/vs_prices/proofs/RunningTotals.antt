@@ -11,6 +11,7 @@ use Rattle.std.proofs.lemmas.Nat.{mul-le}
 use Rattle.vs_connect.specs.Cost.{lesser_of}
 use Rattle.vs_prices.specs.Table.{IsPrice}
 use Rattle.vs_instance.specs.Lagrangian.{total}
+use Rattle.vs_prices.specs.declared.table_worth.TheConstants.{MAX_TRIP_PRICE}
 use Rattle.vs_prices.specs.Worth.{least}
 use mir.Syntax.{w128}
 
@@ -94,7 +95,7 @@ pub record SumWithin (limit : ℕ) (before price after : ℤ) : Type 0 where
   pub high : after ≤ℤ pos limit
 
 pub trip_added : (bits i : ℕ) (from price : ℤ) → from ≡ to_z w64 (of_z w64 price)
-    → neg_ℤ (pos 3000000000000000000) ≤ℤ price → price ≤ℤ pos 3000000000000000000 → i < 2000
+    → neg_ℤ MAX_TRIP_PRICE ≤ℤ price → price ≤ℤ MAX_TRIP_PRICE → i < 2000
     → neg_ℤ (pos (3000000000000000000 * i)) ≤ℤ to_z w128 bits → to_z w128 bits ≤ℤ pos (3000000000000000000 * i)
     → SumWithin (3000000000000000000 * (i + 1)) (to_z w128 bits) price
     (to_z w128 (of_z w128 (to_z w128 bits +ℤ to_z w128 (of_z w128 from))))
@@ -148,24 +149,24 @@ same_product x x' n n' e f = ap (λ z. z *ℤ pos n) e ∙ ap (λ m. x' *ℤ pos
 
 -- of prices within limits the lesser is too
 pub lesser_limits : (least : Option ℤ) (price : ℤ)
-    → IfSome least (λ n. (neg_ℤ (pos 3000000000000000000) ≤ℤ n) × (n ≤ℤ pos 3000000000000000000))
-    → neg_ℤ (pos 3000000000000000000) ≤ℤ price → price ≤ℤ pos 3000000000000000000
+    → IfSome least (λ n. (neg_ℤ MAX_TRIP_PRICE ≤ℤ n) × (n ≤ℤ MAX_TRIP_PRICE))
+    → neg_ℤ MAX_TRIP_PRICE ≤ℤ price → price ≤ℤ MAX_TRIP_PRICE
     → IfSome (lesser_of least (Some price))
-    (λ n. (neg_ℤ (pos 3000000000000000000) ≤ℤ n) × (n ≤ℤ pos 3000000000000000000))
+    (λ n. (neg_ℤ MAX_TRIP_PRICE ≤ℤ n) × (n ≤ℤ MAX_TRIP_PRICE))
 lesser_limits None price h low high = (low, high)
 lesser_limits (Some x) price h low high = (omega (arith, ints, clamps), omega (arith, ints, clamps))
 
 -- one more price for the least, which stands for what a trip pays
 pub lesser_step : (xs : List ℤ) (least after : Option ℤ) (price paid : ℤ) → least ≡ minimum xs → price ≡ paid
-    → IfSome least (λ n. (neg_ℤ (pos 3000000000000000000) ≤ℤ n) × (n ≤ℤ pos 3000000000000000000))
-    → neg_ℤ (pos 3000000000000000000) ≤ℤ price → price ≤ℤ pos 3000000000000000000
+    → IfSome least (λ n. (neg_ℤ MAX_TRIP_PRICE ≤ℤ n) × (n ≤ℤ MAX_TRIP_PRICE))
+    → neg_ℤ MAX_TRIP_PRICE ≤ℤ price → price ≤ℤ MAX_TRIP_PRICE
     → after ≡ lesser_of least (Some price)
     → (after ≡ minimum (xs ++ paid ∷ []))
-    × IfSome after (λ n. (neg_ℤ (pos 3000000000000000000) ≤ℤ n) × (n ≤ℤ pos 3000000000000000000))
+    × IfSome after (λ n. (neg_ℤ MAX_TRIP_PRICE ≤ℤ n) × (n ≤ℤ MAX_TRIP_PRICE))
 lesser_step xs least after price paid e f limits low high h = (
   h ∙ ap (λ (o : Option ℤ). lesser_of o (Some price)) e ∙ ap (λ (y : ℤ). lesser_of (minimum xs) (Some y)) f
       ∙ sym (minimum-push xs paid),
-  subst (λ (o : Option ℤ). IfSome o (λ n. (neg_ℤ (pos 3000000000000000000) ≤ℤ n) × (n ≤ℤ pos 3000000000000000000)))
+  subst (λ (o : Option ℤ). IfSome o (λ n. (neg_ℤ MAX_TRIP_PRICE ≤ℤ n) × (n ≤ℤ MAX_TRIP_PRICE)))
       (sym h) (lesser_limits least price limits low high),
 )
 

@@ -1,3 +1,5 @@
+//! What a table shows of every plan: that none costs less than a number, or that there is none.
+
 ghost use Rattle.std.specs.Prelude.{◌↔◌, IsTrue};
 ghost use Rattle.vs_prices.specs.Bounds.{IsBelow, IsNoLess};
 

@@ -1,3 +1,5 @@
+//! Where prices break first: the judge of tables, over all pairs of trips.
+
 ghost use Rattle.std.specs.Prelude.{◌≡◌, ℕ, ◌<◌, ◌↔◌, Option, length, option_map, pos};
 ghost use Rattle.std.specs.Prelude.{IfSome, IsNone};
 ghost use Rattle.vs_connect.specs.Cost.{IsCost};

@@ -4,14 +4,12 @@
 
 mod bound;
 mod broken_at;
-mod laws;
-mod restriction;
 mod table;
 mod table_worth;
 
 pub use bound::Bound;
 pub use broken_at::{BrokenAt, broken};
-pub use laws::prices_bound_plans;
-pub use restriction::permitted_sets;
 pub use table::{MAX_PRICE, Table};
-pub use table_worth::{least_price, trip_price, worth};
+pub use table_worth::{
+    MAX_TRIP_PRICE, least_price, permitted_sets, prices_bound_plans, trip_price, worth,
+};

@@ -1,3 +1,5 @@
+//! A table of prices, one for each move of a vehicle.
+
 use std::alloc::Global;
 use vs_instance::Instance;
 use vs_types::{LayerNo, Memory, TripNo};
@@ -35,10 +37,13 @@ impl Table {
     {
         let layers = instance.layers() as usize;
         let places = layers * instance.trips() as usize;
+        let into = vec![in alloc; 0; places]?;
+        let from = vec![in alloc; 0; places]?;
+        let fleet = vec![in alloc; 0; layers]?;
         Ok(Table {
-            into: vec![in alloc; 0; places]?,
-            from: vec![in alloc; 0; places]?,
-            fleet: vec![in alloc; 0; layers]?,
+            into,
+            from,
+            fleet,
             ray: false,
         })
     }

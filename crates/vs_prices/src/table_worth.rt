@@ -1,26 +1,52 @@
-ghost use Rattle.std.specs.Prelude.{◌≡◌, ℕ, ◌<◌, length, map, ℤ, pos, neg_ℤ, ◌≤ℤ◌, ◌*ℤ◌};
+//! What a table is worth within a restriction: what its trips pay, less what its vehicles pay, which bounds every plan.
+
+ghost use Rattle.std.specs.Prelude.{◌≡◌, ℕ, ◌<◌, IfOk, length, map, neg_ℤ, ◌≤ℤ◌};
 ghost use Rattle.vs_instance.specs.Instance.{IsInstance};
-ghost use Rattle.vs_instance.specs.Restriction.{IsRestriction};
+ghost use Rattle.vs_instance.specs.Restriction.{IsRestriction, permitted_sets};
 ghost use Rattle.vs_types.specs.LayerSet.{Has, members};
+ghost use Rattle.vs_prices.specs.Laws.{PricesBoundPlans};
 ghost use Rattle.vs_prices.specs.Table.{Fits, HoldingTable};
 ghost use Rattle.vs_prices.specs.Worth.{BoundsPlans, IsRoundedUp, IsWorth};
 ghost use Rattle.vs_prices.specs.Worth.{least, trip_price, trips_pay, vehicles_pay};
 
 use crate::bound::Bound;
 use crate::table::Table;
+use std::alloc::Global;
 use vs_connect::{lesser, scaled, trip_cost};
 use vs_instance::Instance;
-use vs_types::{LayerNo, LayerSet, SCALE, TripNo};
+use vs_types::{LayerNo, LayerSet, Memory, SCALE, TripNo};
 
-/// What trip i pays in layer l, in 1/1000 of a cost unit: the price for entering it and its own cost, which a ray leaves
-/// out, less the price for leaving it.
+/// No trip pays more than this in a layer, or less than its negative, in 1/1000 of a cost unit: it pays at most two
+/// prices and a piece of cost.
+pub const MAX_TRIP_PRICE: i64 = 3_000_000_000_000_000_000;
+
+/// All trips together pay no more than this, or less than its negative.
+const MAX_TRIPS_PAY: i128 = 10_000_000_000_000_000_000_000;
+
+/// All vehicles together pay no more than this, or less than its negative.
+const MAX_VEHICLES_PAY: i128 = 100_000_000_000_000_000_000_000;
+
+/// The restriction that restricts nothing: for each trip the layers that may run it.
+pub fn permitted_sets(alloc: Global, instance: &Instance) -> Result<Vec<LayerSet>, Memory>
+    ensures sets { IfOk result (λ sets. sets.items ≡ permitted_sets instance.now) }
+    ensures restriction { IfOk result (λ sets. IsRestriction instance.now sets.items) }
+{
+    let mut sets = Vec::new(alloc);
+    for i in 0..instance.trips() {
+        sets.push(instance.trip(TripNo(i)).layers)?;
+    }
+    Ok(sets)
+}
+
+/// What trip i pays in layer l, in 1/1000 of a cost unit: the price for entering it and its own cost, which a ray
+/// leaves out, less the price for leaving it.
 pub fn trip_price(instance: &Instance, table: &Table, l: LayerNo, i: TripNo) -> i64
     requires fits { Fits instance.now table.now }
     requires layer { l.0 < length instance.now.layers }
     requires trip { i.0 < length instance.now.trips }
     ensures value { result ≡ trip_price instance.now table.now i.0 l.0 }
-    ensures low { neg_ℤ (pos 3000000000000000000) ≤ℤ result }
-    ensures high { result ≤ℤ pos 3000000000000000000 }
+    ensures low { neg_ℤ MAX_TRIP_PRICE ≤ℤ result }
+    ensures high { result ≤ℤ MAX_TRIP_PRICE }
 {
     let into = table.into_price(instance, l, i);
     let from = table.from_price(instance, l, i);
@@ -33,8 +59,8 @@ pub fn least_price(instance: &Instance, set: LayerSet, table: &Table, i: TripNo)
     requires trip { i.0 < length instance.now.trips }
     requires set { (l : ℕ) → Has set l → l < length instance.now.layers }
     ensures value { result ≡ least (map (trip_price instance.now table.now i.0) (members set)) }
-    ensures low { neg_ℤ (pos 3000000000000000000) ≤ℤ result }
-    ensures high { result ≤ℤ pos 3000000000000000000 }
+    ensures low { neg_ℤ MAX_TRIP_PRICE ≤ℤ result }
+    ensures high { result ≤ℤ MAX_TRIP_PRICE }
 {
     let mut least: Option<i64> = None;
     for l in 0..instance.layers() {
@@ -51,8 +77,8 @@ fn trips_pay(instance: &Instance, sets: &[LayerSet], table: &Table) -> i128
     requires fits { Fits instance.now table.now }
     requires restriction { IsRestriction instance.now sets.now }
     ensures value { result ≡ trips_pay instance.now sets.now table.now }
-    ensures low { neg_ℤ (pos 10000000000000000000000) ≤ℤ result }
-    ensures high { result ≤ℤ pos 10000000000000000000000 }
+    ensures low { neg_ℤ MAX_TRIPS_PAY ≤ℤ result }
+    ensures high { result ≤ℤ MAX_TRIPS_PAY }
 {
     let mut paid = 0;
     for i in 0..instance.trips() {
@@ -65,8 +91,8 @@ fn trips_pay(instance: &Instance, sets: &[LayerSet], table: &Table) -> i128
 fn vehicles_pay(instance: &Instance, table: &Table) -> i128
     requires { Fits instance.now table.now }
     ensures value { result ≡ vehicles_pay instance.now table.now }
-    ensures low { neg_ℤ (pos 100000000000000000000000) ≤ℤ result }
-    ensures high { result ≤ℤ pos 100000000000000000000000 }
+    ensures low { neg_ℤ MAX_VEHICLES_PAY ≤ℤ result }
+    ensures high { result ≤ℤ MAX_VEHICLES_PAY }
     ensures instance { IsInstance instance.now }
 {
     let mut paid = 0;
@@ -107,3 +133,10 @@ pub fn worth(instance: &Instance, sets: &[LayerSet], table: &Table) -> Bound
         Bound::AtLeast(0)
     }
 }
+
+/// Prices that hold bound every plan: it costs at least what they are worth within any restriction
+/// that it keeps to, and where they are worth that there is no plan, none keeps to the restriction.
+/// This is the weak duality of linear programming, said of plans as lists of blocks.
+pub fn prices_bound_plans()
+    ensures { PricesBoundPlans }
+{}

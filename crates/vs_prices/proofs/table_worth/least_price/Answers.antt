@@ -21,8 +21,10 @@ loop-l-preserved c =
       | then-has w ↦
           let price = w.trip_price-price.ensures in
           let paid = w.trip_price-price.result in
-          let passed : to_z w64 (of_z w64 paid) ≡ paid = to_z-of_z w64 paid (record { sfits = w.trip_price-price.type_inv }) in
-          let least_is = w.least-is ∙ (w.lesser-least.ensures ∙ ap (λ (x : ℤ). lesser_of c.loop-l.least (Some x)) passed) in
+          let passed : to_z w64 (of_z w64 paid) ≡ paid = to_z-of_z w64 paid
+          (record { sfits = w.trip_price-price.type_inv }) in
+          let least_is = w.least-is ∙ (w.lesser-least.ensures ∙ ap
+          (λ (x : ℤ). lesser_of c.loop-l.least (Some x)) passed) in
           let step =
           lesser_step (prices_below p table i set c.loop-l.l) c.loop-l.least c.if-has.least paid
           (trip_price p table i c.loop-l.l) inv.value price.value inv.limits price.low price.high least_is in

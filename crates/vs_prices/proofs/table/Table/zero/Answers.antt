@@ -12,7 +12,7 @@ zeros n prices is = subst (All IsZero) (sym is) (All-replicate IsZero n (pos 0) 
 
 pub returns-clause-holds : goal.returns-clause-holds
 returns-clause-holds c = λ l inside.
-    zeros_hold c.args.instance.now c.in_ok-vec.field-0.items c.in_ok-vec-2.field-0.items c.in_ok-vec-3.field-0.items
-    (zeros _ _ (c.in_ok-vec.ensures.items_if_clones_equal (λ y e. e)))
-    (zeros _ _ (c.in_ok-vec-2.ensures.items_if_clones_equal (λ y e. e)))
-    (zeros _ _ (c.in_ok-vec-3.ensures.items_if_clones_equal (λ y e. e))) l
+    zeros_hold c.args.instance.now c.in_ok-into.into.items c.in_ok-from.from.items c.in_ok-fleet.fleet.items
+    (zeros _ _ (c.in_ok-into.ensures.items_if_clones_equal (λ y e. e)))
+    (zeros _ _ (c.in_ok-from.ensures.items_if_clones_equal (λ y e. e)))
+    (zeros _ _ (c.in_ok-fleet.ensures.items_if_clones_equal (λ y e. e))) l

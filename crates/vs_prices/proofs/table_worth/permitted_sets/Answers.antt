@@ -5,7 +5,7 @@ use Rattle.vs_instance.specs.declared.trip.Trip.{Trip}
 use Rattle.vs_instance.specs.Restriction.{IsRestriction}
 use Rattle.vs_instance.specs.Ways.{no_trip}
 use Rattle.vs_instance.proofs.PermittedSets.{permitted_sets-IsRestriction}
-use Rattle.vs_prices.proofs.restriction.permitted_sets.Goals as goal
+use Rattle.vs_prices.proofs.table_worth.permitted_sets.Goals as goal
 
 pub loop-i-preserved : goal.loop-i-preserved
 loop-i-preserved c =

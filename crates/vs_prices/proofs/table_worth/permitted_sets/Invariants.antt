@@ -1,5 +1,5 @@
 use Rattle.std.proofs.Common.{◌≡◌, map, take}
-use Rattle.vs_prices.proofs.restriction.permitted_sets.Given as goal
+use Rattle.vs_prices.proofs.table_worth.permitted_sets.Given as goal
 
 -- the sets so far are those of the trips below this one
 abbrev pub invariant-loop-i : goal.invariant-loop-i
