@@ -9,7 +9,7 @@ use Rattle.vs_instance.specs.Instance.{IsInstance}
 use Rattle.vs_instance.specs.Plan.{LayerBlock}
 use Rattle.vs_instance.specs.Problem.{Problem}
 use Rattle.vs_instance.specs.Restriction.{IsRestriction, permitted_sets, set_of}
-use Rattle.vs_instance.proofs.PermittedSets.{permitted_sets-IsRestriction}
+use Rattle.vs_instance.proofs.CallerLemmas.{permitted_sets-IsRestriction}
 use Rattle.vs_plan.specs.Blocks.{blocks_of}
 use Rattle.vs_prices.specs.declared.bound.Bound.{Bound}
 use Rattle.vs_prices.specs.declared.broken_at.BrokenAt.{BrokenAt}

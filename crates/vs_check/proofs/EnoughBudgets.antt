@@ -3,7 +3,7 @@ use Rattle.std.proofs.Common.{◌≡◌, ℕ, ◌+◌, ◌*◌, ◌≤◌, Bool,
 use Rattle.std.proofs.lemmas.Bool.{cases_eq, ne_eqb}
 use Rattle.std.proofs.lemmas.List.Sums.{sum_by-cons}
 use Rattle.vs_instance.specs.Restriction.{permitted_sets}
-use Rattle.vs_instance.proofs.PermittedSets.{permitted_sets-IsRestriction}
+use Rattle.vs_instance.proofs.CallerLemmas.{permitted_sets-IsRestriction}
 use Rattle.vs_tree.specs.declared.spot.Spot.{Spot}
 use Rattle.vs_tree.specs.History.{Opening, Place, State, is_closed, is_inner, spot_at, state_of}
 use Rattle.vs_tree.specs.Sound.{IsOpening, IsSound}

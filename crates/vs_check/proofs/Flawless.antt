@@ -8,9 +8,7 @@ use Rattle.vs_instance.specs.Instance.{IsInstance}
 use Rattle.vs_instance.specs.Problem.{Problem}
 use Rattle.vs_instance.specs.Plan.{IsPlan, LayerBlock, plan_cost}
 use Rattle.vs_instance.specs.Restriction.{permitted_sets}
-use Rattle.vs_instance.proofs.Empty.{None, both_none, none-append, false_from_none, none_from_false, each_none, none_each}
-use Rattle.vs_instance.proofs.Firsts.{none_from_first}
-use Rattle.vs_instance.proofs.PermittedSets.{permitted_sets-IsRestriction}
+use Rattle.vs_instance.proofs.CallerLemmas.{None, both_none, none-append, false_from_none, none_from_false, each_none, none_each, none_from_first, permitted_sets-IsRestriction}
 use Rattle.vs_plan.specs.Blocks.{IsOfInstance, blocks_of}
 use Rattle.vs_plan.specs.PlanFaults.{faults_of}
 use Rattle.vs_plan.specs.declared.plan_fault.PlanFault.{PlanFault}

@@ -2,7 +2,7 @@
 use Rattle.std.proofs.Common.{◌≡◌, ℕ, false, refl, arith, Option, Some, None as nothing, ℤ, ◌≤ℤ◌}
 use Rattle.std.specs.Prelude.{int_lt}
 use Rattle.std.proofs.lemmas.Int.{ints}
-use Rattle.vs_instance.proofs.Empty.{None, false_from_none, none_from_false}
+use Rattle.vs_instance.proofs.CallerLemmas.{None, false_from_none, none_from_false}
 use Rattle.vs_prices.specs.Worth.{Reaches}
 use Rattle.vs_prices.specs.declared.bound.Bound.{Bound}
 use Rattle.vs_prices.specs.declared.bound.Bound.TheVariants.{AtLeast, NoPlan}

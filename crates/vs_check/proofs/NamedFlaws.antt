@@ -15,7 +15,7 @@ use Rattle.vs_instance.specs.Ways.{layer_of}
 use Rattle.vs_instance.specs.Problem.{Problem}
 use Rattle.vs_instance.specs.Restriction.{permitted_sets, set_of}
 use Rattle.vs_instance.specs.Plan.{LayerBlock, plan_cost, times_run, vehicles_used}
-use Rattle.vs_instance.proofs.FirstHolds.{All-each, All-numbers, All-when, first_holds}
+use Rattle.vs_instance.proofs.CallerLemmas.{All-each, All-numbers, All-when, first_holds}
 use Rattle.vs_plan.specs.Blocks.{blocks_of}
 use Rattle.vs_plan.specs.PlanFaults.{is_permitted, trip_at, arrival_faults, block_faults, faults_of, layer_faults, place_faults, times_of, twice, uncovered}
 use Rattle.vs_plan.specs.declared.plan_fault.PlanFault.{PlanFault}

@@ -10,8 +10,7 @@ use Rattle.vs_instance.specs.Firsts.{first}
 use Rattle.vs_instance.specs.Instance.{IsInstance}
 use Rattle.vs_instance.specs.Problem.{Problem}
 use Rattle.vs_instance.specs.Restriction.{IsRestriction, permitted_sets, set_of}
-use Rattle.vs_instance.proofs.Firsts.{first-skip, first-stop}
-use Rattle.vs_instance.proofs.PermittedSets.{permitted_sets-IsRestriction}
+use Rattle.vs_instance.proofs.CallerLemmas.{first-skip, first-stop, permitted_sets-IsRestriction}
 use Rattle.vs_tree.specs.Tree.{Tree, Leaf, Split, right_of, with_set}
 use Rattle.vs_tree.proofs.Restrictions.{left-restricts, right-restricts}
 use Rattle.vs_cert.specs.Shapes.{IsShapeOf, preorder}

@@ -7,7 +7,7 @@ use Rattle.std.proofs.lemmas.Bool.Decides.{nat_tests}
 use Rattle.std.proofs.lemmas.List.Elements.{Contains-get_or}
 use Rattle.vs_types.specs.LayerSet.{Has, members}
 use Rattle.vs_types.specs.declared.layer_set.LayerSet.{LayerSet}
-use Rattle.vs_types.proofs.Members.{Contains-members, Has-below, members-some}
+use Rattle.vs_types.proofs.CallerLemmas.{Contains-members, Has-below, members-some}
 use Rattle.vs_tree.specs.Rest.{has, rest_of}
 use Rattle.vs_tree.specs.Tree.{IsProperPart}
 use Rattle.vs_tree.proofs.Bits.{sum-below}

@@ -8,7 +8,7 @@ use Rattle.vs_types.specs.declared.numbers.TripNo.{TripNo}
 use Rattle.vs_instance.specs.Instance.{IsInstance}
 use Rattle.vs_instance.specs.Problem.{Problem}
 use Rattle.vs_instance.specs.Restriction.{IsRestriction, set_of}
-use Rattle.vs_instance.proofs.Empty.{None, both_none, none-append}
+use Rattle.vs_instance.proofs.CallerLemmas.{None, both_none, none-append}
 use Rattle.vs_prices.specs.Worth.{Reaches, worth_of}
 use Rattle.vs_prices.specs.declared.bound.Bound.{Bound}
 use Rattle.vs_prices.specs.declared.table.Table.{Table}

@@ -1,1 +1,1 @@
-pub mod PieceExistence
+pub mod CallerLemmas

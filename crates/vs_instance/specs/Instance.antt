@@ -5,7 +5,8 @@ use Rattle.vs_types.specs.LayerSet.{Has, members}
 use Rattle.vs_instance.specs.declared.layer.Layer.{Layer}
 use Rattle.vs_instance.specs.declared.trip.Trip.{Trip}
 use Rattle.vs_instance.specs.declared.way.Way.{Way}
-use Rattle.vs_instance.specs.declared.limits.TheConstants.{MAX_STOPS, MAX_LAYERS, MAX_TRIPS, MAX_FLEET, MAX_FIXED, MAX_PER_MINUTE, MAX_PER_METRE, MAX_MINUTES, MAX_METRES, TWO_DAYS}
+use Rattle.vs_types.specs.declared.numbers.TheConstants.{MAX_LAYERS}
+use Rattle.vs_instance.specs.declared.limits.TheConstants.{MAX_STOPS, MAX_TRIPS, MAX_FLEET, MAX_FIXED, MAX_PER_MINUTE, MAX_PER_METRE, MAX_MINUTES, MAX_METRES, TWO_DAYS}
 use Rattle.vs_instance.specs.Problem.{Problem}
 
 -- a layer within the limits

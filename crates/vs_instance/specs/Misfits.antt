@@ -14,7 +14,8 @@ use Rattle.vs_instance.specs.declared.misfit.NewError.{NewError}
 use Rattle.vs_instance.specs.declared.misfit.NewError.TheVariants as error
 use Rattle.vs_instance.specs.declared.misfit.Field.TheVariants as field
 use Rattle.vs_instance.specs.declared.misfit.Place.TheVariants as place
-use Rattle.vs_instance.specs.declared.limits.TheConstants.{MAX_STOPS, MAX_LAYERS, MAX_TRIPS, MAX_FLEET, MAX_FIXED, MAX_PER_MINUTE, MAX_PER_METRE, MAX_MINUTES, MAX_METRES, TWO_DAYS}
+use Rattle.vs_types.specs.declared.numbers.TheConstants.{MAX_LAYERS}
+use Rattle.vs_instance.specs.declared.limits.TheConstants.{MAX_STOPS, MAX_TRIPS, MAX_FLEET, MAX_FIXED, MAX_PER_MINUTE, MAX_PER_METRE, MAX_MINUTES, MAX_METRES, TWO_DAYS}
 use Rattle.vs_instance.specs.Firsts.{when, first}
 use Rattle.vs_instance.specs.Problem.{Problem, pair_cmp}
 use Rattle.vs_instance.specs.Instance.{IsInstance}

@@ -154,6 +154,3 @@ impl Instance {
         self.way(k, s).map(|way| way.metres)
     }
 }
-
-#[cfg(test)]
-mod tests;

@@ -22,10 +22,11 @@ pub use instance::Instance;
 pub use laws::{lagrangian_values_bound_plans, lagrangian_values_exist, starting_values_exist};
 pub use layer::Layer;
 pub use limits::{
-    MAX_FIXED, MAX_FLEET, MAX_LAYERS, MAX_METRES, MAX_MINUTES, MAX_PER_METRE, MAX_PER_MINUTE,
-    MAX_STOPS, MAX_TRIPS, TWO_DAYS,
+    MAX_FIXED, MAX_FLEET, MAX_METRES, MAX_MINUTES, MAX_MULTIPLIER, MAX_PER_METRE, MAX_PER_MINUTE,
+    MAX_PRICE, MAX_STOPS, MAX_TRIPS, TWO_DAYS,
 };
 pub use misfit::{Field, Misfit, NewError, Place};
 pub use parts::Parts;
 pub use trip::Trip;
+pub use vs_types::MAX_LAYERS;
 pub use way::Way;

@@ -1,8 +1,7 @@
+//! The limits of an instance, and of the numbers that several crates compute with.
+
 /// How many stops an instance has at most.
 pub const MAX_STOPS: u32 = 500;
-
-/// How many layers an instance has at most.
-pub const MAX_LAYERS: u32 = 16;
 
 /// How many trips an instance has at most.
 pub const MAX_TRIPS: u32 = 2_000;
@@ -27,3 +26,9 @@ pub const MAX_METRES: u64 = 1_000_000;
 
 /// The minutes of two days. The times of trips are before their end.
 pub const TWO_DAYS: u32 = 2_880;
+
+/// No price is above this or below its negative, in 1/1000 of a cost unit.
+pub const MAX_PRICE: i64 = 1_000_000_000_000_000_000;
+
+/// The greatest multiplier of a trip, in 1/1000 of a cost unit: what a trip is paid for at most.
+pub const MAX_MULTIPLIER: i64 = 100_000_000_000_000;

@@ -2,12 +2,10 @@ ghost use Rattle.std.specs.Prelude.{◌≡◌, ◌≤◌, length};
 ghost use Rattle.vs_instance.specs.Misfits.{first_misfit, layer_misfits, layers_misfits, trip_misfits, trips_misfits};
 
 use crate::layer::Layer;
-use crate::limits::{
-    MAX_FIXED, MAX_FLEET, MAX_LAYERS, MAX_METRES, MAX_PER_METRE, MAX_PER_MINUTE, MAX_TRIPS,
-};
+use crate::limits::{MAX_FIXED, MAX_FLEET, MAX_METRES, MAX_PER_METRE, MAX_PER_MINUTE, MAX_TRIPS};
 use crate::misfit::{Field, Misfit, Place};
 use crate::trip::Trip;
-use vs_types::{LayerNo, TripNo};
+use vs_types::{LayerNo, MAX_LAYERS, TripNo};
 
 fn layer_misfit(l: LayerNo, layer: &Layer) -> Option<Misfit>
     ensures { result ≡ first_misfit (layer_misfits l.0 layer.now) }

@@ -16,9 +16,7 @@ use Rattle.vs_instance.specs.Lagrangian.{IsLagrangianValue, IsLow, multiplier_of
 use Rattle.vs_instance.specs.Pieces.{trip_piece}
 use Rattle.vs_instance.specs.Restriction.{IsRestriction, set_of}
 use Rattle.vs_instance.specs.Ways.{layer_of}
-use Rattle.vs_instance.proofs.Known.{trip_of-IsTrip}
-use Rattle.vs_instance.proofs.Totals.{total-map_add, total-map_sub, total-range_le}
-use Rattle.vs_instance.proofs.lagrangian.DecidedBlocks.{dec_has}
+use Rattle.vs_instance.proofs.CallerLemmas.{trip_of-IsTrip, total-map_add, total-map_sub, total-range_le, dec_has}
 use Rattle.vs_match.specs.LayerGraph.{LayerGraph}
 use Rattle.vs_circ.specs.declared.circ.Circ.{Circ}
 use Rattle.vs_circ.specs.declared.layer_prices.LayerPrices.{LayerPrices}

@@ -14,8 +14,7 @@ use Rattle.vs_instance.specs.Problem.{Problem}
 use Rattle.vs_instance.specs.Lagrangian.{AreBlocksOf, IsBlockList, IsLow, IsLowOf, multiplier_of, paid_for, reduced_cost}
 use Rattle.vs_instance.specs.Plan.{LayerBlock, all_trips}
 use Rattle.vs_instance.specs.Restriction.{IsRestriction, set_of}
-use Rattle.vs_instance.proofs.LayerDuality.{trips_inside}
-use Rattle.vs_instance.proofs.lagrangian.DecidedBlocks.{dec_has}
+use Rattle.vs_instance.proofs.CallerLemmas.{trips_inside, dec_has}
 use Rattle.vs_circ.specs.Offers.{AreOffers, IsOffered, multipliers_of, offer_of, paid}
 use Rattle.vs_circ.proofs.low.LayerBounds.{multiplier_of-offer}
 use Rattle.vs_multi.specs.Multipliers.{AreMultipliers, IsMultiplier}

@@ -14,10 +14,10 @@ use Rattle.vs_instance.specs.Pieces.{out_piece, trip_piece, in_piece}
 use Rattle.vs_instance.specs.Blocks.{block_cost}
 use Rattle.vs_instance.specs.BlockPieces.{cost_of}
 use Rattle.vs_instance.specs.Lagrangian.{HasOwnBlock, IsStart}
-use Rattle.vs_instance.proofs.BlockPieces.{blocks_cost_their_pieces}
-use Rattle.vs_instance.proofs.Elements.{All-cons, All-none}
+use Rattle.vs_instance.proofs.CallerLemmas.{blocks_cost_their_pieces}
+use Rattle.std.proofs.lemmas.List.Elements.{All-cons, All-nil}
 use Rattle.vs_connect.specs.Cost.{IsCost}
-use Rattle.vs_connect.proofs.PieceExistence.{pieces_exist}
+use Rattle.vs_connect.proofs.CallerLemmas.{pieces_exist}
 use Rattle.vs_multi.specs.Multipliers.{IsOwnCost, IsCheapestAlone, IsLeastOwnCost, IsMultiplier, MayCostAlone, lesser_of}
 
 -- a cost that is looked up is that of a piece that there is
@@ -35,8 +35,8 @@ module _ (p : Problem) (l : LayerNo) (i : TripNo) where
       let may_run : TripNo → Type 0 = λ j. Permitted p l.0 j.0 in record {
         layer = layer;
         some_trip = omega arith;
-        of_instance = All-cons of_instance i [] trip (All-none of_instance);
-        permitted = All-cons may_run i [] permitted (All-none may_run);
+        of_instance = All-cons of_instance i [] trip (All-nil of_instance);
+        permitted = All-cons may_run i [] permitted (All-nil may_run);
         connected = λ k d within. absurd (omega arith);
         pull_out = out;
         pull_in = back;

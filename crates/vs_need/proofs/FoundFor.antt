@@ -16,7 +16,7 @@ use Rattle.vs_instance.specs.Instance.{IsInstance}
 use Rattle.vs_instance.specs.Ways.{trip_of, way_between}
 use Rattle.vs_instance.specs.Pieces.{link_piece, rated}
 use Rattle.vs_instance.specs.HoldingTable.{price_of, scaled}
-use Rattle.vs_instance.proofs.Known.{rated-below, trip_of-IsTrip, way-within}
+use Rattle.vs_instance.proofs.CallerLemmas.{rated-below, trip_of-IsTrip, way-within}
 use Rattle.vs_match.specs.Events.{MayRun}
 use Rattle.vs_match.specs.LayerGraph.{LayerGraph}
 use Rattle.vs_match.specs.LawfulNets.{IsLawful}

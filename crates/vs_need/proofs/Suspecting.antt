@@ -10,8 +10,7 @@ use Rattle.vs_instance.specs.Problem.{Problem}
 use Rattle.vs_instance.specs.Ways.{trip_of}
 use Rattle.vs_instance.specs.Pieces.{in_piece, link_piece, out_piece}
 use Rattle.vs_instance.specs.HoldingTable.{price_of, scaled}
-use Rattle.vs_instance.proofs.Empty.{none_numbers, number_none, false_from_none, none_from_false}
-use Rattle.vs_instance.proofs.Firsts.{none_from_first}
+use Rattle.vs_instance.proofs.CallerLemmas.{none_numbers, number_none, false_from_none, none_from_false, none_from_first}
 use Rattle.vs_match.specs.Events.{MayRun}
 use Rattle.vs_prices.specs.declared.broken_at.BrokenAt.{BrokenAt}
 use Rattle.vs_prices.specs.declared.table.Table.{Table}

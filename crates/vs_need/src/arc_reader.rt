@@ -4,7 +4,7 @@ ghost use Rattle.vs_match.specs.LayerGraph.{LayerGraph, arcs_in, kind_of};
 ghost use Rattle.vs_match.specs.TripIndex.{IsTripAt};
 ghost use Rattle.vs_match.specs.LayerNets.{net_at};
 ghost use Rattle.vs_need.specs.Nets.{one_more};
-ghost use Rattle.vs_instance.specs.declared.limits.TheConstants.{MAX_LAYERS};
+ghost use Rattle.vs_types.specs.declared.numbers.TheConstants.{MAX_LAYERS};
 
 use vs_instance::MAX_LAYERS;
 use vs_layer::Arc;

@@ -11,10 +11,7 @@ use Rattle.vs_instance.specs.Problem.{Problem}
 use Rattle.vs_instance.specs.Lagrangian.{AreBlocksOf, IsLagrangianValue, IsStart, total}
 use Rattle.vs_instance.specs.Plan.{LayerBlock, all_trips}
 use Rattle.vs_instance.specs.Restriction.{IsRestriction, permitted_sets, set_of}
-use Rattle.vs_instance.proofs.Totals.{total-range_le}
-use Rattle.vs_instance.proofs.LayerDuality.{trips_inside}
-use Rattle.vs_instance.proofs.PermittedSets.{set_of-permitted_sets}
-use Rattle.vs_instance.proofs.lagrangian.Values.{values_exist}
+use Rattle.vs_instance.proofs.CallerLemmas.{total-range_le, trips_inside, set_of-permitted_sets, values_exist}
 use Rattle.vs_prices.specs.declared.bound.Bound.{Bound}
 use Rattle.vs_prices.specs.declared.bound.Bound.TheVariants.{AtLeast, NoPlan}
 use Rattle.vs_prices.specs.declared.table.Table.{Table}

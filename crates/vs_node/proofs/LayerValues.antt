@@ -10,7 +10,7 @@ use Rattle.vs_instance.specs.Pieces.{trip_piece}
 use Rattle.vs_instance.specs.HoldingTable.{price_of, scaled}
 use Rattle.vs_instance.specs.Lagrangian.{total}
 use Rattle.vs_instance.specs.Restriction.{IsRestriction, set_of}
-use Rattle.vs_instance.proofs.Totals.{none_times, total-map_sub}
+use Rattle.vs_instance.proofs.CallerLemmas.{none_times, total-map_sub}
 use Rattle.vs_prices.specs.declared.table.Table.{Table}
 use Rattle.vs_prices.specs.Table.{prices_in, vehicle_price}
 use Rattle.vs_prices.specs.Worth.{fleet_price, least, least_price, table_value, trip_price}

@@ -8,14 +8,14 @@ use Rattle.vs_types.specs.LayerSet.{Has, members}
 use Rattle.vs_types.specs.declared.layer_set.LayerSet.{LayerSet}
 use Rattle.vs_instance.specs.Problem.{Problem}
 use Rattle.vs_instance.specs.Restriction.{IsRestriction, set_of}
-use Rattle.vs_instance.proofs.Totals.{total-range_le}
+use Rattle.vs_instance.proofs.CallerLemmas.{total-range_le}
 use Rattle.vs_prices.specs.declared.bound.Bound.{Bound}
 use Rattle.vs_prices.specs.declared.bound.Bound.TheVariants.{AtLeast, NoPlan}
 use Rattle.vs_prices.specs.declared.table.Table.{Table}
 use Rattle.vs_prices.specs.Bounds.{IsNoLess}
 use Rattle.vs_prices.specs.Worth.{IsRoundedUp, IsWorth, least, least_price, table_value, trip_price}
 use Rattle.vs_prices.proofs.Duality.{least-le}
-use Rattle.vs_types.proofs.Members.{Contains-members_below}
+use Rattle.vs_types.proofs.CallerLemmas.{Contains-members_below}
 use Rattle.vs_node.proofs.SetMembers.{member}
 
 -- what is no more than each of some numbers is no more than the least of them

@@ -6,7 +6,7 @@ use Rattle.vs_instance.specs.Problem.{Problem}
 use Rattle.vs_instance.specs.Instance.{IsInstance}
 use Rattle.vs_instance.specs.Plan.{IsPlan, plan_cost}
 use Rattle.vs_instance.specs.Restriction.{IsRestriction}
-use Rattle.vs_instance.proofs.lagrangian.LayersOfPlan.{values_bound_plans}
+use Rattle.vs_instance.proofs.CallerLemmas.{values_bound_plans}
 use Rattle.vs_plan.specs.CheckedPlan.{Checked}
 use Rattle.vs_prices.specs.declared.bound.Bound.{Bound}
 use Rattle.vs_prices.specs.declared.bound.Bound.TheVariants.{AtLeast, NoPlan}

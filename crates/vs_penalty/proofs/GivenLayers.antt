@@ -1,7 +1,7 @@
 -- Sets of one layer each.
 use Rattle.std.proofs.Common.{ℕ, List, refl, sym, ◌∙◌, subst, arith, Option, Some, None, IfSome}
 use Rattle.vs_types.specs.declared.layer_set.LayerSet.{LayerSet}
-use Rattle.vs_types.proofs.Members.{members-some}
+use Rattle.vs_types.proofs.CallerLemmas.{members-some}
 use Rattle.vs_instance.specs.Problem.{Problem}
 use Rattle.vs_instance.specs.Restriction.{IsRestriction, set_of}
 use Rattle.vs_instance.specs.Ways.{Permitted}

@@ -13,9 +13,9 @@ use Rattle.vs_instance.specs.Problem.{Problem}
 use Rattle.vs_instance.specs.Ways.{Connects, HasPullOut, Permitted}
 use Rattle.vs_instance.specs.Blocks.{IsBlock, last_of}
 use Rattle.vs_instance.specs.Plan.{IsPlan, LayerBlock, times_run}
-use Rattle.vs_instance.proofs.Empty as empty
-use Rattle.vs_instance.proofs.Firsts.{none_from_first}
-use Rattle.vs_connect.proofs.PieceExistence.{pieces_exist}
+use Rattle.vs_instance.proofs.CallerLemmas as empty
+use Rattle.vs_instance.proofs.CallerLemmas.{none_from_first}
+use Rattle.vs_connect.proofs.CallerLemmas.{pieces_exist}
 use Rattle.vs_plan.specs.declared.plan_fault.PlanFault.{PlanFault}
 use Rattle.vs_plan.specs.Blocks.{IsOfInstance}
 use Rattle.vs_plan.specs.PlanFaults.{arrival_faults, block_faults, blocks_faults, cover_faults, faults_of, fleet_faults, layer_faults, place_faults, return_faults, times_of, trip_at, trips_faults, twice, uncovered}

@@ -5,7 +5,7 @@ use Rattle.std.proofs.lemmas.Int.{ints, clamps}
 use Rattle.vs_types.specs.LayerSet.{Has, members}
 use Rattle.vs_types.specs.declared.layer_set.LayerSet.{LayerSet}
 use Rattle.vs_types.specs.declared.numbers.TripNo.{TripNo}
-use Rattle.vs_types.proofs.Members.{Contains-members_below}
+use Rattle.vs_types.proofs.CallerLemmas.{Contains-members_below}
 use Rattle.vs_instance.specs.Problem.{Problem}
 use Rattle.vs_instance.specs.Instance.{IsInstance}
 use Rattle.vs_instance.specs.Lagrangian.{total}
@@ -18,7 +18,7 @@ use Rattle.vs_prices.specs.declared.table.Table.{Table}
 use Rattle.vs_prices.specs.Table.{HoldingTable}
 use Rattle.vs_prices.specs.Worth.{IsBoundOn, IsRoundedUp, IsWorth, least, least_price, table_value, trip_price}
 use Rattle.vs_prices.specs.Laws.{PricesBoundPlans}
-use Rattle.vs_instance.proofs.Totals.{total-map_le}
+use Rattle.vs_instance.proofs.CallerLemmas.{total-map_le}
 use Rattle.vs_prices.proofs.PlanPrices.{over_blocks, once_each, plan_pays}
 
 -- the least of some numbers is no more than any of them

@@ -8,7 +8,7 @@ use Rattle.vs_instance.specs.declared.trip.Trip.{Trip}
 use Rattle.vs_instance.specs.Firsts.{first, when}
 use Rattle.vs_instance.specs.Problem.{Problem}
 use Rattle.vs_instance.specs.Ways.{trip_of}
-use Rattle.vs_instance.proofs.Firsts.{first-skip, first-stop}
+use Rattle.vs_instance.proofs.CallerLemmas.{first-skip, first-stop}
 use Rattle.vs_prices.specs.declared.broken_at.BrokenAt.{BrokenAt}
 use Rattle.vs_prices.specs.declared.broken_at.BrokenAt.TheVariants.{PullOut, PullIn}
 use Rattle.vs_prices.specs.declared.table.Table.{Table}

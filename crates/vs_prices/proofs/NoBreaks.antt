@@ -10,8 +10,7 @@ use Rattle.vs_instance.specs.Problem.{Problem}
 use Rattle.vs_instance.specs.Ways.{Permitted}
 use Rattle.vs_instance.specs.Pieces.{out_piece, link_piece, in_piece}
 use Rattle.vs_instance.specs.HoldingTable.{HoldsInLayer, scaled}
-use Rattle.vs_instance.proofs.Empty.{None, both_none, none-append, false_from_none, none_from_false, number_none, none_numbers}
-use Rattle.vs_instance.proofs.Firsts.{none_from_first}
+use Rattle.vs_instance.proofs.CallerLemmas.{None, both_none, none-append, false_from_none, none_from_false, number_none, none_numbers, none_from_first}
 use Rattle.vs_prices.specs.declared.broken_at.BrokenAt.{BrokenAt}
 use Rattle.vs_prices.specs.declared.table.Table.{Table}
 use Rattle.vs_prices.specs.Breaks.{breaks_of, exceeds, layer_breaks, link_breaks, may_run, move_breaks, trip_breaks}

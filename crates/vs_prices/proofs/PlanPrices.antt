@@ -15,8 +15,7 @@ use Rattle.vs_instance.specs.Ways.{layer_of}
 use Rattle.vs_prices.specs.declared.table.Table.{Table}
 use Rattle.vs_prices.specs.Table.{HoldingTable, prices_in, vehicle_price}
 use Rattle.vs_prices.specs.Worth.{fleet_price, trip_price}
-use Rattle.vs_instance.proofs.Totals.{total-by_count, total-map_append, total-range_le, times_le, times_one}
-use Rattle.vs_instance.proofs.LayerDuality.{block_pays, scaled-add, scaled-none}
+use Rattle.vs_instance.proofs.CallerLemmas.{total-by_count, total-map_append, total-range_le, times_le, times_one, block_pays, scaled-add, scaled-none}
 
 abbrev IsBlockOf : Problem → LayerBlock → Type 0
 IsBlockOf p b = IsBlock p b.0 b.1

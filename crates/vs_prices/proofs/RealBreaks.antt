@@ -9,7 +9,7 @@ use Rattle.vs_instance.specs.Firsts.{first}
 use Rattle.vs_instance.specs.Problem.{Problem}
 use Rattle.vs_instance.specs.Pieces.{out_piece, link_piece, in_piece}
 use Rattle.vs_instance.specs.HoldingTable.{scaled}
-use Rattle.vs_instance.proofs.FirstHolds.{All-numbers, All-when, first_holds}
+use Rattle.vs_instance.proofs.CallerLemmas.{All-numbers, All-when, first_holds}
 use Rattle.vs_prices.specs.declared.broken_at.BrokenAt.{BrokenAt}
 use Rattle.vs_prices.specs.declared.broken_at.BrokenAt.TheVariants.{Fleet, PullOut, Link, PullIn}
 use Rattle.vs_prices.specs.declared.table.Table.{Table}

@@ -1,7 +1,8 @@
 -- What a draft holds, and what is true of it.
 use Rattle.std.specs.Prelude.{◌≡◌, ℕ, ◌<◌, ◌≤◌, List, length, All, AllPairs}
 use Rattle.vs_types.specs.LayerSet.{Has}
-use Rattle.vs_instance.specs.declared.limits.TheConstants.{MAX_STOPS, MAX_LAYERS, MAX_TRIPS, TWO_DAYS}
+use Rattle.vs_types.specs.declared.numbers.TheConstants.{MAX_LAYERS}
+use Rattle.vs_instance.specs.declared.limits.TheConstants.{MAX_STOPS, MAX_TRIPS, TWO_DAYS}
 use Rattle.vs_reader.specs.declared.draft.Draft.{Draft}
 use Rattle.vs_reader.specs.Rows.{Field, Row}
 use Rattle.vs_reader.specs.InstanceText.{Declared, Adds}

@@ -8,7 +8,8 @@ use Rattle.vs_instance.specs.declared.trip.Trip.{Trip}
 use Rattle.vs_instance.specs.Problem.{Problem}
 use Rattle.vs_instance.specs.Instance.{IsInstance}
 use Rattle.vs_instance.specs.Misfits.{are_twins, deadheads_of}
-use Rattle.vs_instance.specs.declared.limits.TheConstants.{MAX_STOPS, MAX_LAYERS, MAX_TRIPS}
+use Rattle.vs_types.specs.declared.numbers.TheConstants.{MAX_LAYERS}
+use Rattle.vs_instance.specs.declared.limits.TheConstants.{MAX_STOPS, MAX_TRIPS}
 use Rattle.vs_reader.specs.Rows.{Field, Row}
 use Rattle.vs_reader.specs.Numbers.{IsNumber, IsTime}
 use Rattle.vs_reader.specs.Names.{IsName, NameLists, Names}

@@ -1,6 +1,6 @@
 ghost use Rattle.std.specs.Prelude.{◌≡◌, ◌≤◌, [], length, codes};
 ghost use Rattle.csv.specs.Records.{fields_of};
-ghost use Rattle.vs_instance.specs.declared.limits.TheConstants.{MAX_LAYERS};
+ghost use Rattle.vs_types.specs.declared.numbers.TheConstants.{MAX_LAYERS};
 ghost use Rattle.vs_reader.specs.Rows.{field_of};
 ghost use Rattle.vs_reader.specs.InstanceText.{AddsStop, AddsDeadhead, AddsLayer, AddsTrip, nothing_yet};
 ghost use Rattle.vs_reader.specs.Rules.{rules, stop_rules, deadhead_rules, layer_rules, trip_rules};

@@ -1,5 +1,6 @@
 ghost use Rattle.std.specs.Prelude.{◌≡◌, ℕ, ◌<◌, ◌++◌, [], ◌∷◌, length, Contains, MatchOption, IfSome, OnOk};
-ghost use Rattle.vs_instance.specs.declared.limits.TheConstants.{MAX_STOPS, MAX_LAYERS, MAX_TRIPS};
+ghost use Rattle.vs_types.specs.declared.numbers.TheConstants.{MAX_LAYERS};
+ghost use Rattle.vs_instance.specs.declared.limits.TheConstants.{MAX_STOPS, MAX_TRIPS};
 ghost use Rattle.vs_reader.specs.Names.{IsName, Names as Numbered, name_of};
 ghost use Rattle.vs_reader.specs.NameRules.{AreNames};
 

@@ -1,7 +1,7 @@
 //! The records of each kind, judged in the order of their rules.
 ghost use Rattle.std.specs.Prelude.{◌≡◌, ℕ, ◌<◌, ◌≤◌, [], ◌∷◌, length, drop, codes};
 ghost use Rattle.csv.specs.Records.{fields_of};
-ghost use Rattle.vs_instance.specs.declared.limits.TheConstants.{MAX_LAYERS};
+ghost use Rattle.vs_types.specs.declared.numbers.TheConstants.{MAX_LAYERS};
 ghost use Rattle.vs_reader.specs.Rows.{field_of};
 ghost use Rattle.vs_reader.specs.Numbers.{IsNumber, IsTime};
 ghost use Rattle.vs_reader.specs.Names.{Names as Numbered};

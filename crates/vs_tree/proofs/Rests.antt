@@ -8,7 +8,7 @@ use Rattle.std.proofs.lemmas.Nat.Bits.{bit_at-lt, bit_at_and, bit_at_not, same_f
 use Rattle.vs_types.specs.LayerSet as layer_set
 use Rattle.vs_types.specs.LayerSet.{Has, members}
 use Rattle.vs_types.specs.declared.layer_set.LayerSet.{LayerSet}
-use Rattle.vs_types.proofs.Members.{Has-below}
+use Rattle.vs_types.proofs.CallerLemmas.{Has-below}
 use Rattle.vs_tree.specs.Rest.{has, rest_of}
 use Rattle.vs_tree.specs.Tree.{IsProperPart}
 use Rattle.vs_tree.proofs.Bits.{bit_at-sum, sum-below}

@@ -3,3 +3,4 @@ pub mod Bits
 pub mod Rests
 pub mod ProperParts
 pub mod MembersFrom
+pub mod CallerLemmas

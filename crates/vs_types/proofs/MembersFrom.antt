@@ -4,9 +4,9 @@ use Rattle.std.specs.Prelude.{◌&&◌, filter, nat_le}
 use Rattle.std.specs.Int.{bit_at}
 use Rattle.std.proofs.Math.Bool.{and-true, and-false}
 use Rattle.std.proofs.lemmas.Bool.{cases_eq, eq-eqb, ne_eqb}
-use Rattle.vs_types.specs.LayerSet.{Has, members_from}
+use Rattle.vs_types.specs.LayerSet.{Has, members, members_from}
 use Rattle.vs_types.specs.declared.layer_set.LayerSet.{LayerSet}
-use Rattle.vs_types.proofs.Members as members
+use Rattle.vs_types.proofs.Members as set_members
 use Rattle.vs_types.proofs.Members.{numbers_from, layer_numbers-is}
 
 suc-is : (l : ℕ) → suc l ≡ l + 1
@@ -24,11 +24,11 @@ module _ (p : ℕ → Bool) where
 
   kept-step : (from k d : ℕ)
       → kept from k (suc d) ≡ cond (p k && nat_le from k) (k ∷ kept from (suc k) d) (kept from (suc k) d)
-  unfolding members.numbers_from kept
+  unfolding set_members.numbers_from kept
   kept-step from k d = filter-cond (λ l. nat_le from l) (p k) k (filter p (numbers_from (suc k) d))
 
   kept-none : (from k : ℕ) → kept from k 0 ≡ []
-  unfolding members.numbers_from kept
+  unfolding set_members.numbers_from kept
   kept-none from k = refl
 
   -- where all numbers are above `from`, the next one keeps the same
@@ -89,3 +89,13 @@ members_from-end set l past = rw layer_numbers-is (above 0 16 (omega arith))
         let here : nat_le l k ≡ false = grind arith in
         rw (kept-step (λ i. eqb (bit_at set.0 i) 1) l k d, here, and-false (eqb (bit_at set.0 k) 1))
         (above (suc k) d (omega arith))
+
+-- from 0 on they are all
+pub members_from-all : (set : LayerSet) → members_from set 0 ≡ members set
+members_from-all set = all_kept (members set)
+  where
+    all_kept : (xs : List ℕ) → filter (λ l. nat_le 0 l) xs ≡ xs
+    all_kept [] = refl
+    all_kept (x ∷ xs) =
+        let here : nat_le 0 x ≡ true = grind arith in
+        rw (here, all_kept xs) refl

@@ -43,7 +43,7 @@ module _ (whole part : LayerSet) (l : ℕ) (layer : l < 16) where
       ]
 
 -- no layer of the rest has a number of 16 or more, and each is one of the whole
-rest-below : (whole part : LayerSet) (l : ℕ) → Has (rest_of whole part) l → l < 16
+pub rest-below : (whole part : LayerSet) (l : ℕ) → Has (rest_of whole part) l → l < 16
 rest-below whole part l is = Has-below (rest_of whole part) l (sum-below (λ k. has whole k && not (has part k))) is
 
 pub rest-within : (whole part : LayerSet) (l : ℕ) → Has (rest_of whole part) l → Has whole l

@@ -9,7 +9,7 @@ use Rattle.std.proofs.lemmas.List.Quantifiers.{all_pairs_push}
 use Rattle.std.proofs.lemmas.Nat.Bits.{bit_at-zero}
 use Rattle.vs_types.specs.LayerSet.{Has, layer_numbers, members}
 use Rattle.vs_types.specs.declared.numbers.TripNo.{TripNo}
-use Rattle.vs_types.proofs.Members.{members-some}
+use Rattle.vs_types.proofs.CallerLemmas.{members-some}
 use Rattle.vs_types.specs.declared.layer_set.LayerSet.{LayerSet}
 use Rattle.vs_reader.specs.Rows.{Field, Row, field_of}
 use Rattle.vs_reader.specs.Names.{NameLists, name_of}

@@ -9,12 +9,12 @@ use Rattle.std.proofs.lemmas.List.Kept.{AllPairs-from_increasing}
 use Rattle.std.proofs.lemmas.Bool.{eqb-true}
 use Rattle.vs_types.specs.LayerSet.{Has, layer_numbers, members}
 use Rattle.vs_types.specs.declared.layer_set.LayerSet.{LayerSet}
-use Rattle.vs_types.proofs.Members.{Contains-members_below, IsStrictlyIncreasing-members}
+use Rattle.vs_types.proofs.CallerLemmas.{Contains-members_below, IsStrictlyIncreasing-members}
 use Rattle.vs_instance.specs.Instance.{IsInstance}
 use Rattle.vs_instance.specs.Plan.{LayerBlock}
 use Rattle.vs_instance.specs.Problem.{Problem}
 use Rattle.vs_instance.specs.Ways.{trip_of}
-use Rattle.vs_instance.proofs.FirstHolds.{All-numbers}
+use Rattle.vs_instance.proofs.CallerLemmas.{All-numbers}
 use Rattle.vs_plan.specs.Blocks.{IsOfInstance, blocks_of}
 use Rattle.vs_prices.specs.Table.{Fits, into_price, from_price, vehicle_price}
 use Rattle.vs_prices.specs.declared.table.Table.{Table}

@@ -7,7 +7,7 @@ use Rattle.std.proofs.lemmas.List.{get_or-set_same, get_or-set_other}
 use Rattle.std.proofs.lemmas.List.FromFn.{map-range_with_len_more}
 use Rattle.vs_layer.specs.declared.arc.Arc.{Arc}
 use Rattle.vs_instance.specs.Lagrangian.{total}
-use Rattle.vs_instance.proofs.Totals.{times_sub}
+use Rattle.vs_instance.proofs.CallerLemmas.{times_sub}
 use Rattle.vs_path.specs.Residual.{AllWithin, IsWithin, price_at}
 use Rattle.vs_circ.specs.Balance.{weighed}
 use Rattle.vs_circ.specs.Prepared.{passed_along}

@@ -8,7 +8,7 @@ use Rattle.vs_types.specs.declared.numbers.LayerNo.{LayerNo}
 use Rattle.vs_instance.specs.Problem.{Problem}
 use Rattle.vs_instance.specs.Ways.{layer_of}
 use Rattle.vs_instance.specs.Plan.{LayerBlock}
-use Rattle.vs_instance.proofs.Totals.{times_none, times_one, total-range_le}
+use Rattle.vs_instance.proofs.CallerLemmas.{times_none, times_one, total-range_le}
 use Rattle.vs_match.specs.Decomposition.{Decompose}
 use Rattle.vs_match.specs.LawfulNets.{IsLawful}
 use Rattle.vs_match.specs.LayerGraph.{LayerGraph}

@@ -11,7 +11,7 @@ use Rattle.vs_instance.specs.Ways.{layer_of}
 use Rattle.vs_instance.specs.HoldingTable.{HoldsInLayer}
 use Rattle.vs_instance.specs.Lagrangian.{IsLowOf, reduced_cost}
 use Rattle.vs_instance.specs.Plan.{LayerBlock}
-use Rattle.vs_instance.proofs.Totals.{times_none, times_one, total-map_sub, total-range_le}
+use Rattle.vs_instance.proofs.CallerLemmas.{times_none, times_one, total-map_sub, total-range_le}
 use Rattle.vs_match.specs.declared.arc_kind.ArcKind.{ArcKind}
 use Rattle.vs_match.specs.Decomposition.{Decompose}
 use Rattle.vs_match.specs.LawfulNets.{IsLawful}

@@ -4,7 +4,7 @@ use Rattle.std.specs.List.{range_with_len}
 use Rattle.std.proofs.lemmas.Bool.{cases_eq}
 use Rattle.std.proofs.lemmas.Int.{ints}
 use Rattle.vs_instance.specs.Lagrangian.{total}
-use Rattle.vs_instance.proofs.Totals.{total-map_add}
+use Rattle.vs_instance.proofs.CallerLemmas.{total-map_add}
 
 -- a function of each number from a on, so many of them, added up
 abbrev pub over_range : (ℕ → ℤ) → ℕ → ℕ → ℤ

@@ -9,7 +9,7 @@ use Rattle.vs_layer.specs.Circulation.{flow_cost}
 use Rattle.vs_types.specs.declared.numbers.LayerNo.{LayerNo}
 use Rattle.vs_instance.specs.Problem.{Problem}
 use Rattle.vs_instance.specs.Ways.{layer_of}
-use Rattle.vs_instance.proofs.Totals.{none_times, times_none, times_sub, total-map_add}
+use Rattle.vs_instance.proofs.CallerLemmas.{none_times, times_none, times_sub, total-map_add}
 use Rattle.vs_match.specs.declared.arc_kind.ArcKind.{ArcKind}
 use Rattle.vs_match.specs.declared.arc_kind.ArcKind.TheVariants.{Trip, Waiting, Deadhead, PullOut, PullIn, Return}
 use Rattle.vs_match.specs.Decomposition.{vehicles_of}

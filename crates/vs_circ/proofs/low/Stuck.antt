@@ -6,7 +6,7 @@ use Rattle.vs_layer.specs.Graph.{arc_of}
 use Rattle.vs_types.specs.declared.numbers.LayerNo.{LayerNo}
 use Rattle.vs_instance.specs.Problem.{Problem}
 use Rattle.vs_instance.specs.Ways.{layer_of}
-use Rattle.vs_instance.proofs.Totals.{times_none, times_one, total-range_le}
+use Rattle.vs_instance.proofs.CallerLemmas.{times_none, times_one, total-range_le}
 use Rattle.vs_match.specs.declared.arc_kind.ArcKind.{ArcKind}
 use Rattle.vs_match.specs.declared.arc_kind.ArcKind.TheVariants.{Trip, Waiting, Deadhead, PullOut, PullIn, Return}
 use Rattle.vs_match.specs.LawfulNets.{IsLawful}

@@ -11,8 +11,7 @@ use Rattle.vs_types.specs.declared.numbers.TripNo.{TripNo}
 use Rattle.vs_instance.specs.Problem.{Problem}
 use Rattle.vs_instance.specs.Lagrangian.{AreBlocksOf, multiplier_of, paid_for}
 use Rattle.vs_instance.specs.Plan.{LayerBlock, all_trips, times_run}
-use Rattle.vs_instance.proofs.LayerDuality.{IsOwnBlock, trips_inside}
-use Rattle.vs_instance.proofs.Totals.{none_times, times_none, total-by_count}
+use Rattle.vs_instance.proofs.CallerLemmas.{IsOwnBlock, trips_inside, none_times, times_none, total-by_count}
 use Rattle.vs_match.specs.declared.arc_kind.ArcKind.{ArcKind}
 use Rattle.vs_match.specs.declared.arc_kind.ArcKind.TheVariants.{Trip, Waiting, Deadhead, PullOut, PullIn, Return}
 use Rattle.vs_match.specs.Decomposition.{Decompose}

@@ -6,7 +6,7 @@ use Rattle.vs_layer.specs.Graph.{arc_of}
 use Rattle.vs_instance.specs.Problem.{Problem}
 use Rattle.vs_instance.specs.Instance.{IsInstance}
 use Rattle.vs_instance.specs.Ways.{layer_of, no_trip, trip_of}
-use Rattle.vs_instance.proofs.Known.{layer_of-IsLayer, rated-below}
+use Rattle.vs_instance.proofs.CallerLemmas.{layer_of-IsLayer, rated-below}
 use Rattle.vs_match.specs.declared.arc_kind.ArcKind.{ArcKind}
 use Rattle.vs_match.specs.declared.arc_kind.ArcKind.TheVariants.{Trip, Waiting, Deadhead, PullOut, PullIn, Return}
 use Rattle.vs_match.specs.declared.layer_net.TheConstants.{MAX_ARC_COST}

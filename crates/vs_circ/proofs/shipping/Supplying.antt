@@ -8,7 +8,7 @@ use Rattle.vs_layer.specs.Graph.{arc_of}
 use Rattle.vs_instance.specs.Problem.{Problem}
 use Rattle.vs_instance.specs.Instance.{IsInstance}
 use Rattle.vs_instance.specs.Lagrangian.{total}
-use Rattle.vs_instance.proofs.Totals.{total-range_le}
+use Rattle.vs_instance.proofs.CallerLemmas.{total-range_le}
 use Rattle.vs_match.specs.declared.arc_kind.ArcKind.{ArcKind}
 use Rattle.vs_match.specs.declared.arc_kind.ArcKind.TheVariants.{Trip, Waiting, Deadhead, PullOut, PullIn, Return}
 use Rattle.vs_match.specs.LawfulNets.{IsLawful}

@@ -11,7 +11,7 @@ use Rattle.vs_instance.specs.Ways.{Permitted, Connects, HasPullOut, HasPullIn, t
 use Rattle.vs_instance.specs.Blocks.{IsBlock, first_of, last_of}
 use Rattle.vs_instance.specs.Lagrangian.{AreBlocksOf}
 use Rattle.vs_instance.specs.Plan.{LayerBlock, all_trips, times_run}
-use Rattle.vs_instance.proofs.LayerDuality.{IsOwnBlock}
+use Rattle.vs_instance.proofs.costs.LayerDuality.{IsOwnBlock}
 use Rattle.vs_instance.proofs.lagrangian.Decided.{dec_adjacent, dec_all, dec_below, dec_both, dec_eq, dec_some, dec_some_and}
 
 -- whether a set has a layer

@@ -17,7 +17,7 @@ use Rattle.vs_instance.specs.Lagrangian.{AreBlocksOf, IsLagrangianValue, multipl
 use Rattle.vs_instance.specs.Laws.{LagrangianValuesBoundPlans}
 use Rattle.vs_instance.specs.Plan.{LayerBlock, IsPlan, all_trips, times_run}
 use Rattle.vs_instance.specs.Restriction.{IsWithin, set_of}
-use Rattle.vs_instance.proofs.Totals.{times_one, total-by_count, total-range_le}
+use Rattle.vs_instance.proofs.costs.Totals.{times_one, total-by_count, total-range_le}
 
 abbrev IsBlockOf : Problem → LayerBlock → Type 0
 IsBlockOf p b = IsBlock p b.0 b.1

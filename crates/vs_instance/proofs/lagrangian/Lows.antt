@@ -13,8 +13,8 @@ use Rattle.vs_instance.specs.Problem.{Problem}
 use Rattle.vs_instance.specs.Lagrangian.{AreBlocksOf, IsLowOf, reduced_cost, total}
 use Rattle.vs_instance.specs.Ways.{layer_of}
 use Rattle.vs_instance.specs.Plan.{LayerBlock, all_trips, times_run}
-use Rattle.vs_instance.proofs.LayerDuality.{IsOwnBlock, trips_inside}
-use Rattle.vs_instance.proofs.Totals.{total-by_count, total-range_le}
+use Rattle.vs_instance.proofs.costs.LayerDuality.{IsOwnBlock, trips_inside}
+use Rattle.vs_instance.proofs.costs.Totals.{total-by_count, total-range_le}
 use Rattle.vs_instance.proofs.lagrangian.DecidedBlocks.{dec_blocks_of}
 use Rattle.vs_instance.proofs.lagrangian.FiniteLists.{Contains-lists_upto, Contains-map, Contains-range, least_among, lists_upto}
 

@@ -15,8 +15,7 @@ use Rattle.vs_instance.specs.Pieces.{out_piece, trip_piece, link_piece, in_piece
 use Rattle.vs_instance.specs.BlockPieces.{cost_of, links_between}
 use Rattle.vs_instance.specs.Blocks.{IsBlock, block_cost}
 use Rattle.vs_instance.specs.Plan.{LayerBlock, all_trips, plan_cost, times_run}
-use Rattle.vs_instance.proofs.PieceLemmas.{out_taken, in_taken, link_taken}
-use Rattle.vs_instance.proofs.BlockPieces.{IsChain, chain_of_block, last_trip, first_of_chain, last_of_chain, last_of-is, trips_cost, links_cost, blocks_cost_their_pieces}
+use Rattle.vs_instance.proofs.CallerLemmas.{out_taken, in_taken, link_taken, IsChain, chain_of_block, last_trip, first_of_chain, last_of_chain, last_of-is, trips_cost, links_cost, blocks_cost_their_pieces}
 use Rattle.vs_match.specs.Events.{departure, arrival, MayRun, HasPlace, last_node}
 use Rattle.vs_match.specs.LawfulNets.{IsLawful, IsLawfulArc}
 use Rattle.vs_match.specs.LayerGraph.{LayerGraph, IsArcOfTrip, kind_of}

@@ -14,7 +14,7 @@ use Rattle.vs_instance.specs.Problem.{Problem}
 use Rattle.vs_instance.specs.Ways.{trip_of, layer_of, way_out, way_in, way_between, Connects, HasPullOut, HasPullIn, Permitted}
 use Rattle.vs_instance.specs.Pieces.{rated, out_piece, link_piece, in_piece}
 use Rattle.vs_instance.specs.Blocks.{IsBlock}
-use Rattle.vs_instance.proofs.BlockPieces.{IsChain, last_trip, last_of-is}
+use Rattle.vs_instance.proofs.CallerLemmas.{IsChain, last_trip, last_of-is}
 use Rattle.vs_match.specs.NetArcs.{at_scale}
 
 -- a way whose piece is there is in time

@@ -14,7 +14,7 @@ use Rattle.vs_instance.specs.Ways.{HasPullIn}
 use Rattle.vs_instance.specs.Pieces.{out_piece, trip_piece, link_piece, in_piece}
 use Rattle.vs_instance.specs.Blocks.{IsBlock, block_cost}
 use Rattle.vs_instance.specs.BlockPieces.{cost_of, links_between}
-use Rattle.vs_instance.proofs.BlockPieces.{IsChain, last_trip, last_of-is, trips_cost, links_cost, blocks_cost_their_pieces}
+use Rattle.vs_instance.proofs.CallerLemmas.{IsChain, last_trip, last_of-is, trips_cost, links_cost, blocks_cost_their_pieces}
 use Rattle.vs_match.specs.declared.arc_kind.ArcKind.{ArcKind}
 use Rattle.vs_match.specs.declared.arc_kind.ArcKind.TheVariants.{Trip, Waiting, Deadhead, PullOut, PullIn, Return}
 use Rattle.vs_match.specs.Events.{departure, arrival, MayRun, HasPlace, last_node}

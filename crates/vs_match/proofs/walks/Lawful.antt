@@ -9,7 +9,7 @@ use Rattle.vs_instance.specs.Problem.{Problem}
 use Rattle.vs_instance.specs.Instance.{IsInstance}
 use Rattle.vs_instance.specs.Ways.{layer_of, no_trip}
 use Rattle.vs_instance.specs.Pieces.{rated, trip_piece}
-use Rattle.vs_instance.proofs.Known.{layer_of-IsLayer, way-within, rated-below}
+use Rattle.vs_instance.proofs.CallerLemmas.{layer_of-IsLayer, way-within, rated-below}
 use Rattle.vs_match.specs.declared.event.Event.{Event}
 use Rattle.vs_match.specs.declared.arc_kind.ArcKind.{ArcKind}
 use Rattle.vs_match.specs.declared.arc_kind.ArcKind.TheVariants.{Trip, Waiting, Deadhead, PullOut, PullIn, Return}

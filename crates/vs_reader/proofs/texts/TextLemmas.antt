@@ -8,7 +8,7 @@ use Rattle.vs_instance.specs.Problem.{Problem}
 use Rattle.vs_instance.specs.Instance.{IsInstance}
 use Rattle.vs_instance.specs.Misfits.{are_twins, deadheads_of, problem_of}
 use Rattle.vs_instance.specs.declared.deadhead.Deadhead.{Deadhead}
-use Rattle.vs_instance.proofs.Judged.{refuses}
+use Rattle.vs_instance.proofs.CallerLemmas.{refuses}
 use Rattle.vs_reader.specs.declared.draft.Draft.{Draft}
 use Rattle.vs_reader.specs.declared.refused.ReadError.{ReadError}
 use Rattle.vs_reader.specs.declared.refused.ReadError.TheVariants as error

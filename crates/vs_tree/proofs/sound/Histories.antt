@@ -4,7 +4,7 @@ use Rattle.std.specs.List.{All}
 use Rattle.std.proofs.lemmas.List.Elements.{All-cons, All-nil}
 use Rattle.vs_instance.specs.Plan.{LayerBlock, IsPlan}
 use Rattle.vs_instance.specs.Restriction.{IsRestriction}
-use Rattle.vs_instance.proofs.PermittedSets.{permitted_sets-IsRestriction, plans_lie_within}
+use Rattle.vs_instance.proofs.CallerLemmas.{permitted_sets-IsRestriction, plans_lie_within}
 use Rattle.vs_plan.specs.CheckedPlan.{Checked}
 use Rattle.vs_tree.specs.Laws.{HistoriesAreSound}
 use Rattle.vs_tree.specs.Prices.{AreLawful, zero_prices}

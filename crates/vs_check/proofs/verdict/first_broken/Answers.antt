@@ -1,6 +1,6 @@
 use Rattle.std.proofs.Common.{sym, ap, subst, ◌∙◌, Option}
 use Rattle.vs_instance.specs.Firsts.{first}
-use Rattle.vs_instance.proofs.Firsts.{first_from-here, first_from-more, first_from-past}
+use Rattle.vs_instance.proofs.CallerLemmas.{first_from-here, first_from-more, first_from-past}
 use Rattle.vs_prices.specs.declared.broken_at.BrokenAt.{BrokenAt}
 use Rattle.vs_prices.specs.declared.table.Table.{Table}
 use Rattle.vs_need.specs.Nets.{AreNets}

@@ -1,6 +1,6 @@
 use Rattle.std.proofs.Common.{◌≡◌, drop}
 use Rattle.vs_instance.specs.Firsts.{first}
-use Rattle.vs_instance.proofs.Firsts.{first_from}
+use Rattle.vs_instance.proofs.CallerLemmas.{first_from}
 use Rattle.vs_need.specs.Nets.{AreNets}
 use Rattle.vs_need.specs.Room.{HasRoom}
 use Rattle.vs_check.specs.Flaws.{table_flaws, tables_flaws}

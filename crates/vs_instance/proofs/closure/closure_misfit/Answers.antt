@@ -1,6 +1,6 @@
 use Rattle.std.proofs.Common.{ap, sym}
 use Rattle.vs_instance.specs.Misfits.{first_misfit}
-use Rattle.vs_instance.proofs.ClosedLengths.{closed_lengths}
+use Rattle.vs_instance.proofs.deadheads.ClosedLengths.{closed_lengths}
 use Rattle.vs_instance.proofs.closure.closure_misfit.Goals as goal
 
 pub returns-then-in_metres : goal.returns-then-in_metres

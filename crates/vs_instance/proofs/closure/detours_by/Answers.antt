@@ -1,9 +1,9 @@
 use Rattle.std.proofs.Common.{◌<◌, length, ap, ◌∙◌, sym, arith}
 use Rattle.std.specs.declared.option.Option.TheVariants.{None, Some}
 use Rattle.vs_instance.specs.Misfits.{first_misfit, triple_misfits}
-use Rattle.vs_instance.proofs.WayMap.{length-row_of}
-use Rattle.vs_instance.proofs.Firsts.{first_below-step, first_below-found}
-use Rattle.vs_instance.proofs.Detours.{triple-is, misfits_by-none}
+use Rattle.vs_instance.proofs.deadheads.WayMap.{length-row_of}
+use Rattle.vs_instance.proofs.misfits.Firsts.{first_below-step, first_below-found}
+use Rattle.vs_instance.proofs.misfits.Detours.{triple-is, misfits_by-none}
 use Rattle.vs_instance.proofs.closure.detours_by.Goals as goal
 
 pub returns-in_err-first : goal.returns-in_err-first

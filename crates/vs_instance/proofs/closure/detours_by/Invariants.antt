@@ -1,6 +1,6 @@
 use Rattle.std.proofs.Common.{◌≡◌}
 use Rattle.vs_instance.specs.Misfits.{first_misfit, triple_misfits, misfits_by}
-use Rattle.vs_instance.proofs.Firsts.{first_below}
+use Rattle.vs_instance.proofs.misfits.Firsts.{first_below}
 use Rattle.vs_instance.proofs.closure.detours_by.Given as goal
 
 -- the stops from here on have the first misfit of all

@@ -1,6 +1,6 @@
 use Rattle.std.proofs.Common.{arith}
 use Rattle.vs_instance.specs.Misfits.{misfits_by}
-use Rattle.vs_instance.proofs.Firsts.{first_below-step, first_below-found}
+use Rattle.vs_instance.proofs.misfits.Firsts.{first_below-step, first_below-found}
 use Rattle.vs_instance.proofs.closure.detours_from.Goals as goal
 
 pub returns-in-Some : goal.returns-in-Some

@@ -1,6 +1,6 @@
 use Rattle.std.proofs.Common.{◌≡◌}
 use Rattle.vs_instance.specs.Misfits.{first_misfit, misfits_from, closure_misfits}
-use Rattle.vs_instance.proofs.Firsts.{first_below}
+use Rattle.vs_instance.proofs.misfits.Firsts.{first_below}
 use Rattle.vs_instance.proofs.closure.first_detour.Given as goal
 
 -- the stops from here on have the first misfit of all

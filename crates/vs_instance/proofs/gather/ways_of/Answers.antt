@@ -4,8 +4,8 @@ use Rattle.std.specs.declared.option.Option.TheVariants.{None, Some}
 use Rattle.vs_instance.specs.declared.deadhead.Deadhead.{Deadhead}
 use Rattle.vs_instance.specs.declared.way.Way.{Way}
 use Rattle.vs_instance.specs.Misfits.{deadheads_misfits}
-use Rattle.vs_instance.proofs.Firsts.{first_from-here, first_from-more, first_from-past, none_from_first}
-use Rattle.vs_instance.proofs.Gathered.{Map, no_deadhead, nth_misfits, judged-is, deadheads_of-more, with_deadhead}
+use Rattle.vs_instance.proofs.misfits.Firsts.{first_from-here, first_from-more, first_from-past, none_from_first}
+use Rattle.vs_instance.proofs.deadheads.Gathered.{Map, no_deadhead, nth_misfits, judged-is, deadheads_of-more, with_deadhead}
 use Rattle.vs_instance.proofs.gather.ways_of.Goals as goal
 
 pub returns-in-Some-clause-misfit : goal.returns-in-Some-clause-misfit

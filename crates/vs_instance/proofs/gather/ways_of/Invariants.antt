@@ -1,6 +1,6 @@
 use Rattle.std.proofs.Common.{◌≡◌, drop, take}
 use Rattle.vs_instance.specs.Misfits.{first_misfit, deadhead_misfits, has_twin_before, deadheads_misfits, deadheads_of}
-use Rattle.vs_instance.proofs.Firsts.{first_from}
+use Rattle.vs_instance.proofs.misfits.Firsts.{first_from}
 use Rattle.vs_instance.proofs.gather.ways_of.Given as goal
 
 -- those before are written down, and those from here on have the first misfit of all

@@ -1,6 +1,6 @@
 use Rattle.std.proofs.Common.{◌≡◌, ◌∙◌, [], ◌∷◌, length, length-append, ap, arith}
 use Rattle.vs_instance.specs.Lengths.{IsRow}
-use Rattle.vs_instance.proofs.Pushed.{each-push}
+use Rattle.vs_instance.proofs.deadheads.Pushed.{each-push}
 use Rattle.vs_instance.proofs.lengths.rows_of.Goals as goal
 
 pub loop-k-preserved : goal.loop-k-preserved

@@ -1,6 +1,6 @@
 use Rattle.std.proofs.Common.{◌≡◌, drop}
 use Rattle.vs_instance.specs.Misfits.{first_misfit, trip_misfits, trips_misfits}
-use Rattle.vs_instance.proofs.Firsts.{first_from}
+use Rattle.vs_instance.proofs.misfits.Firsts.{first_from}
 use Rattle.vs_instance.proofs.ranges.trips_misfit.Given as goal
 
 -- those from here on have the first misfit of all

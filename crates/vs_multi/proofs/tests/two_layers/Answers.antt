@@ -1,7 +1,7 @@
 use Rattle.std.proofs.Common.{◌<◌, [], ◌∷◌, length, refl, inl, inr, arith, lit<, sym, ap, subst}
 use Rattle.std.specs.List.{All}
 use Rattle.std.proofs.lemmas.List.Elements.{All-from_recursion}
-use Rattle.vs_types.proofs.Members.{members-some}
+use Rattle.vs_types.proofs.CallerLemmas.{members-some}
 use Rattle.vs_instance.specs.declared.layer.Layer.{Layer}
 use Rattle.vs_multi.proofs.tests.two_layers.Goals as goal
 

@@ -1,6 +1,6 @@
 use Rattle.std.proofs.Common.{◌∙◌, ◌<◌, List, length, arith, ap}
 use Rattle.std.proofs.lemmas.List.Sums.{sum_by_more, sum_by_more_le}
-use Rattle.vs_instance.proofs.Firsts.{first_below-step, first_below-found}
+use Rattle.vs_instance.proofs.CallerLemmas.{first_below-step, first_below-found}
 use Rattle.vs_match.specs.LayerGraph.{LayerGraph}
 use Rattle.vs_prices.specs.Breaks.{layer_breaks}
 use Rattle.vs_match.specs.LayerNets.{net_at, no_net}

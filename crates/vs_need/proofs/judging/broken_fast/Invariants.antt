@@ -1,6 +1,6 @@
 use Rattle.std.proofs.Common.{◌≡◌, ◌+◌, ◌*◌, ◌≤◌, length, take, sum_by}
 use Rattle.vs_instance.specs.Firsts.{first}
-use Rattle.vs_instance.proofs.Firsts.{first_below}
+use Rattle.vs_instance.proofs.CallerLemmas.{first_below}
 use Rattle.vs_prices.specs.Breaks.{breaks_of, layer_breaks}
 use Rattle.vs_match.specs.LayerGraph.{arcs_in}
 use Rattle.vs_need.specs.Room.{IsKept}

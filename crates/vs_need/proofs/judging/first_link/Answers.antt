@@ -1,6 +1,6 @@
 use Rattle.std.proofs.Common.{◌<◌, Bool, length, refl, sym, ap, ◌∙◌, arith}
 use Rattle.vs_instance.specs.Firsts.{first, when}
-use Rattle.vs_instance.proofs.Firsts.{first_below-step, first_below-found}
+use Rattle.vs_instance.proofs.CallerLemmas.{first_below-step, first_below-found}
 use Rattle.vs_prices.specs.declared.broken_at.BrokenAt.TheVariants.{Link}
 use Rattle.vs_prices.specs.Breaks.{link_breaks, may_run}
 use Rattle.vs_need.proofs.Suspecting.{link_is, link_test}

@@ -1,6 +1,6 @@
 use Rattle.std.proofs.Common.{◌≡◌, length}
 use Rattle.vs_instance.specs.Firsts.{first}
-use Rattle.vs_instance.proofs.Firsts.{first_below}
+use Rattle.vs_instance.proofs.CallerLemmas.{first_below}
 use Rattle.vs_prices.specs.Breaks.{link_breaks, links_breaks}
 use Rattle.vs_need.proofs.judging.first_link.Given as goal
 

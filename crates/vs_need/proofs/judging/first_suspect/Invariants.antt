@@ -1,6 +1,6 @@
 use Rattle.std.proofs.Common.{◌≡◌, length}
 use Rattle.vs_instance.specs.Firsts.{first}
-use Rattle.vs_instance.proofs.Firsts.{first_below}
+use Rattle.vs_instance.proofs.CallerLemmas.{first_below}
 use Rattle.vs_prices.specs.Breaks.{trip_breaks}
 use Rattle.vs_need.specs.Suspects.{trips_breaks}
 use Rattle.vs_need.proofs.judging.first_suspect.Given as goal

@@ -2,7 +2,7 @@ use Rattle.std.proofs.Common.{◌≡◌, ◌⊎◌, ◌<◌, ◌^◌, ℕ, [], s
 use Rattle.vs_types.specs.LayerSet.{Has, members}
 use Rattle.vs_types.specs.declared.layer_set.LayerSet.{LayerSet}
 use Rattle.vs_types.specs.declared.numbers.LayerNo.{LayerNo}
-use Rattle.vs_types.proofs.Members.{Has-below, members-some}
+use Rattle.vs_types.proofs.CallerLemmas.{Has-below, members-some}
 use Rattle.vs_penalty.specs.Penalties.{IsLowest}
 use Rattle.vs_penalty.proofs.choosing.lowest_layer.Goals as goal
 use Rattle.vs_penalty.proofs.choosing.lowest_layer.Goals.{in_default-via-in-Some+else-has, in_default-via-in_default}

@@ -1,6 +1,6 @@
 use Rattle.std.proofs.Common.{List, ℕ, arith, sym, ap, ◌∙◌, length}
 use Rattle.vs_instance.specs.Firsts.{first}
-use Rattle.vs_instance.proofs.Firsts.{first-skip, first-stop}
+use Rattle.vs_instance.proofs.CallerLemmas.{first-skip, first-stop}
 use Rattle.vs_plan.specs.Blocks.{pairs_of}
 use Rattle.vs_plan.specs.PlanFaults.{times_of, twice_faults, uncovered_faults}
 use Rattle.vs_plan.proofs.cover.cover_fault.Goals as goal

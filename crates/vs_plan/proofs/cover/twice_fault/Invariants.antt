@@ -1,6 +1,6 @@
 use Rattle.std.proofs.Common.{◌≡◌, drop}
 use Rattle.vs_instance.specs.Firsts.{first}
-use Rattle.vs_instance.proofs.Firsts.{first_from}
+use Rattle.vs_instance.proofs.CallerLemmas.{first_from}
 use Rattle.vs_plan.specs.PlanFaults.{twice, twice_faults}
 use Rattle.vs_plan.proofs.cover.twice_fault.Given as goal
 

@@ -1,5 +1,5 @@
 use Rattle.std.proofs.Common.{arith, sym, ◌∙◌, length}
-use Rattle.vs_instance.proofs.Firsts.{first_below-found, first_below-past, first_below-step, first-skip, first-stop}
+use Rattle.vs_instance.proofs.CallerLemmas.{first_below-found, first_below-past, first_below-step, first-skip, first-stop}
 use Rattle.vs_plan.specs.PlanFaults.{place_faults, return_faults, trips_faults}
 use Rattle.vs_plan.proofs.judging.block_fault.Goals as goal
 

@@ -1,6 +1,6 @@
 use Rattle.std.proofs.Common.{◌≡◌, length}
 use Rattle.vs_instance.specs.Firsts.{first}
-use Rattle.vs_instance.proofs.Firsts.{first_below}
+use Rattle.vs_instance.proofs.CallerLemmas.{first_below}
 use Rattle.vs_plan.specs.PlanFaults.{place_faults, trips_faults}
 use Rattle.vs_plan.proofs.judging.block_fault.Given as goal
 

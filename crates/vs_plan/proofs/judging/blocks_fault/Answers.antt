@@ -1,7 +1,7 @@
 use Rattle.std.proofs.Common.{arith, sym, subst, ap, ◌∙◌}
 use Rattle.vs_instance.specs.Firsts.{first}
 use Rattle.vs_instance.specs.Plan.{LayerBlock}
-use Rattle.vs_instance.proofs.Firsts.{first_from-here, first_from-more, first_from-past}
+use Rattle.vs_instance.proofs.CallerLemmas.{first_from-here, first_from-more, first_from-past}
 use Rattle.vs_plan.specs.Blocks.{IsOfInstance, pair_of, pairs_of}
 use Rattle.vs_plan.specs.PlanFaults.{block_faults}
 use Rattle.vs_plan.proofs.TakenBlocks.{count_pairs, few_blocks, inside_pairs, one_more, pair_at}

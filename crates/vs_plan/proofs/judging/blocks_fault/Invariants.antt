@@ -1,6 +1,6 @@
 use Rattle.std.proofs.Common.{◌≡◌, drop}
 use Rattle.vs_instance.specs.Firsts.{first}
-use Rattle.vs_instance.proofs.Firsts.{first_from}
+use Rattle.vs_instance.proofs.CallerLemmas.{first_from}
 use Rattle.vs_plan.specs.Blocks.{pairs_of}
 use Rattle.vs_plan.specs.PlanFaults.{block_faults, blocks_faults}
 use Rattle.vs_plan.proofs.judging.blocks_fault.Given as goal

@@ -1,5 +1,5 @@
 use Rattle.std.proofs.Common.{arith, length, sym, ◌∙◌}
-use Rattle.vs_instance.proofs.Firsts.{first_below-found, first_below-step}
+use Rattle.vs_instance.proofs.CallerLemmas.{first_below-found, first_below-step}
 use Rattle.vs_plan.specs.Blocks.{pairs_of}
 use Rattle.vs_plan.specs.PlanFaults.{layer_faults}
 use Rattle.vs_plan.proofs.judging.fleet_fault.Goals as goal

@@ -1,5 +1,5 @@
 use Rattle.std.proofs.Common.{sym, ◌∙◌}
-use Rattle.vs_instance.proofs.Firsts.{first-skip, first-stop}
+use Rattle.vs_instance.proofs.CallerLemmas.{first-skip, first-stop}
 use Rattle.vs_plan.specs.Blocks.{pairs_of}
 use Rattle.vs_plan.specs.PlanFaults.{cover_faults, fleet_faults}
 use Rattle.vs_plan.proofs.TakenBlocks.{few_blocks}

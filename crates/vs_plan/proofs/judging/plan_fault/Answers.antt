@@ -1,6 +1,6 @@
 use Rattle.std.proofs.Common.{◌≡◌, Option, sym, subst, ◌∙◌}
 use Rattle.std.specs.Prelude.{IfOk}
-use Rattle.vs_instance.proofs.Firsts.{first-skip, first-stop}
+use Rattle.vs_instance.proofs.CallerLemmas.{first-skip, first-stop}
 use Rattle.vs_plan.specs.declared.plan_fault.PlanFault.{PlanFault}
 use Rattle.vs_plan.specs.Blocks.{pairs_of}
 use Rattle.vs_plan.specs.PlanFaults.{blocks_faults, joint_faults}

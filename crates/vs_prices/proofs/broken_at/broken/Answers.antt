@@ -1,5 +1,5 @@
 use Rattle.std.proofs.Common.{Some, None, length, sym, ◌∙◌, arith}
-use Rattle.vs_instance.proofs.Firsts.{first_below-step, first_below-found, first_below-past}
+use Rattle.vs_instance.proofs.CallerLemmas.{first_below-step, first_below-found, first_below-past}
 use Rattle.vs_prices.specs.Breaks.{layer_breaks}
 use Rattle.vs_prices.proofs.NoBreaks.{none_where_holds}
 use Rattle.vs_prices.proofs.RealBreaks.{first_broken}

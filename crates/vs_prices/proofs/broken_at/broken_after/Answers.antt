@@ -1,6 +1,6 @@
 use Rattle.std.proofs.Common.{Bool, length, sym, ap, ◌∙◌, arith}
 use Rattle.vs_instance.specs.Firsts.{first, when}
-use Rattle.vs_instance.proofs.Firsts.{first_below-step, first_below-found, first_below-past}
+use Rattle.vs_instance.proofs.CallerLemmas.{first_below-step, first_below-found, first_below-past}
 use Rattle.vs_prices.specs.declared.broken_at.BrokenAt.TheVariants.{Link}
 use Rattle.vs_prices.specs.Breaks.{link_breaks}
 use Rattle.vs_prices.proofs.broken_at.broken_after.Goals as goal

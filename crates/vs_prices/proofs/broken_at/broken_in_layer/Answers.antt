@@ -1,5 +1,5 @@
 use Rattle.std.proofs.Common.{length, arith}
-use Rattle.vs_instance.proofs.Firsts.{first_below-step, first_below-found}
+use Rattle.vs_instance.proofs.CallerLemmas.{first_below-step, first_below-found}
 use Rattle.vs_prices.specs.Breaks.{trip_breaks}
 use Rattle.vs_prices.proofs.broken_at.broken_in_layer.Goals as goal
 

@@ -1,6 +1,6 @@
 use Rattle.std.proofs.Common.{◌≡◌, length}
 use Rattle.vs_instance.specs.Firsts.{first}
-use Rattle.vs_instance.proofs.Firsts.{first_below}
+use Rattle.vs_instance.proofs.CallerLemmas.{first_below}
 use Rattle.vs_prices.specs.Breaks.{layer_breaks, trip_breaks}
 use Rattle.vs_prices.proofs.broken_at.broken_in_layer.Given as goal
 

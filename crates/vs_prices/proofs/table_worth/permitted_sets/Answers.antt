@@ -4,7 +4,7 @@ use Rattle.vs_types.specs.declared.layer_set.LayerSet.{LayerSet}
 use Rattle.vs_instance.specs.declared.trip.Trip.{Trip}
 use Rattle.vs_instance.specs.Restriction.{IsRestriction}
 use Rattle.vs_instance.specs.Ways.{no_trip}
-use Rattle.vs_instance.proofs.PermittedSets.{permitted_sets-IsRestriction}
+use Rattle.vs_instance.proofs.CallerLemmas.{permitted_sets-IsRestriction}
 use Rattle.vs_prices.proofs.table_worth.permitted_sets.Goals as goal
 
 pub loop-i-preserved : goal.loop-i-preserved

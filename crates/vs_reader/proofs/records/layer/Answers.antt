@@ -1,5 +1,5 @@
 use Rattle.std.proofs.Common.{rules, Contains, ◌∙◌, sym, arith, ◌<◌, length}
-use Rattle.vs_instance.specs.declared.limits.TheConstants.{MAX_LAYERS}
+use Rattle.vs_types.specs.declared.numbers.TheConstants.{MAX_LAYERS}
 use Rattle.csv.specs.Records.{fields_of}
 use Rattle.vs_reader.specs.Rows.{field_of}
 use Rattle.vs_reader.proofs.places.RecordFields.{seven_fields}

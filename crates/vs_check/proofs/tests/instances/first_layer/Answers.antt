@@ -1,5 +1,5 @@
 use Rattle.std.proofs.Common.{refl, lit<}
-use Rattle.vs_types.proofs.Members.{members-some}
+use Rattle.vs_types.proofs.CallerLemmas.{members-some}
 use Rattle.vs_check.proofs.tests.instances.first_layer.Goals as goal
 
 pub returns-clause-some : goal.returns-clause-some

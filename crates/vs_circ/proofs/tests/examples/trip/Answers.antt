@@ -1,7 +1,7 @@
 use Rattle.std.proofs.Common.{◌≢◌, ℕ, ◌<◌, [], length, ap, arith, refl, rules}
 use Rattle.vs_types.specs.LayerSet.{Has, members}
 use Rattle.vs_types.specs.declared.layer_set.LayerSet.{LayerSet}
-use Rattle.vs_types.proofs.Members.{Contains-members}
+use Rattle.vs_types.proofs.CallerLemmas.{Contains-members}
 use Rattle.vs_circ.proofs.tests.examples.trip.Goals as goal
 
 -- a set with a layer isn't empty

@@ -2,7 +2,7 @@ use Rattle.std.proofs.Common.{◌<◌, length, refl, sym, ap, subst, arith, lit<
 use Rattle.std.proofs.lemmas.Bool.Decides.{nat_tests}
 use Rattle.vs_types.specs.LayerSet.{Has, members}
 use Rattle.vs_types.specs.declared.layer_set.LayerSet.{LayerSet}
-use Rattle.vs_types.proofs.Members.{members-some}
+use Rattle.vs_types.proofs.CallerLemmas.{members-some}
 use Rattle.vs_crew.proofs.tests.root.first_alone.Goals as goal
 
 pub returns : goal.returns

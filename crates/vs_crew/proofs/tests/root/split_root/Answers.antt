@@ -3,7 +3,7 @@ use Rattle.vs_types.specs.declared.layer_set.LayerSet.{LayerSet}
 use Rattle.vs_instance.specs.Instance.{IsInstance}
 use Rattle.vs_instance.specs.Problem.{Problem}
 use Rattle.vs_instance.specs.Ways.{trip_of}
-use Rattle.vs_instance.proofs.PermittedSets.{set_of-permitted_sets}
+use Rattle.vs_instance.proofs.CallerLemmas.{set_of-permitted_sets}
 use Rattle.vs_instance.specs.Restriction.{permitted_sets, set_of}
 use Rattle.vs_instance.specs.declared.trip.Trip.{Trip}
 use Rattle.vs_prices.specs.Bounds.{IsNoLess}

@@ -8,8 +8,8 @@ use Rattle.vs_instance.specs.declared.trip.Trip.{Trip}
 use Rattle.vs_instance.specs.Instance.{IsInstance}
 use Rattle.vs_instance.specs.Misfits.{IsFirstOf, first_misfit, layers_misfits, deadheads_misfits, trips_misfits, closure_misfits, deadheads_of}
 use Rattle.vs_instance.specs.declared.limits.TheConstants.{MAX_MINUTES, MAX_METRES}
-use Rattle.vs_instance.proofs.Gathered.{Map}
-use Rattle.vs_instance.proofs.Judged.{all_short, at_layers, at_deadheads, at_trips, at_closure, refuses, refuses_error, made}
+use Rattle.vs_instance.proofs.deadheads.Gathered.{Map}
+use Rattle.vs_instance.proofs.misfits.Judged.{all_short, at_layers, at_deadheads, at_trips, at_closure, refuses, refuses_error, made}
 use Rattle.vs_instance.proofs.instance.Instance.new.Goals as goal
 
 pub returns-in-Some-clause-refused : goal.returns-in-Some-clause-refused

@@ -3,7 +3,7 @@ use Rattle.std.proofs.Common.{◌+◌, ◌*◌, ◌<◌, ◌∙◌, sym, ap, len
 use Rattle.std.specs.FinMap as map
 use Rattle.std.proofs.lemmas.Nat.{mul-add-lt}
 use Rattle.vs_instance.specs.WayMap.{WayMap}
-use Rattle.vs_instance.proofs.WayMap.{way_map-set}
+use Rattle.vs_instance.proofs.deadheads.WayMap.{way_map-set}
 use Rattle.vs_instance.proofs.ways.Ways.insert.Goals as goal
 
 pub returns-clause-given : goal.returns-clause-given

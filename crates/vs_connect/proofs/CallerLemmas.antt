@@ -1,4 +1,4 @@
--- A piece of cost exists exactly where its move does.
+-- What the crates above cite of this crate's proofs: a piece of cost exists exactly where its move does.
 use Rattle.std.proofs.Common.{rules}
 use Rattle.vs_instance.specs.Problem.{Problem}
 use Rattle.vs_connect.specs.Laws.{PiecesExistWhereMovesDo}

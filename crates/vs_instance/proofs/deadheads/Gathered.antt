@@ -14,7 +14,7 @@ use Rattle.vs_instance.specs.declared.way.Way.{Way}
 use Rattle.vs_instance.specs.Problem.{pair_cmp}
 use Rattle.vs_instance.specs.declared.misfit.Misfit.{Misfit}
 use Rattle.vs_instance.specs.Misfits.{deadheads_of, are_twins, has_twin_before, deadhead_misfits, first_misfit}
-use Rattle.vs_instance.proofs.Pairs.{pair_cmp-total}
+use Rattle.vs_instance.proofs.deadheads.Pairs.{pair_cmp-total}
 
 abbrev pub Map : Type 0
 Map = map.FinMap pair_cmp Way

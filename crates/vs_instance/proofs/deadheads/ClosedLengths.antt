@@ -13,9 +13,9 @@ use Rattle.vs_instance.specs.Instance.{IsNoLonger}
 use Rattle.vs_instance.specs.Lengths.{far_without, length_of, IsClosedIn, AreShort}
 use Rattle.vs_instance.specs.Misfits.{closure_misfits, misfits_from, misfits_by, triple_misfits}
 use Rattle.vs_instance.specs.WayMap.{WayMap}
-use Rattle.vs_instance.proofs.Closed.{none_of_apart, none_of_detour}
-use Rattle.vs_instance.proofs.Empty.{none_numbers}
-use Rattle.vs_instance.proofs.Empty as empty
+use Rattle.vs_instance.proofs.misfits.Closed.{none_of_apart, none_of_detour}
+use Rattle.vs_instance.proofs.misfits.Empty.{none_numbers}
+use Rattle.vs_instance.proofs.misfits.Empty as empty
 
 module _ (ways : WayMap) where
   -- between two stops the length is that of the deadhead, and far without one

@@ -10,7 +10,7 @@ use Rattle.vs_instance.specs.Problem.{Problem}
 use Rattle.vs_instance.specs.Instance.{IsLayer, IsTrip}
 use Rattle.vs_instance.specs.Misfits.{layer_misfits, trip_misfits}
 use Rattle.vs_instance.specs.Firsts.{when}
-use Rattle.vs_instance.proofs.Empty.{None, both_none, none-append, false_from_none, none_from_false}
+use Rattle.vs_instance.proofs.misfits.Empty.{None, both_none, none-append, false_from_none, none_from_false}
 
 -- a number that isn't misfit for being more than its limit
 within : (limit n : ℕ) (m : Misfit) → None (when (ltb limit n) m) → n ≤ limit

@@ -8,8 +8,8 @@ use Rattle.std.proofs.lemmas.Bool.{ltb-false, le-ltb, eqb-false, ne_eqb, or_part
 use Rattle.vs_instance.specs.declared.way.Way.{Way}
 use Rattle.vs_instance.specs.Instance.{IsNoLonger}
 use Rattle.vs_instance.specs.Misfits.{closure_misfits, misfits_from, misfits_by, triple_misfits, apart_misfits, detour_misfits, longer_misfits}
-use Rattle.vs_instance.proofs.Empty.{None, both_none, none-append, false_from_none, none_from_false, number_none, none_numbers}
-use Rattle.vs_instance.proofs.Gathered.{Map}
+use Rattle.vs_instance.proofs.misfits.Empty.{None, both_none, none-append, false_from_none, none_from_false, number_none, none_numbers}
+use Rattle.vs_instance.proofs.deadheads.Gathered.{Map}
 
 module _ (k s t : ℕ) (a b : Way) where
   no_longer : (w : Way) → None (longer_misfits k s t a b w) → IsNoLonger a b w

@@ -8,8 +8,8 @@ use Rattle.vs_instance.specs.declared.way.Way.{Way}
 use Rattle.vs_instance.specs.Problem.{pair_cmp}
 use Rattle.vs_instance.specs.WayMap.{WayMap, row_of}
 use Rattle.vs_instance.specs.Misfits.{first_misfit, apart_misfits, triple_misfits, misfits_by, numbers}
-use Rattle.vs_instance.proofs.Firsts.{flat_map-none}
-use Rattle.vs_instance.proofs.WayMap.{get_or-row_of}
+use Rattle.vs_instance.proofs.misfits.Firsts.{flat_map-none}
+use Rattle.vs_instance.proofs.deadheads.WayMap.{get_or-row_of}
 
 module _ (ways : WayMap) (k s t : ℕ) (found : Option Way) (first : Way) (onward direct : List (Option Way))
     (judged : Option Misfit)

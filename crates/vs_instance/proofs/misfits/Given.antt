@@ -13,9 +13,9 @@ use Rattle.vs_instance.specs.declared.way.Way.{Way}
 use Rattle.vs_instance.specs.declared.limits.TheConstants.{MAX_MINUTES, MAX_METRES}
 use Rattle.vs_instance.specs.Problem.{pair_cmp}
 use Rattle.vs_instance.specs.Misfits.{are_twins, has_twin_before, deadhead_misfits}
-use Rattle.vs_instance.proofs.Empty.{None, both_none, none-append, false_from_none, none_from_false}
-use Rattle.vs_instance.proofs.Pairs.{pair_cmp-total, pair_cmp-IsAntisymmetric, tied_same}
-use Rattle.vs_instance.proofs.Gathered.{Map, with_deadhead, tied_twins, way_given, pair_of}
+use Rattle.vs_instance.proofs.misfits.Empty.{None, both_none, none-append, false_from_none, none_from_false}
+use Rattle.vs_instance.proofs.deadheads.Pairs.{pair_cmp-total, pair_cmp-IsAntisymmetric, tied_same}
+use Rattle.vs_instance.proofs.deadheads.Gathered.{Map, with_deadhead, tied_twins, way_given, pair_of}
 
 -- what a deadhead without a misfit is
 pub record IsFit (twice : Bool) (d : Deadhead) : Type 0 where

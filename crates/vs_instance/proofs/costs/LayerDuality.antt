@@ -16,9 +16,9 @@ use Rattle.vs_instance.specs.Blocks.{IsBlock, last_of, block_cost}
 use Rattle.vs_instance.specs.BlockPieces.{cost_of, links_between}
 use Rattle.vs_instance.specs.HoldingTable.{HoldsInLayer, price_of, scaled}
 use Rattle.vs_instance.specs.Plan.{LayerBlock, all_trips, plan_cost, times_run}
-use Rattle.vs_instance.proofs.PieceLemmas.{out_taken, link_taken, in_taken}
-use Rattle.vs_instance.proofs.BlockPieces.{IsChain, chain_of_block, first_of_chain, last_of_chain, last_trip, last_of-is, trips_cost, links_cost, blocks_cost_their_pieces}
-use Rattle.vs_instance.proofs.Totals.{times_le, times_more, times_none, total-by_count, total-map_append}
+use Rattle.vs_instance.proofs.costs.PieceLemmas.{out_taken, link_taken, in_taken}
+use Rattle.vs_instance.proofs.costs.BlockPieces.{IsChain, chain_of_block, first_of_chain, last_of_chain, last_trip, last_of-is, trips_cost, links_cost, blocks_cost_their_pieces}
+use Rattle.vs_instance.proofs.costs.Totals.{times_le, times_more, times_none, total-by_count, total-map_append}
 
 -- costs are added before or after they are scaled
 pub scaled-add : (ray : Bool) (a b : ℕ) → scaled ray (a + b) ≡ scaled ray a +ℤ scaled ray b

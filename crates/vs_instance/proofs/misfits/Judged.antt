@@ -15,12 +15,12 @@ use Rattle.vs_instance.specs.declared.limits.TheConstants.{MAX_MINUTES, MAX_METR
 use Rattle.vs_instance.specs.Problem.{pair_cmp}
 use Rattle.vs_instance.specs.Instance.{IsDeadhead}
 use Rattle.vs_instance.specs.Misfits.{AreParts, MakeInstance, problem_of, deadheads_of, has_twin_before, misfits_of, IsFirstOf, IsFirstMisfit, IsMisfit, first_misfit, layer_misfits, trip_misfits, layers_misfits, deadheads_misfits, trips_misfits, closure_misfits}
-use Rattle.vs_instance.proofs.Firsts.{first-skip, first-stop, none_from_first}
-use Rattle.vs_instance.proofs.Empty.{None, none-append, each_none, none_each}
-use Rattle.vs_instance.proofs.WithinLimits.{layer_fits, none_of_layer, trip_fits, none_of_trip}
-use Rattle.vs_instance.proofs.Given.{IsFit, deadhead_fits, none_of_deadhead, given_all, own_way, once_from, none_before}
-use Rattle.vs_instance.proofs.Closed.{closed_from_none, none_of_closed}
-use Rattle.vs_instance.proofs.Gathered.{nth_misfits}
+use Rattle.vs_instance.proofs.misfits.Firsts.{first-skip, first-stop, none_from_first}
+use Rattle.vs_instance.proofs.misfits.Empty.{None, none-append, each_none, none_each}
+use Rattle.vs_instance.proofs.misfits.WithinLimits.{layer_fits, none_of_layer, trip_fits, none_of_trip}
+use Rattle.vs_instance.proofs.misfits.Given.{IsFit, deadhead_fits, none_of_deadhead, given_all, own_way, once_from, none_before}
+use Rattle.vs_instance.proofs.misfits.Closed.{closed_from_none, none_of_closed}
+use Rattle.vs_instance.proofs.deadheads.Gathered.{nth_misfits}
 
 if_some : {X : Type 0} (P : X → Type 0) (o : Option X) → ((x : X) → o ≡ option.Some x → P x) → IfSome o P
 if_some P option.None each = tt

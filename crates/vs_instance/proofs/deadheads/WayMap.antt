@@ -10,7 +10,7 @@ use Rattle.vs_instance.specs.declared.way.Way.{Way}
 use Rattle.vs_instance.specs.Problem.{pair_cmp}
 use Rattle.vs_instance.specs.WayMap.{WayMap, map_from, way_map, row_of}
 use Rattle.std.proofs.lemmas.List.FromFn.{fill_by_all, length-map-range_with_len, get_or-map-range_with_len}
-use Rattle.vs_instance.proofs.Pairs.{pair_cmp-total, pair_cmp-IsAntisymmetric, tied_same, tied_apart}
+use Rattle.vs_instance.proofs.deadheads.Pairs.{pair_cmp-total, pair_cmp-IsAntisymmetric, tied_same, tied_apart}
 
 -- the pair is that of place p
 abbrev IsPairAt : ℕ → ℕ → ℕ → ℕ → Type 0

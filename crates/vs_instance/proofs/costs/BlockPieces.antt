@@ -14,7 +14,7 @@ use Rattle.vs_instance.specs.Blocks.{IsBlock, last_of, block_metres, pull_in_min
 use Rattle.vs_instance.specs.declared.way.Way.{Way}
 use Rattle.vs_instance.specs.BlockPieces.{cost_of, links_between, BlocksCostTheirPieces}
 use Rattle.vs_instance.proofs.Known.{trip_of-IsTrip}
-use Rattle.vs_instance.proofs.PieceLemmas.{out_taken, in_taken, link_taken}
+use Rattle.vs_instance.proofs.costs.PieceLemmas.{out_taken, in_taken, link_taken}
 
 -- trips that one vehicle of layer l can run one after another
 abbrev pub IsChain : Problem → LayerNo → List TripNo → Type 0

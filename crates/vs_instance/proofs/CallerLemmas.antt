@@ -1,0 +1,26 @@
+-- What the crates above cite of this crate's proofs.
+-- what an instance tells of its parts
+pub use Rattle.vs_instance.proofs.Known.{layer_of-IsLayer, rated-below, trip_of-IsTrip, way-within}
+-- the restriction that restricts nothing
+pub use Rattle.vs_instance.proofs.PermittedSets.{permitted_sets-IsRestriction, plans_lie_within, set_of-permitted_sets}
+-- the first of what is wrong
+pub use Rattle.vs_instance.proofs.misfits.Firsts.{first-skip, first-stop, first_below, first_below-found, first_below-past, first_below-step, first_from, first_from-here, first_from-more, first_from-past, none_from_first}
+-- what holds of all that is wrong
+pub use Rattle.vs_instance.proofs.misfits.FirstHolds.{All-each, All-numbers, All-when, first_holds}
+-- lists in which nothing stands
+pub use Rattle.vs_instance.proofs.misfits.Empty.{None, both_none, each_none, false_from_none, none-append, none_each, none_from_false, none_numbers, number_none}
+-- what a refusal tells
+pub use Rattle.vs_instance.proofs.misfits.Judged.{refuses}
+-- pieces of cost that there are
+pub use Rattle.vs_instance.proofs.costs.PieceLemmas.{in_taken, link_taken, out_taken}
+-- what a block costs, by its pieces
+pub use Rattle.vs_instance.proofs.costs.BlockPieces.{IsChain, blocks_cost_their_pieces, chain_of_block, first_of_chain, last_of-is, last_of_chain, last_trip, links_cost, trips_cost}
+-- totals over trips and blocks
+pub use Rattle.vs_instance.proofs.costs.Totals.{none_times, times_add, times_le, times_none, times_one, times_sub, total-by_count, total-map_add, total-map_append, total-map_le, total-map_sub, total-range_le}
+-- what blocks pay at prices
+pub use Rattle.vs_instance.proofs.costs.LayerDuality.{IsOwnBlock, block_pays, blocks_pay, scaled-add, scaled-none, trips_inside}
+-- tests of blocks
+pub use Rattle.vs_instance.proofs.lagrangian.DecidedBlocks.{dec_has}
+-- Lagrangian values, below plans and there
+pub use Rattle.vs_instance.proofs.lagrangian.LayersOfPlan.{values_bound_plans}
+pub use Rattle.vs_instance.proofs.lagrangian.Values.{values_exist}

@@ -1,0 +1,4 @@
+pub mod PieceLemmas
+pub mod BlockPieces
+pub mod Totals
+pub mod LayerDuality

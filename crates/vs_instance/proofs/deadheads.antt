@@ -1,0 +1,6 @@
+pub mod Pairs
+pub mod WayMap
+pub mod Gathered
+pub mod Pushed
+pub mod LengthRows
+pub mod ClosedLengths
