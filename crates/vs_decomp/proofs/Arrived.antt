@@ -15,8 +15,7 @@ use Rattle.vs_match.specs.Decomposition.{Decompose}
 use Rattle.vs_match.specs.LawfulNets.{IsLawful}
 use Rattle.vs_match.specs.LayerGraph.{LayerGraph}
 use Rattle.vs_match.specs.Underway.{IsOnward, Path, paths_at, trips_of, units_back}
-use Rattle.vs_match.proofs.decomposition.Arriving.{done_first, stands_first, under_first, arrived}
-use Rattle.vs_match.proofs.decomposition.Dividing.{block_in, blocks_along, decompose}
+use Rattle.vs_match.proofs.CallerLemmas.{arrived, block_in, blocks_along, decompose, done_first, stands_first, under_first}
 use Rattle.vs_decomp.specs.Stands.{IsAt, has_run, run_on, vehicles_at}
 use Rattle.vs_decomp.proofs.Coming.{have_run, run_at, count_nodes}
 

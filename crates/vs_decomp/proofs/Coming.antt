@@ -9,8 +9,7 @@ use Rattle.vs_layer.specs.Circulation.{IsCirculation}
 use Rattle.vs_instance.specs.Plan.{LayerBlock}
 use Rattle.vs_match.specs.LayerGraph.{LayerGraph, kind_at, kind_of}
 use Rattle.vs_match.specs.Underway.{IsOnward, Path, IsDoneBelow, paths_at, trips_at, trips_of}
-use Rattle.vs_match.proofs.decomposition.Arriving.{last_of_some, all_reached}
-use Rattle.vs_match.proofs.decomposition.UnitSteps.{one_more, moved, some_stands, step}
+use Rattle.vs_match.proofs.CallerLemmas.{all_reached, last_of_some, moved, one_more, some_stands, step}
 use Rattle.vs_decomp.specs.Stands.{Goes, HaveCome, run_on, vehicles_at, with_vehicle}
 
 module _ (n : LayerGraph) (l : LayerNo) where

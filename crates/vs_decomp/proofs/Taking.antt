@@ -12,8 +12,7 @@ use Rattle.vs_layer.specs.Circulation.{IsCirculation}
 use Rattle.vs_instance.specs.Plan.{LayerBlock}
 use Rattle.vs_match.specs.LayerGraph.{LayerGraph}
 use Rattle.vs_match.specs.Underway.{IsOnward, IsDoneBelow}
-use Rattle.vs_match.proofs.decomposition.FlowSums.{as_one, times, times-first}
-use Rattle.vs_match.proofs.decomposition.UnitSteps.{one_more}
+use Rattle.vs_match.proofs.CallerLemmas.{as_one, one_more, times, times-first}
 use Rattle.vs_decomp.specs.Stands.{CanTake, Goes, HaveCome, HaveTaken, HasTakenArc, IsAt, vehicles_at}
 use Rattle.vs_decomp.proofs.Coming.{goes, some_vehicle}
 

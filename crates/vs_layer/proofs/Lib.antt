@@ -1,3 +1,4 @@
 pub mod ArcsAt
 pub mod Starts
 pub mod Placed
+pub mod CallerLemmas

@@ -4,3 +4,4 @@ pub mod matches
 pub mod walks
 pub mod decomposition
 pub mod composition
+pub mod CallerLemmas

@@ -12,7 +12,7 @@ use Rattle.vs_match.specs.NetArcs.{IsTripArc}
 use Rattle.vs_match.specs.LayerGraph.{LayerGraph, IsArcOfTrip, arcs_in, kind_of}
 use Rattle.vs_match.specs.LayerNets.{HasRisingArcs}
 use Rattle.vs_match.specs.LawfulNets.{IsLawful, IsLawfulArc}
-use Rattle.vs_match.proofs.events.Places.{placed}
+use Rattle.vs_match.proofs.CallerLemmas.{placed}
 use Rattle.vs_need.specs.Nets.{CanBePassed}
 
 placed_above : (events : List Event) (v : ℕ) (e : Event) → HasPlace events v e → 0 < v

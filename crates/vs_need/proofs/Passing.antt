@@ -10,7 +10,7 @@ use Rattle.vs_match.specs.declared.arc_kind.ArcKind.{ArcKind}
 use Rattle.vs_match.specs.declared.arc_kind.ArcKind.TheVariants.{Trip, Waiting, Deadhead, PullOut, PullIn, Return}
 use Rattle.vs_match.specs.LayerGraph.{LayerGraph, IsArcOfTrip, arcs_in, kind_of}
 use Rattle.vs_match.specs.WalkLaw.{IsMove}
-use Rattle.vs_match.proofs.matches.TripIndexes.{get_or-copies}
+use Rattle.vs_match.proofs.CallerLemmas.{get_or-copies}
 use Rattle.vs_need.specs.declared.aim.Aim.{Aim}
 use Rattle.vs_need.specs.Greatest.{IsGreatest, IfWide, greater_of}
 use Rattle.vs_need.specs.Gains.{AreGains, IsGain, far_of, is_against, near_of, prize_of}

@@ -13,7 +13,7 @@ use Rattle.vs_match.specs.LawfulNets.{IsLawful}
 use Rattle.vs_match.specs.LayerGraph.{LayerGraph, kind_at, kind_of}
 use Rattle.vs_path.specs.Residual.{price_at}
 use Rattle.vs_circ.specs.Balance.{gained}
-use Rattle.vs_match.proofs.decomposition.Dividing.{circulation_decomposes}
+use Rattle.vs_match.proofs.CallerLemmas.{circulation_decomposes}
 use Rattle.vs_circ.specs.declared.layer_prices.LayerPrices.{LayerPrices}
 use Rattle.vs_circ.specs.LayerPrices.{shown_of_trips, trip_pays}
 use Rattle.vs_circ.specs.Laws.{StuckTrips}

@@ -11,7 +11,7 @@ use Rattle.vs_layer.specs.Ends.{end_of, arc_at, first_at}
 use Rattle.vs_path.specs.declared.step.Way.{Way}
 use Rattle.vs_path.specs.declared.step.Way.TheVariants as way
 use Rattle.vs_path.specs.Residual.{ResidualNet, arc_no, arcs_along, from_of, step_along}
-use Rattle.vs_layer.proofs.ArcsAt.{first_at-own, first_at-other, length-own, length-other}
+use Rattle.vs_layer.proofs.CallerLemmas.{first_at-own, first_at-other, length-own, length-other}
 
 module _ (end : End) (arcs : List Arc) where
   abbrev IsOfNode : ℕ → ℕ → ℕ → Type 0

@@ -1,6 +1,6 @@
 use Rattle.std.proofs.Common.{ℕ, sym, subst}
 use Rattle.vs_layer.specs.Graph.{AllRight}
-use Rattle.vs_match.proofs.order.RightArcs.{no_fault}
+use Rattle.vs_match.proofs.CallerLemmas.{no_fault}
 use Rattle.vs_circ.proofs.prices.Mirrored.{turned-right}
 use Rattle.vs_circ.proofs.mirror.mirror_of.Goals as goal
 
