@@ -3,7 +3,7 @@ use Rattle.std.specs.Prelude.{◌<◌, ◌^◌, List, map, length, All}
 use Rattle.vs_instance.specs.Problem.{Problem}
 use Rattle.vs_instance.specs.Plan.{LayerBlock, all_trips}
 use Rattle.vs_plan.specs.declared.block.Block.{Block}
-use Rattle.vs_plan.specs.declared.plan.Plan.{Plan}
+use Rattle.vs_plan.specs.declared.block.Plan.{Plan}
 
 abbrev pub pair_of : Block → LayerBlock
 pair_of b = (b.layer, b.trips.items)

@@ -1,3 +1,5 @@
+//! Plans that are known to be one, with what they cost.
+
 ghost use Rattle.std.specs.Prelude.{◌≡◌, IfOk, IfErr};
 ghost use Rattle.vs_plan.specs.Blocks.{CanBeJudged, blocks_of};
 ghost use Rattle.vs_connect.specs.Cost.{lesser_of};
@@ -5,9 +7,9 @@ ghost use Rattle.vs_plan.specs.CheckedPlan.{IsCheaperOf, IsChecked, cost_of};
 ghost use Rattle.vs_plan.specs.PlanFaults.{IsFault, IsFirstFault};
 ghost use Rattle.vs_instance.specs.Plan.{IsPlan};
 
+use crate::block::Plan;
 use crate::costs::blocks_cost;
 use crate::judging::judge;
-use crate::plan::Plan;
 use crate::plan_fault::PlanError;
 use std::alloc::Global;
 use std::marker::Model;

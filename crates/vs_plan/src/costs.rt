@@ -1,12 +1,17 @@
-ghost use Rattle.std.specs.Prelude.{◌≡◌, ℕ, ◌+◌, ◌*◌, ◌<◌, ◌≤◌, length, All, sum_by, pos, ◌≤ℤ◌};
+//! What blocks cost, as the pieces that their vehicles pay, and when their vehicles leave and are back.
+
+ghost use Rattle.std.specs.Prelude.{◌≡◌, ℕ, ◌*◌, ◌<◌, ◌≤◌, length, All, sum_by, pos, ◌≤ℤ◌};
 ghost use Rattle.vs_plan.specs.Blocks.{pairs_of};
-ghost use Rattle.vs_instance.specs.Blocks.{IsBlock, block_cost, block_metres, metres_between, metres_of, minutes_of, pull_in_minute, pull_out_minute};
+ghost use Rattle.vs_instance.specs.BlockPieces.{cost_of, links_between};
+ghost use Rattle.vs_instance.specs.Blocks.{IsBlock, block_cost, minutes_of, pull_in_minute, pull_out_minute};
 ghost use Rattle.vs_instance.specs.Instance.{IsInstance};
+ghost use Rattle.vs_instance.specs.Pieces.{trip_piece};
 ghost use Rattle.vs_instance.specs.Plan.{IsPlan, plan_cost};
-ghost use Rattle.vs_instance.specs.Ways.{trip_of, way};
+ghost use Rattle.vs_instance.specs.Ways.{way};
 
 use crate::block::Block;
-use vs_instance::{Instance, MAX_METRES, MAX_MINUTES, MAX_TRIPS, TWO_DAYS, Way};
+use vs_connect::{in_cost, link_cost, out_cost, trip_cost};
+use vs_instance::{Instance, MAX_MINUTES, MAX_TRIPS, TWO_DAYS};
 use vs_types::{LayerNo, StopNo, TripNo};
 
 /// No vehicle is back in its depot later than at this minute: the last of two days, and the longest way.
@@ -18,22 +23,17 @@ pub const MAX_COST_PER_TRIP: u64 = 50_000_000_000;
 /// No plan costs more cost units than this, since it has at most 2,000 trips.
 pub const MAX_PLAN_COST: i64 = 100_000_000_000_000;
 
-/// The minutes and metres of the way from stop k to stop s, both 0 where there is none.
-fn way_or_none(instance: &Instance, k: StopNo, s: StopNo) -> Way
+/// The minutes of the way from stop k to stop s, 0 where there is none.
+fn minutes_or_none(instance: &Instance, k: StopNo, s: StopNo) -> u32
     requires instance { IsInstance instance.now }
     requires from { k.0 < instance.now.stops }
     requires to { s.0 < instance.now.stops }
-    ensures minutes { result.minutes ≡ minutes_of (way instance.now k.0 s.0) }
-    ensures metres { result.metres ≡ metres_of (way instance.now k.0 s.0) }
-    ensures few_minutes { result.minutes ≤ MAX_MINUTES }
-    ensures few_metres { result.metres ≤ MAX_METRES }
+    ensures minutes { result ≡ minutes_of (way instance.now k.0 s.0) }
+    ensures few { result ≤ MAX_MINUTES }
 {
     match instance.way(k, s) {
-        Some(way) => way,
-        None => Way {
-            minutes: 0,
-            metres: 0,
-        },
+        Some(way) => way.minutes,
+        None => 0,
     }
 }
 
@@ -49,73 +49,58 @@ fn run_times(instance: &Instance, l: LayerNo, trips: &[TripNo]) -> (u32, u32)
     let depot = instance.layer(l).depot;
     let first = instance.trip(trips[0]);
     let last = instance.trip(trips[trips.len() - 1]);
-    let out = way_or_none(instance, depot, first.from);
-    let back = way_or_none(instance, last.to, depot);
-    (first.start - out.minutes, last.end + back.minutes)
+    let out = minutes_or_none(instance, depot, first.from);
+    let back = minutes_or_none(instance, last.to, depot);
+    (first.start - out, last.end + back)
 }
 
-/// The metres of the trips themselves.
-fn trips_metres(instance: &Instance, trips: &[TripNo]) -> u64
-    requires instance { IsInstance instance.now }
+/// What the trips themselves cost in layer l, in cost units.
+fn trips_cost(instance: &Instance, l: LayerNo, trips: &[TripNo]) -> i64
+    requires layer { l.0 < length instance.now.layers }
     requires trips { All (λ i. i.0 < length instance.now.trips) trips.now }
     requires few { length trips.now ≤ TWO_DAYS }
-    ensures value { result ≡ sum_by (λ i. (trip_of instance.now i.0).metres) trips.now }
-    ensures limit { result ≤ MAX_METRES * length trips.now }
+    ensures { result ≡ pos (sum_by (λ i. trip_piece instance.now l.0 i.0) trips.now) }
 {
-    let mut metres = 0;
+    let mut cost = 0;
     for i in trips {
-        metres += instance.trip(*i).metres;
+        cost += trip_cost(instance, l, *i);
     }
-    metres
+    cost
 }
 
-/// The metres of the ways between trips that follow each other.
-fn ways_metres(instance: &Instance, trips: &[TripNo]) -> u64
-    requires instance { IsInstance instance.now }
+/// What the ways between trips that follow each other cost in layer l, in cost units.
+fn links_cost(instance: &Instance, l: LayerNo, trips: &[TripNo]) -> i64
+    requires layer { l.0 < length instance.now.layers }
     requires trips { All (λ i. i.0 < length instance.now.trips) trips.now }
     requires few { length trips.now ≤ TWO_DAYS }
-    ensures value { result ≡ metres_between instance.now trips.now }
-    ensures limit { result ≤ MAX_METRES * length trips.now }
+    ensures { result ≡ pos (sum_by cost_of (links_between instance.now l trips.now)) }
 {
-    let mut metres = 0;
+    let mut cost = 0;
     for place in 1..trips.len() {
-        let ended = instance.trip(trips[place - 1]);
-        let next = instance.trip(trips[place]);
-        metres += u64::from(way_or_none(instance, ended.to, next.from).metres);
+        let ended = trips[place - 1];
+        let next = trips[place];
+        cost += link_cost(instance, l, ended, next).unwrap_or(0);
     }
-    metres
+    cost
 }
 
-/// All metres that a vehicle of layer l drives that runs the trips.
-fn run_metres(instance: &Instance, l: LayerNo, trips: &[TripNo]) -> u64
+/// What a vehicle of layer l costs that runs the trips, in cost units: its pull-out, its trips, the ways between them
+/// and its pull-in, each of which a block has.
+fn run_cost(instance: &Instance, l: LayerNo, trips: &[TripNo]) -> i64
     requires instance { IsInstance instance.now }
     requires block { IsBlock instance.now l trips.now }
-    ensures value { result ≡ block_metres instance.now l trips.now }
-    ensures limit { result ≤ 2 * MAX_METRES * (length trips.now + 1) }
+    ensures value { result ≡ pos (block_cost instance.now l trips.now) }
+    ensures limit { result ≤ℤ pos (MAX_COST_PER_TRIP * length trips.now) }
 {
-    let depot = instance.layer(l).depot;
-    let first = instance.trip(trips[0]);
-    let last = instance.trip(trips[trips.len() - 1]);
-    let out = way_or_none(instance, depot, first.from);
-    let back = way_or_none(instance, last.to, depot);
-    let served = trips_metres(instance, trips);
-    let between = ways_metres(instance, trips);
-    u64::from(out.metres) + served + between + u64::from(back.metres)
-}
-
-/// What a vehicle of layer l costs that runs the trips, in cost units.
-fn run_cost(instance: &Instance, l: LayerNo, trips: &[TripNo]) -> u64
-    requires instance { IsInstance instance.now }
-    requires block { IsBlock instance.now l trips.now }
-    ensures value { result ≡ block_cost instance.now l trips.now }
-    ensures limit { result ≤ MAX_COST_PER_TRIP * length trips.now }
-    ensures few_trips { length trips.now ≤ TWO_DAYS }
-{
-    let rates = instance.layer(l);
-    let (out, back) = run_times(instance, l, trips);
-    let minutes = u64::from(back - out);
-    let metres = run_metres(instance, l, trips);
-    rates.fixed + rates.per_minute * minutes + rates.per_metre * metres
+    let first = trips[0];
+    let last = trips[trips.len() - 1];
+    let out = out_cost(instance, l, first).unwrap_or(0);
+    let served = trips_cost(instance, l, trips);
+    let between = links_cost(instance, l, trips);
+    let back = in_cost(instance, l, last).unwrap_or(0);
+    let there = out + served;
+    let driven = there + between;
+    driven + back
 }
 
 /// The minute at which the vehicle of a block leaves its depot, and the one at which it is back, counted
@@ -139,7 +124,7 @@ pub fn block_cost(instance: &Instance, block: &Block) -> i64
     ensures limit { result ≤ℤ pos (MAX_COST_PER_TRIP * length block.now.trips.items) }
 {
     prove!(block.layer.0 < instance.layers());
-    run_cost(instance, block.layer, &block.trips) as i64
+    run_cost(instance, block.layer, &block.trips)
 }
 
 /// What the blocks of a plan cost together, in cost units.
@@ -153,5 +138,5 @@ pub fn blocks_cost(instance: &Instance, blocks: &[Block]) -> i64
     for block in blocks {
         cost += run_cost(instance, block.layer, &block.trips);
     }
-    cost as i64
+    cost
 }

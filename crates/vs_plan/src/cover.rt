@@ -1,3 +1,5 @@
+//! Whether each trip stands once in the blocks: what is wrong where one stands more than once or nowhere.
+
 ghost use Rattle.std.specs.Prelude.{◌≡◌, ℕ, ◌+◌, ◌<◌, ◌≤◌, ◌^◌, ◌==◌, length, All, IfOk, count_by, slice_index};
 ghost use Rattle.vs_plan.specs.Blocks.{CanBeJudged, pairs_of};
 ghost use Rattle.vs_instance.specs.Firsts.{first};

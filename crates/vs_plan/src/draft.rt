@@ -1,3 +1,5 @@
+//! The blocks so far of the greedy rule, and how it places one more trip.
+
 ghost use Rattle.std.specs.Prelude.{◌≡◌, ◌<◌, ◌↔◌, [], length, All, IfOk, OnOk, IsTrue, MatchBool, MatchOption, slice_index};
 ghost use Rattle.vs_plan.specs.Greedy.{AreLeft, CanJoin, CanOpen, IsFirstToJoin, IsLowestToOpen, IsPlaced, IsStuck, JoinsNone, OpensNone, joined, one_fewer, opened};
 ghost use Rattle.vs_plan.specs.Blocks.{pair_of, pairs_of};

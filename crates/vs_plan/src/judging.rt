@@ -1,3 +1,5 @@
+//! What is wrong with blocks that are to be a plan, fault by fault in order, and the judge that answers the first.
+
 ghost use Rattle.std.specs.Prelude.{◌≡◌, ℕ, ◌<◌, ◌^◌, length, IfOk, IfErr, pos, ◌≤ℤ◌};
 ghost use Rattle.vs_plan.specs.Blocks.{CanBeJudged, IsOfInstance, blocks_of, pair_of, pairs_of};
 ghost use Rattle.vs_instance.specs.Firsts.{first};
@@ -5,10 +7,9 @@ ghost use Rattle.vs_plan.specs.PlanFaults.{IsFault, IsFirstFault, arrival_faults
 ghost use Rattle.vs_plan.specs.declared.costs.TheConstants.{MAX_PLAN_COST};
 ghost use Rattle.vs_instance.specs.Plan.{IsPlan, plan_cost, vehicles_used};
 
-use crate::block::Block;
+use crate::block::{Block, Plan};
 use crate::costs::blocks_cost;
 use crate::cover::cover_fault;
-use crate::plan::Plan;
 use crate::plan_fault::{PlanError, PlanFault};
 use std::alloc::Global;
 use vs_connect::{connects, in_cost, out_cost};

@@ -1,3 +1,5 @@
+//! The order in which the greedy rule takes the trips.
+
 ghost use Rattle.std.specs.Prelude.{◌≡◌, IfOk, length, vec_len};
 ghost use Rattle.vs_plan.specs.Greedy.{IsOrder};
 

@@ -1,3 +1,5 @@
+//! What can be wrong with blocks that are to be a plan, and why there is no answer on them.
+
 ghost use Rattle.std.specs.Prelude.{◌≡◌};
 
 use vs_types::{LayerNo, Memory, TripNo};

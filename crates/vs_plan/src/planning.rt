@@ -1,11 +1,13 @@
+//! A first plan by the greedy rule.
+
 ghost use Rattle.std.specs.Prelude.{◌≡◌, IfOk, IfSome, IfNone};
 ghost use Rattle.vs_plan.specs.CheckedPlan.{IsChecked};
 ghost use Rattle.vs_plan.specs.Greedy.{GreedyGetsStuck, GreedyGives};
 
+use crate::block::Plan;
 use crate::checked_plan::CheckedPlan;
 use crate::draft::Draft;
 use crate::order::trips_in_order;
-use crate::plan::Plan;
 use std::alloc::Global;
 use vs_instance::Instance;
 use vs_types::Memory;

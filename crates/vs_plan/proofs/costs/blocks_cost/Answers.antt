@@ -1,9 +1,10 @@
-use Rattle.std.proofs.Common.{◌≡◌, ◌*◌, ◌≤◌, List, ap, arith, length, subst, sym, ◌∙◌}
+use Rattle.std.proofs.Common.{◌≡◌, ◌*◌, ◌≤◌, List, ap, arith, length, subst, sym, ◌∙◌, ℤ, pos, ◌≤ℤ◌}
 use Rattle.std.proofs.lemmas.Int.{ints}
 use Rattle.vs_types.specs.declared.numbers.TripNo.{TripNo}
 use Rattle.vs_instance.specs.Blocks.{IsBlock, block_cost}
 use Rattle.vs_instance.specs.Plan.{LayerBlock, all_trips, plan_cost}
 use Rattle.vs_plan.specs.Blocks.{pair_of, pairs_of}
+use Rattle.vs_plan.specs.declared.costs.TheConstants.{MAX_COST_PER_TRIP, MAX_PLAN_COST}
 use Rattle.vs_plan.proofs.PlanTrips.{plan_trips}
 use Rattle.vs_plan.proofs.TakenBlocks.{one_more, pair_at, inside_pairs, whole_plan}
 use Rattle.vs_plan.proofs.costs.blocks_cost.Goals as goal
@@ -27,11 +28,14 @@ overflow_add-cost c =
     let same = ap length c.deref.ensures.value in
     omega (
       arith,
+      ints,
       more.within,
       trips,
       c.trips.ensures.instance.few_trips,
       same,
+      c.run_cost-cost.ensures.value,
       c.run_cost-cost.ensures.limit,
+      c.loop-block.invariant.value,
       c.loop-block.invariant.limit,
     )
 
@@ -40,33 +44,51 @@ loop-block-preserved c =
     let more =
     one_more c.args.instance.now c.args.blocks.now c.loop-block.block-index c.block-item.result
     c.loop-block-test.true c.block-item.is in
+    let trips = plan_trips _ _ c.requires in
+    let few = c.trips.ensures.instance.few_trips in
     let same = ap length c.deref.ensures.value in
-    let cost =
-    c.run_cost-cost.ensures.value
-    ∙ ap (block_cost c.args.instance.now c.block-item.result.layer) c.deref.ensures.value in
+    let inv = c.loop-block.invariant in
+    let found = c.run_cost-cost.ensures in
+    let cost = ap (block_cost c.args.instance.now c.block-item.result.layer) c.deref.ensures.value in
     record {
-      value = omega (arith, more.cost, cost, c.loop-block.invariant.value);
-      limit = omega (arith, more.trips, same, c.run_cost-cost.ensures.limit, c.loop-block.invariant.limit);
+      value = omega (
+        arith,
+        ints,
+        more.cost,
+        more.within,
+        trips,
+        few,
+        same,
+        cost,
+        found.value,
+        found.limit,
+        inv.value,
+        inv.limit,
+      );
+      limit = omega (
+        arith,
+        ints,
+        more.trips,
+        more.within,
+        trips,
+        few,
+        same,
+        found.value,
+        found.limit,
+        inv.value,
+        inv.limit,
+      );
     }
 
--- all blocks are counted, and cost what a plan costs at most
-total : (c : goal.After-loop-block)
-    → (c.loop-block.cost ≡ plan_cost c.args.instance.now (pairs_of c.args.blocks.now))
-    × (c.loop-block.cost ≤ 100000000000000)
-total c =
+pub returns-clause-value : goal.returns-clause-value
+returns-clause-value c =
+    let whole = whole_plan c.args.blocks.now c.loop-block.block-index c.loop-block-test.false in
+    c.loop-block.invariant.value ∙ ap (λ (bs : List LayerBlock). pos (plan_cost c.args.instance.now bs)) whole
+
+pub returns-clause-limit : goal.returns-clause-limit
+returns-clause-limit c =
     let whole = whole_plan c.args.blocks.now c.loop-block.block-index c.loop-block-test.false in
     let trips = plan_trips _ _ c.requires in
     let few = c.trips.ensures.instance.few_trips in
-    let limit =
-    subst (λ (bs : List LayerBlock). c.loop-block.cost ≤ 50000000000 * length (all_trips bs)) whole
-    c.loop-block.invariant.limit in
-    (c.loop-block.invariant.value ∙ ap (plan_cost c.args.instance.now) whole, omega (arith, limit, trips, few))
-
-pub overflow_cast-result : goal.overflow_cast-result
-overflow_cast-result c = omega (arith, ints, (total c).1)
-
-pub returns-clause-value : goal.returns-clause-value
-returns-clause-value c = let value = (total c).0 in let few = (total c).1 in omega (arith, ints)
-
-pub returns-clause-limit : goal.returns-clause-limit
-returns-clause-limit c = let few = (total c).1 in omega (arith, ints)
+    let all = ap (λ (bs : List LayerBlock). length (all_trips bs)) whole in
+    omega (arith, ints, c.loop-block.invariant.limit, all, trips, few)

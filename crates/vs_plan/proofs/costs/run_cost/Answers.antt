@@ -1,33 +1,46 @@
-use Rattle.std.proofs.Common.{◌+◌, ◌*◌, ◌≤◌, length, arith, subst, sym}
-use Rattle.vs_instance.specs.declared.layer.Layer.{Layer}
-use Rattle.vs_instance.specs.Ways.{no_layer}
-use Rattle.vs_plan.proofs.BlockCosts.{cost_limit, few_in_block}
+use Rattle.std.proofs.Common.{◌≡◌, ◌∙◌, arith, ℤ, pos}
+use Rattle.std.proofs.lemmas.Int.{ints}
+use Rattle.vs_plan.proofs.BlockCosts.{AreParts, are_parts, few_in_block, looked_up}
 use Rattle.vs_plan.proofs.costs.run_cost.Goals as goal
 
-few : (c : goal.After-run_metres-metres) → length c.args.trips.now ≤ 2880
-few c = few_in_block c.args.instance.now c.args.l c.args.trips.now c.requires.instance c.requires.block
+pub trips_cost-served-requires-clause-few : goal.trips_cost-served-requires-clause-few
+trips_cost-served-requires-clause-few c =
+    few_in_block c.args.instance.now c.args.l c.args.trips.now c.requires.instance c.requires.block
 
-within : (c : goal.After-run_metres-metres)
-    → c.layer-rates.result.now.fixed + c.layer-rates.result.now.per_minute * c.from-minutes.result
-    + c.layer-rates.result.now.per_metre * c.run_metres-metres.result ≤ 50000000000 * length c.args.trips.now
-within c =
-    let l = c.requires.instance.layers c.args.l.0 no_layer c.requires.block.layer in
-    let fixed = subst (λ (x : Layer). x.fixed ≤ 1000000000) (sym c.layer-rates.ensures) l.fixed in
-    let per_minute = subst (λ (x : Layer). x.per_minute ≤ 1000000) (sym c.layer-rates.ensures) l.per_minute in
-    let per_metre = subst (λ (x : Layer). x.per_metre ≤ 10000) (sym c.layer-rates.ensures) l.per_metre in
-    cost_limit c.layer-rates.result.now.fixed c.layer-rates.result.now.per_minute c.from-minutes.result
-    c.layer-rates.result.now.per_metre c.run_metres-metres.result (length c.args.trips.now) fixed per_minute
-    (omega (arith, c.from-minutes.ensures, c.run_times-out.ensures.limit)) per_metre
-    (omega (arith, c.run_metres-metres.ensures.limit)) c.requires.block.some_trip
+pub links_cost-between-requires-clause-few : goal.links_cost-between-requires-clause-few
+links_cost-between-requires-clause-few c =
+    few_in_block c.args.instance.now c.args.l c.args.trips.now c.requires.instance c.requires.block
 
-pub overflow_mul-result-2 : goal.overflow_mul-result-2
-overflow_mul-result-2 c = omega (arith, within c, few c)
+parts : (c : goal.After-unwrap_or-back)
+    → AreParts c.args.instance.now c.args.l c.args.trips.now c.unwrap_or-out.result c.trips_cost-served.result
+    c.links_cost-between.result c.unwrap_or-back.result
+parts c =
+    are_parts c.args.instance.now c.args.l c.args.trips.now _ _ _ _ c.requires.instance c.requires.block
+    (c.unwrap_or-out.ensures ∙ looked_up _ c.out_cost.result c.out_cost.ensures.value) c.trips_cost-served.ensures
+    c.links_cost-between.ensures
+    (c.unwrap_or-back.ensures ∙ looked_up _ c.in_cost.result c.in_cost.ensures.value)
 
-pub overflow_add-result-2 : goal.overflow_add-result-2
-overflow_add-result-2 c = omega (arith, within c, few c)
+pub overflow_add-there : goal.overflow_add-there
+overflow_add-there c =
+    let is = parts c in
+    omega (arith, ints, is.whole, is.out_low, is.served_low, is.between_low, is.back_low, is.limit, is.few)
+
+pub overflow_add-driven : goal.overflow_add-driven
+overflow_add-driven c =
+    let is = parts c in
+    omega (arith, ints, is.whole, is.out_low, is.served_low, is.between_low, is.back_low, is.limit, is.few)
+
+pub overflow_add-result : goal.overflow_add-result
+overflow_add-result c =
+    let is = parts c in
+    omega (arith, ints, is.whole, is.out_low, is.served_low, is.between_low, is.back_low, is.limit, is.few)
+
+pub returns-clause-value : goal.returns-clause-value
+returns-clause-value c =
+    let is = parts c in
+    omega (arith, ints, is.whole, is.out_low, is.served_low, is.between_low, is.back_low, is.limit, is.few)
 
 pub returns-clause-limit : goal.returns-clause-limit
-returns-clause-limit c = within c
-
-pub returns-clause-few_trips : goal.returns-clause-few_trips
-returns-clause-few_trips c = few c
+returns-clause-limit c =
+    let is = parts c in
+    omega (arith, ints, is.whole, is.out_low, is.served_low, is.between_low, is.back_low, is.limit, is.few)

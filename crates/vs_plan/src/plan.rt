@@ -1,8 +1,0 @@
-use crate::block::Block;
-
-/// The blocks of all vehicles. Nothing is known of them until they are judged.
-#[derive(Debug, Drop)]
-pub struct Plan {
-    /// One block for each vehicle that is used, in any order.
-    pub blocks: Vec<Block>,
-}
