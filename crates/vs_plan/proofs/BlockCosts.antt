@@ -18,8 +18,7 @@ use Rattle.vs_instance.specs.Pieces.{in_piece, link_piece, out_piece, trip_piece
 use Rattle.vs_instance.specs.Problem.{Problem}
 use Rattle.vs_instance.specs.Ways.{Connects, layer_of, no_trip, trip_of, way, way_between}
 use Rattle.vs_instance.specs.declared.limits.TheConstants.{MAX_FIXED, MAX_METRES, MAX_MINUTES, MAX_PER_METRE, MAX_PER_MINUTE, TWO_DAYS}
-use Rattle.vs_instance.proofs.BlockPieces.{blocks_cost_their_pieces}
-use Rattle.vs_instance.proofs.Known.{layer_of-IsLayer, trip_of-IsTrip, way-IfSome}
+use Rattle.vs_instance.proofs.CallerLemmas.{blocks_cost_their_pieces, layer_of-IsLayer, trip_of-IsTrip, way-within}
 use Rattle.vs_plan.specs.declared.costs.TheConstants.{MAX_COST_PER_TRIP}
 
 -- the links of the trips from a place on
@@ -110,12 +109,11 @@ few_in_block p l trips inst b =
 -- the minutes and metres of a way are within the limits
 way_limits : (p : Problem) → IsInstance p → (k s : ℕ)
     → (minutes_of (way p k s) ≤ MAX_MINUTES) × (metres_of (way p k s) ≤ MAX_METRES)
-way_limits p inst k s = limits (way p k s) (way-IfSome p inst k s)
+way_limits p inst k s = limits (way p k s) refl
   where
-    limits : (o : Option Way) → IfSome o (λ w. (w.minutes ≤ MAX_MINUTES) × (w.metres ≤ MAX_METRES))
-        → (minutes_of o ≤ MAX_MINUTES) × (metres_of o ≤ MAX_METRES)
-    limits None is = (omega arith, omega arith)
-    limits (Some w) is = is
+    limits : (o : Option Way) → way p k s ≡ o → (minutes_of o ≤ MAX_MINUTES) × (metres_of o ≤ MAX_METRES)
+    limits None found = (omega arith, omega arith)
+    limits (Some w) found = let within = way-within p inst k s w found in (within.minutes, within.metres)
 
 trips_metres-limit : (p : Problem) (trips : List TripNo) → IsInstance p → All (λ i. i.0 < length p.trips) trips
     → sum_by (λ i. (trip_of p i.0).metres) trips ≤ length trips * MAX_METRES

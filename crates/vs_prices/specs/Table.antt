@@ -3,7 +3,7 @@ use Rattle.std.specs.Prelude.{◌≡◌, ℕ, ◌+◌, ◌*◌, ◌<◌, List, l
 use Rattle.vs_instance.specs.Problem.{Problem}
 use Rattle.vs_instance.specs.HoldingTable.{HoldsInLayer, price_of}
 use Rattle.vs_prices.specs.declared.table.Table.{Table}
-use Rattle.vs_prices.specs.declared.table.TheConstants.{MAX_PRICE}
+use Rattle.vs_instance.specs.declared.limits.TheConstants.{MAX_PRICE}
 
 -- of prices that stand layer by layer, those of layer l, one per trip
 abbrev pub prices_in : Problem → ℕ → List ℤ → List ℤ

@@ -9,7 +9,8 @@ mod table_worth;
 
 pub use bound::Bound;
 pub use broken_at::{BrokenAt, broken};
-pub use table::{MAX_PRICE, Table};
+pub use table::Table;
 pub use table_worth::{
     MAX_TRIP_PRICE, least_price, permitted_sets, prices_bound_plans, trip_price, worth,
 };
+pub use vs_instance::MAX_PRICE;

@@ -4,9 +4,6 @@ use std::alloc::Global;
 use vs_instance::Instance;
 use vs_types::{LayerNo, Memory, TripNo};
 
-/// No price is above this or below its negative, in 1/1000 of a cost unit.
-pub const MAX_PRICE: i64 = 1_000_000_000_000_000_000;
-
 /// Prices in 1/1000 of a cost unit, each within `MAX_PRICE`. Those of trips stand layer by layer,
 /// so trip i in layer l has place `l * trips + i`. They are dual prices in the sense of linear
 /// programming: a vehicle pays to get into a trip and is paid on leaving it.

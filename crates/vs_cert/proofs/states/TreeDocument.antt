@@ -11,7 +11,7 @@ use Rattle.vs_instance.specs.Problem.{Problem}
 use Rattle.vs_instance.specs.Restriction.{permitted_sets}
 use Rattle.vs_instance.proofs.CallerLemmas.{permitted_sets-IsRestriction}
 use Rattle.vs_plan.specs.Blocks.{IsOfInstance, blocks_of}
-use Rattle.vs_plan.specs.declared.plan.Plan.{Plan}
+use Rattle.vs_plan.specs.declared.block.Plan.{Plan}
 use Rattle.vs_prices.specs.declared.table.Table.{Table}
 use Rattle.vs_tree.specs.History.{Opening, State, incumbent, known}
 use Rattle.vs_tree.specs.Prices.{Prices, prices_of}

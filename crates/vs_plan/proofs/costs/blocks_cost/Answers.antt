@@ -1,10 +1,9 @@
-use Rattle.std.proofs.Common.{◌≡◌, ◌*◌, ◌≤◌, List, ap, arith, length, subst, sym, ◌∙◌, ℤ, pos, ◌≤ℤ◌}
+use Rattle.std.proofs.Common.{List, ap, arith, length, subst, sym, ◌∙◌, pos}
 use Rattle.std.proofs.lemmas.Int.{ints}
 use Rattle.vs_types.specs.declared.numbers.TripNo.{TripNo}
 use Rattle.vs_instance.specs.Blocks.{IsBlock, block_cost}
 use Rattle.vs_instance.specs.Plan.{LayerBlock, all_trips, plan_cost}
-use Rattle.vs_plan.specs.Blocks.{pair_of, pairs_of}
-use Rattle.vs_plan.specs.declared.costs.TheConstants.{MAX_COST_PER_TRIP, MAX_PLAN_COST}
+use Rattle.vs_plan.specs.Blocks.{pair_of}
 use Rattle.vs_plan.proofs.PlanTrips.{plan_trips}
 use Rattle.vs_plan.proofs.TakenBlocks.{one_more, pair_at, inside_pairs, whole_plan}
 use Rattle.vs_plan.proofs.costs.blocks_cost.Goals as goal

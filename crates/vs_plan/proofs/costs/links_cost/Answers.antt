@@ -1,4 +1,4 @@
-use Rattle.std.proofs.Common.{◌≡◌, ◌+◌, ◌-◌, ap, ◌∙◌, subst, sym, arith, ℤ, pos}
+use Rattle.std.proofs.Common.{◌≡◌, ◌+◌, ◌-◌, ap, ◌∙◌, subst, sym, arith}
 use Rattle.std.proofs.lemmas.Int.{ints}
 use Rattle.vs_connect.specs.Cost.{IsCost}
 use Rattle.vs_plan.proofs.BlockCosts.{links_from, links_from-last, links_from-more, looked_up, looked_up-IsCost}

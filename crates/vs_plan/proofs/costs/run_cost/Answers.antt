@@ -1,4 +1,4 @@
-use Rattle.std.proofs.Common.{◌≡◌, ◌∙◌, arith, ℤ, pos}
+use Rattle.std.proofs.Common.{◌∙◌, arith}
 use Rattle.std.proofs.lemmas.Int.{ints}
 use Rattle.vs_plan.proofs.BlockCosts.{AreParts, are_parts, few_in_block, looked_up}
 use Rattle.vs_plan.proofs.costs.run_cost.Goals as goal
