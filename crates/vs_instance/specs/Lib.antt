@@ -1,6 +1,6 @@
 pub mod Problem
 pub mod Firsts
-pub mod WayMap
+pub mod deadheads
 pub mod Ways
 pub mod Codes
 pub mod Instance
@@ -13,4 +13,3 @@ pub mod HoldingTable
 pub mod Lagrangian
 pub mod Laws
 pub mod Misfits
-pub mod Lengths

@@ -1,7 +1,9 @@
+//! Whether from stop to stop it is nowhere shorter by a third, and the first three stops where it is.
+
 ghost use Rattle.std.specs.Prelude.{◌≡◌, ◌+◌, ◌<◌, ◌↔◌, IfOk, IsTrue, Some};
 ghost use Rattle.std.specs.FinMap as map;
 ghost use Rattle.vs_instance.specs.Misfits.{first_misfit, detour_misfits, apart_misfits, misfits_by, misfits_from, closure_misfits};
-ghost use Rattle.vs_instance.specs.Lengths.{AreShort};
+ghost use Rattle.vs_instance.specs.deadheads.Lengths.{AreShort};
 
 use crate::lengths::{Measure, is_closed_in};
 use crate::misfit::Misfit;

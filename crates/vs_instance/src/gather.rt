@@ -1,9 +1,11 @@
+//! Deadheads, judged one by one and written down by their two stops.
+
 ghost use Rattle.std.specs.Prelude.{◌≡◌, ◌^◌, ◌<◌, ◌≤◌, [], length, All, IfOk, IfErr, OnOk};
 ghost use Rattle.vs_instance.specs.Misfits.{first_misfit, deadhead_misfits, deadheads_misfits, deadheads_of, IsFirstOf};
 
-use crate::deadhead::Deadhead;
 use crate::limits::{MAX_METRES, MAX_MINUTES, MAX_STOPS};
 use crate::misfit::{Field, Misfit, NewError, Place};
+use crate::parts::Deadhead;
 use crate::way::Way;
 use crate::ways::Ways;
 use std::alloc::Global;

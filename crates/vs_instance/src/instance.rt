@@ -1,3 +1,5 @@
+//! The instance: parts that were judged, and what is asked of them.
+
 ghost use Rattle.std.specs.Prelude.{◌≡◌, ℕ, ◌<◌, ◌≤◌, length, IfOk, IfErr, OnOk, option_map};
 ghost use Rattle.vs_instance.specs.Instance.{IsInstance};
 ghost use Rattle.vs_instance.specs.Misfits.{AreParts, MakeInstance, problem_of, IsFirstMisfit, IsMisfit};
@@ -30,7 +32,7 @@ impl Model for Instance {
     ghost use Rattle.vs_instance.specs.Problem.{Problem};
     ghost use Rattle.vs_instance.specs.Instance.{IsInstance};
     ghost use Rattle.vs_instance.specs.Codes.{coded_problem};
-    ghost use Rattle.vs_instance.specs.WayMap.{problem_with};
+    ghost use Rattle.vs_instance.specs.deadheads.WayMap.{problem_with};
 
     ghost Value = { Problem };
 
@@ -50,11 +52,14 @@ impl Instance {
         ensures misfit { IfErr result (IsFirstMisfit parts) }
         ensures refused { IfErr result (λ e. IsMisfit e → ¬ (MakeInstance parts)) }
     {
-        if let Some(misfit) = layers_misfit(&parts.layers) {
+        let layers = parts.layers.as_slice();
+        if let Some(misfit) = layers_misfit(layers) {
             return Err(NewError::Misfit(misfit));
         }
-        let ways = ways_of(alloc, parts.stops, &parts.deadheads)?;
-        if let Some(misfit) = trips_misfit(&parts.trips) {
+        let deadheads = parts.deadheads.as_slice();
+        let ways = ways_of(alloc, parts.stops, deadheads)?;
+        let trips = parts.trips.as_slice();
+        if let Some(misfit) = trips_misfit(trips) {
             return Err(NewError::Misfit(misfit));
         }
         let detour = closure_misfit(alloc, &ways)?;

@@ -1,3 +1,5 @@
+//! The vehicles of a depot.
+
 use vs_types::StopNo;
 
 /// The vehicles of one type at one depot.

@@ -3,7 +3,6 @@
 #![tactic(auto)]
 
 mod closure;
-mod deadhead;
 mod gather;
 mod instance;
 mod laws;
@@ -17,7 +16,6 @@ mod trip;
 mod way;
 mod ways;
 
-pub use deadhead::Deadhead;
 pub use instance::Instance;
 pub use laws::{lagrangian_values_bound_plans, lagrangian_values_exist, starting_values_exist};
 pub use layer::Layer;
@@ -26,7 +24,7 @@ pub use limits::{
     MAX_PRICE, MAX_STOPS, MAX_TRIPS, TWO_DAYS,
 };
 pub use misfit::{Field, Misfit, NewError, Place};
-pub use parts::Parts;
+pub use parts::{Deadhead, Parts};
 pub use trip::Trip;
 pub use vs_types::MAX_LAYERS;
 pub use way::Way;

@@ -1,3 +1,5 @@
+//! What can be wrong with the parts of an instance.
+
 ghost use Rattle.std.specs.Prelude.{◌≡◌};
 
 use vs_types::{LayerNo, Memory, StopNo, TripNo};

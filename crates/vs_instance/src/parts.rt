@@ -1,6 +1,8 @@
-use crate::deadhead::Deadhead;
+//! What an instance is made of.
+
 use crate::layer::Layer;
 use crate::trip::Trip;
+use vs_types::StopNo;
 
 /// What an instance is made of, before it is known to be one.
 #[derive(Debug, Drop)]
@@ -13,4 +15,17 @@ pub struct Parts {
     pub layers: Vec<Layer>,
     /// The trips in number order, at most 2,000.
     pub trips: Vec<Trip>,
+}
+
+/// A drive without passengers from one stop to another, in this direction.
+#[derive(Clone, Copy, Debug, PartialEq, Eq)]
+pub struct Deadhead {
+    /// The stop that is left.
+    pub from: StopNo,
+    /// The stop that is reached, another one.
+    pub to: StopNo,
+    /// How long it takes, 1 to 1,440 minutes.
+    pub minutes: u64,
+    /// Its length, 0 to 1,000,000 metres.
+    pub metres: u64,
 }

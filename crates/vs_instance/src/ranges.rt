@@ -1,3 +1,5 @@
+//! Whether the numbers of layers and trips are within their limits.
+
 ghost use Rattle.std.specs.Prelude.{◌≡◌, ◌≤◌, length};
 ghost use Rattle.vs_instance.specs.Misfits.{first_misfit, layer_misfits, layers_misfits, trip_misfits, trips_misfits};
 

@@ -1,3 +1,5 @@
+//! The timetabled trips.
+
 use vs_types::{LayerSet, StopNo};
 
 /// A timetabled trip with passengers, which has to be run exactly once. Minutes count from 0:00 of the

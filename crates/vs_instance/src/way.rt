@@ -1,3 +1,5 @@
+//! What a drive without passengers takes.
+
 /// What it takes to get from one stop to another without passengers.
 #[derive(Clone, Copy, Debug, PartialEq, Eq)]
 pub struct Way {

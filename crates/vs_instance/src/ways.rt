@@ -1,6 +1,8 @@
+//! The deadheads between stops, looked up by the stop that is left and the one that is reached.
+
 ghost use Rattle.std.specs.Prelude.{◌≡◌, ℕ, ◌<◌, ◌≤◌, Some, IfOk, length};
 ghost use Rattle.std.specs.FinMap as map;
-ghost use Rattle.vs_instance.specs.WayMap.{row_of};
+ghost use Rattle.vs_instance.specs.deadheads.WayMap.{row_of};
 
 use crate::limits::MAX_STOPS;
 use crate::way::Way;
@@ -18,7 +20,7 @@ pub struct Ways {
 
 impl Model for Ways {
     ghost use Rattle.std.specs.Prelude.{ℕ, ◌≡◌, ◌*◌, ◌≤◌, length};
-    ghost use Rattle.vs_instance.specs.WayMap.{WayMap, way_map};
+    ghost use Rattle.vs_instance.specs.deadheads.WayMap.{WayMap, way_map};
     ghost use Rattle.vs_instance.specs.Codes.{coded_way_map};
     ghost use Rattle.vs_instance.specs.declared.limits.TheConstants.{MAX_STOPS};
 

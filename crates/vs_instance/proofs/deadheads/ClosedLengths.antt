@@ -10,9 +10,9 @@ use Rattle.vs_instance.specs.declared.lengths.Measure.{Measure}
 use Rattle.vs_instance.specs.declared.lengths.Measure.TheVariants.{Minutes, Metres}
 use Rattle.vs_instance.specs.declared.limits.TheConstants.{MAX_MINUTES, MAX_METRES}
 use Rattle.vs_instance.specs.Instance.{IsNoLonger}
-use Rattle.vs_instance.specs.Lengths.{far_without, length_of, IsClosedIn, AreShort}
+use Rattle.vs_instance.specs.deadheads.Lengths.{far_without, length_of, IsClosedIn, AreShort}
 use Rattle.vs_instance.specs.Misfits.{closure_misfits, misfits_from, misfits_by, triple_misfits}
-use Rattle.vs_instance.specs.WayMap.{WayMap}
+use Rattle.vs_instance.specs.deadheads.WayMap.{WayMap}
 use Rattle.vs_instance.proofs.misfits.Closed.{none_of_apart, none_of_detour}
 use Rattle.vs_instance.proofs.misfits.Empty.{none_numbers}
 use Rattle.vs_instance.proofs.misfits.Empty as empty

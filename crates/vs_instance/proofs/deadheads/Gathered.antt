@@ -9,7 +9,7 @@ use Rattle.std.specs.Ordering.{eq_by_cmp, nat_cmp}
 use Rattle.std.specs.Cmp.{both_tied, unsigned_ties, nat_eq_equiv}
 use Rattle.std.proofs.lemmas.List.{take_more}
 use Rattle.std.proofs.lemmas.Grind.{fold-append}
-use Rattle.vs_instance.specs.declared.deadhead.Deadhead.{Deadhead}
+use Rattle.vs_instance.specs.declared.parts.Deadhead.{Deadhead}
 use Rattle.vs_instance.specs.declared.way.Way.{Way}
 use Rattle.vs_instance.specs.Problem.{pair_cmp}
 use Rattle.vs_instance.specs.declared.misfit.Misfit.{Misfit}
@@ -30,21 +30,7 @@ pair_of d = (d.from.0, d.to.0)
 abbrev pub with_deadhead : Map → Deadhead → Map
 with_deadhead m d = map.insert m (d.from.0, d.to.0) (record { minutes = d.minutes; metres = d.metres })
 
--- the way of the last of the deadheads with this pair, or else o
-abbrev pub last_given : List Deadhead → ℕ × ℕ → Option Way → Option Way
-last_given [] q o = o
-last_given (d ∷ ds) q o = last_given ds q (cond (eq_by_cmp pair_cmp q (pair_of d)) (Some (way_given d)) o)
-
-pub get-last_given : (m : Map) (ds : List Deadhead) (q : ℕ × ℕ)
-    → map.get (fold with_deadhead m ds) q ≡ last_given ds q (map.get m q)
-get-last_given m [] q = refl
-get-last_given m (d ∷ ds) q =
-    get-last_given (with_deadhead m d) ds q
-    ∙ ap (last_given ds q) (map.get-insert pair_cmp-total m (pair_of d) (way_given d) q)
-
-pub get-deadheads_of : (ds : List Deadhead) (q : ℕ × ℕ) → map.get (deadheads_of ds) q ≡ last_given ds q None
-get-deadheads_of ds q = get-last_given map.empty ds q ∙ ap (last_given ds q) (map.get-empty pair_cmp q)
-
+-- one deadhead more is written down behind those before it
 pub deadheads_of-more : (ds : List Deadhead) (i : ℕ) (d : Deadhead) → i < length ds
     → deadheads_of (take (i + 1) ds) ≡ with_deadhead (deadheads_of (take i ds)) (get_or ds i d)
 deadheads_of-more ds i d within =

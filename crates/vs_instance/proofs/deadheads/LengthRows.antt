@@ -11,8 +11,8 @@ use Rattle.vs_instance.specs.declared.lengths.Measure.{Measure}
 use Rattle.vs_instance.specs.declared.lengths.Measure.TheVariants.{Minutes, Metres}
 use Rattle.vs_instance.specs.declared.lengths.TheConstants.{FAR}
 use Rattle.vs_instance.specs.declared.limits.TheConstants.{MAX_MINUTES, MAX_METRES}
-use Rattle.vs_instance.specs.Lengths.{far_without, AreRows, AreClosed, IsClosedIn, AreShort}
-use Rattle.vs_instance.specs.WayMap.{WayMap}
+use Rattle.vs_instance.specs.deadheads.Lengths.{far_without, AreRows, AreClosed, IsClosedIn, AreShort}
+use Rattle.vs_instance.specs.deadheads.WayMap.{WayMap}
 
 -- no length is more than far
 far_below : (measure : Measure) (b : Bool) (o : Option Way)

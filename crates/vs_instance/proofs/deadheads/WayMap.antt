@@ -8,7 +8,7 @@ use Rattle.std.proofs.lemmas.Nat.{div-mul-add, mod-mul-add, same_from_place, mod
 use Rattle.std.proofs.lemmas.List.{get_or-set_same, get_or-set_other, get_or-take, get_or-drop, length-take, length-drop}
 use Rattle.vs_instance.specs.declared.way.Way.{Way}
 use Rattle.vs_instance.specs.Problem.{pair_cmp}
-use Rattle.vs_instance.specs.WayMap.{WayMap, map_from, way_map, row_of}
+use Rattle.vs_instance.specs.deadheads.WayMap.{WayMap, map_from, way_map, row_of}
 use Rattle.std.proofs.lemmas.List.FromFn.{fill_by_all, length-map-range_with_len, get_or-map-range_with_len}
 use Rattle.vs_instance.proofs.deadheads.Pairs.{pair_cmp-total, pair_cmp-IsAntisymmetric, tied_same, tied_apart}
 

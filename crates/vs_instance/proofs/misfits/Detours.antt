@@ -6,7 +6,7 @@ use Rattle.std.specs.declared.option.Option.TheVariants.{None, Some}
 use Rattle.vs_instance.specs.declared.misfit.Misfit.{Misfit}
 use Rattle.vs_instance.specs.declared.way.Way.{Way}
 use Rattle.vs_instance.specs.Problem.{pair_cmp}
-use Rattle.vs_instance.specs.WayMap.{WayMap, row_of}
+use Rattle.vs_instance.specs.deadheads.WayMap.{WayMap, row_of}
 use Rattle.vs_instance.specs.Misfits.{first_misfit, apart_misfits, triple_misfits, misfits_by, numbers}
 use Rattle.vs_instance.proofs.misfits.Firsts.{flat_map-none}
 use Rattle.vs_instance.proofs.deadheads.WayMap.{get_or-row_of}

@@ -8,7 +8,7 @@ use Rattle.std.specs.Cmp.{Equal-is, nat_eq_equiv}
 use Rattle.std.proofs.lemmas.Bool.{ltb-false, le-ltb, eqb-false, ne_eqb, or_parts, or_from, false_from_ne_true, both_ways}
 use Rattle.std.proofs.lemmas.List.{length-take, get_or-take, get_or_default}
 use Rattle.std.proofs.lemmas.List.Folds.{list_any_none, list_any_at}
-use Rattle.vs_instance.specs.declared.deadhead.Deadhead.{Deadhead}
+use Rattle.vs_instance.specs.declared.parts.Deadhead.{Deadhead}
 use Rattle.vs_instance.specs.declared.way.Way.{Way}
 use Rattle.vs_instance.specs.declared.limits.TheConstants.{MAX_MINUTES, MAX_METRES}
 use Rattle.vs_instance.specs.Problem.{pair_cmp}

@@ -5,7 +5,7 @@ use Rattle.std.specs.Option.{IfSome}
 use Rattle.std.specs.declared.option.Option.{Option}
 use Rattle.std.specs.declared.option.Option.TheVariants as option
 use Rattle.std.proofs.lemmas.Option.{MatchOption-at_some, none-some}
-use Rattle.vs_instance.specs.declared.deadhead.Deadhead.{Deadhead}
+use Rattle.vs_instance.specs.declared.parts.Deadhead.{Deadhead}
 use Rattle.vs_instance.specs.declared.misfit.Misfit.{Misfit}
 use Rattle.vs_instance.specs.declared.misfit.NewError.{NewError}
 use Rattle.vs_instance.specs.declared.misfit.NewError.TheVariants as error

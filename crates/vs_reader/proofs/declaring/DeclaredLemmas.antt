@@ -7,7 +7,7 @@ use Rattle.std.proofs.lemmas.Option.{slice_get_within}
 use Rattle.vs_types.specs.LayerSet.{Has}
 use Rattle.vs_instance.specs.declared.limits.TheConstants.{TWO_DAYS}
 use Rattle.vs_types.specs.declared.layer_set.LayerSet.{LayerSet}
-use Rattle.vs_instance.specs.declared.deadhead.Deadhead.{Deadhead}
+use Rattle.vs_instance.specs.declared.parts.Deadhead.{Deadhead}
 use Rattle.vs_instance.specs.declared.layer.Layer.{Layer}
 use Rattle.vs_instance.specs.declared.trip.Trip.{Trip}
 use Rattle.vs_reader.specs.declared.kind.Kind.{Kind}

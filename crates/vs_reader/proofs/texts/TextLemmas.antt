@@ -7,7 +7,7 @@ use Rattle.csv.specs.declared.parser.State.TheVariants as state
 use Rattle.vs_instance.specs.Problem.{Problem}
 use Rattle.vs_instance.specs.Instance.{IsInstance}
 use Rattle.vs_instance.specs.Misfits.{are_twins, deadheads_of, problem_of}
-use Rattle.vs_instance.specs.declared.deadhead.Deadhead.{Deadhead}
+use Rattle.vs_instance.specs.declared.parts.Deadhead.{Deadhead}
 use Rattle.vs_instance.proofs.CallerLemmas.{refuses}
 use Rattle.vs_reader.specs.declared.draft.Draft.{Draft}
 use Rattle.vs_reader.specs.declared.refused.ReadError.{ReadError}

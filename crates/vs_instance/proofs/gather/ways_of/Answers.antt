@@ -1,7 +1,7 @@
 use Rattle.std.proofs.Common.{◌≡◌, ◌<◌, List, length, get_or, sym, ap, ◌∙◌, arith}
 use Rattle.std.specs.FinMap as map
 use Rattle.std.specs.declared.option.Option.TheVariants.{None, Some}
-use Rattle.vs_instance.specs.declared.deadhead.Deadhead.{Deadhead}
+use Rattle.vs_instance.specs.declared.parts.Deadhead.{Deadhead}
 use Rattle.vs_instance.specs.declared.way.Way.{Way}
 use Rattle.vs_instance.specs.Misfits.{deadheads_misfits}
 use Rattle.vs_instance.proofs.misfits.Firsts.{first_from-here, first_from-more, first_from-past, none_from_first}

@@ -1,5 +1,5 @@
 use Rattle.std.proofs.Common.{ℕ, ◌<◌, slice_index_or, Vec, Global}
-use Rattle.vs_instance.specs.Lengths.{IsClosedFrom}
+use Rattle.vs_instance.specs.deadheads.Lengths.{IsClosedFrom}
 use Rattle.vs_instance.proofs.lengths.is_closed.Given as goal
 
 -- from no stop so far it is shorter by another

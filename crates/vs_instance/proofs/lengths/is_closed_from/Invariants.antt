@@ -1,5 +1,5 @@
 use Rattle.std.proofs.Common.{ℕ, ◌<◌, slice_index, slice_index_or, Vec, Global}
-use Rattle.vs_instance.specs.Lengths.{IsNowhereLonger}
+use Rattle.vs_instance.specs.deadheads.Lengths.{IsNowhereLonger}
 use Rattle.vs_instance.proofs.lengths.is_closed_from.Given as goal
 
 -- by no stop so far it is shorter

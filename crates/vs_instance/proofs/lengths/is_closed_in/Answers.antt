@@ -1,5 +1,5 @@
 use Rattle.std.proofs.Common.{sym, subst}
-use Rattle.vs_instance.specs.Lengths.{AreRows}
+use Rattle.vs_instance.specs.deadheads.Lengths.{AreRows}
 use Rattle.vs_instance.proofs.deadheads.LengthRows.{rows-square, rows-below, rows-closed}
 use Rattle.vs_instance.proofs.lengths.is_closed_in.Goals as goal
 

@@ -2,7 +2,7 @@ use Rattle.std.proofs.Common.{◌≡◌, ◌<◌, ◌∙◌, List, [], ◌∷◌
 use Rattle.std.specs.declared.option.Option.{Option}
 use Rattle.std.specs.declared.option.Option.TheVariants.{None}
 use Rattle.vs_instance.specs.declared.way.Way.{Way}
-use Rattle.vs_instance.specs.Lengths.{length_by, length_of}
+use Rattle.vs_instance.specs.deadheads.Lengths.{length_by, length_of}
 use Rattle.vs_instance.proofs.deadheads.Pushed.{each-push}
 use Rattle.vs_instance.proofs.deadheads.WayMap.{length-row_of, get_or-row_of}
 use Rattle.vs_instance.proofs.lengths.row_of.Goals as goal

@@ -1,5 +1,5 @@
 use Rattle.std.proofs.Common.{◌≡◌, ℕ, ◌<◌, length, slice_index}
-use Rattle.vs_instance.specs.Lengths.{length_of}
+use Rattle.vs_instance.specs.deadheads.Lengths.{length_of}
 use Rattle.vs_instance.proofs.lengths.row_of.Given as goal
 
 -- the stops so far

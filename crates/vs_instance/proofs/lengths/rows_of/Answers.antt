@@ -1,5 +1,5 @@
 use Rattle.std.proofs.Common.{◌≡◌, ◌∙◌, [], ◌∷◌, length, length-append, ap, arith}
-use Rattle.vs_instance.specs.Lengths.{IsRow}
+use Rattle.vs_instance.specs.deadheads.Lengths.{IsRow}
 use Rattle.vs_instance.proofs.deadheads.Pushed.{each-push}
 use Rattle.vs_instance.proofs.lengths.rows_of.Goals as goal
 

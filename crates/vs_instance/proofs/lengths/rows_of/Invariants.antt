@@ -1,5 +1,5 @@
 use Rattle.std.proofs.Common.{◌≡◌, ℕ, ◌<◌, length, slice_index_or, Vec, Global}
-use Rattle.vs_instance.specs.Lengths.{IsRow}
+use Rattle.vs_instance.specs.deadheads.Lengths.{IsRow}
 use Rattle.vs_instance.proofs.lengths.rows_of.Given as goal
 
 -- the stops so far

@@ -3,7 +3,7 @@ use Rattle.std.specs.FinMap as map
 use Rattle.std.specs.Option.{IfSome}
 use Rattle.std.proofs.lemmas.Result.{err_from_is_err_and}
 use Rattle.vs_instance.specs.declared.layer.Layer.{Layer}
-use Rattle.vs_instance.specs.declared.deadhead.Deadhead.{Deadhead}
+use Rattle.vs_instance.specs.declared.parts.Deadhead.{Deadhead}
 use Rattle.vs_instance.specs.declared.trip.Trip.{Trip}
 use Rattle.vs_instance.specs.Instance.{IsInstance}
 use Rattle.vs_instance.specs.Misfits.{IsFirstOf, first_misfit, layers_misfits, deadheads_misfits, trips_misfits, closure_misfits, deadheads_of}
@@ -16,73 +16,75 @@ pub returns-in-Some-clause-refused : goal.returns-in-Some-clause-refused
 returns-in-Some-clause-refused c =
     let first =
     at_layers c.args.parts c.in-Some.misfit
-    (c.in-Some.ensures ∙ ap (λ (ls : List Layer). first_misfit (layers_misfits ls)) c.deref.ensures.value) in
+    (c.in-Some.ensures ∙ ap (λ (ls : List Layer). first_misfit (layers_misfits ls)) c.as_slice-layers.ensures.value) in
     λ _. refuses c.args.parts c.in-Some.misfit first
 
 pub returns-in_err-ways-clause-misfit : goal.returns-in_err-ways-clause-misfit
 returns-in_err-ways-clause-misfit c =
     let p = err_from_is_err_and c.from_residual.result c.from_residual.ensures.1 in
-    let h = at_deadheads c.args.parts c.in_err-ways.field-0.0
-    (c.in_default.ensures ∙ ap (λ (ls : List Layer). first_misfit (layers_misfits ls)) c.deref.ensures.value)
-    (subst (λ (ds : List Deadhead). IsFirstOf (deadheads_misfits ds) c.in_err-ways.field-0.0)
-    c.deref-2.ensures.value c.in_err-ways.ensures.misfit) in
-    rw (p.1, p.2) h
+    let told : IsFirstOf (deadheads_misfits c.as_slice-deadheads.result.now) p.0 =
+    rw p.2 c.in_err-ways.ensures.misfit in
+    let h = at_deadheads c.args.parts p.0
+    (c.in_default.ensures ∙ ap (λ (ls : List Layer). first_misfit (layers_misfits ls)) c.as_slice-layers.ensures.value)
+    (subst (λ (ds : List Deadhead). IsFirstOf (deadheads_misfits ds) p.0) c.as_slice-deadheads.ensures.value told) in
+    rw p.1 h
 
 pub returns-in_err-ways-clause-refused : goal.returns-in_err-ways-clause-refused
 returns-in_err-ways-clause-refused c =
     let p = err_from_is_err_and c.from_residual.result c.from_residual.ensures.1 in
-    let h = at_deadheads c.args.parts c.in_err-ways.field-0.0
-    (c.in_default.ensures ∙ ap (λ (ls : List Layer). first_misfit (layers_misfits ls)) c.deref.ensures.value)
-    (subst (λ (ds : List Deadhead). IsFirstOf (deadheads_misfits ds) c.in_err-ways.field-0.0)
-    c.deref-2.ensures.value c.in_err-ways.ensures.misfit) in
-    rw (p.1, p.2) (refuses_error c.args.parts c.in_err-ways.field-0.0 h)
+    let told : IsFirstOf (deadheads_misfits c.as_slice-deadheads.result.now) p.0 =
+    rw p.2 c.in_err-ways.ensures.misfit in
+    let h = at_deadheads c.args.parts p.0
+    (c.in_default.ensures ∙ ap (λ (ls : List Layer). first_misfit (layers_misfits ls)) c.as_slice-layers.ensures.value)
+    (subst (λ (ds : List Deadhead). IsFirstOf (deadheads_misfits ds) p.0) c.as_slice-deadheads.ensures.value told) in
+    rw p.1 (refuses_error c.args.parts p.0 h)
 
 pub returns-in-Some-trips_misfit-clause-misfit : goal.returns-in-Some-trips_misfit-clause-misfit
 returns-in-Some-trips_misfit-clause-misfit c =
     at_trips c.args.parts c.in-Some-trips_misfit.misfit
-    (c.in_default.ensures ∙ ap (λ (ls : List Layer). first_misfit (layers_misfits ls)) c.deref.ensures.value)
-    (sym (ap deadheads_misfits c.deref-2.ensures.value) ∙ c.in_ok-ways.ensures.fit)
-    (c.in-Some-trips_misfit.ensures ∙ ap (λ (ts : List Trip). first_misfit (trips_misfits ts)) c.deref-3.ensures.value)
+    (c.in_default.ensures ∙ ap (λ (ls : List Layer). first_misfit (layers_misfits ls)) c.as_slice-layers.ensures.value)
+    (sym (ap deadheads_misfits c.as_slice-deadheads.ensures.value) ∙ c.in_ok-ways.ensures.fit)
+    (c.in-Some-trips_misfit.ensures ∙ ap (λ (ts : List Trip). first_misfit (trips_misfits ts)) c.as_slice-trips.ensures.value)
 
 pub returns-in-Some-trips_misfit-clause-refused : goal.returns-in-Some-trips_misfit-clause-refused
 returns-in-Some-trips_misfit-clause-refused c =
     let first = at_trips c.args.parts c.in-Some-trips_misfit.misfit
-    (c.in_default.ensures ∙ ap (λ (ls : List Layer). first_misfit (layers_misfits ls)) c.deref.ensures.value)
-    (sym (ap deadheads_misfits c.deref-2.ensures.value) ∙ c.in_ok-ways.ensures.fit)
+    (c.in_default.ensures ∙ ap (λ (ls : List Layer). first_misfit (layers_misfits ls)) c.as_slice-layers.ensures.value)
+    (sym (ap deadheads_misfits c.as_slice-deadheads.ensures.value) ∙ c.in_ok-ways.ensures.fit)
     (c.in-Some-trips_misfit.ensures
-    ∙ ap (λ (ts : List Trip). first_misfit (trips_misfits ts)) c.deref-3.ensures.value) in
+    ∙ ap (λ (ts : List Trip). first_misfit (trips_misfits ts)) c.as_slice-trips.ensures.value) in
     λ _. refuses c.args.parts c.in-Some-trips_misfit.misfit first
 
 pub closure_misfit-requires : goal.closure_misfit-requires
 closure_misfit-requires c = record {
   each = λ k s.
       subst (λ (given : Map). IfSome (map.get given (k, s)) (λ w. (w.minutes ≤ MAX_MINUTES) × (w.metres ≤ MAX_METRES)))
-      (sym (c.in_ok-ways.ensures.given.1 ∙ ap deadheads_of c.deref-2.ensures.value))
-      (all_short c.args.parts.deadheads.items (sym (ap deadheads_misfits c.deref-2.ensures.value)
+      (sym (c.in_ok-ways.ensures.given.1 ∙ ap deadheads_of c.as_slice-deadheads.ensures.value))
+      (all_short c.args.parts.deadheads.items (sym (ap deadheads_misfits c.as_slice-deadheads.ensures.value)
       ∙ c.in_ok-ways.ensures.fit) k s);
 }
 
 pub returns-in-Some-detour-clause-misfit : goal.returns-in-Some-detour-clause-misfit
 returns-in-Some-detour-clause-misfit c =
     let given : c.in_ok-ways.ways.given ≡ deadheads_of c.args.parts.deadheads.items =
-    c.in_ok-ways.ensures.given.1 ∙ ap deadheads_of c.deref-2.ensures.value in
+    c.in_ok-ways.ensures.given.1 ∙ ap deadheads_of c.as_slice-deadheads.ensures.value in
     at_closure c.args.parts c.in-Some-detour.misfit
-    (c.in_default.ensures ∙ ap (λ (ls : List Layer). first_misfit (layers_misfits ls)) c.deref.ensures.value)
-    (sym (ap deadheads_misfits c.deref-2.ensures.value) ∙ c.in_ok-ways.ensures.fit)
+    (c.in_default.ensures ∙ ap (λ (ls : List Layer). first_misfit (layers_misfits ls)) c.as_slice-layers.ensures.value)
+    (sym (ap deadheads_misfits c.as_slice-deadheads.ensures.value) ∙ c.in_ok-ways.ensures.fit)
     (c.in_default-trips_misfit.ensures
-    ∙ ap (λ (ts : List Trip). first_misfit (trips_misfits ts)) c.deref-3.ensures.value)
+    ∙ ap (λ (ts : List Trip). first_misfit (trips_misfits ts)) c.as_slice-trips.ensures.value)
     (sym c.in-Some-detour.is ∙ c.in_ok-detour.ensures
     ∙ (λ i. first_misfit (closure_misfits (c.in_ok-ways.ensures.given.0 i) (given i))))
 
 pub returns-in-Some-detour-clause-refused : goal.returns-in-Some-detour-clause-refused
 returns-in-Some-detour-clause-refused c =
     let given : c.in_ok-ways.ways.given ≡ deadheads_of c.args.parts.deadheads.items =
-    c.in_ok-ways.ensures.given.1 ∙ ap deadheads_of c.deref-2.ensures.value in
+    c.in_ok-ways.ensures.given.1 ∙ ap deadheads_of c.as_slice-deadheads.ensures.value in
     let first = at_closure c.args.parts c.in-Some-detour.misfit
-    (c.in_default.ensures ∙ ap (λ (ls : List Layer). first_misfit (layers_misfits ls)) c.deref.ensures.value)
-    (sym (ap deadheads_misfits c.deref-2.ensures.value) ∙ c.in_ok-ways.ensures.fit)
+    (c.in_default.ensures ∙ ap (λ (ls : List Layer). first_misfit (layers_misfits ls)) c.as_slice-layers.ensures.value)
+    (sym (ap deadheads_misfits c.as_slice-deadheads.ensures.value) ∙ c.in_ok-ways.ensures.fit)
     (c.in_default-trips_misfit.ensures
-    ∙ ap (λ (ts : List Trip). first_misfit (trips_misfits ts)) c.deref-3.ensures.value)
+    ∙ ap (λ (ts : List Trip). first_misfit (trips_misfits ts)) c.as_slice-trips.ensures.value)
     (sym c.in-Some-detour.is ∙ c.in_ok-detour.ensures
     ∙ (λ i. first_misfit (closure_misfits (c.in_ok-ways.ensures.given.0 i) (given i)))) in
     λ _. refuses c.args.parts c.in-Some-detour.misfit first
@@ -90,12 +92,12 @@ returns-in-Some-detour-clause-refused c =
 pub invariant_of-result : goal.invariant_of-result
 invariant_of-result c =
     let given : c.in_ok-ways.ways.given ≡ deadheads_of c.args.parts.deadheads.items =
-    c.in_ok-ways.ensures.given.1 ∙ ap deadheads_of c.deref-2.ensures.value in
+    c.in_ok-ways.ensures.given.1 ∙ ap deadheads_of c.as_slice-deadheads.ensures.value in
     let whole = made c.args.parts c.requires
-    (c.in_default.ensures ∙ ap (λ (ls : List Layer). first_misfit (layers_misfits ls)) c.deref.ensures.value)
-    (sym (ap deadheads_misfits c.deref-2.ensures.value) ∙ c.in_ok-ways.ensures.fit)
+    (c.in_default.ensures ∙ ap (λ (ls : List Layer). first_misfit (layers_misfits ls)) c.as_slice-layers.ensures.value)
+    (sym (ap deadheads_misfits c.as_slice-deadheads.ensures.value) ∙ c.in_ok-ways.ensures.fit)
     (c.in_default-trips_misfit.ensures
-    ∙ ap (λ (ts : List Trip). first_misfit (trips_misfits ts)) c.deref-3.ensures.value)
+    ∙ ap (λ (ts : List Trip). first_misfit (trips_misfits ts)) c.as_slice-trips.ensures.value)
     (sym c.in_default-detour.is ∙ c.in_ok-detour.ensures
     ∙ (λ i. first_misfit (closure_misfits (c.in_ok-ways.ensures.given.0 i) (given i)))) in
     subst IsInstance
@@ -110,11 +112,11 @@ invariant_of-result c =
 pub returns-clause-made : goal.returns-clause-made
 returns-clause-made c =
     let given : c.in_ok-ways.ways.given ≡ deadheads_of c.args.parts.deadheads.items =
-    c.in_ok-ways.ensures.given.1 ∙ ap deadheads_of c.deref-2.ensures.value in
+    c.in_ok-ways.ensures.given.1 ∙ ap deadheads_of c.as_slice-deadheads.ensures.value in
     made c.args.parts c.requires
-    (c.in_default.ensures ∙ ap (λ (ls : List Layer). first_misfit (layers_misfits ls)) c.deref.ensures.value)
-    (sym (ap deadheads_misfits c.deref-2.ensures.value) ∙ c.in_ok-ways.ensures.fit)
+    (c.in_default.ensures ∙ ap (λ (ls : List Layer). first_misfit (layers_misfits ls)) c.as_slice-layers.ensures.value)
+    (sym (ap deadheads_misfits c.as_slice-deadheads.ensures.value) ∙ c.in_ok-ways.ensures.fit)
     (c.in_default-trips_misfit.ensures
-    ∙ ap (λ (ts : List Trip). first_misfit (trips_misfits ts)) c.deref-3.ensures.value)
+    ∙ ap (λ (ts : List Trip). first_misfit (trips_misfits ts)) c.as_slice-trips.ensures.value)
     (sym c.in_default-detour.is ∙ c.in_ok-detour.ensures
     ∙ (λ i. first_misfit (closure_misfits (c.in_ok-ways.ensures.given.0 i) (given i))))

@@ -4,7 +4,7 @@ use Rattle.std.specs.FinMap as map
 use Rattle.std.specs.declared.option.Option.TheVariants.{None}
 use Rattle.std.proofs.lemmas.List.{get_or_read}
 use Rattle.std.proofs.lemmas.Nat.{mul-add-lt}
-use Rattle.vs_instance.specs.WayMap.{WayMap}
+use Rattle.vs_instance.specs.deadheads.WayMap.{WayMap}
 use Rattle.vs_instance.proofs.deadheads.WayMap.{get-way_map}
 use Rattle.vs_instance.proofs.ways.Ways.get.Goals as goal
 

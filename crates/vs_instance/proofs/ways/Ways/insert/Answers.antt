@@ -2,7 +2,7 @@
 use Rattle.std.proofs.Common.{◌+◌, ◌*◌, ◌<◌, ◌∙◌, sym, ap, length, subst}
 use Rattle.std.specs.FinMap as map
 use Rattle.std.proofs.lemmas.Nat.{mul-add-lt}
-use Rattle.vs_instance.specs.WayMap.{WayMap}
+use Rattle.vs_instance.specs.deadheads.WayMap.{WayMap}
 use Rattle.vs_instance.proofs.deadheads.WayMap.{way_map-set}
 use Rattle.vs_instance.proofs.ways.Ways.insert.Goals as goal
 

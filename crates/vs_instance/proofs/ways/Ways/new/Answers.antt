@@ -1,6 +1,6 @@
 use Rattle.std.proofs.Common.{◌≡◌, ◌*◌, ◌∙◌, ap, refl, replicate, rules}
 use Rattle.std.specs.declared.option.Option.TheVariants.{None}
-use Rattle.vs_instance.specs.WayMap.{way_map}
+use Rattle.vs_instance.specs.deadheads.WayMap.{way_map}
 use Rattle.vs_instance.proofs.deadheads.WayMap.{way_map-none}
 use Rattle.vs_instance.proofs.ways.Ways.new.Goals as goal
 

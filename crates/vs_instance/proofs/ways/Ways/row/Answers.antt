@@ -1,5 +1,5 @@
 use Rattle.std.proofs.Common.{◌<◌, subst, sym}
-use Rattle.vs_instance.specs.WayMap.{WayMap}
+use Rattle.vs_instance.specs.deadheads.WayMap.{WayMap}
 use Rattle.vs_instance.proofs.deadheads.WayMap.{row_of-way_map}
 use Rattle.vs_instance.proofs.ways.Ways.row.Goals as goal
 

@@ -7,7 +7,7 @@ use Rattle.vs_instance.specs.declared.lengths.Measure.{Measure}
 use Rattle.vs_instance.specs.declared.lengths.Measure.TheVariants.{Minutes, Metres}
 use Rattle.vs_instance.specs.declared.lengths.TheConstants.{FAR}
 use Rattle.vs_instance.specs.declared.limits.TheConstants.{MAX_MINUTES, MAX_METRES}
-use Rattle.vs_instance.specs.WayMap.{WayMap}
+use Rattle.vs_instance.specs.deadheads.WayMap.{WayMap}
 
 abbrev pub measured : Measure → Way → ℕ
 measured Minutes w = w.minutes

@@ -1,0 +1,2 @@
+pub mod WayMap
+pub mod Lengths
