@@ -1,3 +1,5 @@
+//! Which trips one vehicle can run one after the other.
+
 ghost use Rattle.std.specs.Prelude.{◌<◌, ◌↔◌, length, IsTrue};
 ghost use Rattle.vs_instance.specs.Ways.{Connects};
 
@@ -11,6 +13,7 @@ pub fn connects(instance: &Instance, i: TripNo, j: TripNo) -> bool
     requires next { j.0 < length instance.now.trips }
     ensures { IsTrue result ↔ Connects instance.now i.0 j.0 }
 {
+    // for the proof: trips of an instance are within its limits
     prove!(i.0 < instance.trips() && j.0 < instance.trips());
     let ended = instance.trip(i);
     let next = instance.trip(j);

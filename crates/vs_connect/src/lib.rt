@@ -3,9 +3,9 @@
 #![tactic(auto)]
 
 mod connections;
-mod laws;
 mod pieces;
 
 pub use connections::connects;
-pub use laws::pieces_exist_where_moves_do;
-pub use pieces::{MAX_PIECE, in_cost, lesser, link_cost, out_cost, scaled, trip_cost};
+pub use pieces::{
+    MAX_PIECE, in_cost, lesser, link_cost, out_cost, pieces_exist_where_moves_do, scaled, trip_cost,
+};

@@ -1,6 +1,11 @@
+//! What each move of a vehicle and each trip costs, in cost units.
+
 ghost use Rattle.std.specs.Prelude.{◌≡◌, ℕ, ◌+◌, ◌*◌, ◌<◌, ◌≤◌, length, option_map, IfSome, ℤ, pos, ◌≤ℤ◌};
 ghost use Rattle.vs_connect.specs.Cost.{IsCost, lesser_of};
+ghost use Rattle.vs_connect.specs.Laws.{PiecesExistWhereMovesDo};
+ghost use Rattle.vs_connect.specs.declared.pieces.TheConstants.{MAX_RATED};
 ghost use Rattle.vs_instance.specs.HoldingTable.{scaled};
+ghost use Rattle.vs_instance.specs.Problem.{Problem};
 ghost use Rattle.vs_instance.specs.Pieces.{out_piece, trip_piece, link_piece, in_piece};
 
 use vs_instance::{Instance, Layer, MAX_METRES, MAX_PER_METRE, MAX_PER_MINUTE, TWO_DAYS};
@@ -9,6 +14,9 @@ use vs_types::{LayerNo, SCALE, TripNo};
 /// No move and no trip costs more cost units than this, within the limits of an instance.
 pub const MAX_PIECE: i64 = 20_000_000_000;
 
+/// The minutes and metres of a way or of a trip cost no more cost units than this.
+const MAX_RATED: u64 = 15_000_000_000;
+
 /// So many minutes and metres at the rates of a layer, in cost units.
 fn rated(layer: &Layer, minutes: u32, metres: u64) -> u64
     requires per_minute { layer.now.per_minute ≤ MAX_PER_MINUTE }
@@ -16,7 +24,7 @@ fn rated(layer: &Layer, minutes: u32, metres: u64) -> u64
     requires minutes { minutes < TWO_DAYS }
     requires metres { metres ≤ MAX_METRES }
     ensures value { result ≡ layer.now.per_minute * minutes + layer.now.per_metre * metres }
-    ensures limit { result ≤ 15000000000 }
+    ensures limit { result ≤ MAX_RATED }
 {
     layer.per_minute * u64::from(minutes) + layer.per_metre * metres
 }
@@ -29,6 +37,7 @@ pub fn out_cost(instance: &Instance, l: LayerNo, i: TripNo) -> Option<i64>
     ensures value { result ≡ option_map pos (out_piece instance.now l.0 i.0) }
     ensures limit { IfSome result IsCost }
 {
+    // for the proof: layers and trips of an instance are within its limits
     prove!(l.0 < instance.layers() && i.0 < instance.trips());
     let layer = instance.layer(l);
     let trip = instance.trip(i);
@@ -47,6 +56,7 @@ pub fn trip_cost(instance: &Instance, l: LayerNo, i: TripNo) -> i64
     ensures value { result ≡ pos (trip_piece instance.now l.0 i.0) }
     ensures limit { IsCost result }
 {
+    // for the proof: layers and trips of an instance are within its limits
     prove!(l.0 < instance.layers() && i.0 < instance.trips());
     let trip = instance.trip(i);
     rated(instance.layer(l), trip.end - trip.start, trip.metres) as i64
@@ -61,6 +71,7 @@ pub fn link_cost(instance: &Instance, l: LayerNo, i: TripNo, j: TripNo) -> Optio
     ensures value { result ≡ option_map pos (link_piece instance.now l.0 i.0 j.0) }
     ensures limit { IfSome result IsCost }
 {
+    // for the proof: layers and trips of an instance are within its limits
     prove!(i.0 < instance.trips() && j.0 < instance.trips());
     let ended = instance.trip(i);
     let next = instance.trip(j);
@@ -80,6 +91,7 @@ pub fn in_cost(instance: &Instance, l: LayerNo, i: TripNo) -> Option<i64>
     ensures value { result ≡ option_map pos (in_piece instance.now l.0 i.0) }
     ensures limit { IfSome result IsCost }
 {
+    // for the proof: layers and trips of an instance are within its limits
     prove!(l.0 < instance.layers() && i.0 < instance.trips());
     let layer = instance.layer(l);
     let way = instance.way(instance.trip(i).to, layer.depot)?;
@@ -104,3 +116,8 @@ pub fn lesser(one: Option<i64>, other: Option<i64>) -> Option<i64>
         (one, None) => one,
     }
 }
+
+/// A move has a cost exactly where a vehicle can make it.
+pub fn pieces_exist_where_moves_do()
+    ensures { (p : Problem) → PiecesExistWhereMovesDo p }
+{}

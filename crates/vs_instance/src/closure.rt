@@ -1,4 +1,4 @@
-//! Whether from stop to stop it is nowhere shorter by a third, and the first three stops where it is.
+//! Whether it is nowhere shorter by a third stop, and the first three stops where it is.
 
 ghost use Rattle.std.specs.Prelude.{◌≡◌, ◌+◌, ◌<◌, ◌↔◌, IfOk, IsTrue, Some};
 ghost use Rattle.std.specs.FinMap as map;

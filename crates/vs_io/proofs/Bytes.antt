@@ -1,13 +1,8 @@
 -- What one take or put after another does to the bytes.
-use Rattle.std.proofs.Common.{◌≡◌, ℕ, ◌+◌, ◌≤◌, Option, Some, None, List, [], ◌++◌, length, take, drop, refl, sym, ap, ◌∙◌, arith, ◌-◌, append-nil, append_assoc, length-drop}
+use Rattle.std.proofs.Common.{◌≡◌, ℕ, ◌+◌, ◌≤◌, Option, Some, None, List, ◌++◌, length, take, drop, sym, ap, ◌∙◌, arith, ◌-◌, append_assoc, length-drop}
 use Rattle.std.proofs.Math.Seq.{take-add}
 use Rattle.std.proofs.lemmas.List.{take_rest, take_at, take-append-drop, length-take, drop-drop}
-use Rattle.vs_io.specs.Bytes.{Takes, TakesAll, Appends}
-
--- no byte was taken
-pub Takes-none : (left : Option (List ℕ)) → Takes left left []
-Takes-none None = refl
-Takes-none (Some xs) = refl
+use Rattle.vs_io.specs.Bytes.{Takes, Appends}
 
 -- one take after another
 pub Takes-append : (old mid new : Option (List ℕ)) (xs ys : List ℕ)
@@ -15,23 +10,6 @@ pub Takes-append : (old mid new : Option (List ℕ)) (xs ys : List ℕ)
 Takes-append old mid None xs ys first second = cc
 Takes-append old mid (Some rest) xs ys first second =
     rw (first, second) (ap Some (sym (append_assoc xs ys rest)))
-
--- where the bytes are told, those taken were the first of them
-pub Takes-told : (old new : Option (List ℕ)) (gone xs : List ℕ) → Takes old new gone → old ≡ Some xs
-    → (rest : List ℕ) × (xs ≡ gone ++ rest) × (new ≡ Some rest)
-Takes-told old None gone xs taken told = cc
-Takes-told old (Some rest) gone xs taken told = (rest, cc, refl)
-
--- all that was told to be left was taken
-pub TakesAll-told : (old new : Option (List ℕ)) (bytes xs : List ℕ) → TakesAll old new bytes → old ≡ Some xs
-    → (xs ≡ bytes) × (new ≡ Some [])
-TakesAll-told None new bytes xs all told = cc
-TakesAll-told (Some ys) new bytes xs all told = (cc, cc)
-
--- no byte was put
-pub Appends-none : (taken : Option (List ℕ)) → Appends taken taken []
-Appends-none None = refl
-Appends-none (Some xs) = ap Some (sym (append-nil xs))
 
 -- one put after another
 pub Appends-append : (old mid new : Option (List ℕ)) (xs ys : List ℕ)

@@ -2,16 +2,6 @@
 use Rattle.std.proofs.Common.{◌≡◌, ℕ, ◌+◌, ◌≤◌, ◌⊎◌, inl, inr, arith}
 use Rattle.vs_io.specs.Faults.{Rose, one_more}
 
--- the count didn't fall before it rose
-pub Rose-after : (first old new : ℕ) → first ≤ old → Rose old new → Rose first new
-Rose-after first old new kept rose =
-    elim rose [ inl higher ↦ inl (omega arith) | inr top ↦ inr top ]
-
--- the count didn't fall after it rose
-pub Rose-before : (old new last : ℕ) → Rose old new → new ≤ last → Rose old last
-Rose-before old new last rose kept =
-    elim rose [ inl higher ↦ inl (omega arith) | inr top ↦ inr (omega arith) ]
-
 -- one more was counted, when the count had risen or was still the first
 pub Rose-counted : (first old new : ℕ) → (old ≡ first) ⊎ Rose first old → new ≡ one_more old → Rose first new
 Rose-counted first old new before counted = elim before [

@@ -1,3 +1,5 @@
+//! A sink in memory, with faults where they are wanted.
+
 ghost use Rattle.std.specs.Prelude.{◌≡◌, ℕ, ◌+◌, ◌<◌, ◌≤◌, ◌↔◌, ◌⊎◌, ◌++◌, [], length, take, min, Contains, Some, IfOk, IsErr, OnOk, OnErr};
 ghost use Rattle.vs_io.specs.Bytes.{Appends};
 ghost use Rattle.vs_io.specs.Faults.{Rose, one_more};

@@ -1,3 +1,5 @@
+//! A source in memory, with faults where they are wanted.
+
 ghost use Rattle.std.specs.Prelude.{◌≡◌, ℕ, ◌<◌, ◌≤◌, ◌↔◌, ◌++◌, length, take, min, Contains, Some, IfOk, IsErr, OnOk, OnErr, []};
 ghost use Rattle.vs_io.specs.Bytes.{Takes};
 ghost use Rattle.vs_io.specs.Faults.{Rose, one_more};
@@ -89,7 +91,8 @@ impl Source for MemSource {
             return Err(Failed);
         }
         let n = self.piece.min(buf.len()).min(self.bytes.len() - self.next);
-        buf[..n].copy_from_slice(&self.bytes[self.next..self.next + n]);
+        let bytes = self.bytes.as_slice();
+        buf[..n].copy_from_slice(&bytes[self.next..self.next + n]);
         self.next += n;
         Ok(n)
     }

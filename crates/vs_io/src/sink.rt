@@ -1,3 +1,5 @@
+//! What a sink is.
+
 ghost use Rattle.std.specs.Prelude.{◌≡◌, ℕ, ◌<◌, ◌≤◌, Option, List, length, take, IfOk, OnErr};
 ghost use Rattle.vs_io.specs.Bytes.{Appends};
 ghost use Rattle.vs_io.specs.Faults.{Rose};

@@ -1,3 +1,5 @@
+//! All bytes of a source, up to a limit.
+
 ghost use Rattle.std.specs.Prelude.{◌≡◌, ℕ, ◌+◌, ◌<◌, ◌≤◌, ◌↔◌, List, length, vec_len, IfOk, IfErr, IsErrOf, IfSome};
 ghost use Rattle.vs_io.specs.Bytes.{Takes, TakesAll};
 ghost use Rattle.vs_io.specs.Faults.{Rose};
@@ -68,37 +70,5 @@ pub fn slurp<S: Source>(alloc: Global, src: &mut S, limit: u64) -> Result<Vec<u8
             return Err(SlurpError::TooLong);
         }
         bytes.extend_from_slice(&piece[..n])?;
-    }
-}
-
-#[cfg(test)]
-mod tests {
-    use super::*;
-    use crate::{MemSource, StdSource};
-    use std::test::Fail;
-
-    #[test]
-    fn reads_up_to_the_limit(rt: HostRuntime) -> Result<(), Fail> {
-        let cases = [
-            (0, 9, Ok(0)),
-            (16, 9, Ok(16)),
-            (17, 9, Err(SlurpError::TooLong)),
-            (16, 2, Err(SlurpError::ReadFault)),
-        ];
-        for (len, failing, expected) in cases {
-            let bytes = vec![in rt.alloc(); 7; len]?;
-            let mut src = MemSource::new(bytes, 5, vec![in rt.alloc(); failing]?);
-            let read = slurp(rt.alloc(), &mut src, 16);
-            assert_eq!(rt; read.map(|bytes| bytes.len()), expected);
-        }
-        Ok(())
-    }
-
-    #[test]
-    fn reads_what_a_reader_gives(rt: HostRuntime) -> Result<(), Fail> {
-        let mut src = StdSource::new(b"depot".as_slice());
-        let read = slurp(rt.alloc(), &mut src, 16)?;
-        assert_eq!(rt; read.as_slice(), b"depot".as_slice());
-        Ok(())
     }
 }

@@ -1,3 +1,5 @@
+//! What a source is, and how a call of a source or a sink fails.
+
 ghost use Rattle.std.specs.Prelude.{◌≡◌, ℕ, ◌<◌, ◌≤◌, Option, List, length, take, IfOk, OnErr};
 ghost use Rattle.std.specs.Io.KnownBytes.{IsAtEnd};
 ghost use Rattle.vs_io.specs.Bytes.{Takes};

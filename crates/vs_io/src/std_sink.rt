@@ -1,3 +1,5 @@
+//! A sink over a writer of the system.
+
 ghost use Rattle.std.specs.Prelude.{◌≡◌, ◌<◌, ◌≤◌, length, take, None, IfOk, OnOk, OnErr};
 ghost use Rattle.std.specs.Io.KnownBytes.{Appends, Keeps};
 ghost use Rattle.vs_io.specs.Faults.{Rose, one_more};

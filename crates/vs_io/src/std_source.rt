@@ -1,3 +1,5 @@
+//! A source over a reader of the system.
+
 ghost use Rattle.std.specs.Prelude.{◌≡◌, ◌<◌, ◌≤◌, length, None, IfOk, OnOk, OnErr};
 ghost use Rattle.std.specs.Io.KnownBytes.{ReadConsumes};
 ghost use Rattle.vs_io.specs.Faults.{Rose, one_more};

@@ -125,5 +125,6 @@ module _ (p : ℕ → Bool) where
 pub bit_at-sum : (p : ℕ → Bool) (i : ℕ) → i < 16
     → bit_at (sum_by (λ l. cond (p l) (2 ^ l) 0) layer_numbers) i ≡ cond (p i) 1 0
 bit_at-sum p i within =
-    ap (λ (ls : List ℕ). bit_at (sum_by (power p) ls) i) layer_numbers-is ∙ ap (λ (n : ℕ). bit_at n i) (powers-are p 0 16)
+    ap (λ (ls : List ℕ). bit_at (sum_by (power p) ls) i) layer_numbers-is ∙ ap (λ (n : ℕ). bit_at n i)
+    (powers-are p 0 16)
     ∙ bit_at-powers p 0 16 i (omega arith) (omega (arith, within))

@@ -64,10 +64,11 @@ impl LayerSet {
         }
     }
 
-    /// The layer of the least number from this one on. None exactly where there is none. Asked from 0 and then from
-    /// behind each answer, it goes over the members in order.
+    /// The layer of the least number from this one on. None exactly where there is none. Asked from 0 and
+    /// then from behind each answer, it goes over the members in order.
     pub fn next_from(self, from: u32) -> Option<LayerNo>
-        ensures next { MatchOption result (members_from self from ≡ []) (λ l. IsNextFrom self from l.0) }
+        ensures next { MatchOption result (members_from self from ≡ [])
+            (λ l. IsNextFrom self from l.0) }
         ensures named { IfSome result (λ l. l.0 < MAX_LAYERS) }
     {
         for l in from..MAX_LAYERS {

@@ -44,7 +44,8 @@ returns-in-Some-trips_misfit-clause-misfit c =
     at_trips c.args.parts c.in-Some-trips_misfit.misfit
     (c.in_default.ensures ∙ ap (λ (ls : List Layer). first_misfit (layers_misfits ls)) c.as_slice-layers.ensures.value)
     (sym (ap deadheads_misfits c.as_slice-deadheads.ensures.value) ∙ c.in_ok-ways.ensures.fit)
-    (c.in-Some-trips_misfit.ensures ∙ ap (λ (ts : List Trip). first_misfit (trips_misfits ts)) c.as_slice-trips.ensures.value)
+    (c.in-Some-trips_misfit.ensures ∙ ap (λ (ts : List Trip). first_misfit (trips_misfits ts))
+    c.as_slice-trips.ensures.value)
 
 pub returns-in-Some-trips_misfit-clause-refused : goal.returns-in-Some-trips_misfit-clause-refused
 returns-in-Some-trips_misfit-clause-refused c =

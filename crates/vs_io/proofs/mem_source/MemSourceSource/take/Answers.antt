@@ -11,6 +11,6 @@ returns-clause-moved c =
     (drop c.self.inside.next c.self.inside.bytes.items) =
     c.copy_from_slice.ensures.after
     ∙ ap (λ xs. take (c.self.inside.next + c.min-n.result - c.self.inside.next) (drop c.self.inside.next xs))
-    c.deref-2.ensures.value in
+    c.as_slice-bytes.ensures.value in
     rw (← c.self.view_is)
     (ap Some (take-moved c.self.inside.bytes.items _ _ c.self.inside.next c.min-n.result fits copied))
