@@ -14,7 +14,7 @@ use Rattle.vs_cert.specs.declared.document.Document.{Document}
 use Rattle.vs_prices.specs.declared.table.Table.{Table}
 use Rattle.vs_tree.specs.Claims.{claim_found}
 use Rattle.vs_prices.specs.Worth.{IsWorth}
-use Rattle.mdvsp.specs.declared.command.Effort.{Effort}
+use Rattle.vs_words.specs.declared.command.Effort.{Effort}
 use Rattle.mdvsp.specs.declared.status.Status.{Status}
 use Rattle.mdvsp.specs.declared.status.Status.TheVariants as status
 use Rattle.mdvsp.specs.Laws.{IsDoneWhereShown}

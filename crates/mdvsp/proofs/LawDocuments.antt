@@ -14,7 +14,7 @@ use Rattle.vs_reader.proofs.texts.TextLemmas.{stands_counts}
 use Rattle.vs_cert.specs.DocumentRows.{document_rows}
 use Rattle.vs_cert.proofs.written.WrittenForms.{stands as stands_for}
 use Rattle.vs_cert.proofs.written.WrittenPlain.{plain_document}
-use Rattle.mdvsp.specs.declared.command.Effort.{Effort}
+use Rattle.vs_words.specs.declared.command.Effort.{Effort}
 use Rattle.mdvsp.specs.declared.status.Status.{Status}
 use Rattle.mdvsp.specs.Owed.{OwesDocument, OwesYes, yes_row}
 

@@ -6,7 +6,7 @@ use Rattle.vs_io.specs.Faults.{Rose}
 use Rattle.mdvsp.specs.declared.answer.Answer.{Answer}
 use Rattle.mdvsp.specs.declared.status.Status.{Status}
 use Rattle.mdvsp.specs.declared.status.Status.TheVariants.{Done, BadInput, WriteFault, NoMemory}
-use Rattle.mdvsp.specs.declared.command.Command.{Command}
+use Rattle.vs_words.specs.declared.command.Command.{Command}
 use Rattle.mdvsp.specs.Outcome.{Told}
 use Rattle.vs_instance.specs.Problem.{Problem}
 use Rattle.vs_cert.specs.declared.document.Document.{Document}

@@ -10,9 +10,9 @@ use Rattle.vs_prices.specs.Table.{AreZeros, Fits}
 use Rattle.vs_prices.specs.Worth.{IsWorth}
 use Rattle.vs_cert.specs.declared.document.Document.{Document}
 use Rattle.vs_reader.specs.Rows.{Row}
-use Rattle.mdvsp.specs.declared.command.Command.{Command}
-use Rattle.mdvsp.specs.declared.command.Effort.{Effort}
-use Rattle.mdvsp.specs.declared.command.Command.TheVariants.{Solve}
+use Rattle.vs_words.specs.declared.command.Command.{Command}
+use Rattle.vs_words.specs.declared.command.Effort.{Effort}
+use Rattle.vs_words.specs.declared.command.Command.TheVariants.{Solve}
 use Rattle.mdvsp.specs.declared.status.Status.{Status}
 use Rattle.mdvsp.specs.declared.status.Status.TheVariants as status
 use Rattle.mdvsp.specs.Owed.{OwesDocument}

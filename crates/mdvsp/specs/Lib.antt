@@ -1,8 +1,6 @@
-pub mod Generator
 pub mod FlawRows
 pub mod RefusalRows
 pub mod Status
-pub mod Words
 pub mod Budgets
 pub mod SolveAnswer
 pub mod Network

@@ -1,7 +1,7 @@
 -- How a run may end: with what was read, and what was written.
 use Rattle.std.specs.Prelude.{◌≡◌, ℕ, ◌<◌, ◌≤◌, List, [], ◌∷◌, length, Option, ◌⊎◌}
-use Rattle.mdvsp.specs.declared.command.Command.{Command}
-use Rattle.mdvsp.specs.declared.command.Command.TheVariants.{Make}
+use Rattle.vs_words.specs.declared.command.Command.{Command}
+use Rattle.vs_words.specs.declared.command.Command.TheVariants.{Make}
 use Rattle.vs_reader.specs.declared.limits.TheConstants.{MAX_BYTES}
 use Rattle.vs_io.specs.Bytes.{Takes, TakesAll, Appends, AppendsPrefix}
 use Rattle.vs_io.specs.Faults.{Rose}
@@ -10,7 +10,8 @@ use Rattle.vs_io.specs.declared.slurping.SlurpError.TheVariants.{ReadFault, TooL
 use Rattle.mdvsp.specs.declared.status.Status.{Status}
 use Rattle.mdvsp.specs.declared.status.Status.TheVariants as status
 use Rattle.vs_reader.specs.Rows.{Row, lines}
-use Rattle.mdvsp.specs.Words.{Word, AreBadAt, AskFor, AskToRead, Reads, words_row}
+use Rattle.vs_words.specs.Words.{Word, AreBadAt, AskFor, AskToRead, Reads}
+use Rattle.mdvsp.specs.RefusalRows.{words_row}
 use Rattle.mdvsp.specs.Owed.{Owes}
 
 -- how many bytes an input may have

@@ -22,10 +22,10 @@ use Rattle.mdvsp.specs.RefusalRows.{document_refusal_row, refusal_row, too_large
 use Rattle.mdvsp.specs.FlawRows.{no_row}
 use Rattle.mdvsp.specs.Budgets.{budget_of}
 use Rattle.mdvsp.specs.SolveAnswer.{SolveAnswer}
-use Rattle.mdvsp.specs.declared.command.Command.{Command}
-use Rattle.mdvsp.specs.declared.command.Effort.{Effort}
-use Rattle.mdvsp.specs.declared.command.Command.TheVariants.{Check, Solve, Network, Blocks, Make}
-use Rattle.mdvsp.specs.Generator.{make_rows}
+use Rattle.vs_words.specs.declared.command.Command.{Command}
+use Rattle.vs_words.specs.declared.command.Effort.{Effort}
+use Rattle.vs_words.specs.declared.command.Command.TheVariants.{Check, Solve, Network, Blocks, Make}
+use Rattle.vs_make.specs.Generator.{make_rows}
 use Rattle.mdvsp.specs.Network.{AreNetworkRows}
 use Rattle.mdvsp.specs.Timetable.{timetable_of}
 use Rattle.vs_instance.specs.Plan.{IsPlan}

@@ -1,4 +1,4 @@
--- The row that tells why a text is refused.
+-- The rows that tell why words or a text are refused.
 use Rattle.std.specs.Prelude.{ℕ, ◌+◌, List, [], ◌∷◌, codes, decimal}
 use Rattle.vs_instance.specs.declared.misfit.Misfit.{Misfit}
 use Rattle.vs_instance.specs.declared.misfit.Misfit.TheVariants.{Range, SelfDeadhead, DeadheadTwice, EndNotAfterStart, NotClosed, LongerMinutes, LongerMetres}
@@ -103,3 +103,7 @@ document_refusal_row at why =
 -- the row that refuses a search of too many nodes for the instance
 abbrev pub too_large_row : Row
 too_large_row = codes "refused" ∷ decimal 0 ∷ decimal 40 ∷ codes "TooLarge" ∷ []
+
+-- the row that tells the first bad word
+abbrev pub words_row : ℕ → Row
+words_row n = codes "words" ∷ decimal n ∷ []

@@ -1,22 +1,23 @@
+//! What a run answers.
+
 ghost use Rattle.std.specs.Prelude.{◌≡◌, ◌≤◌, [], ◌∷◌, length, IfOk};
 ghost use Rattle.vs_check.specs.Flaws.{IsFlawWithin};
 ghost use Rattle.mdvsp.specs.Answered.{IsSaid};
 ghost use Rattle.mdvsp.specs.FlawRows.{no_row};
 ghost use Rattle.mdvsp.specs.Owed.{yes_row};
-ghost use Rattle.mdvsp.specs.RefusalRows.{document_refusal_row, refusal_row, too_large_row};
+ghost use Rattle.mdvsp.specs.RefusalRows.{document_refusal_row, refusal_row, too_large_row, words_row};
 ghost use Rattle.vs_reader.specs.Rows.{lines};
-ghost use Rattle.mdvsp.specs.Words.{words_row};
 
 use crate::flaws::flaw_fields;
 use crate::refusal::{write_document_why, write_why};
 use crate::status::Status;
-use crate::words::BadWord;
 use std::alloc::Global;
 use vs_cert::{DocWhy, Document, Text, bound_field, claim_field, cost_field};
 use vs_check::Flaw;
 use vs_io::{Sink, emit};
 use vs_reader::{Names, Refused};
 use vs_types::Memory;
+use vs_words::BadWord;
 
 /// What a run answers, and what it writes before it ends.
 #[derive(Debug, Drop)]

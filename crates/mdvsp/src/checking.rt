@@ -4,10 +4,10 @@ ghost use Rattle.mdvsp.specs.Outcome.{input_limit};
 
 use crate::answer::Answer;
 use crate::case::{CaseError, read_case};
-use crate::command::Command;
 use std::alloc::Global;
 use vs_check::{Verdict, check};
 use vs_types::Memory;
+use vs_words::Command;
 
 /// What `check` answers for the bytes of an instance and a document.
 pub fn answer_check(alloc: Global, bytes: &[u8]) -> Result<Answer, Memory>

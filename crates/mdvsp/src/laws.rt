@@ -4,13 +4,12 @@ ghost use Rattle.std.specs.Prelude.{◌≡◌, ◌≢◌, ℕ, ◌+◌, ◌*◌,
 ghost use Rattle.vs_reader.specs.Texts.{HasRows, EndsInLine};
 ghost use Rattle.vs_instance.specs.Restriction.{permitted_sets};
 ghost use Rattle.vs_check.specs.Answers.{choices};
-ghost use Rattle.mdvsp.specs.declared.command.Command.{Command};
-ghost use Rattle.mdvsp.specs.declared.command.Effort.{Effort};
+ghost use Rattle.vs_words.specs.declared.command.Command.{Command};
+ghost use Rattle.vs_words.specs.declared.command.Effort.{Effort};
 ghost use Rattle.mdvsp.specs.declared.status.Status.{Status};
 ghost use Rattle.mdvsp.specs.declared.status.Status.TheVariants as status;
 ghost use Rattle.mdvsp.specs.Laws.{IsDetermined, IsDoneWhereShown, MayBothBe, NeverPasses};
 ghost use Rattle.mdvsp.specs.Owed.{CheckOwes, Owes, OwesDocument, yes_row};
-ghost use Rattle.mdvsp.specs.Words.{Word, AreBadAt, AskFor};
 ghost use Rattle.vs_reader.specs.Rows.{Row, lines};
 
 /// What `solve` has to write for an instance is true: behind the instance's records, the last of which is
@@ -58,11 +57,4 @@ pub fn enough_nodes_leave_nothing_open()
     ensures { (effort : Effort) (bytes : List ℕ) (answer : Status) (rows : List Row)
         (owed : OwesDocument effort bytes answer rows)
         → 2 * choices (permitted_sets owed.problem) ≤ owed.budget + 1 → answer ≢ status.StillOpen }
-{}
-
-/// Words ask for one command at most, or are bad at one place, and never both.
-pub fn words_mean_one_thing()
-    ensures one_command { (words : List Word) (c d : Command) → AskFor words c → AskFor words d → c ≡ d }
-    ensures one_place { (words : List Word) (m n : ℕ) → AreBadAt words m → AreBadAt words n → m ≡ n }
-    ensures never_both { (words : List Word) (c : Command) (n : ℕ) → AskFor words c → ¬ (AreBadAt words n) }
 {}

@@ -7,7 +7,6 @@ ghost use Rattle.mdvsp.specs.Network.{WritesLayer, WritesNet, count_fields, size
 ghost use Rattle.mdvsp.specs.Outcome.{input_limit};
 
 use crate::answer::Answer;
-use crate::command::Command;
 use crate::status::Status;
 use std::alloc::Global;
 use vs_cert::Text;
@@ -15,6 +14,7 @@ use vs_instance::Instance;
 use vs_match::{NetCounts, counts, first_match, full_count, latest_first_match};
 use vs_reader::{Names, ReadError, read};
 use vs_types::{LayerNo, Memory};
+use vs_words::Command;
 
 /// What `network` answers for the bytes of an instance, whatever follows its records.
 pub fn answer_network(alloc: Global, bytes: &[u8]) -> Result<Answer, Memory>

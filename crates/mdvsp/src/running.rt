@@ -1,24 +1,24 @@
-ghost use Rattle.std.specs.Prelude.{◌≡◌, ◌≤◌, List, length, IfErr, IfOk};
+ghost use Rattle.std.specs.Prelude.{◌≡◌, ℕ, ◌≤◌, List, length, IfErr, IfOk};
 ghost use Rattle.mdvsp.specs.Answered.{IsOwedFor};
 ghost use Rattle.mdvsp.specs.Outcome.{CouldNotRead, Ends, HasRead, input_limit};
-ghost use Rattle.mdvsp.specs.Words.{AskFor, AskToRead, IsWithinLimits, Reads, Word, words_of};
+ghost use Rattle.vs_words.specs.Words.{AskFor, AskToRead, IsWithinLimits, Reads, Word, words_of};
 
 use crate::answer::{Answer, say};
 use crate::checking::answer_check;
-use crate::command::Command;
-use crate::making::answer_make;
 use crate::network::answer_network;
 use crate::solving::answer_solve;
 use crate::status::Status;
 use crate::timetable::answer_blocks;
-use crate::words::command_of;
 use std::alloc::Global;
 use std::sync::Wait;
 use std::thread::Threads;
 use vs_crew::Gate;
+use vs_instance::MAX_TRIPS;
 use vs_io::{Sink, SlurpError, Source, slurp};
 use vs_reader::MAX_BYTES;
+use vs_make::make_text;
 use vs_types::Memory;
+use vs_words::{Command, command_of};
 
 /// Does what the words ask for, and says how it ended. The input is read to its end, and nothing is
 /// written before the whole output stands. Where the words are wrong, and by `make`, nothing is read. The workers of a
@@ -121,4 +121,16 @@ fn answer_to<R: Threads + Wait + Sync, G: Gate + Sync>(
         Command::Blocks => answer_blocks(alloc, bytes),
         Command::Make(n) => answer_make(alloc, n),
     }
+}
+
+/// What `make n` answers.
+fn answer_make(alloc: Global, n: u32) -> Result<Answer, Memory>
+    requires { n ≤ MAX_TRIPS }
+    ensures { (bytes : List ℕ) → IfOk result (IsOwedFor (Command.Make n) bytes) }
+{
+    let text = make_text(alloc, n)?;
+    Ok(Answer {
+        status: Status::Done,
+        text,
+    })
 }

@@ -8,11 +8,10 @@ ghost use Rattle.mdvsp.specs.Answered.{IsOwedFor, IsDocumentOf};
 ghost use Rattle.mdvsp.specs.Outcome.{input_limit};
 ghost use Rattle.mdvsp.specs.Owed.{status_of};
 ghost use Rattle.mdvsp.specs.SolveAnswer.{BeginsFor};
-ghost use Rattle.mdvsp.specs.Words.{IsWithinLimits};
+ghost use Rattle.vs_words.specs.Words.{IsWithinLimits};
 
 use crate::answer::Answer;
 use crate::budget::budget_of;
-use crate::command::{Command, Effort};
 use crate::status::Status;
 use std::alloc::Global;
 use std::sync::Wait;
@@ -25,6 +24,7 @@ use vs_plan::greedy;
 use vs_reader::{Input, ReadError, read};
 use vs_tree::{Claim, Tree};
 use vs_types::Memory;
+use vs_words::{Command, Effort};
 
 /// What `solve` answers for the bytes of an instance, whatever follows its records, with this effort.
 pub fn answer_solve<R: Threads + Wait + Sync, G: Gate + Sync>(

@@ -12,7 +12,6 @@ ghost use Rattle.mdvsp.specs.Timetable.{run_row, timetable, vehicle_row, vehicle
 
 use crate::answer::Answer;
 use crate::case::{Case, CaseError, read_case};
-use crate::command::Command;
 use crate::status::Status;
 use std::alloc::Global;
 use vs_cert::Text;
@@ -21,6 +20,7 @@ use vs_instance::Instance;
 use vs_plan::{Block, PlanError, block_cost, block_times, judge};
 use vs_reader::Names;
 use vs_types::{LayerNo, Memory, TripNo};
+use vs_words::Command;
 
 /// What `blocks` answers for the bytes of an instance and a document.
 pub fn answer_blocks(alloc: Global, bytes: &[u8]) -> Result<Answer, Memory>

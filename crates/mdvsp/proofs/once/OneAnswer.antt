@@ -6,8 +6,8 @@ use Rattle.vs_reader.specs.Names.{NameLists}
 use Rattle.vs_reader.specs.Rows.{Row}
 use Rattle.vs_reader.specs.declared.refused.Refused.{Refused}
 use Rattle.vs_reader.proofs.texts.TextLemmas.{one_reading, refused_none}
-use Rattle.mdvsp.specs.declared.command.Command.{Command}
-use Rattle.mdvsp.specs.declared.command.Command.TheVariants.{Check, Solve, Network, Blocks, Make}
+use Rattle.vs_words.specs.declared.command.Command.{Command}
+use Rattle.vs_words.specs.declared.command.Command.TheVariants.{Check, Solve, Network, Blocks, Make}
 use Rattle.mdvsp.specs.declared.status.Status.{Status}
 use Rattle.mdvsp.specs.declared.status.Status.TheVariants as status
 use Rattle.mdvsp.specs.Network.{AreNetworkRows}
@@ -23,7 +23,7 @@ use Rattle.vs_check.specs.declared.flaw.Flaw.TheVariants.{Plan}
 use Rattle.vs_check.specs.Flaws.{flaws_of}
 use Rattle.vs_check.specs.HoldingDocument.{HoldingDocument}
 use Rattle.mdvsp.specs.FlawRows.{no_row}
-use Rattle.mdvsp.specs.Generator.{make_rows}
+use Rattle.vs_make.specs.Generator.{make_rows}
 use Rattle.mdvsp.specs.Laws.{IsDetermined}
 use Rattle.mdvsp.specs.Owed.{Owes, BlocksOwes, CheckOwes, MakeOwes, NetworkOwes, OwesNetwork, OwesNo, OwesNoCase, OwesNoTimetable, OwesRefusal, OwesTimetable, OwesYes}
 use Rattle.mdvsp.specs.Timetable.{rows_beside, timetable_of}

@@ -13,7 +13,7 @@ use Rattle.vs_cert.specs.declared.document.Document.{Document}
 use Rattle.vs_check.specs.Answers.{choices}
 use Rattle.vs_check.specs.HoldingDocument.{ProvesItsClaim}
 use Rattle.vs_check.proofs.EnoughBudgets.{enough_budgets_leave_nothing_open}
-use Rattle.mdvsp.specs.declared.command.Effort.{Effort}
+use Rattle.vs_words.specs.declared.command.Effort.{Effort}
 use Rattle.mdvsp.specs.declared.status.Status.{Status}
 use Rattle.mdvsp.specs.declared.status.Status.TheVariants as status
 use Rattle.mdvsp.specs.Budgets.{budget_of}

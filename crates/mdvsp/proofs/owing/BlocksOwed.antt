@@ -16,7 +16,7 @@ use Rattle.vs_cert.specs.declared.document.Document.{Document}
 use Rattle.vs_reader.specs.Names.{NameLists, HaveCounts}
 use Rattle.vs_reader.specs.Rows.{lines}
 use Rattle.mdvsp.specs.declared.answer.Answer.{Answer}
-use Rattle.mdvsp.specs.declared.command.Command.TheVariants.{Blocks}
+use Rattle.vs_words.specs.declared.command.Command.TheVariants.{Blocks}
 use Rattle.mdvsp.specs.declared.status.Status.TheVariants as status
 use Rattle.mdvsp.specs.Answered.{IsOwedFor}
 use Rattle.mdvsp.specs.FlawRows.{no_row}

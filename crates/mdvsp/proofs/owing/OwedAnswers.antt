@@ -13,9 +13,9 @@ use Rattle.vs_reader.specs.Texts.{StandsFor, IsRefused}
 use Rattle.mdvsp.specs.declared.answer.Answer.{Answer}
 use Rattle.mdvsp.specs.declared.status.Status.{Status}
 use Rattle.mdvsp.specs.declared.status.Status.TheVariants as status
-use Rattle.mdvsp.specs.declared.command.Command.{Command}
-use Rattle.mdvsp.specs.declared.command.Effort.{Effort}
-use Rattle.mdvsp.specs.declared.command.Command.TheVariants.{Check, Solve, Network}
+use Rattle.vs_words.specs.declared.command.Command.{Command}
+use Rattle.vs_words.specs.declared.command.Effort.{Effort}
+use Rattle.vs_words.specs.declared.command.Command.TheVariants.{Check, Solve, Network}
 use Rattle.mdvsp.specs.Answered.{HasSizes, IsDocumentOf, IsNoCase, IsOwedFor, RefusesCase, case_error}
 use Rattle.vs_cert.specs.DocumentRefusals.{AreRefused}
 use Rattle.vs_cert.specs.DocumentRows.{document_rows}

@@ -6,13 +6,14 @@ use Rattle.vs_io.specs.Bytes.{Takes, TakesAll, Appends, AppendsPrefix}
 use Rattle.mdvsp.specs.declared.answer.Answer.{Answer}
 use Rattle.mdvsp.specs.declared.status.Status.{Status}
 use Rattle.mdvsp.specs.declared.status.Status.TheVariants.{Done, SaysNo, BadWords, BadInput, Infeasible, StillOpen}
-use Rattle.mdvsp.specs.declared.command.Command.{Command}
-use Rattle.mdvsp.specs.declared.command.Command.TheVariants.{Check, Solve, Network, Blocks, Make}
+use Rattle.vs_words.specs.declared.command.Command.{Command}
+use Rattle.vs_words.specs.declared.command.Command.TheVariants.{Check, Solve, Network, Blocks, Make}
 use Rattle.mdvsp.specs.Answered.{IsOwedFor, IsSaid}
 use Rattle.mdvsp.specs.Outcome.{Run, Told, Answered, Ends, HasRead, IsOwed, IsTold, TookFew}
 use Rattle.mdvsp.specs.Owed.{Owes}
 use Rattle.vs_reader.specs.Rows.{Row, lines}
-use Rattle.mdvsp.specs.Words.{AreBadAt, AskFor, words_row}
+use Rattle.vs_words.specs.Words.{AreBadAt, AskFor}
+use Rattle.mdvsp.specs.RefusalRows.{words_row}
 
 -- what was owed for some command was written
 answered_ends : (run : Run) (command : Command) (bytes : List ℕ) (answer : Status) (rows : List Row)

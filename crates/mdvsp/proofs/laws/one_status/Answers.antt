@@ -2,8 +2,8 @@ use Rattle.std.proofs.Common.{ℕ, List, inl}
 use Rattle.vs_reader.specs.Rows.{Row}
 use Rattle.mdvsp.specs.Laws.{MayBothBe}
 use Rattle.mdvsp.specs.Owed.{Owes}
-use Rattle.mdvsp.specs.declared.command.Command.{Command}
-use Rattle.mdvsp.specs.declared.command.Command.TheVariants.{Check, Solve, Network, Blocks, Make}
+use Rattle.vs_words.specs.declared.command.Command.{Command}
+use Rattle.vs_words.specs.declared.command.Command.TheVariants.{Check, Solve, Network, Blocks, Make}
 use Rattle.mdvsp.specs.declared.status.Status.{Status}
 use Rattle.mdvsp.proofs.once.OneAnswer.{one_answer}
 use Rattle.mdvsp.proofs.once.SolveStatus.{solve_status}

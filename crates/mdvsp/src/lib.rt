@@ -1,0 +1,25 @@
+//! `mdvsp` plans the vehicles of a bus company for one timetable, and judges such plans. `run` does what words ask for,
+//! over any source and sink of bytes; the program beside it, `mdvsp_main`, calls it over its standard streams.
+#![tactic(auto)]
+
+mod answer;
+mod budget;
+mod case;
+mod checking;
+mod flaws;
+mod laws;
+mod network;
+mod refusal;
+mod running;
+mod solving;
+mod status;
+mod timetable;
+
+pub use laws::{
+    bounds_never_pass_costs, done_where_shown, enough_nodes_leave_nothing_open, one_answer,
+    one_status, solved_documents_hold,
+};
+pub use running::run;
+pub use status::Status;
+pub use vs_make::make_text;
+pub use vs_words::words_mean_one_thing;

@@ -1,0 +1,77 @@
+//! The program `mdvsp`: it plans the vehicles of a bus company for one timetable, and judges such plans.
+#![tactic(auto)]
+
+use mdvsp::{Status, run};
+use progress::Progress;
+use std::alloc::Global;
+use std::io::IsTerminal;
+use std::process::ExitCode;
+use std::rt::Env;
+use std::{env, io};
+use vs_io::{StdSink, StdSource};
+
+mod progress;
+
+/// The version of the program.
+const VERSION: &str = "1.0.0";
+
+/// How the program is called.
+const USAGE: &str = "\
+usage: mdvsp COMMAND < input > output
+
+commands:
+  solve [--workers N] [--nodes N]
+            plan the vehicles of a timetable; so many workers, 1 to 64, share the search, 4 where none are told,
+            and they work on so many cases, 0 to 100000, at most
+  check     judge a plan's document behind its timetable
+  blocks    print the timetable of a plan's vehicles
+  network   tell how large a timetable's networks are
+  make N    write a timetable of N trips, 0 to 2000, to try the program on
+
+exit status:
+  0 done, solve: the plan is optimal   1 check, blocks: no   2 wrong words   3 the input is refused
+  4 reading failed   5 writing failed   6 no memory   7 the input is too long
+  10 solve: there is no plan   11 solve: open, the nodes ran out";
+
+/// Runs the words after the program's name over standard input and output, and ends with the run's code. Where standard
+/// error is a terminal, it tells there how far the run has come, and where the words are wrong, it tells on standard error
+/// how the program is called.
+fn main(rt: HostRuntime) -> ExitCode {
+    let words = match given_words(&rt) {
+        Ok(words) => words,
+        Err(status) => return ExitCode::from(status.code()),
+    };
+    let mut input = StdSource::new(rt.stdin());
+    let mut output = StdSink::new(rt.stdout());
+    let progress = Progress::new(&rt, rt.stderr().is_terminal());
+    let status = run(&rt, rt.alloc(), &words, &mut input, &mut output, &progress);
+    progress.end();
+    if status == Status::BadWords {
+        tell_usage(&rt, &words);
+    }
+    ExitCode::from(status.code())
+}
+
+/// Tells on standard error how the program is called, and its version where the words ask for it. Whether standard error
+/// takes it doesn't matter.
+fn tell_usage<R: Eprint>(rt: &R, words: &[String]) {
+    if words
+        .first()
+        .is_some_and(|word| word.as_str() == "--version")
+    {
+        let _ = eprintln!(rt; "mdvsp {VERSION}");
+    }
+    let _ = eprintln!(rt; "{USAGE}");
+}
+
+/// The words after the program's name. Words that aren't text are bad ones.
+fn given_words<R: Env + AllocGlobal>(rt: &R) -> Result<Vec<String>, Status> {
+    let args = match env::args(rt) {
+        Ok(args) => args,
+        Err(e) if e.kind() == io::ErrorKind::OutOfMemory => return Err(Status::NoMemory),
+        Err(_) => return Err(Status::BadWords),
+    };
+    args.skip(1)
+        .collect(rt.alloc())
+        .map_err(|_| Status::NoMemory)
+}

@@ -1,0 +1,19 @@
+use Rattle.std.proofs.Common.{◌++◌, sym, ap, ◌∙◌}
+use Rattle.std.specs.List.{range_with_len}
+use Rattle.vs_reader.specs.Rows.{lines}
+use Rattle.vs_make.specs.declared.grid.TheConstants.{STOPS}
+use Rattle.vs_make.specs.Generator.{deadheads_from}
+use Rattle.vs_cert.proofs.written.WrittenRows.{lines-flat_map, numbered_more, numbered_all}
+use Rattle.vs_make.proofs.making.write_deadheads.Goals as goal
+
+pub loop-k-preserved : goal.loop-k-preserved
+loop-k-preserved c =
+    numbered_more
+    (λ x. lines (deadheads_from x)) c.args.text.now c.loop-k.text c.write_deadheads_from.new.text STOPS c.loop-k.k
+    c.loop-k-test.true c.loop-k.invariant c.in_ok-write_deadheads_from.ensures
+
+pub returns : goal.returns
+returns c =
+    numbered_all (λ x. lines (deadheads_from x)) c.args.text.now c.loop-k.text STOPS c.loop-k.k c.loop-k-test.false
+    c.loop-k.invariant
+    ∙ ap (λ bytes. c.args.text.now ++ bytes) (sym (lines-flat_map (deadheads_from) (range_with_len 0 STOPS)))

@@ -1,0 +1,3 @@
+pub mod CommandWords
+pub mod ShortNumbers
+pub mod WordLaws

@@ -1,0 +1,21 @@
+-- Numbers as words write them.
+use Rattle.std.proofs.Common.{◌≡◌, ℕ, ◌^◌, ◌<◌, length, get_or, Result, Ok, arith}
+use Rattle.std.specs.Char.{IsAsciiDigit}
+use Rattle.std.specs.Int.{IsInRange}
+use Rattle.std.specs.Str.Parse.{ParsesUnsigned, digits_value}
+use Rattle.std.proofs.lemmas.List.Elements.{All-get_or}
+use Rattle.std.proofs.lemmas.Str.Parse.{IsNumeralModel, numerals_by_value, parse_gives, tells_by_index}
+use Rattle.vs_reader.specs.Numbers.{AreDigits}
+use Rattle.vs_reader.proofs.declaring.NumberLemmas.{digits_short}
+use Rattle.vs_words.specs.Words.{Word}
+
+numerals : IsNumeralModel (λ ds. (i : ℕ) → i < length ds → IsInRange 48 57 (get_or ds i 0)) (digits_value 10)
+numerals = numerals_by_value (λ ds. (i : ℕ) → i < length ds → IsInRange 48 57 (get_or ds i 0)) tells_by_index
+
+-- what is read from few digits is the number that they write
+pub parses_number : {E : Type 0} (word : Word) (r : Result ℕ E) → AreDigits word 6 → ParsesUnsigned 32 10 word r
+    → r ≡ Ok (digits_value 10 word)
+parses_number word r digits parses =
+    let few : digits_value 10 word < 10 ^ 6 = digits_short word 6 digits.digits digits.few in
+    parse_gives numerals 32 word r parses (λ i within. All-get_or IsAsciiDigit word i 0 within digits.digits)
+    digits.some (omega arith)

@@ -1,0 +1,24 @@
+//! What the program is asked to do.
+
+/// How much a search may take: how many workers share it, 1 to 64, and on how many nodes it may work at most, 0 to
+/// 100,000, where a number is given.
+#[derive(Clone, Copy, Debug, PartialEq, Eq)]
+pub struct Effort {
+    pub workers: u32,
+    pub nodes: Option<u32>,
+}
+
+/// What the program is asked to do.
+#[derive(Clone, Copy, Debug, PartialEq, Eq)]
+pub enum Command {
+    /// Judge a document.
+    Check,
+    /// Plan an instance by a search.
+    Solve(Effort),
+    /// Tell how large the nets of an instance's layers are.
+    Network,
+    /// Print the timetable of a document's plan.
+    Blocks,
+    /// Write the generator's instance of so many trips, 0 to 2,000.
+    Make(u32),
+}

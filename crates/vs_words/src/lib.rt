@@ -1,0 +1,10 @@
+//! The words that the program is called with: what they ask for, or which of them is the first bad one.
+#![tactic(auto)]
+
+mod command;
+mod laws;
+mod words;
+
+pub use command::{Command, Effort};
+pub use laws::words_mean_one_thing;
+pub use words::{BadWord, DEFAULT_WORKERS, MAX_DIGITS, Setting, command_of};
