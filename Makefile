@@ -8,8 +8,8 @@ SOURCES := crates.txt $(shell find crates -name out -prune -o \( -name '*.rt' -o
 all: bin/mdvsp
 
 bin/mdvsp: $(SOURCES)
-	cd crates/mdvsp && rt run -- check < stdin > /dev/null
-	mkdir -p bin && cp crates/mdvsp/out/mdvsp $@
+	cd crates/mdvsp_main && rt run -- check < stdin > /dev/null
+	mkdir -p bin && cp crates/mdvsp_main/out/mdvsp_main $@
 
 demo:
 	@examples/demo.sh

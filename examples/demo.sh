@@ -11,7 +11,7 @@ if [ -x bin/mdvsp ]; then
   run() { bin/mdvsp "$@"; }
 else
   echo "This runs the sources as they are, unproved, and takes some minutes; \`make\` proves the program and builds bin/mdvsp."
-  run() { (cd crates/mdvsp && rt try --steps 1 --seconds 1800 -- "$@" 2> "$work/log"); }
+  run() { (cd crates/mdvsp_main && rt try --steps 1 --seconds 1800 -- "$@" 2> "$work/log"); }
 fi
 
 run solve --nodes 20 < "$timetable" > "$work/plan.csv"

@@ -1,0 +1,238 @@
+//! `solve`, and `check` on what it writes.
+
+use crate::runs::audited;
+use mdvsp::Status;
+use std::alloc::Global;
+use std::process::Abort;
+use std::sync::Wait;
+use std::test::Fail;
+use std::thread::Threads;
+use trial_fixtures::joined;
+use trial_fixtures::texts::{
+    BLOCK, END, HALVES, LATE_TRIPS, LAYER, LONG_TRIPS, NO_TRIP_HEAD, NO_TRIP_TABLE, ONE_VEHICLE,
+    OTHER_LAYER, QUOTED_LAYER, QUOTED_STOPS, QUOTED_TRIPS, STOPS, TRIPS, TRIPS_APART, TWO_LAYERS,
+    ZERO_TABLE,
+};
+use vs_crew::NoGate;
+
+/// What a timetable is like, the text that is read, that of its records, the last words of the calls that plan it, how
+/// they end, the first rows that they write, and the verdict on the document.
+struct Planned {
+    case: &'static str,
+    input: &'static [&'static str],
+    records: &'static [&'static str],
+    words: &'static [&'static str],
+    status: Status,
+    head: &'static [&'static str],
+    verdict: &'static str,
+}
+
+const ZERO_HEAD: &str = "result,1,open\ncost,1080\nbound,60\nnodes,0\n";
+
+/// Plans without a search. Their whole documents stand here.
+const UNSEARCHED: &[Planned] = &[
+    Planned {
+        case: "two trips",
+        input: &[STOPS, LAYER, TRIPS],
+        records: &[STOPS, LAYER, TRIPS],
+        words: &["--nodes", "0"],
+        status: Status::StillOpen,
+        head: &[ZERO_HEAD, BLOCK, ZERO_TABLE, END],
+        verdict: "yes,open,1080,60\n",
+    },
+    Planned {
+        case: "what follows isn't read",
+        input: &[STOPS, LAYER, TRIPS, "result,\"\r\nstop"],
+        records: &[STOPS, LAYER, TRIPS],
+        words: &["--nodes", "0"],
+        status: Status::StillOpen,
+        head: &[ZERO_HEAD, BLOCK, ZERO_TABLE, END],
+        verdict: "yes,open,1080,60\n",
+    },
+    Planned {
+        case: "quoted fields, and lines that end otherwise",
+        input: &[QUOTED_STOPS, QUOTED_LAYER, QUOTED_TRIPS],
+        records: &[QUOTED_STOPS, QUOTED_LAYER, QUOTED_TRIPS, "\r\n"],
+        words: &["--nodes", "0"],
+        status: Status::StillOpen,
+        head: &[ZERO_HEAD, BLOCK, ZERO_TABLE, END],
+        verdict: "yes,open,1080,60\n",
+    },
+    Planned {
+        case: "until 47:59",
+        input: &[STOPS, LAYER, LONG_TRIPS],
+        records: &[STOPS, LAYER, LONG_TRIPS],
+        words: &["--nodes", "0"],
+        status: Status::StillOpen,
+        head: &[
+            "result,1,open\ncost,4469\nbound,2429\nnodes,0\n",
+            "block,L1,t1\nblock,L1,t2\n",
+            ZERO_TABLE,
+            END,
+        ],
+        verdict: "yes,open,4469,2429\n",
+    },
+    Planned {
+        case: "one vehicle short",
+        input: &[STOPS, ONE_VEHICLE, LATE_TRIPS],
+        records: &[STOPS, ONE_VEHICLE, LATE_TRIPS],
+        words: &["--nodes", "0"],
+        status: Status::StillOpen,
+        head: &[
+            "result,1,open\ncost,none\nbound,61\nnodes,0\n",
+            ZERO_TABLE,
+            END,
+        ],
+        verdict: "yes,open,none,61\n",
+    },
+    Planned {
+        case: "no trips",
+        input: &[STOPS, LAYER],
+        records: &[STOPS, LAYER],
+        words: &["--nodes", "0"],
+        status: Status::Done,
+        head: &[NO_TRIP_HEAD, NO_TRIP_TABLE, END],
+        verdict: "yes,optimal,0,0\n",
+    },
+];
+
+/// A trip that leaves the depot in the first minute of the first day, and one that no vehicle can reach in time.
+const FIRST_MINUTE: &str = "trip,t0,D,0:00,P,0:10,0,L1\n";
+
+const TOO_EARLY: &str = "trip,t0,P,0:09,Q,0:30,0,L1\n";
+
+const SEARCHED: &[Planned] = &[
+    Planned {
+        case: "no trips",
+        input: &[STOPS, LAYER],
+        records: &[STOPS, LAYER],
+        words: &[],
+        status: Status::Done,
+        head: &[
+            "result,1,optimal\ncost,0\nbound,0\nnodes,0\ntable,1,cost\nfleet,L1,0\nleaf,1\nend\n",
+        ],
+        verdict: "yes,optimal,0,0\n",
+    },
+    Planned {
+        case: "two trips",
+        input: &[STOPS, LAYER, TRIPS],
+        records: &[STOPS, LAYER, TRIPS],
+        words: &[],
+        status: Status::Done,
+        head: &["result,1,optimal\ncost,1080\nbound,1080\nnodes,1\nblock,L1,t1,t2\ntable,1,cost\n"],
+        verdict: "yes,optimal,1080,1080\n",
+    },
+    Planned {
+        case: "late second trip",
+        input: &[STOPS, LAYER, LATE_TRIPS],
+        records: &[STOPS, LAYER, LATE_TRIPS],
+        words: &[],
+        status: Status::Done,
+        head: &["result,1,optimal\ncost,2101\nbound,2101\nnodes,1\nblock,L1,t1\nblock,L1,t2\n"],
+        verdict: "yes,optimal,2101,2101\n",
+    },
+    Planned {
+        case: "one vehicle short",
+        input: &[STOPS, ONE_VEHICLE, LATE_TRIPS],
+        records: &[STOPS, ONE_VEHICLE, LATE_TRIPS],
+        words: &[],
+        status: Status::Infeasible,
+        head: &["result,1,infeasible\ncost,none\nbound,none\nnodes,1\ntable,1,ray\n"],
+        verdict: "yes,infeasible,none,none\n",
+    },
+    Planned {
+        case: "first minute",
+        input: &[STOPS, LAYER, FIRST_MINUTE],
+        records: &[STOPS, LAYER, FIRST_MINUTE],
+        words: &[],
+        status: Status::Done,
+        head: &["result,1,optimal\ncost,1020\nbound,1020\n"],
+        verdict: "yes,optimal,1020,1020\n",
+    },
+    Planned {
+        case: "too early",
+        input: &[STOPS, LAYER, TOO_EARLY],
+        records: &[STOPS, LAYER, TOO_EARLY],
+        words: &[],
+        status: Status::Infeasible,
+        head: &["result,1,infeasible\ncost,none\nbound,none\n"],
+        verdict: "yes,infeasible,none,none\n",
+    },
+    Planned {
+        case: "two layers apart",
+        input: &[STOPS, LAYER, OTHER_LAYER, TRIPS_APART],
+        records: &[STOPS, LAYER, OTHER_LAYER, TRIPS_APART],
+        words: &["--nodes", "1"],
+        status: Status::Done,
+        head: &["result,1,optimal\ncost,2095\nbound,2095\nnodes,1\nblock,L1,t1\nblock,L2,t2\n"],
+        verdict: "yes,optimal,2095,2095\n",
+    },
+    Planned {
+        case: "halves of blocks",
+        input: &HALVES,
+        records: &HALVES,
+        words: &["--nodes", "127"],
+        status: Status::Infeasible,
+        head: &["result,1,infeasible\ncost,none\nbound,none\n"],
+        verdict: "yes,infeasible,none,none\n",
+    },
+    Planned {
+        case: "a trip in either of two layers",
+        input: &[STOPS, TWO_LAYERS],
+        records: &[STOPS, TWO_LAYERS],
+        words: &[],
+        status: Status::Done,
+        head: &["result,1,optimal\ncost,500\nbound,500\n"],
+        verdict: "yes,optimal,500,500\n",
+    },
+];
+
+/// So many workers plan the timetable as the row says, and the document holds.
+fn is_planned<R: Abort + Threads + Wait + Sync>(
+    rt: &R,
+    alloc: Global,
+    workers: &str,
+    row: &Planned,
+) -> Result<(), Fail> {
+    let mut words = Vec::from_slice(alloc, &["solve", "--workers", workers])?;
+    words.extend_from_slice(row.words)?;
+    let input = joined(alloc, row.input)?;
+    let records = joined(alloc, row.records)?;
+    let head = joined(alloc, row.head)?;
+    let told = audited(rt, alloc, &words, &input, &records, &NoGate)?;
+    assert_eq!(rt; told.status, row.status, "{}, {workers}", row.case);
+    assert!(rt; told.document.starts_with(&head), "{}, {workers}", row.case);
+    assert_eq!(rt; told.verdict, Status::Done, "{}, {workers}", row.case);
+    assert_eq!(rt;
+        told.row.as_slice(),
+        row.verdict.as_bytes(),
+        "{}, {workers}",
+        row.case
+    );
+    Ok(())
+}
+
+/// So they plan each timetable of a table.
+fn are_planned<R: Abort + Threads + Wait + Sync>(
+    rt: &R,
+    alloc: Global,
+    workers: &str,
+    rows: &[Planned],
+) -> Result<(), Fail> {
+    for row in rows {
+        is_planned(rt, alloc, workers, row)?;
+    }
+    Ok(())
+}
+
+#[test]
+fn plans_without_a_search(rt: HostRuntime) -> Result<(), Fail> {
+    are_planned(&rt, rt.alloc(), "4", UNSEARCHED)
+}
+
+#[test]
+fn searches_for_plans(rt: HostRuntime) -> Result<(), Fail> {
+    are_planned(&rt, rt.alloc(), "1", SEARCHED)?;
+    are_planned(&rt, rt.alloc(), "2", SEARCHED)?;
+    are_planned(&rt, rt.alloc(), "4", SEARCHED)
+}

@@ -1,0 +1,330 @@
+//! What is refused before it is planned or judged.
+
+use crate::runs::{Row, come_out};
+use mdvsp::Status;
+use std::test::Fail;
+use trial_fixtures::texts::{BLOCK, END, HEAD, LAYER, STOPS, TABLE, TRIPS};
+
+const NO_INSTANCES: &[Row] = &[
+    Row {
+        case: "empty",
+        input: &[""],
+        status: Status::BadInput,
+        written: "refused,1,1,NoHeader\n",
+    },
+    Row {
+        case: "no header",
+        input: &["stop,D\n"],
+        status: Status::BadInput,
+        written: "refused,1,1,NoHeader\n",
+    },
+    Row {
+        case: "header with a field more",
+        input: &["instance,1,2\n"],
+        status: Status::BadInput,
+        written: "refused,1,1,NoHeader\n",
+    },
+    Row {
+        case: "header with a field less",
+        input: &["instance\n"],
+        status: Status::BadInput,
+        written: "refused,1,1,NoHeader\n",
+    },
+    Row {
+        case: "another kind",
+        input: &[STOPS, "Stop,R\n"],
+        status: Status::BadInput,
+        written: "refused,11,2,UnknownKind\n",
+    },
+    Row {
+        case: "stop with a field more",
+        input: &["instance,1\nstop,D,E\n"],
+        status: Status::BadInput,
+        written: "refused,2,3,FieldCount\n",
+    },
+    Row {
+        case: "stop with a field less",
+        input: &["instance,1\nstop,D\nstop\n"],
+        status: Status::BadInput,
+        written: "refused,3,3,FieldCount\n",
+    },
+    Row {
+        case: "deadhead with a field less",
+        input: &["instance,1\nstop,D\nstop,P\ndeadhead,D,P,10\n"],
+        status: Status::BadInput,
+        written: "refused,4,3,FieldCount\n",
+    },
+    Row {
+        case: "layer with a field more",
+        input: &[STOPS, "layer,L1,D,2,1000,1,0,0\n"],
+        status: Status::BadInput,
+        written: "refused,11,3,FieldCount\n",
+    },
+    Row {
+        case: "layer with a field less",
+        input: &[STOPS, "layer,L1,D,2,1000,1\n"],
+        status: Status::BadInput,
+        written: "refused,11,3,FieldCount\n",
+    },
+    Row {
+        case: "trip of no layer",
+        input: &[STOPS, LAYER, "trip,t1,P,8:00,Q,8:30,0\n"],
+        status: Status::BadInput,
+        written: "refused,12,3,FieldCount\n",
+    },
+    Row {
+        case: "name of 33 letters",
+        input: &["instance,1\nstop,D\nstop,abcdefghijklmnopqrstuvwxyzabcdefg\n"],
+        status: Status::BadInput,
+        written: "refused,3,4,BadName\n",
+    },
+    Row {
+        case: "stop twice",
+        input: &["instance,1\nstop,D\nstop,D\n"],
+        status: Status::BadInput,
+        written: "refused,3,5,NameTwice\n",
+    },
+    Row {
+        case: "undeclared depot",
+        input: &[STOPS, "layer,L1,X,2,1000,1,0\n", TRIPS],
+        status: Status::BadInput,
+        written: "refused,11,6,UnknownName\n",
+    },
+    Row {
+        case: "trip of an undeclared layer",
+        input: &[STOPS, LAYER, "trip,t1,P,8:00,Q,8:30,0,L1,0\n"],
+        status: Status::BadInput,
+        written: "refused,12,6,UnknownName\n",
+    },
+    Row {
+        case: "number of 11 digits",
+        input: &[STOPS, "layer,L1,D,00000000002,1000,1,0\n"],
+        status: Status::BadInput,
+        written: "refused,11,7,BadNumber\n",
+    },
+    Row {
+        case: "time of 48:00",
+        input: &[STOPS, LAYER, "trip,t1,P,8:00,Q,48:00,0,L1\n"],
+        status: Status::BadInput,
+        written: "refused,12,8,BadTime\n",
+    },
+    Row {
+        case: "end not after the start",
+        input: &[STOPS, LAYER, "trip,t1,P,8:00,Q,8:00,0,L1\n"],
+        status: Status::BadInput,
+        written: "refused,12,10,EndNotAfterStart\n",
+    },
+    Row {
+        case: "fleet of 2001",
+        input: &[STOPS, "layer,L1,D,2001,1000,1,0\n", TRIPS],
+        status: Status::BadInput,
+        written: "refused,11,10,Range,fleet\n",
+    },
+    Row {
+        case: "deadhead of no minutes",
+        input: &["instance,1\nstop,D\nstop,P\ndeadhead,D,P,0,0\n"],
+        status: Status::BadInput,
+        written: "refused,4,10,Range,minutes\n",
+    },
+    Row {
+        case: "deadhead to where it begins",
+        input: &[STOPS, "deadhead,D,D,10,0\n"],
+        status: Status::BadInput,
+        written: "refused,11,10,SelfDeadhead\n",
+    },
+    Row {
+        case: "deadhead twice",
+        input: &[STOPS, LAYER, "deadhead,D,P,10,0\n"],
+        status: Status::BadInput,
+        written: "refused,12,10,DeadheadTwice\n",
+    },
+    Row {
+        case: "open deadheads",
+        input: &["instance,1\nstop,P\nstop,Q\nstop,R\ndeadhead,P,Q,15,0\ndeadhead,Q,R,5,0\n"],
+        status: Status::BadInput,
+        written: "refused,0,10,NotClosed,1,2,3\n",
+    },
+    Row {
+        case: "deadheads with a shorter way round",
+        input: &[
+            "instance,1\nstop,P\nstop,Q\nstop,R\ndeadhead,P,Q,15,0\ndeadhead,Q,R,5,0\ndeadhead,P,R,21,0\n",
+        ],
+        status: Status::BadInput,
+        written: "refused,0,10,LongerMinutes,1,2,3\n",
+    },
+    Row {
+        case: "deadheads with fewer metres the way round",
+        input: &[
+            "instance,1\nstop,P\nstop,Q\nstop,R\ndeadhead,P,Q,15,7\ndeadhead,Q,R,5,8\ndeadhead,P,R,20,16\n",
+        ],
+        status: Status::BadInput,
+        written: "refused,0,10,LongerMetres,1,2,3\n",
+    },
+];
+
+#[test]
+fn refuses_what_is_no_instance(rt: HostRuntime) -> Result<(), Fail> {
+    come_out(&rt, rt.alloc(), &["check"], NO_INSTANCES)?;
+    come_out(&rt, rt.alloc(), &["solve", "--nodes", "0"], NO_INSTANCES)?;
+    come_out(&rt, rt.alloc(), &["network"], NO_INSTANCES)?;
+    come_out(&rt, rt.alloc(), &["blocks"], NO_INSTANCES)
+}
+
+const NO_DOCUMENTS: &[Row] = &[
+    Row {
+        case: "no document",
+        input: &[STOPS, LAYER, TRIPS],
+        status: Status::BadInput,
+        written: "refused,14,20,NoResult\n",
+    },
+    Row {
+        case: "price for another trip",
+        input: &[
+            STOPS,
+            LAYER,
+            TRIPS,
+            HEAD,
+            BLOCK,
+            "table,1,cost\nfleet,L1,0\nprice,L1,t2,0,0\nprice,L1,t1,0,0\n",
+            END,
+        ],
+        status: Status::BadInput,
+        written: "refused,21,22,OutOfOrder\n",
+    },
+    Row {
+        case: "price with a field more",
+        input: &[
+            STOPS,
+            LAYER,
+            TRIPS,
+            HEAD,
+            BLOCK,
+            "table,1,cost\nfleet,L1,0\nprice,L1,t1,0,0,0\n",
+        ],
+        status: Status::BadInput,
+        written: "refused,21,21,BadRow\n",
+    },
+    Row {
+        case: "fleet with a field less",
+        input: &[STOPS, LAYER, TRIPS, HEAD, BLOCK, "table,1,cost\nfleet,L1\n"],
+        status: Status::BadInput,
+        written: "refused,20,21,BadRow\n",
+    },
+    Row {
+        case: "a price of 20 digits",
+        input: &[
+            STOPS,
+            LAYER,
+            TRIPS,
+            HEAD,
+            BLOCK,
+            "table,1,cost\nfleet,L1,10000000000000000000\n",
+        ],
+        status: Status::BadInput,
+        written: "refused,20,21,BadRow\n",
+    },
+    Row {
+        case: "a price out of range",
+        input: &[
+            STOPS,
+            LAYER,
+            TRIPS,
+            HEAD,
+            BLOCK,
+            "table,1,cost\nfleet,L1,0\nprice,L1,t1,1000000000000000001,0\n",
+        ],
+        status: Status::BadInput,
+        written: "refused,21,26,PriceRange\n",
+    },
+    Row {
+        case: "a cost without a bound",
+        input: &[
+            STOPS,
+            LAYER,
+            TRIPS,
+            "result,1,open\ncost,1080\nbound,none\n",
+        ],
+        status: Status::BadInput,
+        written: "refused,16,21,BadRow\n",
+    },
+    Row {
+        case: "a bound in another place",
+        input: &[STOPS, LAYER, TRIPS, HEAD, "bound,none\n"],
+        status: Status::BadInput,
+        written: "refused,18,22,OutOfOrder\n",
+    },
+    Row {
+        case: "a block beside no cost",
+        input: &[
+            STOPS,
+            LAYER,
+            TRIPS,
+            "result,1,open\ncost,none\nbound,60\nnodes,0\n",
+            BLOCK,
+        ],
+        status: Status::BadInput,
+        written: "refused,18,22,OutOfOrder\n",
+    },
+    Row {
+        case: "a table numbered from 2 on",
+        input: &[STOPS, LAYER, TRIPS, HEAD, BLOCK, "table,2,cost\n"],
+        status: Status::BadInput,
+        written: "refused,19,23,TableNumber\n",
+    },
+    Row {
+        case: "a negative number",
+        input: &[STOPS, LAYER, TRIPS, HEAD, BLOCK, "table,-1,cost\n"],
+        status: Status::BadInput,
+        written: "refused,19,21,BadRow\n",
+    },
+    Row {
+        case: "a leaf before any table",
+        input: &[STOPS, LAYER, TRIPS, HEAD, BLOCK, END],
+        status: Status::BadInput,
+        written: "refused,19,23,TableNumber\n",
+    },
+    Row {
+        case: "a tree too short",
+        input: &[
+            STOPS,
+            LAYER,
+            TRIPS,
+            HEAD,
+            BLOCK,
+            TABLE,
+            "split,t1,L1\nleaf,1\nend\n",
+        ],
+        status: Status::BadInput,
+        written: "refused,25,22,OutOfOrder\n",
+    },
+    Row {
+        case: "a tree too long",
+        input: &[STOPS, LAYER, TRIPS, HEAD, BLOCK, TABLE, "leaf,1\nleaf,1\n"],
+        status: Status::BadInput,
+        written: "refused,24,22,OutOfOrder\n",
+    },
+    Row {
+        case: "a layer twice in a split",
+        input: &[STOPS, LAYER, TRIPS, HEAD, BLOCK, TABLE, "split,t1,L1,L1\n"],
+        status: Status::BadInput,
+        written: "refused,23,21,BadRow\n",
+    },
+    Row {
+        case: "no end",
+        input: &[STOPS, LAYER, TRIPS, HEAD, BLOCK, TABLE, "leaf,1\n"],
+        status: Status::BadInput,
+        written: "refused,24,24,EndsEarly\n",
+    },
+    Row {
+        case: "a record behind the end",
+        input: &[STOPS, LAYER, TRIPS, HEAD, BLOCK, TABLE, END, "end\n"],
+        status: Status::BadInput,
+        written: "refused,25,25,RowsAfterEnd\n",
+    },
+];
+
+#[test]
+fn refuses_what_is_no_document(rt: HostRuntime) -> Result<(), Fail> {
+    come_out(&rt, rt.alloc(), &["check"], NO_DOCUMENTS)?;
+    come_out(&rt, rt.alloc(), &["blocks"], NO_DOCUMENTS)
+}
