@@ -1,7 +1,7 @@
 -- What circulations with prices of the nodes show.
 use Rattle.std.specs.Prelude.{◌≡◌, true, false, Bool, List, Option, ℤ, ◌-ℤ◌, length}
 use Rattle.vs_types.specs.declared.numbers.LayerNo.{LayerNo}
-use Rattle.vs_layer.specs.declared.flow.Flow.{Flow}
+use Rattle.vs_layer.specs.declared.net.Flow.{Flow}
 use Rattle.vs_layer.specs.Circulation.{IsCirculation, flow_cost}
 use Rattle.vs_instance.specs.Problem.{Problem}
 use Rattle.vs_instance.specs.Instance.{IsInstance}

@@ -1,3 +1,5 @@
+//! An arc of a net, its two ends, and how many arcs a net can have.
+
 ghost use Rattle.std.specs.Prelude.{◌≡◌};
 ghost use Rattle.vs_layer.specs.Ends.{end_of};
 

@@ -3,12 +3,10 @@
 #![tactic(auto)]
 
 mod arc;
-mod flow;
 mod net;
 mod net_error;
 mod star;
 
 pub use arc::{Arc, MAX_ARCS};
-pub use flow::Flow;
-pub use net::Net;
+pub use net::{Flow, Net};
 pub use net_error::{NetError, NetFault};

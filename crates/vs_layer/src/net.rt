@@ -1,3 +1,5 @@
+//! A net, made of arcs that are judged one by one, and a flow over it.
+
 ghost use Rattle.std.specs.Prelude.{◌≡◌, ◌<◌, ◌≤◌, IfOk, IfErr, MatchOption, length};
 ghost use Rattle.vs_layer.specs.Graph.{IsNet, IsRightArc, AllRight, arc_of, leaving, reaching};
 ghost use Rattle.vs_layer.specs.Faults.{IsFaultOf, IsFirstFault, IfFirstFault};
@@ -17,6 +19,12 @@ pub struct Net {
     arcs: Vec<Arc>,
     forward: Star,
     reverse: Star,
+}
+
+/// How many units each arc of a net carries, in the order of the arcs.
+#[derive(Debug, Drop)]
+pub struct Flow {
+    pub units: Vec<u32>,
 }
 
 impl Model for Net {

@@ -1,3 +1,5 @@
+//! Why nodes and arcs are no net: the first arc that is wrong.
+
 ghost use Rattle.std.specs.Prelude.{◌≡◌};
 
 use vs_types::Memory;

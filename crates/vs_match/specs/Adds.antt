@@ -1,10 +1,9 @@
 -- Arcs that are put to others.
-use Rattle.std.specs.Prelude.{◌≡◌, ℕ, ◌⊎◌, ◌↔◌, List, Contains, AllPairs, map}
+use Rattle.std.specs.Prelude.{ℕ, ◌⊎◌, ◌↔◌, List, Contains, AllPairs}
 use Rattle.vs_layer.specs.declared.arc.Arc.{Arc}
 use Rattle.vs_instance.specs.Problem.{Problem}
 use Rattle.vs_match.specs.declared.event.Event.{Event}
-use Rattle.vs_match.specs.declared.arc_kind.ArcKind.{ArcKind}
-use Rattle.vs_match.specs.declared.layer_arc.LayerArc.{LayerArc}
+use Rattle.vs_match.specs.declared.arc_kind.LayerArc.{LayerArc}
 use Rattle.vs_match.specs.declared.matching.Matching.{Matching}
 use Rattle.vs_match.specs.NetArcs.{IsArcOf, IsArcBefore}
 

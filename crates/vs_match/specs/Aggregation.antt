@@ -1,10 +1,8 @@
 -- Blocks of a layer as circulations of its net, and what a set of trips costs by either.
-use Rattle.std.specs.Prelude.{◌≡◌, ℕ, ◌*◌, ◌<◌, ◌≤◌, ◌↔◌, Bool, IsTrue, List, length, Option, Some, None, slice_index, ℤ, pos, ◌≤ℤ◌}
+use Rattle.std.specs.Prelude.{◌≡◌, ℕ, ◌*◌, ◌≤◌, ◌↔◌, Bool, IsTrue, List, length, Option, Some, None, slice_index, ℤ, pos, ◌≤ℤ◌}
 use Rattle.vs_layer.specs.Circulation.{IsCirculation, flow_cost}
 use Rattle.vs_types.specs.declared.numbers.LayerNo.{LayerNo}
 use Rattle.vs_instance.specs.Problem.{Problem}
-use Rattle.vs_instance.specs.Ways.{layer_of}
-use Rattle.vs_instance.specs.Blocks.{IsBlock}
 use Rattle.vs_instance.specs.Plan.{LayerBlock, plan_cost, times_run}
 use Rattle.vs_instance.specs.Lagrangian.{AreBlocksOf}
 use Rattle.vs_match.specs.Decomposition.{vehicles_of, RunTheSame}

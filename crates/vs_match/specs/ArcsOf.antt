@@ -5,7 +5,7 @@ use Rattle.vs_instance.specs.Problem.{Problem}
 use Rattle.vs_instance.specs.Ways.{layer_of}
 use Rattle.vs_instance.specs.Pieces.{rated}
 use Rattle.vs_match.specs.declared.arc_kind.ArcKind.TheVariants.{Waiting, Deadhead, PullOut, PullIn, Return}
-use Rattle.vs_match.specs.declared.layer_arc.LayerArc.{LayerArc}
+use Rattle.vs_match.specs.declared.arc_kind.LayerArc.{LayerArc}
 use Rattle.vs_match.specs.declared.stay.Stay.{Stay}
 use Rattle.vs_match.specs.NetArcs.{at_scale}
 

@@ -1,5 +1,5 @@
 -- The nets that every search rests on: their walks are the connections, by whichever matching they were made.
-use Rattle.std.specs.Prelude.{◌≡◌, ℕ, ◌<◌, List, length, ℤ, pos, ◌≤ℤ◌}
+use Rattle.std.specs.Prelude.{◌≡◌, ℕ, ◌<◌, List, length, pos, ◌≤ℤ◌}
 use Rattle.vs_layer.specs.declared.arc.Arc.{Arc}
 use Rattle.vs_layer.specs.Graph.{IsNet, arc_of}
 use Rattle.vs_instance.specs.Problem.{Problem}

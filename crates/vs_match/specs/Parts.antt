@@ -4,7 +4,7 @@ use Rattle.vs_instance.specs.Problem.{Problem}
 use Rattle.vs_types.specs.declared.numbers.TripNo.{TripNo}
 use Rattle.vs_match.specs.declared.event.Event.{Event}
 use Rattle.vs_match.specs.declared.arc_kind.ArcKind.TheVariants.{Trip, Waiting, Deadhead, PullOut, PullIn, Return}
-use Rattle.vs_match.specs.declared.layer_arc.LayerArc.{LayerArc}
+use Rattle.vs_match.specs.declared.arc_kind.LayerArc.{LayerArc}
 use Rattle.vs_match.specs.declared.matching.Matching.{Matching}
 use Rattle.vs_match.specs.NetArcs.{IsTripArc, IsWaitingArc, IsDeadheadArc, IsPullOutArc, IsPullInArc, IsReturnArc}
 use Rattle.vs_match.specs.Adds.{arc_in}

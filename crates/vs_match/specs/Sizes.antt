@@ -1,7 +1,8 @@
 -- How large a layer's net is, and how many connections it stands for.
-use Rattle.std.specs.Prelude.{◌≡◌, ℕ, ◌+◌, ◌<◌, ◌==◌, ◌&&◌, Bool, List, length, is_some, count_by, sum_by}
+use Rattle.std.specs.Prelude.{ℕ, ◌+◌, ◌<◌, ◌==◌, ◌&&◌, Bool, List, length, is_some, count_by, sum_by}
 use Rattle.std.specs.Int.{bit_at}
 use Rattle.std.specs.List.{range_with_len}
+use Rattle.vs_layer.specs.declared.arc.TheConstants.{MAX_ARCS}
 use Rattle.vs_instance.specs.Problem.{Problem}
 use Rattle.vs_instance.specs.Ways.{trip_of}
 use Rattle.vs_instance.specs.Pieces.{link_piece}
@@ -36,11 +37,11 @@ with_kind Return c = c
 
 -- each count can be one more
 pub record HasRoom (c : NetCounts) : Type 0 where
-  pub trips : c.trips + 1 < 4294967296
-  pub waiting : c.waiting + 1 < 4294967296
-  pub deadheads : c.deadheads + 1 < 4294967296
-  pub pull_outs : c.pull_outs + 1 < 4294967296
-  pub pull_ins : c.pull_ins + 1 < 4294967296
+  pub trips : c.trips < MAX_ARCS
+  pub waiting : c.waiting < MAX_ARCS
+  pub deadheads : c.deadheads < MAX_ARCS
+  pub pull_outs : c.pull_outs < MAX_ARCS
+  pub pull_ins : c.pull_ins < MAX_ARCS
 
 -- the trips in number order
 abbrev pub numbers : Problem → List ℕ

@@ -2,7 +2,7 @@
 use Rattle.std.specs.Prelude.{◌≡◌, ℕ, ◌+◌, ◌≤◌, List, Contains}
 use Rattle.vs_instance.specs.declared.way.Way.{Way}
 use Rattle.vs_instance.specs.Problem.{Problem}
-use Rattle.vs_match.specs.declared.layer_arc.LayerArc.{LayerArc}
+use Rattle.vs_match.specs.declared.arc_kind.LayerArc.{LayerArc}
 use Rattle.vs_match.specs.declared.matching.Matching.{Matching}
 use Rattle.vs_match.specs.declared.matching.Matching.TheVariants.{First, Latest}
 use Rattle.vs_match.specs.declared.stay.Stay.{Stay}

@@ -1,9 +1,9 @@
 -- The two events of a trip.
-use Rattle.std.specs.Prelude.{◌≡◌, ℕ, ◌<◌}
+use Rattle.std.specs.Prelude.{ℕ}
 use Rattle.vs_instance.specs.Problem.{Problem}
 use Rattle.vs_match.specs.declared.event.Event.{Event}
-use Rattle.vs_match.specs.declared.trip_end.TripEnd.{TripEnd}
-use Rattle.vs_match.specs.declared.trip_end.TripEnd.TheVariants.{Departure, Arrival}
+use Rattle.vs_match.specs.declared.event.TripEnd.{TripEnd}
+use Rattle.vs_match.specs.declared.event.TripEnd.TheVariants.{Departure, Arrival}
 use Rattle.vs_match.specs.Events.{departure, arrival, DepartsAt, ArrivesAt}
 
 abbrev pub event_at : TripEnd → Problem → ℕ → Event

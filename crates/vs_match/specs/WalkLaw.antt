@@ -1,6 +1,6 @@
 -- What the waiting and deadhead arcs of a layer's net lead to: exactly the trips that connect, at exactly what their
 -- link costs.
-use Rattle.std.specs.Prelude.{◌≡◌, ℕ, ◌<◌, List, [], ◌∷◌, ◌++◌, length, Option, ℤ, option_map}
+use Rattle.std.specs.Prelude.{◌≡◌, ℕ, ◌<◌, List, [], ◌∷◌, ◌++◌, length, option_map}
 use Rattle.vs_layer.specs.Graph.{arc_of}
 use Rattle.vs_layer.specs.Walks.{Leads, IsLeastCost}
 use Rattle.vs_instance.specs.Problem.{Problem}

@@ -1,3 +1,9 @@
+//! The arcs of a layer's net: what an arc stands for, and an arc beside it.
+
+ghost use Rattle.std.specs.Prelude.{◌≡◌};
+ghost use Rattle.vs_match.specs.Adds.{arc_in};
+
+use vs_layer::Arc;
 use vs_types::TripNo;
 
 /// What an arc of a layer's net stands for. Between the same two nodes arcs stand in this order, trips by number.
@@ -15,4 +21,31 @@ pub enum ArcKind {
     PullIn,
     /// From the depot's end to its beginning: as many vehicles as are used.
     Return,
+}
+
+/// An arc of a layer's net with what it stands for. Arcs are ordered by the node that is left, then by the node
+/// that is reached, then by kind.
+#[derive(Clone, Copy, Debug, PartialEq, Eq, PartialOrd, Ord)]
+pub struct LayerArc {
+    pub from: u32,
+    pub to: u32,
+    pub kind: ArcKind,
+    /// What one unit costs, in 1/1000 of a cost unit.
+    pub cost: i64,
+    /// How many units it takes at most.
+    pub room: u32,
+}
+
+impl LayerArc {
+    /// The arc itself.
+    pub fn arc(&self) -> Arc
+        ensures { result ≡ arc_in self.now }
+    {
+        Arc {
+            from: self.from,
+            to: self.to,
+            cost: self.cost,
+            room: self.room,
+        }
+    }
 }

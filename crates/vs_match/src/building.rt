@@ -1,3 +1,5 @@
+//! A layer's net put together from its nodes and its arcs.
+
 ghost use Rattle.std.specs.Prelude.{◌≡◌, ◌<◌, ◌≤◌, IfOk, length};
 ghost use Rattle.vs_match.specs.Adds.{AreArcs};
 ghost use Rattle.vs_match.specs.ArcsOf.{return_of};
@@ -6,16 +8,14 @@ ghost use Rattle.vs_match.specs.LayerGraph.{IsNetOf};
 ghost use Rattle.vs_match.specs.Nodes.{AreNodes};
 ghost use Rattle.vs_match.specs.WalkLaw.{HasWalkLaw};
 
-use crate::arc_kind::ArcKind;
-use crate::by_ends::by_ends;
+use crate::arc_kind::{ArcKind, LayerArc};
 use crate::deadheads::push_deadheads;
-use crate::in_order::put_in_order;
-use crate::layer_arc::LayerArc;
 use crate::layer_net::LayerNet;
 use crate::matching::Matching;
 use crate::nodes::{Nodes, nodes_of};
 use crate::pulls::{push_pull_ins, push_pull_outs};
 use crate::rates::fleet;
+use crate::sorting::{by_ends, put_in_order};
 use crate::trip_arcs::push_trips;
 use crate::waiting::push_waiting;
 use std::alloc::Global;
@@ -50,7 +50,8 @@ fn arcs_of(
 ) -> Result<Vec<LayerArc>, Memory>
     requires layer { l.0 < length instance.now.layers }
     requires nodes { AreNodes instance.now l.0 nodes.now }
-    ensures arcs { IfOk result (λ arcs. AreArcs instance.now l.0 matching nodes.now.events.items arcs.items) }
+    ensures arcs { IfOk result (λ arcs.
+        AreArcs instance.now l.0 matching nodes.now.events.items arcs.items) }
     ensures few { IfOk result (λ arcs. length arcs.items ≤ MAX_ARCS) }
 {
     let mut arcs = Vec::with_capacity(alloc, most_deadheads(instance, nodes))?;

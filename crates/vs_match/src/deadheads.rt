@@ -1,3 +1,5 @@
+//! The deadheads of a layer's net: from each arrival to its match at every other stop.
+
 ghost use Rattle.std.specs.Prelude.{◌≡◌, ◌≢◌, ℕ, ◌+◌, ◌*◌, ◌<◌, ◌≤◌, ◌↔◌, All, IsTrue, OnOk, length, map, slice_index_or, take};
 ghost use Rattle.vs_match.specs.declared.stay.Stay.{Stay};
 ghost use Rattle.vs_match.specs.Stays.{IsRising, AreByStop};
@@ -7,8 +9,7 @@ ghost use Rattle.vs_match.specs.Parts.{IsDeadhead, IsDeadheadFrom};
 ghost use Rattle.vs_match.specs.Sweep.{IsKept, IsMatched};
 ghost use Rattle.vs_match.specs.ArcsOf.{deadhead_of};
 
-use crate::arc_kind::ArcKind;
-use crate::layer_arc::LayerArc;
+use crate::arc_kind::{ArcKind, LayerArc};
 use crate::matching::Matching;
 use crate::nodes::Nodes;
 use crate::rates::{fleet, rate};
@@ -27,7 +28,8 @@ pub fn push_deadheads(
     requires layer { l.0 < length instance.now.layers }
     requires nodes { AreNodes instance.now l.0 nodes.now }
     ensures adds { OnOk result
-        (Adds (IsDeadhead instance.now l.0 matching nodes.now.events.items) arcs.old.items arcs.new.items) }
+        (Adds (IsDeadhead instance.now l.0 matching nodes.now.events.items)
+        arcs.old.items arcs.new.items) }
     ensures few { OnOk result
         (length arcs.new.items ≤ length arcs.old.items + MAX_STOPS * (MAX_STOPS * MAX_TRIPS)) }
 {
@@ -62,8 +64,10 @@ fn push_from(
     requires departures { AreByStop instance.now.stops nodes.now.departures.items
         (map (λ g. g.now) departures.now) }
     ensures adds { OnOk result
-        (Adds (IsDeadheadFrom instance.now l.0 matching nodes.now.events.items from.0) arcs.old.items arcs.new.items) }
-    ensures few { OnOk result (length arcs.new.items ≤ length arcs.old.items + MAX_STOPS * MAX_TRIPS) }
+        (Adds (IsDeadheadFrom instance.now l.0 matching nodes.now.events.items from.0)
+        arcs.old.items arcs.new.items) }
+    ensures few { OnOk result
+        (length arcs.new.items ≤ length arcs.old.items + MAX_STOPS * MAX_TRIPS) }
 {
     let arrivals = at_stop(&nodes.arrivals, from);
     if arrivals.is_empty() {
@@ -97,8 +101,10 @@ fn push_matches(
     requires arrivals { IsRising arrivals.now × All (λ s. s.minute < TWO_DAYS) arrivals.now }
     requires departures { IsRising departures.now × All (λ s. s.minute < TWO_DAYS) departures.now }
     ensures adds { OnOk result
-        (Adds (IsMatched instance.now l.0 matching way arrivals.now departures.now) arcs.old.items arcs.new.items) }
-    ensures few { OnOk result (length arcs.new.items ≤ length arcs.old.items + length arrivals.now) }
+        (Adds (IsMatched instance.now l.0 matching way arrivals.now departures.now)
+        arcs.old.items arcs.new.items) }
+    ensures few { OnOk result
+        (length arcs.new.items ≤ length arcs.old.items + length arrivals.now) }
 {
     let mut first = 0;
     for (k, arrival) in arrivals.iter().enumerate() {
@@ -135,7 +141,8 @@ fn is_kept(matching: Matching, way: Way, arrivals: &[Stay], k: usize, until: &St
     requires of_arrivals { k < length arrivals.now }
     requires rising { IsRising arrivals.now }
     requires minutes { All (λ s. s.minute < TWO_DAYS) arrivals.now × way.minutes ≤ MAX_MINUTES }
-    ensures { (d : Stay) → IsTrue result ↔ IsKept matching arrivals.now way (slice_index_or arrivals.now k d) until.now }
+    ensures { (d : Stay) → IsTrue result
+        ↔ IsKept matching arrivals.now way (slice_index_or arrivals.now k d) until.now }
 {
     match matching {
         Matching::First => true,

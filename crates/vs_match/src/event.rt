@@ -1,5 +1,10 @@
-use vs_instance::Trip;
-use vs_types::StopNo;
+//! The events that a net's nodes stand for, and those of a trip.
+
+ghost use Rattle.std.specs.Prelude.{◌≡◌, ◌<◌, length};
+ghost use Rattle.vs_match.specs.TripEnds.{event_at};
+
+use vs_instance::Instance;
+use vs_types::{StopNo, TripNo};
 
 /// A stop at a minute, at which a trip departs or arrives. Events are ordered by minute, then by stop.
 #[derive(Clone, Copy, Debug, PartialEq, Eq, PartialOrd, Ord)]
@@ -7,4 +12,31 @@ pub struct Event {
     /// Minutes from 0:00 of the first day, 0 to 2,879.
     pub minute: u32,
     pub stop: StopNo,
+}
+
+/// One of the two events of a trip.
+#[derive(Clone, Copy, Debug, PartialEq, Eq)]
+pub enum TripEnd {
+    Departure,
+    Arrival,
+}
+
+impl TripEnd {
+    /// This event of a trip.
+    pub fn event(self, instance: &Instance, i: TripNo) -> Event
+        requires { i.0 < length instance.now.trips }
+        ensures { result ≡ event_at self instance.now i.0 }
+    {
+        let trip = instance.trip(i);
+        match self {
+            TripEnd::Departure => Event {
+                minute: trip.start,
+                stop: trip.from,
+            },
+            TripEnd::Arrival => Event {
+                minute: trip.end,
+                stop: trip.to,
+            },
+        }
+    }
 }

@@ -1,12 +1,13 @@
+//! A layer's net with what its nodes and arcs stand for.
+
 ghost use Rattle.std.specs.Prelude.{◌≡◌, ◌+◌, ◌*◌, ◌<◌, ◌≤◌, All, IfOk, length, map, option_map};
 ghost use Rattle.vs_layer.specs.Graph.{AllRight};
 ghost use Rattle.vs_match.specs.Adds.{arc_in};
 ghost use Rattle.vs_match.specs.LayerGraph.{IsLabelled, kind_of, place_of};
 ghost use Rattle.vs_match.specs.TripIndex.{IsBelow, IsTripAt, IsTripIndex};
 
-use crate::arc_kind::ArcKind;
+use crate::arc_kind::{ArcKind, LayerArc};
 use crate::event::Event;
-use crate::layer_arc::LayerArc;
 use std::alloc::{AllocError, Global};
 use std::marker::Model;
 use vs_instance::MAX_TRIPS;
@@ -33,8 +34,8 @@ impl Model for LayerNet {
 
     ghost view = { λ n. record { graph = n.net; kinds = n.kinds.items; events = n.events.items } };
 
-    ghost invariant = { λ n. IsIndexed (record { graph = n.net; kinds = n.kinds.items; events = n.events.items })
-        n.trip_arcs.items };
+    ghost invariant = { λ n. IsIndexed
+        (record { graph = n.net; kinds = n.kinds.items; events = n.events.items }) n.trip_arcs.items };
 }
 
 impl LayerNet {
@@ -114,8 +115,10 @@ fn net_of(alloc: Global, nodes: u32, arcs: &[LayerArc]) -> Result<Net, Memory>
 {
     match Net::new(alloc, nodes, plain_arcs(alloc, arcs)?) {
         Ok(net) => Ok(net),
-        Err(NetError::Memory) => Err(Memory),
-        Err(NetError::Fault(_fault)) => unreachable!(),
+        Err(error) => match error {
+            NetError::Memory => Err(Memory),
+            NetError::Fault(_fault) => unreachable!(),
+        },
     }
 }
 

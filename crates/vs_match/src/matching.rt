@@ -1,3 +1,5 @@
+//! The two ways to match arrivals with departures, and the nets by each of them.
+
 ghost use Rattle.std.specs.Prelude.{◌<◌, IfOk, length};
 ghost use Rattle.vs_match.specs.declared.matching.Matching.TheVariants.{First, Latest};
 ghost use Rattle.vs_match.specs.LawfulNets.{IsLawful};

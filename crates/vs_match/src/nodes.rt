@@ -1,13 +1,14 @@
+//! The nodes of a layer's net: the departures and arrivals of its trips.
+
 ghost use Rattle.std.specs.Prelude.{◌≡◌, ◌*◌, ◌<◌, ◌≤◌, AllPairs, Contains, IfOk, length};
 ghost use Rattle.vs_match.specs.Events.{AreEvents, IsBefore, IsEvent, HasPlace};
 ghost use Rattle.vs_match.specs.TripEnds.{HappensAt};
 ghost use Rattle.vs_match.specs.Stays.{AreStays};
 ghost use Rattle.vs_match.specs.Nodes.{AreNodes};
 
-use crate::event::Event;
-use crate::in_order::put_in_order;
+use crate::event::{Event, TripEnd};
+use crate::sorting::put_in_order;
 use crate::stay::Stay;
-use crate::trip_end::TripEnd;
 use std::alloc::Global;
 use vs_instance::{Instance, MAX_TRIPS};
 use vs_types::{LayerNo, Memory, TripNo};
@@ -28,9 +29,10 @@ pub fn nodes_of(alloc: Global, instance: &Instance, l: LayerNo) -> Result<Nodes,
     ensures { IfOk result (AreNodes instance.now l.0) }
 {
     let events = events_of(alloc, instance, l)?;
-    let all = all_stays(alloc, &events)?;
-    let departures = stays_of(alloc, instance, l, TripEnd::Departure, &events)?;
-    let arrivals = stays_of(alloc, instance, l, TripEnd::Arrival, &events)?;
+    let order: &[Event] = &events;
+    let all = all_stays(alloc, order)?;
+    let departures = stays_of(alloc, instance, l, TripEnd::Departure, order)?;
+    let arrivals = stays_of(alloc, instance, l, TripEnd::Arrival, order)?;
     Ok(Nodes {
         events,
         all,
@@ -100,7 +102,8 @@ fn stays_of(
     requires layer { l.0 < length instance.now.layers }
     requires events { AreEvents instance.now l.0 events.now }
     requires few { length events.now ≤ 2 * MAX_TRIPS }
-    ensures stays { IfOk result (λ stays. AreStays events.now (HappensAt end instance.now l.0) stays.items) }
+    ensures stays { IfOk result (λ stays.
+        AreStays events.now (HappensAt end instance.now l.0) stays.items) }
     ensures few { IfOk result (λ stays. length stays.items ≤ MAX_TRIPS) }
 {
     let mut stays = Vec::new(alloc);

@@ -1,11 +1,12 @@
+//! The pull-outs and pull-ins of a layer's net.
+
 ghost use Rattle.std.specs.Prelude.{◌≡◌, ◌+◌, ◌<◌, ◌≤◌, length, OnOk};
 ghost use Rattle.vs_match.specs.Nodes.{AreNodes};
 ghost use Rattle.vs_match.specs.Adds.{Adds};
 ghost use Rattle.vs_match.specs.Parts.{IsPullOut, IsPullIn};
 ghost use Rattle.vs_match.specs.ArcsOf.{pull_out_of, pull_in_of};
 
-use crate::arc_kind::ArcKind;
-use crate::layer_arc::LayerArc;
+use crate::arc_kind::{ArcKind, LayerArc};
 use crate::nodes::Nodes;
 use crate::rates::{fixed_and_rate, fleet, rate};
 use crate::stay::Stay;
@@ -21,7 +22,8 @@ pub fn push_pull_outs(
 ) -> Result<(), Memory>
     requires layer { l.0 < length instance.now.layers }
     requires nodes { AreNodes instance.now l.0 nodes.now }
-    ensures adds { OnOk result (Adds (IsPullOut instance.now l.0 nodes.now.events.items) arcs.old.items arcs.new.items) }
+    ensures adds { OnOk result
+        (Adds (IsPullOut instance.now l.0 nodes.now.events.items) arcs.old.items arcs.new.items) }
     ensures few { OnOk result (length arcs.new.items ≤ length arcs.old.items + MAX_TRIPS) }
 {
     prove!(l.0 < instance.layers());
@@ -45,7 +47,8 @@ pub fn push_pull_ins(
 ) -> Result<(), Memory>
     requires layer { l.0 < length instance.now.layers }
     requires nodes { AreNodes instance.now l.0 nodes.now }
-    ensures adds { OnOk result (Adds (IsPullIn instance.now l.0 nodes.now.events.items) arcs.old.items arcs.new.items) }
+    ensures adds { OnOk result
+        (Adds (IsPullIn instance.now l.0 nodes.now.events.items) arcs.old.items arcs.new.items) }
     ensures few { OnOk result (length arcs.new.items ≤ length arcs.old.items + MAX_TRIPS) }
 {
     prove!(l.0 < instance.layers());

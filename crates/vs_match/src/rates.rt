@@ -1,3 +1,5 @@
+//! What minutes, metres and vehicles of a layer cost, and how many vehicles it has.
+
 ghost use Rattle.std.specs.Prelude.{◌≡◌, ◌+◌, ◌*◌, ◌<◌, ◌≤◌, length};
 ghost use Rattle.vs_instance.specs.Pieces.{rated};
 ghost use Rattle.vs_instance.specs.Ways.{layer_of};
@@ -34,7 +36,8 @@ pub fn fixed_and_rate(instance: &Instance, l: LayerNo, minutes: u32, metres: u64
     requires layer { l.0 < length instance.now.layers }
     requires minutes { minutes ≤ TWO_DAYS }
     requires metres { metres ≤ MAX_METRES }
-    ensures { result ≡ at_scale ((layer_of instance.now l.0).fixed + rated instance.now l.0 minutes metres) }
+    ensures { result
+        ≡ at_scale ((layer_of instance.now l.0).fixed + rated instance.now l.0 minutes metres) }
 {
     prove!(l.0 < instance.layers());
     let layer = instance.layer(l);

@@ -1,3 +1,5 @@
+//! How large a layer's net is, and how many connections it stands for.
+
 ghost use Rattle.std.specs.Prelude.{◌≡◌, ◌+◌, ◌<◌, length, count_by};
 ghost use Rattle.vs_match.specs.Sizes.{HasRoom, counts_of, with_kind, full_count_of, is_connection, numbers};
 
@@ -21,15 +23,16 @@ pub struct NetCounts {
 pub fn counts(net: &LayerNet) -> NetCounts
     ensures { result ≡ counts_of net.now }
 {
+    let graph = net.net();
     let mut counts = NetCounts {
-        nodes: net.net().nodes() - 2,
+        nodes: graph.nodes() - 2,
         waiting: 0,
         deadheads: 0,
         pull_outs: 0,
         pull_ins: 0,
         trips: 0,
     };
-    for k in 0..net.net().arcs() {
+    for k in 0..graph.arcs() {
         count(&mut counts, net.kind(k));
     }
     counts

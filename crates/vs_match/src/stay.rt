@@ -1,3 +1,5 @@
+//! Nodes by the stops at which they are.
+
 ghost use Rattle.std.specs.Prelude.{◌≡◌, ◌<◌, ◌≤◌, ◌↔◌, AllPairs, Contains, IfOk, length, map};
 ghost use Rattle.vs_match.specs.declared.stay.Stay.{Stay};
 ghost use Rattle.vs_match.specs.Stays.{IsStayBefore, IsRising, AreByStop};

@@ -1,3 +1,5 @@
+//! The trips of a layer as arcs of its net.
+
 ghost use Rattle.std.specs.Prelude.{◌≡◌, ◌+◌, ◌<◌, ◌≤◌, length, OnOk};
 ghost use Rattle.vs_match.specs.declared.arc_kind.ArcKind.TheVariants.{Trip};
 ghost use Rattle.vs_match.specs.Events.{MayRun};
@@ -6,11 +8,10 @@ ghost use Rattle.vs_match.specs.Nodes.{AreNodes};
 ghost use Rattle.vs_match.specs.Adds.{Adds, arc_in};
 ghost use Rattle.vs_match.specs.Parts.{IsTrip};
 
-use crate::arc_kind::ArcKind;
-use crate::layer_arc::LayerArc;
+use crate::arc_kind::{ArcKind, LayerArc};
+use crate::event::{Event, TripEnd};
 use crate::nodes::{Nodes, node_of};
 use crate::rates::rate;
-use crate::trip_end::TripEnd;
 use vs_instance::{Instance, MAX_TRIPS};
 use vs_types::{LayerNo, Memory, TripNo};
 
@@ -23,7 +24,8 @@ pub fn push_trips(
 ) -> Result<(), Memory>
     requires layer { l.0 < length instance.now.layers }
     requires nodes { AreNodes instance.now l.0 nodes.now }
-    ensures adds { OnOk result (Adds (IsTrip instance.now l.0 nodes.now.events.items) arcs.old.items arcs.new.items) }
+    ensures adds { OnOk result
+        (Adds (IsTrip instance.now l.0 nodes.now.events.items) arcs.old.items arcs.new.items) }
     ensures few { OnOk result (length arcs.new.items ≤ length arcs.old.items + MAX_TRIPS) }
 {
     for i in 0..instance.trips() {
@@ -44,9 +46,14 @@ fn trip_arc(instance: &Instance, l: LayerNo, nodes: &Nodes, i: TripNo) -> LayerA
 {
     prove!(i.0 < instance.trips());
     let trip = instance.trip(i);
+    let departure = TripEnd::Departure.event(instance, i);
+    let arrival = TripEnd::Arrival.event(instance, i);
+    let events: &[Event] = &nodes.events;
+    let from = node_of(events, &departure);
+    let to = node_of(events, &arrival);
     LayerArc {
-        from: node_of(&nodes.events, &TripEnd::Departure.event(instance, i)),
-        to: node_of(&nodes.events, &TripEnd::Arrival.event(instance, i)),
+        from,
+        to,
         kind: ArcKind::Trip(i),
         cost: rate(instance, l, trip.end - trip.start, trip.metres),
         room: 1,

@@ -1,11 +1,12 @@
+//! The arcs of a layer's net on which a vehicle waits at its stop.
+
 ghost use Rattle.std.specs.Prelude.{◌≡◌, ◌+◌, ◌*◌, ◌<◌, ◌≤◌, length, OnOk};
 ghost use Rattle.vs_match.specs.Nodes.{AreNodes};
 ghost use Rattle.vs_match.specs.Adds.{Adds};
 ghost use Rattle.vs_match.specs.Parts.{IsWaiting};
 ghost use Rattle.vs_match.specs.ArcsOf.{waiting_of};
 
-use crate::arc_kind::ArcKind;
-use crate::layer_arc::LayerArc;
+use crate::arc_kind::{ArcKind, LayerArc};
 use crate::nodes::Nodes;
 use crate::rates::{fleet, rate};
 use crate::stay::Stay;
@@ -21,7 +22,8 @@ pub fn push_waiting(
 ) -> Result<(), Memory>
     requires layer { l.0 < length instance.now.layers }
     requires nodes { AreNodes instance.now l.0 nodes.now }
-    ensures adds { OnOk result (Adds (IsWaiting instance.now l.0 nodes.now.events.items) arcs.old.items arcs.new.items) }
+    ensures adds { OnOk result
+        (Adds (IsWaiting instance.now l.0 nodes.now.events.items) arcs.old.items arcs.new.items) }
     ensures few { OnOk result (length arcs.new.items ≤ length arcs.old.items + 2 * MAX_TRIPS) }
 {
     prove!(l.0 < instance.layers());

@@ -15,7 +15,7 @@ use Rattle.vs_prices.specs.declared.table.Table.{Table}
 use Rattle.vs_prices.specs.Table.{IsPrice, prices_in, vehicle_price}
 use Rattle.vs_prices.specs.Worth.{fleet_price, trip_price}
 use Rattle.vs_types.specs.declared.numbers.LayerNo.{LayerNo}
-use Rattle.vs_layer.specs.declared.flow.Flow.{Flow}
+use Rattle.vs_layer.specs.declared.net.Flow.{Flow}
 use Rattle.vs_layer.specs.Circulation.{flow_cost}
 use Rattle.vs_match.specs.LayerGraph.{LayerGraph}
 use Rattle.vs_circ.specs.declared.layer_prices.LayerPrices.{LayerPrices}

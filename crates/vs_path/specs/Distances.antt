@@ -1,6 +1,6 @@
 -- Least paths from node 0 in a net without its return arc.
 use Rattle.std.specs.Prelude.{◌≡◌, ◌-◌, length, Option, Some, None, ℤ}
-use Rattle.vs_layer.specs.declared.flow.Flow.{Flow}
+use Rattle.vs_layer.specs.declared.net.Flow.{Flow}
 use Rattle.vs_layer.specs.Graph.{Graph}
 use Rattle.vs_path.specs.declared.residual.Costs.{Costs}
 use Rattle.vs_path.specs.declared.reach.Reach.{Reach}

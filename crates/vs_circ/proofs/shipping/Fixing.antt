@@ -4,7 +4,7 @@ use Rattle.std.proofs.lemmas.Int.{ints, clamps}
 use Rattle.std.proofs.lemmas.Bool.{cases_lt, false≢true}
 use Rattle.std.proofs.lemmas.List.{get_or_past}
 use Rattle.vs_types.specs.declared.numbers.LayerNo.{LayerNo}
-use Rattle.vs_layer.specs.declared.flow.Flow.{Flow}
+use Rattle.vs_layer.specs.declared.net.Flow.{Flow}
 use Rattle.vs_layer.specs.Circulation.{flow_cost}
 use Rattle.vs_instance.specs.Problem.{Problem}
 use Rattle.vs_instance.specs.Instance.{IsInstance}

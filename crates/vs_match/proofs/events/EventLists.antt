@@ -1,11 +1,11 @@
 -- The events of a layer's trips, put together trip by trip.
-use Rattle.std.proofs.Common.{◌≡◌, ℕ, ◌+◌, ◌<◌, List, [], ◌∷◌, ◌++◌, length, inl, inr, arith, sym, ap, refl, subst, true, eqb, ◌&&◌}
+use Rattle.std.proofs.Common.{◌≡◌, ℕ, List, [], ◌∷◌, ◌++◌, length, inl, inr, refl, true, eqb, ◌&&◌}
 use Rattle.std.specs.Prelude.{◌⊎◌, ◌↔◌, Contains, AllPairs}
 use Rattle.std.specs.declared.cmp.Ordering.TheVariants.{Less}
 use Rattle.std.proofs.lemmas.Bool.{eqb-true, and_parts}
 use Rattle.vs_instance.specs.Problem.{Problem}
 use Rattle.vs_match.specs.declared.event.Event.{Event}
-use Rattle.vs_match.specs.Events.{departure, arrival, MayRun, IsEvent, IsBefore, AreEvents}
+use Rattle.vs_match.specs.Events.{departure, arrival, MayRun, IsEvent, AreEvents}
 use Rattle.vs_match.specs.Adds.{Adds}
 use Rattle.vs_match.proofs.events.Adding.{Upto, adds-one, adds-both, adds-as, contains-none}
 use Rattle.vs_match.proofs.order.Orders.{event_cmp, event_before, event_of_both}

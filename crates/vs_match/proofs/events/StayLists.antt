@@ -1,22 +1,22 @@
 -- The nodes of events by their stops, put together one by one.
-use Rattle.std.proofs.Common.{◌≡◌, ℕ, ◌+◌, ◌<◌, List, [], ◌∷◌, ◌++◌, length, get_or, inl, inr, arith, sym, ap, ◌∙◌, refl, subst, true, eqb, ◌&&◌}
-use Rattle.std.specs.Prelude.{◌⊎◌, ◌↔◌, Contains, AllPairs}
+use Rattle.std.proofs.Common.{◌≡◌, ℕ, ◌+◌, ◌<◌, List, [], length, get_or, inl, inr, arith, sym, ap, refl, subst, true, eqb, ◌&&◌}
+use Rattle.std.specs.Prelude.{◌↔◌, Contains, AllPairs}
 use Rattle.std.specs.declared.cmp.Ordering.{Ordering}
-use Rattle.std.specs.declared.cmp.Ordering.TheVariants.{Less, Equal}
+use Rattle.std.specs.declared.cmp.Ordering.TheVariants.{Less}
 use Rattle.std.specs.Ordering.{nat_cmp, ordering_then}
 use Rattle.std.proofs.lemmas.Bool.{eqb-true, and_parts}
 use Rattle.std.proofs.lemmas.List.{get_or_default}
 use Rattle.vs_instance.specs.Problem.{Problem}
 use Rattle.vs_match.specs.declared.event.Event.{Event}
 use Rattle.vs_match.specs.declared.stay.Stay.{Stay}
-use Rattle.vs_match.specs.declared.trip_end.TripEnd.{TripEnd}
-use Rattle.vs_match.specs.declared.trip_end.TripEnd.TheVariants.{Departure, Arrival}
+use Rattle.vs_match.specs.declared.event.TripEnd.{TripEnd}
+use Rattle.vs_match.specs.declared.event.TripEnd.TheVariants.{Departure, Arrival}
 use Rattle.vs_match.specs.Events.{MayRun, HasPlace, IsBefore, AreEvents}
 use Rattle.vs_match.specs.TripEnds.{event_at, HappensAt}
 use Rattle.vs_match.specs.Stays.{event_of, IsStayBefore, AreStays}
 use Rattle.vs_match.specs.Adds.{Adds}
 use Rattle.vs_match.proofs.events.Adding.{Upto, contains-none}
-use Rattle.vs_match.proofs.order.Orders.{less, equal, less-then, equal-then}
+use Rattle.vs_match.proofs.order.Orders.{less, less-then}
 use Rattle.vs_match.proofs.events.Places.{placed, place-at, same_node}
 
 abbrev pub stay_cmp : Stay → Stay → Ordering

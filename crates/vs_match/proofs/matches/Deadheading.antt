@@ -1,34 +1,31 @@
 -- The matches between the nodes at two stops are the deadheads between them.
-use Rattle.std.proofs.Common.{◌≡◌, ◌≢◌, ℕ, ◌+◌, ◌<◌, ◌≤◌, List, length, get_or, Option, Some, inl, inr, arith, sym, ap, ◌∙◌, refl, subst}
-use Rattle.std.specs.Prelude.{◌⊎◌, ◌↔◌, Contains}
-use Rattle.std.proofs.lemmas.Bool.{cases_lt, cases_eq}
+use Rattle.std.proofs.Common.{◌≡◌, ◌≢◌, ℕ, ◌+◌, ◌<◌, List, length, get_or, Some, inl, inr, arith, sym, ap, ◌∙◌, refl, subst}
+use Rattle.std.specs.Prelude.{◌↔◌, Contains}
+use Rattle.std.proofs.lemmas.Bool.{cases_lt}
 use Rattle.std.specs.List.{All}
 use Rattle.std.proofs.lemmas.List.{get_or_default}
-use Rattle.std.proofs.lemmas.Option.{MatchOption-at_some}
-use Rattle.std.specs.FinMap as map
+use Rattle.vs_instance.specs.declared.limits.TheConstants.{TWO_DAYS}
 use Rattle.vs_types.specs.declared.numbers.StopNo.{StopNo}
-use Rattle.vs_instance.specs.declared.trip.Trip.{Trip}
 use Rattle.vs_instance.specs.declared.way.Way.{Way}
 use Rattle.vs_instance.specs.Problem.{Problem}
-use Rattle.vs_instance.specs.Ways.{way, no_way, no_trip, layer_of}
-use Rattle.vs_instance.specs.Instance.{IsInstance, IsDeadhead as IsWay}
+use Rattle.vs_instance.specs.Ways.{way, no_trip}
+use Rattle.vs_instance.specs.Instance.{IsInstance}
 use Rattle.vs_match.specs.declared.event.Event.{Event}
 use Rattle.vs_match.specs.declared.nodes.Nodes.{Nodes}
 use Rattle.vs_match.specs.declared.stay.Stay.{Stay}
-use Rattle.vs_match.specs.declared.layer_arc.LayerArc.{LayerArc}
+use Rattle.vs_match.specs.declared.arc_kind.LayerArc.{LayerArc}
 use Rattle.vs_match.specs.declared.matching.Matching.{Matching}
 use Rattle.vs_match.specs.declared.matching.Matching.TheVariants.{First, Latest}
-use Rattle.vs_match.specs.Events.{departure, arrival, MayRun, DepartsAt, ArrivesAt, IsEvent, HasPlace}
-use Rattle.vs_match.specs.Matches.{IsMatch, IsFirstMatch, IsLatestFirstMatch}
-use Rattle.vs_match.specs.NetArcs.{IsDeadheadArc}
+use Rattle.vs_match.specs.Events.{DepartsAt, ArrivesAt, IsEvent, HasPlace}
+use Rattle.vs_match.specs.Matches.{IsMatch, IsFirstMatch}
 use Rattle.vs_match.specs.Stays.{event_of}
 use Rattle.vs_match.specs.Nodes.{AreNodes}
-use Rattle.vs_match.specs.Adds.{Adds, arc_in}
+use Rattle.vs_match.specs.Adds.{Adds}
 use Rattle.vs_match.specs.Parts.{IsDeadhead, IsDeadheadFrom, IsDeadheadTo}
 use Rattle.vs_match.specs.Sweep.{IsFirstFrom, IsKept, IsMatched}
 use Rattle.vs_match.specs.ArcsOf.{deadhead_of}
 use Rattle.vs_match.proofs.events.Adding.{Upto, adds-as}
-use Rattle.vs_match.proofs.walks.ClosedWays.{some-same, way-own, way-apart}
+use Rattle.vs_match.proofs.walks.ClosedWays.{some-same}
 use Rattle.vs_match.proofs.events.Places.{has_node}
 use Rattle.vs_match.proofs.walks.WalkBounds.{first_of_match}
 use Rattle.vs_match.proofs.walks.WaitingChains.{same_stop}
@@ -37,19 +34,7 @@ use Rattle.vs_match.proofs.walks.WaitingChains.{same_stop}
 abbrev pub AreAt : StopNo → List Stay → List Stay → Type 0
 AreAt stop stays here = (s : Stay) → Contains here s ↔ (Contains stays s × (s.stop ≡ stop))
 
-pub way_within : (p : Problem) → IsInstance p → (k s : ℕ) (w : Way) → way p k s ≡ Some w → (w.minutes ≤ 1440)
-    × (w.metres ≤ 1000000)
-way_within p is k s w way_is =
-    elim (cases_eq k s) [
-      | inl same ↦
-          let own = some-same no_way w (sym (way-own p k) ∙ ap (λ (n : ℕ). way p k n) same ∙ way_is) in
-          (omega (arith, ap (λ (x : Way). x.minutes) own), omega (arith, ap (λ (x : Way). x.metres) own))
-      | inr apart ↦
-          let given = MatchOption-at_some _ (IsWay p k s) w (sym (way-apart p k s apart) ∙ way_is) (is.deadheads k s) in
-          (given.minutes, given.metres)
-    ]
-
-pub departs_within : (p : Problem) → IsInstance p → (l : ℕ) (e : Event) → DepartsAt p l e → (e.minute < 2880)
+pub departs_within : (p : Problem) → IsInstance p → (l : ℕ) (e : Event) → DepartsAt p l e → (e.minute < TWO_DAYS)
     × (e.stop.0 < p.stops)
 departs_within p is l e (i, may, at) =
     let trip = is.trips i no_trip may.0 in (
@@ -57,7 +42,7 @@ departs_within p is l e (i, may, at) =
       omega (arith, trip.from, ap (λ (x : Event). x.stop.0) at),
     )
 
-pub arrives_within : (p : Problem) → IsInstance p → (l : ℕ) (e : Event) → ArrivesAt p l e → (e.minute < 2880)
+pub arrives_within : (p : Problem) → IsInstance p → (l : ℕ) (e : Event) → ArrivesAt p l e → (e.minute < TWO_DAYS)
     × (e.stop.0 < p.stops)
 arrives_within p is l e (i, may, at) =
     let trip = is.trips i no_trip may.0 in
@@ -274,20 +259,20 @@ module _ (p : Problem) (l : ℕ) (nodes : Nodes) (are : AreNodes p l nodes) wher
 
   -- nodes at a stop have minutes of the two days
   pub arrivals_within : IsInstance p → (k : StopNo) (arrivals : List Stay) → AreAt k nodes.arrivals.items arrivals
-      → All (λ s. s.minute < 2880) arrivals
+      → All (λ s. s.minute < TWO_DAYS) arrivals
   arrivals_within is k arrivals from j d within =
       let s = get_or arrivals j d in
       let has = ((from s).0 (j, within, get_or_default arrivals j s d within)).0 in
       (arrives_within p is l (event_of s) (are.arrivals.only s has).1).0
 
   pub departures_within : IsInstance p → (k : StopNo) (departures : List Stay)
-      → AreAt k nodes.departures.items departures → All (λ s. s.minute < 2880) departures
+      → AreAt k nodes.departures.items departures → All (λ s. s.minute < TWO_DAYS) departures
   departures_within is k departures to j d within =
       let s = get_or departures j d in
       let has = ((to s).0 (j, within, get_or_default departures j s d within)).0 in
       (departs_within p is l (event_of s) (are.departures.only s has).1).0
 
 -- an event's minute is of the two days
-pub event_within : (p : Problem) → IsInstance p → (l : ℕ) (e : Event) → IsEvent p l e → e.minute < 2880
+pub event_within : (p : Problem) → IsInstance p → (l : ℕ) (e : Event) → IsEvent p l e → e.minute < TWO_DAYS
 event_within p is l e (inl departs) = (departs_within p is l e departs).0
 event_within p is l e (inr arrives) = (arrives_within p is l e arrives).0

@@ -1,18 +1,18 @@
 -- A sweep over the arrivals at one stop and the departures at another.
-use Rattle.std.proofs.Common.{◌≡◌, ℕ, ◌+◌, ◌<◌, ◌≤◌, List, length, get_or, take, length-take, inl, inr, arith, sym, ap, ◌∙◌, refl, subst}
-use Rattle.std.specs.Prelude.{Contains, AllPairs}
+use Rattle.std.proofs.Common.{◌≡◌, ℕ, ◌+◌, ◌<◌, ◌≤◌, List, length, get_or, take, length-take, inl, inr, arith, sym, ap, ◌∙◌, subst}
+use Rattle.std.specs.Prelude.{Contains}
 use Rattle.std.specs.List.{All}
 use Rattle.std.proofs.lemmas.Bool.{cases_lt, cases_eq, cases_order}
 use Rattle.std.proofs.lemmas.List.{get_or_default, get_or-take}
 use Rattle.vs_instance.specs.Problem.{Problem}
 use Rattle.vs_instance.specs.declared.way.Way.{Way}
 use Rattle.vs_match.specs.declared.matching.Matching.{Matching}
-use Rattle.vs_match.specs.declared.matching.Matching.TheVariants.{First, Latest}
+use Rattle.vs_match.specs.declared.matching.Matching.TheVariants.{Latest}
 use Rattle.vs_match.specs.declared.stay.Stay.{Stay}
 use Rattle.vs_match.specs.Stays.{IsRising}
 use Rattle.vs_match.specs.Sweep.{IsKept, IsFirstFrom, IsMatched}
 use Rattle.vs_match.specs.ArcsOf.{deadhead_of}
-use Rattle.vs_match.specs.declared.layer_arc.LayerArc.{LayerArc}
+use Rattle.vs_match.specs.declared.arc_kind.LayerArc.{LayerArc}
 use Rattle.vs_match.specs.Adds.{Adds}
 use Rattle.vs_match.proofs.events.Adding.{Upto, adds-as}
 

@@ -1,11 +1,10 @@
 -- The arcs of trips, one by one.
-use Rattle.std.proofs.Common.{◌≡◌, ℕ, ◌<◌, List, length, arith, sym, ap, ◌∙◌, subst}
+use Rattle.std.proofs.Common.{◌≡◌, ℕ, List, length, sym, ◌∙◌}
 use Rattle.std.specs.Prelude.{AllPairs}
 use Rattle.vs_instance.specs.Problem.{Problem}
-use Rattle.vs_types.specs.declared.numbers.TripNo.{TripNo}
 use Rattle.vs_match.specs.declared.event.Event.{Event}
 use Rattle.vs_match.specs.declared.arc_kind.ArcKind.TheVariants.{Trip}
-use Rattle.vs_match.specs.declared.layer_arc.LayerArc.{LayerArc}
+use Rattle.vs_match.specs.declared.arc_kind.LayerArc.{LayerArc}
 use Rattle.vs_match.specs.Events.{departure, arrival, IsBefore}
 use Rattle.vs_match.specs.NetArcs.{IsTripArc}
 use Rattle.vs_match.specs.Adds.{Adds, arc_in}

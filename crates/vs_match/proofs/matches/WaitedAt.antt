@@ -1,12 +1,11 @@
 -- Waiting arcs are between nodes that follow each other at a stop.
-use Rattle.std.proofs.Common.{◌≡◌, ℕ, suc, ◌+◌, ◌-◌, ◌*◌, ◌<◌, ◌≤◌, List, length, get_or, inl, inr, arith, sym, ap, ◌∙◌, refl, subst}
-use Rattle.std.specs.Prelude.{Contains, AllPairs}
+use Rattle.std.proofs.Common.{◌≡◌, ℕ, ◌+◌, ◌<◌, ◌≤◌, List, length, get_or, inl, inr, arith, sym, ap, ◌∙◌, refl, subst}
 use Rattle.std.proofs.lemmas.Bool.{cases_lt, cases_eq, cases_order}
 use Rattle.vs_types.specs.declared.numbers.StopNo.{StopNo}
 use Rattle.vs_instance.specs.Problem.{Problem}
 use Rattle.vs_match.specs.declared.event.Event.{Event}
 use Rattle.vs_match.specs.declared.stay.Stay.{Stay}
-use Rattle.vs_match.specs.declared.layer_arc.LayerArc.{LayerArc}
+use Rattle.vs_match.specs.declared.arc_kind.LayerArc.{LayerArc}
 use Rattle.vs_match.specs.Events.{IsEvent, HasPlace}
 use Rattle.vs_match.specs.ArcsOf.{waiting_of}
 use Rattle.vs_match.specs.Stays.{event_of, IsStayBefore, AreStays}

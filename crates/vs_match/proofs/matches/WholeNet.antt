@@ -1,26 +1,25 @@
 -- The arcs of all kinds together, in order, are a layer's net.
-use Rattle.std.proofs.Common.{◌≡◌, ℕ, zero, suc, ◌+◌, ◌<◌, ◌≤◌, List, [], ◌∷◌, ◌++◌, map, length, get_or, Option, Some, Result, Ok, Err, refl, sym, ap, ◌∙◌, subst, inl, inr, arith, pos}
+use Rattle.std.proofs.Common.{◌≡◌, ℕ, ◌+◌, ◌<◌, ◌≤◌, List, [], ◌∷◌, ◌++◌, map, length, get_or, Some, Result, Ok, Err, refl, sym, ap, ◌∙◌, subst, inl, inr, arith, pos}
 use Rattle.std.specs.Prelude.{◌⊎◌, ◌↔◌, AllPairs, Contains, IfOk}
 use Rattle.std.specs.List.{All}
 use Rattle.std.specs.declared.cmp.Ordering.TheVariants.{Less}
-use Rattle.std.proofs.lemmas.Bool.{cases_lt, cases_eq, cases_order}
+use Rattle.std.proofs.lemmas.Bool.{cases_lt}
 use Rattle.std.proofs.lemmas.List.{get_or_default, length-map}
 use Rattle.std.proofs.Math.ListN.{get_or-map}
 use Rattle.std.proofs.lemmas.Option.{MatchOption-at_some}
-use Rattle.vs_types.specs.declared.numbers.TripNo.{TripNo}
 use Rattle.vs_layer.specs.declared.arc.Arc.{Arc}
-use Rattle.vs_layer.specs.Ends.{no_arc, arc_at}
-use Rattle.vs_layer.specs.Graph.{Graph, IsRightArc, GoesOn, AllRight}
+use Rattle.vs_layer.specs.Ends.{arc_at}
+use Rattle.vs_layer.specs.Graph.{Graph, IsRightArc, AllRight}
 use Rattle.vs_instance.specs.declared.way.Way.{Way}
 use Rattle.vs_instance.specs.Problem.{Problem}
-use Rattle.vs_instance.specs.Ways.{way, layer_of, no_trip}
+use Rattle.vs_instance.specs.Ways.{way, no_trip}
 use Rattle.vs_instance.specs.Instance.{IsInstance, IsDeadhead as IsWay}
 use Rattle.vs_match.specs.declared.event.Event.{Event}
 use Rattle.vs_match.specs.declared.arc_kind.ArcKind.{ArcKind}
 use Rattle.vs_match.specs.declared.arc_kind.ArcKind.TheVariants.{Trip, Waiting, Deadhead, PullOut, PullIn, Return}
-use Rattle.vs_match.specs.declared.layer_arc.LayerArc.{LayerArc}
+use Rattle.vs_match.specs.declared.arc_kind.LayerArc.{LayerArc}
 use Rattle.vs_match.specs.declared.matching.Matching.{Matching}
-use Rattle.vs_match.specs.Events.{AreEvents, HasPlace, IsBefore, last_node}
+use Rattle.vs_match.specs.Events.{AreEvents, HasPlace, last_node}
 use Rattle.vs_match.specs.NetArcs.{IsArcOf, IsArcBefore, rank, trip_number}
 use Rattle.vs_match.specs.Adds.{Adds, AreArcs, arc_in}
 use Rattle.vs_match.specs.ArcsOf.{return_of}

@@ -1,10 +1,6 @@
 -- The order of kinds of arcs, as it is derived, is by rank and then by trip.
-use Rattle.std.proofs.Common.{◌≡◌, ℕ, ◌<◌, Bool, true, false, eqb, ◌&&◌, refl, sym, ap, ◌∙◌, arith}
-use Rattle.std.specs.declared.cmp.Ordering.{Ordering}
-use Rattle.std.specs.declared.cmp.Ordering.TheVariants.{Less, Equal, Greater}
+use Rattle.std.proofs.Common.{◌≡◌, ℕ, eqb, ◌&&◌, refl, ap, arith}
 use Rattle.std.specs.Ordering.{nat_cmp, ordering_then}
-use Rattle.std.proofs.lemmas.Bool.{eqb-true, and_parts}
-use Rattle.vs_types.specs.declared.numbers.TripNo.{TripNo}
 use Rattle.vs_match.specs.declared.arc_kind.ArcKind.{ArcKind}
 use Rattle.vs_match.specs.declared.arc_kind.ArcKind.TheVariants.{Trip, Waiting, Deadhead, PullOut, PullIn, Return}
 use Rattle.vs_match.specs.contracts.arc_kind.ArcKindPartialEq.TheImpl as equality

@@ -1,5 +1,5 @@
 -- Arcs that stand in a net as they should have no fault.
-use Rattle.std.proofs.Common.{◌≡◌, ℕ, ◌+◌, ◌<◌, ◌≤◌, List, length, inl, inr, arith}
+use Rattle.std.proofs.Common.{ℕ, List, length, inl, inr, arith}
 use Rattle.vs_layer.specs.declared.arc.Arc.{Arc}
 use Rattle.vs_layer.specs.declared.net_error.NetFault.{NetFault}
 use Rattle.vs_layer.specs.declared.net_error.NetFault.TheVariants.{NoSuchNode, NotForward}

@@ -3,6 +3,7 @@ use Rattle.std.proofs.Common.{◌≡◌, ℕ, ◌+◌, ◌-◌, ◌*◌, ◌<◌
 use Rattle.std.specs.Prelude.{ℤ, ◌≤ℤ◌}
 use Rattle.std.proofs.lemmas.Bool.{cases_order}
 use Rattle.std.proofs.lemmas.Int.{ints}
+use Rattle.vs_instance.specs.declared.limits.TheConstants.{TWO_DAYS}
 use Rattle.vs_layer.specs.declared.arc.Arc.{Arc}
 use Rattle.vs_layer.specs.Graph.{IsNet, arc_of}
 use Rattle.vs_instance.specs.Problem.{Problem}
@@ -30,14 +31,14 @@ arc_of_trip p l i u v = record { from = u; to = v; cost = at_scale (trip_piece p
 module _ (p : Problem) (is : IsInstance p) (l : ℕ) (within : l < length p.layers) (matching : Matching)
     (n : LayerGraph) (net : IsNetOf p l matching n) where
   -- the minutes of events are those of two days
-  ends_within : (e : Event) → IsEvent p l e → e.minute < 2880
+  ends_within : (e : Event) → IsEvent p l e → e.minute < TWO_DAYS
   ends_within e (inl (i, may, at)) =
       let trip = is.trips i no_trip may.0 in
       omega (arith, ap (λ (x : Event). x.minute) at, trip.end, trip.lasts)
   ends_within e (inr (i, may, at)) =
       omega (arith, ap (λ (x : Event). x.minute) at, (is.trips i no_trip may.0).end)
 
-  event_within : (v : ℕ) (e : Event) → HasPlace n.events v e → e.minute < 2880
+  event_within : (v : ℕ) (e : Event) → HasPlace n.events v e → e.minute < TWO_DAYS
   event_within v e at =
       let x = placed n.events v e at in
       ends_within e (net.events.only e (x.k, x.within, x.event e))

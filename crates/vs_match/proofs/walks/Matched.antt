@@ -1,20 +1,19 @@
 -- From an arrival to a departure at another stop that can be reached leads a match, of the arrival or of a later one at
 -- its stop.
-use Rattle.std.proofs.Common.{◌≡◌, ◌≢◌, ℕ, ◌+◌, ◌-◌, ◌<◌, ◌≤◌, List, length, Option, Some, refl, sym, ap, ◌∙◌, subst, inl, inr, arith}
+use Rattle.std.proofs.Common.{◌≡◌, ◌≢◌, ℕ, ◌+◌, ◌-◌, ◌<◌, ◌≤◌, length, Some, refl, sym, ap, ◌∙◌, arith}
 use Rattle.std.specs.Prelude.{◌⊎◌}
 use Rattle.std.proofs.lemmas.Bool.{cases_eq}
 use Rattle.vs_types.specs.declared.numbers.StopNo.{StopNo}
-use Rattle.vs_instance.specs.declared.trip.Trip.{Trip}
 use Rattle.vs_instance.specs.declared.way.Way.{Way}
 use Rattle.vs_instance.specs.Problem.{Problem}
-use Rattle.vs_instance.specs.Ways.{way, trip_of, no_trip}
-use Rattle.vs_instance.specs.Instance.{IsInstance, IsTrip}
+use Rattle.vs_instance.specs.Ways.{way, no_trip}
+use Rattle.vs_instance.specs.Instance.{IsInstance}
 use Rattle.vs_match.specs.declared.event.Event.{Event}
 use Rattle.vs_match.specs.declared.matching.Matching.{Matching}
 use Rattle.vs_match.specs.declared.matching.Matching.TheVariants.{First, Latest}
-use Rattle.vs_match.specs.Events.{departure, arrival, MayRun, DepartsAt, ArrivesAt}
+use Rattle.vs_match.specs.Events.{departure, arrival, MayRun}
 use Rattle.vs_match.specs.Matches.{IsMatch, IsFirstMatch, IsLatestFirstMatch}
-use Rattle.vs_match.proofs.events.LeastTrips.{IsLeast, least_of, decide_both, decide_le, decide_may_run}
+use Rattle.vs_match.proofs.events.LeastTrips.{least_of, decide_both, decide_le, decide_may_run}
 use Rattle.vs_match.proofs.walks.WaitingChains.{same_stop}
 
 -- trip j departs at this stop from this minute on

@@ -1,6 +1,6 @@
 -- What a walk shows of the two events that it joins: there is a way between them that fits, and the walk costs no less
 -- than it.
-use Rattle.std.proofs.Common.{◌≡◌, ℕ, ◌+◌, ◌-◌, ◌*◌, ◌<◌, ◌≤◌, List, [], ◌∷◌, length, Option, Some, None, refl, sym, ap, ◌∙◌, subst, arith, pos}
+use Rattle.std.proofs.Common.{◌≡◌, ℕ, ◌+◌, ◌-◌, ◌*◌, ◌≤◌, List, [], ◌∷◌, Some, refl, sym, ap, ◌∙◌, subst, arith, pos}
 use Rattle.std.specs.Prelude.{ℤ, ◌+ℤ◌}
 use Rattle.std.proofs.Math.Nat.{mul-le-mul_left}
 use Rattle.vs_layer.specs.declared.arc.Arc.{Arc}
@@ -21,7 +21,7 @@ use Rattle.vs_match.specs.Matches.{IsMatch, IsFirstMatch}
 use Rattle.vs_match.specs.NetArcs.{IsArcOf}
 use Rattle.vs_match.specs.LayerGraph.{LayerGraph, IsNetOf, kind_of}
 use Rattle.vs_match.specs.WalkLaw.{IsMove, IsWalk}
-use Rattle.vs_match.proofs.walks.ClosedWays.{way-own, way-through, IsThrough}
+use Rattle.vs_match.proofs.walks.ClosedWays.{way-own, way-through}
 use Rattle.vs_match.proofs.events.Places.{same_event}
 
 -- a match by either rule is a first match

@@ -1,5 +1,5 @@
 -- The walk law of a layer's net, from what the net is.
-use Rattle.std.proofs.Common.{◌≡◌, ◌≢◌, ℕ, ◌+◌, ◌-◌, ◌*◌, ◌<◌, ◌≤◌, Bool, true, false, if◌then◌else◌, List, [], ◌∷◌, ◌++◌, length, Option, Some, None, refl, sym, ap, ◌∙◌, subst, inl, inr, arith, pos}
+use Rattle.std.proofs.Common.{◌≡◌, ℕ, ◌+◌, ◌-◌, ◌*◌, ◌≤◌, Bool, true, false, if◌then◌else◌, List, [], ◌∷◌, Option, Some, None, refl, sym, ap, ◌∙◌, subst, inl, inr, arith, pos}
 use Rattle.std.specs.Prelude.{ℤ, ◌+ℤ◌, ◌≤ℤ◌, nat_le, option_map, option_and_then}
 use Rattle.std.proofs.lemmas.Bool.{cases_eq, leb-true, leb-false}
 use Rattle.std.proofs.lemmas.Int.{ints}
@@ -18,7 +18,7 @@ use Rattle.vs_match.specs.declared.arc_kind.ArcKind.TheVariants.{Deadhead, PullO
 use Rattle.vs_match.specs.declared.matching.Matching.{Matching}
 use Rattle.vs_match.specs.Events.{departure, arrival, MayRun, HasPlace, last_node}
 use Rattle.vs_match.specs.NetArcs.{IsArcOf, at_scale}
-use Rattle.vs_match.specs.LayerGraph.{LayerGraph, IsNetOf, kind_of}
+use Rattle.vs_match.specs.LayerGraph.{LayerGraph, IsNetOf}
 use Rattle.vs_match.specs.WalkLaw.{IsMove, IsWalk, IsWayOut, IsWayIn, HasWalkLaw}
 use Rattle.vs_match.proofs.walks.ClosedWays.{some-same, way-own, way-through}
 use Rattle.vs_match.proofs.events.Places.{has_node}

@@ -1,4 +1,3 @@
-use Rattle.std.proofs.Common.{below_more}
 use Rattle.vs_layer.proofs.net.first_fault.Goals as goal
 
 pub returns-in-Some : goal.returns-in-Some

@@ -1,13 +1,11 @@
-use Rattle.std.proofs.Common.{◌≡◌, ◌+◌, List, map, ap, sym, subst, length, ◌∙◌, arith}
-use Rattle.std.specs.List.{All}
+use Rattle.std.proofs.Common.{◌+◌, List, map, sym, subst, length, arith}
 use Rattle.std.proofs.Math.ListN.{length-map}
-use Rattle.vs_layer.specs.Graph.{Graph, AllRight, IsNet}
+use Rattle.vs_layer.specs.Graph.{Graph, IsNet}
 use Rattle.vs_match.specs.declared.arc_kind.ArcKind.{ArcKind}
-use Rattle.vs_match.specs.declared.layer_arc.LayerArc.{LayerArc}
+use Rattle.vs_match.specs.declared.arc_kind.LayerArc.{LayerArc}
 use Rattle.vs_match.specs.Adds.{arc_in, AreArcs}
 use Rattle.vs_match.specs.LayerGraph.{IsNetOf}
 use Rattle.vs_match.specs.LawfulNets.{IsLawful}
-use Rattle.vs_match.specs.TripIndex.{IsBelow}
 use Rattle.vs_match.specs.WalkLaw.{HasWalkLaw}
 use Rattle.vs_match.proofs.matches.WholeNet.{some_arc, all_right, all_below, is_net, net_of_parts}
 use Rattle.vs_match.proofs.walks.Lawful.{is_lawful}

@@ -1,4 +1,5 @@
 use Rattle.std.proofs.Common.{◌+◌, ◌*◌, ◌≤◌, length}
+use Rattle.vs_instance.specs.declared.limits.TheConstants.{MAX_STOPS, MAX_TRIPS}
 use Rattle.vs_match.specs.Adds.{Adds}
 use Rattle.vs_match.specs.Parts.{IsDeadheadFrom}
 use Rattle.vs_match.proofs.events.Adding.{Upto}
@@ -9,5 +10,5 @@ abbrev pub invariant-loop-stop : goal.invariant-loop-stop
 invariant-loop-stop l = record {
   adds : Adds
       (Upto (IsDeadheadFrom l.instance l.l.0 l.matching l.nodes.events.items) l.stop) l.initial.arcs.items l.arcs.items;
-  few : length l.arcs.items ≤ length l.initial.arcs.items + l.stop * 1000000;
+  few : length l.arcs.items ≤ length l.initial.arcs.items + l.stop * (MAX_STOPS * MAX_TRIPS);
 }

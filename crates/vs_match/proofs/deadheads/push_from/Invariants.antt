@@ -1,4 +1,5 @@
 use Rattle.std.proofs.Common.{◌+◌, ◌*◌, ◌≤◌, length}
+use Rattle.vs_instance.specs.declared.limits.TheConstants.{MAX_TRIPS}
 use Rattle.vs_match.specs.Adds.{Adds}
 use Rattle.vs_match.specs.Parts.{IsDeadheadTo}
 use Rattle.vs_match.proofs.events.Adding.{Upto}
@@ -10,5 +11,5 @@ invariant-loop-to l = record {
   adds : Adds
       (Upto (IsDeadheadTo l.instance l.l.0 l.matching l.nodes.events.items l.from.0) l.to) l.initial.arcs.items
       l.arcs.items;
-  few : length l.arcs.items ≤ length l.initial.arcs.items + l.to * 2000;
+  few : length l.arcs.items ≤ length l.initial.arcs.items + l.to * MAX_TRIPS;
 }

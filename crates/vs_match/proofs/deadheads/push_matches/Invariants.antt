@@ -1,5 +1,4 @@
-use Rattle.std.proofs.Common.{ℕ, ◌+◌, ◌<◌, ◌≤◌, length, get_or}
-use Rattle.vs_match.specs.declared.stay.Stay.{Stay}
+use Rattle.std.proofs.Common.{◌+◌, ◌≤◌, length}
 use Rattle.vs_match.specs.Adds.{Adds}
 use Rattle.vs_match.proofs.events.Adding.{Upto}
 use Rattle.vs_match.proofs.matches.Sweeping.{OfArrival, AreEarly}

@@ -1,8 +1,7 @@
-use Rattle.std.proofs.Common.{◌≡◌, ℕ, List, Option, Some, None, length, get_or, ap, sym, subst, ◌∙◌, arith, length-set, replicate, rules, ◌<◌, Vec, Global}
+use Rattle.std.proofs.Common.{◌≡◌, ℕ, Option, Some, None, length, ap, subst, ◌∙◌, arith, length-set, replicate, rules, ◌<◌, Vec, Global}
 use Rattle.std.proofs.lemmas.List.{get_or_default, length-replicate}
-use Rattle.vs_types.specs.declared.numbers.TripNo.{TripNo}
 use Rattle.vs_match.specs.declared.arc_kind.ArcKind.{ArcKind}
-use Rattle.vs_match.specs.declared.arc_kind.ArcKind.TheVariants.{Trip, Return}
+use Rattle.vs_match.specs.declared.arc_kind.ArcKind.TheVariants.{Return}
 use Rattle.vs_match.specs.TripIndex.{IsBelow}
 use Rattle.vs_match.proofs.matches.TripIndexes.{IsIndexUpto, get_or-copies, index_none, index_other, index_trip, index_all}
 use Rattle.vs_match.proofs.layer_net.trip_index.Goals as goal

@@ -1,8 +1,4 @@
-use Rattle.std.proofs.Common.{◌≡◌, ℕ, ◌+◌, ◌∙◌, sym, ap, subst, refl, length, get_or, arith, [], ◌∷◌, ◌++◌, List, length-append}
-use Rattle.std.proofs.lemmas.List.{get_or_default}
-use Rattle.vs_match.specs.declared.event.Event.{Event}
-use Rattle.vs_match.specs.declared.stay.Stay.{Stay}
-use Rattle.vs_match.specs.Stays.{event_of}
+use Rattle.std.proofs.Common.{◌≡◌, ℕ, ◌+◌, ◌∙◌, sym, ap, subst, length, arith, [], ◌∷◌, ◌++◌, length-append}
 use Rattle.vs_match.specs.Adds.{Adds}
 use Rattle.vs_match.proofs.events.Adding.{Upto, upto-none, upto-one}
 use Rattle.vs_match.proofs.events.StayLists.{OfPlace, stay_at, of_place, event_stays, stay_equal}

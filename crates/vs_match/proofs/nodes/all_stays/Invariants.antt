@@ -1,4 +1,4 @@
-use Rattle.std.proofs.Common.{[], ◌≡◌, ◌≤◌, length}
+use Rattle.std.proofs.Common.{[], ◌≡◌, length}
 use Rattle.vs_match.specs.Adds.{Adds}
 use Rattle.vs_match.proofs.events.Adding.{Upto}
 use Rattle.vs_match.proofs.events.StayLists.{OfPlace}

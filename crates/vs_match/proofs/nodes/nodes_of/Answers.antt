@@ -11,7 +11,7 @@ returns c =
     let l = c.args.l.0 in
     let events = c.in_ok-events.ensures.events in
     let all =
-    subst (λ (es : List Event). AreStays es (Contains es) c.in_ok-all.all.items) c.deref.ensures.value
+    subst (λ (es : List Event). AreStays es (Contains es) c.in_ok-all.all.items) c.deref-order.ensures.value
     c.in_ok-all.ensures.stays in
     record {
       events = events;
@@ -24,10 +24,10 @@ returns c =
       few_all = c.in_ok-all.ensures.few;
       departures =
           subst (λ (es : List Event). AreStays es (DepartsAt p l) c.in_ok-departures.departures.items)
-          c.deref-2.ensures.value c.in_ok-departures.ensures.stays;
+          c.deref-order.ensures.value c.in_ok-departures.ensures.stays;
       few_departures = c.in_ok-departures.ensures.few;
       arrivals =
           subst (λ (es : List Event). AreStays es (ArrivesAt p l) c.in_ok-arrivals.arrivals.items)
-          c.deref-3.ensures.value c.in_ok-arrivals.ensures.stays;
+          c.deref-order.ensures.value c.in_ok-arrivals.ensures.stays;
       few_arrivals = c.in_ok-arrivals.ensures.few;
     }

@@ -1,13 +1,11 @@
-use Rattle.std.proofs.Common.{◌≡◌, ℕ, ◌∙◌, sym, ap, subst, refl, length, arith, [], ◌∷◌, ◌++◌, List, length-append, Vec, Global}
+use Rattle.std.proofs.Common.{◌≡◌, ℕ, ◌∙◌, sym, ap, subst, refl, length, arith, [], ◌∷◌, ◌++◌, length-append, Vec, Global}
 use Rattle.std.specs.Int.{bit_at}
 use Rattle.std.specs.Prelude.{Contains}
 use Rattle.std.proofs.lemmas.Bool.{false≢true}
 use Rattle.vs_instance.specs.declared.trip.Trip.{Trip}
 use Rattle.vs_match.specs.declared.event.Event.{Event}
 use Rattle.vs_match.specs.declared.stay.Stay.{Stay}
-use Rattle.vs_match.specs.Events.{MayRun, HasPlace}
-use Rattle.vs_match.specs.TripEnds.{event_at}
-use Rattle.vs_match.specs.Stays.{event_of}
+use Rattle.vs_match.specs.Events.{MayRun}
 use Rattle.vs_match.specs.Adds.{Adds}
 use Rattle.vs_match.proofs.events.Adding.{Upto, upto-none, upto-one, upto-skip}
 use Rattle.vs_match.proofs.events.StayLists.{OfTripEnd, trip_stays, stay_equal, same_stay, event_known}

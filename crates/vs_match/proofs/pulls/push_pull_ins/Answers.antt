@@ -1,17 +1,15 @@
-use Rattle.std.proofs.Common.{◌≡◌, ℕ, ◌+◌, ◌≤◌, ◌<◌, ◌∙◌, sym, ap, subst, refl, length, length-append, get_or, arith, List, ◌∷◌, [], ◌++◌, Vec, Global, Some, None}
+use Rattle.std.proofs.Common.{◌≡◌, ℕ, ◌+◌, ◌<◌, ◌∙◌, sym, ap, subst, refl, length, length-append, get_or, arith, List, ◌∷◌, [], ◌++◌, Vec, Global}
 use Rattle.std.proofs.lemmas.Option.{none-some}
 use Rattle.vs_instance.specs.declared.layer.Layer.{Layer}
-use Rattle.vs_instance.specs.declared.way.Way.{Way}
 use Rattle.vs_instance.specs.Ways.{way, layer_of, no_layer}
 use Rattle.vs_match.specs.declared.stay.Stay.{Stay}
-use Rattle.vs_match.specs.declared.layer_arc.LayerArc.{LayerArc}
+use Rattle.vs_match.specs.declared.arc_kind.LayerArc.{LayerArc}
 use Rattle.vs_match.specs.ArcsOf.{pull_in_of}
 use Rattle.vs_match.specs.Events.{last_node}
 use Rattle.vs_match.specs.Stays.{event_of}
 use Rattle.vs_match.specs.Adds.{Adds}
 use Rattle.vs_match.proofs.events.Adding.{Upto, upto-one, upto-skip}
-use Rattle.vs_match.proofs.walks.ClosedWays.{some-same}
-use Rattle.vs_match.proofs.matches.Deadheading.{arrives_within, way_within}
+use Rattle.vs_match.proofs.matches.Deadheading.{arrives_within}
 use Rattle.vs_match.proofs.matches.PulledOut.{AtPlace, same_at, at_place, OfArrived, only_in, pull_ins_are}
 use Rattle.vs_match.proofs.pulls.push_pull_ins.Goals as goal
 use Rattle.vs_match.proofs.pulls.push_pull_ins.Goals.{in-Some+in_ok-push, in_default}

@@ -1,4 +1,4 @@
-use Rattle.std.proofs.Common.{◌≡◌, ℕ, ◌-◌, ◌∙◌, List, [], length, take, ap, sym, arith}
+use Rattle.std.proofs.Common.{◌≡◌, ℕ, ◌-◌, ◌∙◌, List, [], length, take, ap, arith}
 use Rattle.std.proofs.lemmas.List.{take_all}
 use Rattle.vs_layer.specs.Graph.{Graph}
 use Rattle.vs_match.specs.declared.arc_kind.ArcKind.{ArcKind}
@@ -11,8 +11,8 @@ loop-k-init c =
     omega (
       arith,
       c.nodes.ensures.count,
-      ap (λ (g : Graph). g.nodes) c.net.ensures.graph,
-      c.net.ensures.labelled.each_node,
+      ap (λ (g : Graph). g.nodes) c.net-graph.ensures.graph,
+      c.net-graph.ensures.labelled.each_node,
     ) in
     ap (λ (n : ℕ). counts_from n []) nodes
 
@@ -25,8 +25,8 @@ returns c =
       c.loop-k.auto.k-end,
       c.loop-k-test.false,
       c.arcs-k-end.ensures.count,
-      ap (λ (g : Graph). length g.arcs) c.net-2.ensures.graph,
-      c.net-2.ensures.labelled.each_arc,
+      ap (λ (g : Graph). length g.arcs) c.net-graph.ensures.graph,
+      c.net-graph.ensures.labelled.each_arc,
     ) in
     c.loop-k.invariant
     ∙ ap (λ (ks : List ArcKind). counts_from (length n.events) ks)

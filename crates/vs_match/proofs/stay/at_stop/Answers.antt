@@ -1,6 +1,5 @@
-use Rattle.std.proofs.Common.{◌≡◌, ltb, leb, true, false, rules, arith}
+use Rattle.std.proofs.Common.{ltb, leb, rules, arith}
 use Rattle.std.proofs.lemmas.List.Sorted.{IsPartitionPoint-from_clause, IsPartitionedBy-ltb, IsPartitionedBy-leb}
-use Rattle.vs_types.specs.declared.numbers.StopNo.{StopNo}
 use Rattle.vs_match.specs.declared.stay.Stay.{Stay}
 use Rattle.vs_match.proofs.events.AtStop.{stops_rise, start-≤, same_stays, rising, few}
 use Rattle.vs_match.proofs.stay.at_stop.Goals as goal

@@ -1,8 +1,8 @@
-use Rattle.std.proofs.Common.{◌≡◌, ℕ, ◌∙◌, sym, ap, subst, refl, length, length-append, arith, List, ◌∷◌, [], ◌++◌, Vec, Global}
+use Rattle.std.proofs.Common.{◌≡◌, ℕ, ◌∙◌, ap, subst, length, length-append, arith, ◌∷◌, [], ◌++◌, Vec, Global}
 use Rattle.std.specs.Int.{bit_at}
 use Rattle.std.proofs.lemmas.Bool.{false≢true}
 use Rattle.vs_instance.specs.declared.trip.Trip.{Trip}
-use Rattle.vs_match.specs.declared.layer_arc.LayerArc.{LayerArc}
+use Rattle.vs_match.specs.declared.arc_kind.LayerArc.{LayerArc}
 use Rattle.vs_match.specs.Adds.{Adds}
 use Rattle.vs_match.proofs.events.Adding.{Upto, upto-one, upto-skip}
 use Rattle.vs_match.proofs.matches.TripsRun.{OfTripNo, only_trip, trips_are}

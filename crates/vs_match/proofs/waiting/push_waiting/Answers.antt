@@ -1,12 +1,11 @@
-use Rattle.std.proofs.Common.{◌≡◌, ℕ, ◌+◌, ◌-◌, ◌*◌, ◌<◌, ◌∙◌, sym, ap, subst, refl, length, length-append, get_or, arith, List, ◌∷◌, [], ◌++◌, Vec, Global, pos, true, false}
-use Rattle.std.proofs.lemmas.Bool.{eqb-true, eqb-false, false≢true, eq-eqb}
+use Rattle.std.proofs.Common.{◌≡◌, ℕ, ◌+◌, ◌-◌, ◌<◌, ◌∙◌, sym, ap, subst, refl, length, length-append, arith, ◌∷◌, [], ◌++◌, Vec, Global}
+use Rattle.std.proofs.lemmas.Bool.{eqb-true, false≢true, eq-eqb}
 use Rattle.vs_types.specs.declared.numbers.StopNo.{StopNo}
-use Rattle.vs_instance.specs.Ways.{layer_of}
 use Rattle.vs_match.specs.declared.stay.Stay.{Stay}
-use Rattle.vs_match.specs.declared.layer_arc.LayerArc.{LayerArc}
+use Rattle.vs_match.specs.declared.arc_kind.LayerArc.{LayerArc}
 use Rattle.vs_match.specs.ArcsOf.{waiting_of}
 use Rattle.vs_match.specs.Stays.{event_of}
-use Rattle.vs_match.proofs.events.Adding.{Upto, upto-one, upto-skip, upto-none}
+use Rattle.vs_match.proofs.events.Adding.{upto-one, upto-skip, upto-none}
 use Rattle.vs_match.proofs.matches.Deadheading.{event_within}
 use Rattle.vs_match.proofs.matches.PulledOut.{AtPlace, same_at}
 use Rattle.vs_match.proofs.walks.WaitingChains.{same_stop}

@@ -1,4 +1,4 @@
-use Rattle.std.proofs.Common.{◌≡◌, ◌<◌, List, [], ℕ, length, get_or, ap, ◌∙◌, arith}
+use Rattle.std.proofs.Common.{◌<◌, List, [], ℕ, length, get_or, ap, ◌∙◌, arith}
 use Rattle.vs_layer.specs.declared.arc.End.TheVariants.{To}
 use Rattle.vs_layer.specs.Graph.{Graph, reaching}
 use Rattle.vs_layer.proofs.Placed.{length-star_of, get_or-star_of}

@@ -1,10 +1,10 @@
-use Rattle.std.proofs.Common.{◌≡◌, ◌∙◌, ◌<◌, ℕ, List, map, ap, sym, subst, length, get_or, arith}
+use Rattle.std.proofs.Common.{◌∙◌, List, ap, sym, subst, length, arith}
 use Rattle.std.proofs.lemmas.List.{length-map}
 use Rattle.std.proofs.lemmas.List.Elements.{All-map}
 use Rattle.std.specs.List.{All}
 use Rattle.vs_layer.specs.Graph.{Graph}
 use Rattle.vs_match.specs.declared.arc_kind.ArcKind.{ArcKind}
-use Rattle.vs_match.specs.declared.layer_arc.LayerArc.{LayerArc}
+use Rattle.vs_match.specs.declared.arc_kind.LayerArc.{LayerArc}
 use Rattle.vs_match.specs.Adds.{arc_in}
 use Rattle.vs_match.specs.TripIndex.{IsBelow, IsTripIndex}
 use Rattle.vs_match.proofs.layer_net.LayerNet.new.Goals as goal

@@ -1,7 +1,7 @@
 use Rattle.vs_match.specs.declared.matching.Matching.TheVariants.{First, Latest}
 use Rattle.vs_match.proofs.walks.Lawful.{is_lawful}
 use Rattle.vs_match.proofs.composition.Aggregating.{nets_alike}
-use Rattle.vs_match.proofs.aggregation.both_nets_alike.Goals as goal
+use Rattle.vs_match.proofs.laws.both_nets_alike.Goals as goal
 
 pub returns : goal.returns
 returns c = λ p l n m chosen cost inst known net right net' right'.
