@@ -16,4 +16,5 @@ pub mod Drafts
 pub mod Left
 pub mod ReadErrors
 pub mod Declarations
+pub mod Heads
 pub mod Ends

@@ -24,6 +24,10 @@ pub record StandsFor (bytes : List ℕ) (p : Problem) (names : NameLists) (befor
   pub has_rows : HasRows bytes rows
   pub text : InstanceText rows p names before rest
 
+-- the bytes stand for an instance with its names, whatever stands behind
+abbrev pub StandsForInstance : List ℕ → Problem → NameLists → Type 0
+StandsForInstance bytes p names = (before : ℕ) × (rest : List Row) × StandsFor bytes p names before rest
+
 -- the bytes stand for no instance, and are refused so
 pub record IsRefused (bytes : List ℕ) (refused : Refused) : Type 0 where
   pub rows : List Row

@@ -1,6 +1,15 @@
+//! An instance as its text gives it, with and without the records behind it.
+
 use crate::names::Names;
 use crate::rows::Rows;
 use vs_instance::Instance;
+
+/// An instance and the names that its text declares.
+#[derive(Drop)]
+pub struct Timetable {
+    pub instance: Instance,
+    pub names: Names,
+}
 
 /// An instance as its text gives it.
 #[derive(Drop)]

@@ -16,14 +16,12 @@ mod record_numbers;
 mod records;
 mod refused;
 mod rows;
-#[cfg(test)]
-mod tests;
 mod text_records;
 mod time;
 
-pub use input::Input;
+pub use input::{Input, Timetable};
 pub use limits::MAX_BYTES;
 pub use names::Names;
-pub use reading::read;
+pub use reading::{read, read_instance};
 pub use refused::{ReadError, Refused, Why};
 pub use rows::Rows;

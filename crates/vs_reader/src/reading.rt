@@ -1,3 +1,5 @@
+//! The reading of a whole text: its header, the records that declare the instance, and the rows behind them.
+
 ghost use Rattle.std.specs.Prelude.{◌≡◌, ◌≤◌, ◌<◌, ◌^◌, ℕ, List, [], ◌∷◌, length, IfOk, IfErr, IsTrue, MatchBool, true};
 ghost use Rattle.csv.specs.Records.{fields_of};
 ghost use Rattle.vs_instance.specs.Problem.{Problem};
@@ -9,13 +11,14 @@ ghost use Rattle.vs_reader.specs.InstanceText.{AddAll, Makes, nothing_yet};
 ghost use Rattle.vs_reader.specs.Refusals.{HasMisfit};
 ghost use Rattle.vs_reader.specs.RecordNumbers.{HasNumbers};
 ghost use Rattle.vs_reader.specs.Drafts.{declared_of, IsSound};
-ghost use Rattle.vs_reader.specs.Texts.{StandsFor, IsRefused};
+ghost use Rattle.vs_reader.specs.Texts.{IsRefused, StandsFor, StandsForInstance};
 ghost use Rattle.vs_reader.specs.Left.{AreLeft, GivesNext, IsOpen};
 ghost use Rattle.vs_reader.specs.ReadErrors.{RefusesAs, IsRefusedError, error_at};
 ghost use Rattle.vs_reader.specs.Declarations.{DeclareOrRefuse};
+ghost use Rattle.vs_reader.specs.Heads.{HeadOrRefuse};
 
 use crate::draft::Draft;
-use crate::input::Input;
+use crate::input::{Input, Timetable};
 use crate::names::Names;
 use crate::record::{RecordError, is_header, is_result};
 use crate::refused::{ReadError, Refused, Why};
@@ -29,6 +32,17 @@ use vs_types::Memory;
 #[derive(Drop)]
 pub struct Declarations {
     pub draft: Draft,
+    /// How many records come before the first `result` record.
+    pub before: u32,
+    /// Whether there is a `result` record.
+    pub in_rest: bool,
+}
+
+/// What the records up to the first `result` record give.
+#[derive(Drop)]
+pub struct Head {
+    pub instance: Instance,
+    pub names: Names,
     /// How many records come before the first `result` record.
     pub before: u32,
     /// Whether there is a `result` record.
@@ -51,21 +65,59 @@ pub fn read(alloc: Global, bytes: &[u8]) -> Result<Input, ReadError>
     ensures counted { IfOk result (λ input. AreCounted input.before input.rest) }
 {
     let mut records = TextRecords::new(alloc, bytes);
-    if !read_header(&mut records)? {
+    let head = read_head(alloc, &mut records)?;
+    let rest = read_rest(alloc, &mut records, head.in_rest)?;
+    let before = u64::from(head.before);
+    Ok(Input {
+        instance: head.instance,
+        names: head.names,
+        before,
+        rest,
+    })
+}
+
+/// The instance that a text stands for, with its names; else the first refusal of the text. It answers as `read` does,
+/// and goes no further than the first `result` record.
+pub fn read_instance(alloc: Global, bytes: &[u8]) -> Result<Timetable, ReadError>
+    requires { length bytes.now ≤ MAX_BYTES }
+    ensures found { IfOk result (λ timetable.
+        StandsForInstance bytes.now timetable.instance timetable.names) }
+    ensures only { IfOk result (λ timetable.
+        (p : Problem) (names : NameLists) (before : ℕ) (rest : List Row)
+        → StandsFor bytes.now p names before rest
+        → (p ≡ timetable.instance) × (names ≡ timetable.names)) }
+    ensures refused { IfErr result (RefusesAs (IsRefused bytes.now)) }
+    ensures none { IfErr result (λ e. IsRefusedError e
+        → (p : Problem) (names : NameLists) (before : ℕ) (rest : List Row)
+        → ¬ (StandsFor bytes.now p names before rest)) }
+{
+    let mut records = TextRecords::new(alloc, bytes);
+    let head = read_head(alloc, &mut records)?;
+    Ok(Timetable {
+        instance: head.instance,
+        names: head.names,
+    })
+}
+
+/// What the records up to the first `result` record give, that one read as well.
+fn read_head(alloc: Global, records: &mut TextRecords) -> Result<Head, ReadError>
+    requires { IsOpen records.old }
+    ensures read { (rows : List Row) → AreLeft records.old rows → HeadOrRefuse rows records.new result }
+    ensures goes_on { IfOk result (λ head. IsTrue head.in_rest → IsOpen records.new) }
+{
+    if !read_header(records)? {
         return Err(ReadError::Refused(Refused {
             row: 1,
             why: Why::NoHeader,
         }));
     }
-    let declarations = read_declarations(alloc, &mut records)?;
-    let rest = read_rest(alloc, &mut records, declarations.in_rest)?;
-    let before = u64::from(declarations.before);
+    let declarations = read_declarations(alloc, records)?;
     let (instance, names) = made(alloc, declarations.draft)?;
-    Ok(Input {
+    Ok(Head {
         instance,
         names,
-        before,
-        rest,
+        before: declarations.before,
+        in_rest: declarations.in_rest,
     })
 }
 

@@ -1,7 +1,7 @@
 -- A text is an instance text or is refused, and not both.
-use Rattle.std.proofs.Common.{◌≡◌, ℕ, ◌+◌, ◌<◌, ◌≤◌, inl, inr, Bool, true, false, cond, List, [], ◌∷◌, ◌++◌, length, drop, refl, sym, ap, ◌∙◌, subst, arith}
+use Rattle.std.proofs.Common.{◌≡◌, ℕ, ◌+◌, ◌≤◌, inl, inr, true, false, cond, List, [], ◌∷◌, ◌++◌, length, drop, refl, sym, ap, ◌∙◌, subst, arith}
 use Rattle.std.specs.Prelude.{AllPairs}
-use Rattle.std.proofs.lemmas.List.{length-append, drop_at}
+use Rattle.std.proofs.lemmas.List.{drop_at}
 use Rattle.csv.specs.Reading.{default_config, strip_bom, is_bom}
 use Rattle.csv.specs.declared.parser.State.TheVariants as state
 use Rattle.vs_instance.specs.Problem.{Problem}
@@ -19,7 +19,7 @@ use Rattle.vs_reader.specs.RowEnds.{weight_of}
 use Rattle.vs_reader.specs.Names.{NameLists, HaveCounts}
 use Rattle.vs_reader.specs.Kinds.{HasHeader, before_result}
 use Rattle.vs_reader.specs.InstanceText.{Declared, AddAll, Makes, InstanceText, nothing_yet, instance_records}
-use Rattle.vs_reader.specs.Refusals.{BreaksRule, HasMisfit}
+use Rattle.vs_reader.specs.Refusals.{BreaksRule, HasMisfit, IsRefusal}
 use Rattle.vs_reader.specs.RecordNumbers.{HasNumbers}
 use Rattle.vs_reader.specs.Drafts.{declared_of}
 use Rattle.vs_reader.specs.Texts.{HasRows, StandsFor, IsRefused}
@@ -59,129 +59,58 @@ length-rows bytes rows has =
       length-records default_config state.StartRecord (strip_bom bytes) rows has,
     )
 
--- a text without a header
-module _ (bytes : List ℕ) (rows : List Row) (has : HasRows bytes rows) (lacks : ¬ (HasHeader rows)) where
-  pub header_refused : IsRefused bytes (record { row = 1; why = why.NoHeader })
-  header_refused = record { rows = rows; has_rows = has; refusal = inl (lacks, refl, refl) }
+-- rows without a header
+pub header_refused : (rows : List Row) → ¬ (HasHeader rows)
+    → IsRefusal rows (record { row = 1; why = why.NoHeader })
+header_refused rows lacks = inl (lacks, refl, refl)
 
-  pub header_none : (p : Problem) (names : NameLists) (before : ℕ) (rest : List Row)
-      → ¬ (StandsFor bytes p names before rest)
-  header_none p names before rest stands =
-      lacks (subst HasHeader (one_rows bytes rows stands.rows has stands.has_rows) stands.text.first)
-
--- a text with a header, and the rows after it
-module _ (bytes : List ℕ) (rows : List Row) (more : List Row) (header : Row) (has : HasRows bytes rows)
-    (begins : HasHeader rows) (rows_are : rows ≡ header ∷ more) where
+-- rows with a header, and those after it
+module _ (rows more : List Row) (header : Row) (begins : HasHeader rows) (rows_are : rows ≡ header ∷ more) where
   records_are : instance_records rows ≡ before_result more
   records_are = ap instance_records rows_are
 
-  -- what another reading of the text declares
-  declares_too : (p : Problem) (names : NameLists) (before : ℕ) (rest : List Row)
-      (stands : StandsFor bytes p names before rest)
-      → AddAll nothing_yet (before_result more) stands.text.declared
-  declares_too p names before rest stands =
-      subst (λ (rs : List Row). AddAll nothing_yet rs stands.text.declared)
-      (ap instance_records (one_rows bytes rows stands.rows has stands.has_rows) ∙ records_are) stands.text.declares
-
   -- a record breaks a rule
   pub rule_refused : (e : ReadError) → RefusesAs (BreaksRule 2 nothing_yet.names (before_result more)) e
-      → RefusesAs (IsRefused bytes) e
-  rule_refused (error.Refused refused) breaks = record {
-    rows = rows;
-    has_rows = has;
-    refusal =
-        inr (
-          begins,
-          inl (subst (λ (rs : List Row). BreaksRule 2 nothing_yet.names rs refused) (sym records_are) breaks),
-        );
-  }
+      → RefusesAs (IsRefusal rows) e
+  rule_refused (error.Refused refused) breaks =
+      inr (
+        begins,
+        inl (subst (λ (rs : List Row). BreaksRule 2 nothing_yet.names rs refused) (sym records_are) breaks),
+      )
   rule_refused error.Memory breaks = tt
 
-  pub rule_none : (e : ReadError) → RefusesAs (BreaksRule 2 nothing_yet.names (before_result more)) e → IsRefusedError e
-      → (p : Problem) (names : NameLists) (before : ℕ) (rest : List Row) → ¬ (StandsFor bytes p names before rest)
-  rule_none (error.Refused refused) breaks is p names before rest stands =
-      breaks_refutes 2 nothing_yet stands.text.declared (before_result more) refused AreAllNames-nothing breaks
-      (declares_too p names before rest stands)
-  rule_none error.Memory breaks is p names before rest stands = is
-
   -- the records declare this
-  module _ (draft : Draft) (all : AddAll nothing_yet (before_result more) (declared_of draft))
-      (numbers : HasNumbers draft.numbers (before_result more)) where
-    same_declared : (p : Problem) (names : NameLists) (before : ℕ) (rest : List Row)
-        (stands : StandsFor bytes p names before rest) → stands.text.declared ≡ declared_of draft
-    same_declared p names before rest stands =
-        one_AddAll nothing_yet stands.text.declared (declared_of draft) (before_result more) IsSound-nothing
-        (declares_too p names before rest stands) all
-
+  module _ (draft : Draft) (all : AddAll nothing_yet (before_result more) (declared_of draft)) where
     -- which is no instance
-    pub misfit_refused : (e : ReadError)
+    pub misfit_refused : HasNumbers draft.numbers (before_result more) → (e : ReadError)
         → RefusesAs (λ refused. (records : List Row) → AddAll nothing_yet records (declared_of draft)
         → HasNumbers draft.numbers records → HasMisfit records refused) e
-        → RefusesAs (IsRefused bytes) e
-    misfit_refused (error.Refused refused) misfit = record {
-      rows = rows;
-      has_rows = has;
-      refusal =
-          inr (
-            begins,
-            inr (subst (λ (rs : List Row). HasMisfit rs refused) (sym records_are)
-                (misfit (before_result more) all numbers)),
-          );
-    }
-    misfit_refused error.Memory misfit = tt
-
-    pub misfit_none : (e : ReadError) → (IsRefusedError e → (p : Problem) → ¬ (Makes (declared_of draft) p))
-        → IsRefusedError e
-        → (p : Problem) (names : NameLists) (before : ℕ) (rest : List Row) → ¬ (StandsFor bytes p names before rest)
-    misfit_none e none is p names before rest stands =
-        none is p (subst (λ (d : Declared). Makes d p) (same_declared p names before rest stands) stands.text.makes)
+        → RefusesAs (IsRefusal rows) e
+    misfit_refused numbers (error.Refused refused) misfit =
+        inr (
+          begins,
+          inr (subst (λ (rs : List Row). HasMisfit rs refused) (sym records_are)
+              (misfit (before_result more) all numbers)),
+        )
+    misfit_refused numbers error.Memory misfit = tt
 
     -- which is an instance
-    module _ (left : List Row) (split : more ≡ before_result more ++ left) (p : Problem) (names : NameLists)
-        (before : ℕ) (rest : List Row)
-        (makes : Makes (declared_of draft) p) (names_are : names ≡ draft.names)
-        (before_is : before ≡ length (before_result more) + 1) (rest_is : rest ≡ left) where
-      rest_there : rest ≡ drop before rows
-      rest_there =
-          let count : length (header ∷ before_result more) ≡ before = omega (arith, before_is) in
-          rest_is ∙ sym (drop_at (header ∷ before_result more) left before count)
-          ∙ ap (drop before) (sym (rows_are ∙ ap (λ (rs : List Row). header ∷ rs) split))
-
-      pub stands_for : StandsFor bytes p names before rest
-      stands_for = record {
-        rows = rows;
-        has_rows = has;
-        text = record {
+    pub instance_text : (left : List Row) → more ≡ before_result more ++ left → (p : Problem) (names : NameLists)
+        (before : ℕ) → Makes (declared_of draft) p → names ≡ draft.names
+        → before ≡ length (before_result more) + 1
+        → InstanceText rows p names before left
+    instance_text left split p names before makes names_are before_is =
+        let count : length (header ∷ before_result more) ≡ before = omega (arith, before_is) in
+        record {
           first = begins;
           declared = declared_of draft;
           declares = subst (λ (rs : List Row). AddAll nothing_yet rs (declared_of draft)) (sym records_are) all;
           makes = makes;
           names_are = names_are;
           before_is = before_is ∙ ap (λ (rs : List Row). length rs + 1) (sym records_are);
-          rest_is = rest_there;
-        };
-      }
-
-      pub stands_only : (q : Problem) (others : NameLists) (b : ℕ) (r : List Row) → StandsFor bytes q others b r
-          → (q ≡ p) × (others ≡ names) × (b ≡ before) × (r ≡ rest)
-      stands_only q others b r stands =
-          let same = same_declared q others b r stands in
-          let same_rows = one_rows bytes rows stands.rows has stands.has_rows in
-          let b_is : b ≡ before =
-          stands.text.before_is ∙ ap (λ (rs : List Row). length (instance_records rs) + 1) same_rows
-          ∙ ap (λ (rs : List Row). length rs + 1) records_are ∙ sym before_is in (
-            stands.text.makes.problem
-                ∙ ap (λ (d : Declared). record {
-                  stops = length d.names.stops;
-                  deadheads =
-                      deadheads_of d.deadheads;
-                  layers = d.layers;
-                  trips = d.trips;
-                }) same ∙ sym makes.problem,
-            stands.text.names_are ∙ ap (λ (d : Declared). d.names) same ∙ sym names_are,
-            b_is,
-            stands.text.rest_is ∙ (λ i. drop (b_is i) (same_rows i)) ∙ sym rest_there,
-          )
+          rest_is = sym (drop_at (header ∷ before_result more) left before count)
+              ∙ ap (drop before) (sym (rows_are ∙ ap (λ (rs : List Row). header ∷ rs) split));
+        }
 
 -- two readings of a text are one
 pub one_reading : (bytes : List ℕ) (p q : Problem) (names others : NameLists) (before b : ℕ) (rest r : List Row)
@@ -265,3 +194,16 @@ stands_counts bytes p names before rest stands =
       trips = ap (λ (n : NameLists). length n.trips) t.names_are ∙ sym sound.each_trip
           ∙ sym (ap (λ (q : Problem). length q.trips) t.makes.problem);
     }
+
+-- a text whose rows are refused is, and stands for nothing
+pub text_refused : (bytes : List ℕ) (rows : List Row) → HasRows bytes rows → (e : ReadError)
+    → RefusesAs (IsRefusal rows) e
+    → RefusesAs (IsRefused bytes) e
+text_refused bytes rows has (error.Refused refused) is = record { rows = rows; has_rows = has; refusal = is }
+text_refused bytes rows has error.Memory is = tt
+
+pub text_none : (bytes : List ℕ) (e : ReadError) → RefusesAs (IsRefused bytes) e → IsRefusedError e
+    → (p : Problem) (names : NameLists) (before : ℕ) (rest : List Row)
+    → ¬ (StandsFor bytes p names before rest)
+text_none bytes (error.Refused refused) is told p names before rest = refused_none bytes refused p names before rest is
+text_none bytes error.Memory is told p names before rest = absurd told
