@@ -2,3 +2,4 @@ pub mod balance
 pub mod shipping
 pub mod low
 pub mod prices
+pub mod CallerLemmas

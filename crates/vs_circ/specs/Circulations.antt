@@ -9,8 +9,8 @@ use Rattle.vs_match.specs.declared.arc_kind.ArcKind.{ArcKind}
 use Rattle.vs_match.specs.declared.arc_kind.ArcKind.TheVariants.{Trip}
 use Rattle.vs_match.specs.LayerGraph.{LayerGraph, IsArcOfTrip}
 use Rattle.vs_circ.specs.declared.circ.Circ.{Circ}
-use Rattle.vs_circ.specs.declared.fixed_flow.FixedFlow.{FixedFlow}
-use Rattle.vs_circ.specs.declared.fixed_flow.FixedFlow.TheVariants.{Covered, Short}
+use Rattle.vs_circ.specs.declared.circ.FixedFlow.{FixedFlow}
+use Rattle.vs_circ.specs.declared.circ.FixedFlow.TheVariants.{Covered, Short}
 use Rattle.vs_circ.specs.Offers.{IsOffered, MustRun, multipliers_of}
 use Rattle.vs_circ.specs.LayerPrices.{AreHolding, shown_of_offers, shown_of_trips}
 
@@ -31,8 +31,7 @@ abbrev pub RunTrip : LayerGraph → List ℕ → ℕ → Type 0
 RunTrip n units i = (k : ℕ) × IsArcOfTrip n.kinds i k × (0 < slice_index units k)
 
 -- A circulation of offered trips, whose value is its cost less their multipliers. No blocks of offered trips have a
--- lower
--- reduced cost, and some have that.
+-- lower reduced cost, and some have that.
 pub record IsLeastFlow (p : Problem) (l : LayerNo) (n : LayerGraph) (offers : List (Option ℤ)) (units : List ℕ)
     (value : ℤ) : Type 0 where
   pub circulation : IsCirculation n.graph units
@@ -67,9 +66,8 @@ pub record CoverExactly (n : LayerGraph) (must : List Bool) (units : List ℕ) :
   pub each : (i : ℕ) → MustRun must i → RunTrip n units i
 
 -- Covered: a circulation that runs exactly these trips at the cost; neither a circulation nor blocks that do so cost
--- less; the
--- prices hold, and show so. Short: there is neither such a circulation nor such blocks, as the prices show, which
--- hold as a ray.
+-- less; the prices hold, and show so. Short: there is neither such a circulation nor such blocks, as the prices show,
+-- which hold as a ray.
 abbrev pub IsFixed : Problem → LayerNo → LayerGraph → List Bool → FixedFlow → Type 0
 IsFixed p l n must (Covered flow prices cost) =
     CoverExactly n must flow.units.items

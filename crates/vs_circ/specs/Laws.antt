@@ -8,8 +8,8 @@ use Rattle.vs_instance.specs.Instance.{IsInstance}
 use Rattle.vs_match.specs.LawfulNets.{IsLawful}
 use Rattle.vs_match.specs.LayerGraph.{LayerGraph}
 use Rattle.vs_circ.specs.declared.circ.Circ.{Circ}
-use Rattle.vs_circ.specs.declared.fixed_flow.FixedFlow.TheVariants.{Covered, Short}
-use Rattle.vs_circ.specs.declared.layer_prices.LayerPrices.{LayerPrices}
+use Rattle.vs_circ.specs.declared.circ.FixedFlow.TheVariants.{Covered, Short}
+use Rattle.vs_circ.specs.declared.circ.LayerPrices.{LayerPrices}
 use Rattle.vs_circ.specs.Circulations.{CoverExactly, IsFixed, IsLeastCirculation, paid_by_units}
 use Rattle.vs_circ.specs.LayerPrices.{AreHolding}
 use Rattle.vs_circ.specs.Offers.{AreMust, AreOffers, multipliers_of}

@@ -7,8 +7,8 @@ use Rattle.vs_instance.specs.Ways.{layer_of}
 use Rattle.vs_instance.specs.Pieces.{trip_piece}
 use Rattle.vs_instance.specs.HoldingTable.{HoldsInLayer, price_of, scaled}
 use Rattle.vs_instance.specs.Lagrangian.{total}
-use Rattle.vs_circ.specs.declared.layer_prices.LayerPrices.{LayerPrices}
-use Rattle.vs_circ.specs.declared.layer_prices.TheConstants.{MAX_PRICE}
+use Rattle.vs_circ.specs.declared.circ.LayerPrices.{LayerPrices}
+use Rattle.vs_instance.specs.declared.limits.TheConstants.{MAX_PRICE}
 use Rattle.vs_circ.specs.Offers.{offer_of}
 
 -- what trip i pays in layer l: the price for entering it and its own cost, less the price for leaving it
@@ -43,7 +43,7 @@ shown_of_trips p l ray must prices =
 abbrev pub IsPrice : ℤ → Type 0
 IsPrice n = (neg_ℤ MAX_PRICE ≤ℤ n) × (n ≤ℤ MAX_PRICE)
 
--- a price for entering and one for leaving each trip, none beyond 10^18, that hold in layer l
+-- a price for entering and one for leaving each trip, none beyond the greatest, that hold in layer l
 pub record AreHolding (p : Problem) (l : ℕ) (ray : Bool) (prices : LayerPrices) : Type 0 where
   pub into_size : length prices.into.items ≡ length p.trips
   pub from_size : length prices.from.items ≡ length p.trips

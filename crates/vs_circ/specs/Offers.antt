@@ -2,7 +2,7 @@
 use Rattle.std.specs.Prelude.{◌≡◌, ℕ, List, length, map, Option, Some, None, IsSome, IfSome, slice_index_or, ℤ, pos, ◌≤ℤ◌, true, Bool, false}
 use Rattle.vs_instance.specs.Problem.{Problem}
 use Rattle.vs_instance.specs.Ways.{Permitted}
-use Rattle.vs_circ.specs.declared.offers.TheConstants.{MAX_MULTIPLIER}
+use Rattle.vs_instance.specs.declared.limits.TheConstants.{MAX_MULTIPLIER}
 
 -- the multiplier of trip i, None where it isn't offered
 abbrev pub offer_of : List (Option ℤ) → ℕ → Option ℤ
@@ -19,7 +19,7 @@ paid (Some multiplier) = multiplier
 abbrev pub multipliers_of : List (Option ℤ) → List ℤ
 multipliers_of offers = map paid offers
 
--- an entry for each trip, which is offered only where layer l may run it, and for at most 10^14
+-- an entry for each trip, which is offered only where layer l may run it, and for no more than the greatest multiplier
 pub record AreOffers (p : Problem) (l : ℕ) (offers : List (Option ℤ)) : Type 0 where
   pub each_trip : length offers ≡ length p.trips
   pub permitted : (i : ℕ) → IsOffered offers i → Permitted p l i

@@ -8,9 +8,9 @@ use Rattle.vs_match.specs.declared.arc_kind.ArcKind.TheVariants.{Trip}
 use Rattle.vs_match.specs.LayerGraph.{LayerGraph, IsArcOfTrip, kind_of}
 use Rattle.vs_match.specs.Decomposition.{vehicles_of}
 use Rattle.vs_path.specs.Residual.{price_at}
-use Rattle.vs_circ.specs.declared.layer_prices.LayerPrices.{LayerPrices}
-use Rattle.vs_circ.specs.Balance.{gained}
-use Rattle.vs_circ.specs.NodePrices.{AreMovePrices, IsEmptyMove}
+use Rattle.vs_circ.specs.declared.circ.LayerPrices.{LayerPrices}
+use Rattle.vs_circ.specs.shipping.Balance.{gained}
+use Rattle.vs_circ.specs.node_prices.NodePrices.{AreMovePrices, IsEmptyMove}
 use Rattle.vs_circ.specs.Offers.{offer_of}
 
 abbrev pub last_arc : LayerGraph → ℕ
@@ -20,9 +20,8 @@ abbrev pub end_node : LayerGraph → ℕ
 end_node n = n.graph.nodes - 1
 
 -- Nothing is left at any node, no trip is run twice, and no more vehicles are used than there are. Empty moves that
--- are made
--- are worth what they cost. A vehicle that is left is worth nothing, and one that is used is worth no less than
--- nothing.
+-- are made are worth what they cost. A vehicle that is left is worth nothing, and one that is used is worth no less
+-- than nothing.
 pub record IsPricedFlow (n : LayerGraph) (units : List ℕ) (prices : List ℤ) : Type 0 where
   pub each_arc : length units ≡ length n.graph.arcs
   pub balanced : (weight : ℕ → ℤ) → gained weight n.graph.arcs units ≡ pos 0
@@ -67,9 +66,8 @@ abbrev pub must_units : LayerGraph → List Bool → List ℕ
 must_units n must = map (must_on must) n.kinds
 
 -- Nodes that units are stuck at: more is supplied to them by the trips that have to run than leaves them, though no
--- empty move leaves them,
--- and every vehicle is used where the depot's end is among them and its beginning isn't. Here a node has the price -1
--- where it is one of them, else 0.
+-- empty move leaves them, and every vehicle is used where the depot's end is among them and its beginning isn't. Here a
+-- node has the price -1 where it is one of them, else 0.
 pub record IsStuckAt (n : LayerGraph) (must : List Bool) (prices : List ℤ) : Type 0 where
   pub moves : AreMovePrices n true prices
   pub more : (vehicle_price n prices *ℤ pos (arc_of n.graph (last_arc n)).room)

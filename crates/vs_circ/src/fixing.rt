@@ -1,4 +1,6 @@
-ghost use Rattle.std.specs.Prelude.{◌≡◌, ℕ, ◌<◌, ◌≤◌, ◌≤ℤ◌, ◌*ℤ◌, pos, IfOk, length, slice_index};
+//! Least circulations that run exactly given trips, or prices that show that there is none.
+
+ghost use Rattle.std.specs.Prelude.{◌≡◌, ℕ, ◌*◌, ◌^◌, ◌<◌, ◌≤◌, ◌≤ℤ◌, ◌*ℤ◌, pos, nat_abs, IfOk, length, slice_index};
 ghost use Rattle.vs_types.specs.declared.numbers.LayerNo.{LayerNo};
 ghost use Rattle.vs_layer.specs.Circulation.{flow_cost};
 ghost use Rattle.vs_instance.specs.Problem.{Problem};
@@ -7,13 +9,13 @@ ghost use Rattle.vs_match.specs.LawfulNets.{IsLawful};
 ghost use Rattle.vs_match.specs.declared.layer_net.TheConstants.{MAX_ARC_COST};
 ghost use Rattle.vs_circ.specs.Circulations.{IsFixed};
 ghost use Rattle.vs_circ.specs.Offers.{AreMust};
-ghost use Rattle.vs_circ.specs.Prepared.{HasSmallArcs};
-ghost use Rattle.vs_circ.specs.Shipments.{IsDrained};
-ghost use Rattle.vs_circ.specs.Supplied.{AreRun, AreStuckPrices, HasStuckUnits, IsSupplied};
+ghost use Rattle.vs_circ.specs.shipping.Prepared.{HasSmallArcs};
+ghost use Rattle.vs_circ.specs.shipping.Shipments.{IsDrained};
+ghost use Rattle.vs_circ.specs.shipping.Supplied.{AreRun, AreStuckPrices, HasStuckUnits, IsSupplied};
 ghost use Rattle.vs_circ.specs.Works.{IsKeptFor, IsSpaceFor};
 
+use crate::circ::FixedFlow;
 use crate::draining::drain;
-use crate::fixed_flow::FixedFlow;
 use crate::preparing::clear;
 use crate::price_tables::ray_prices;
 use crate::shipment::Shipment;
@@ -112,7 +114,7 @@ fn units_cost(arc: Arc, units: u32) -> i128
     requires cost { arc.cost ≤ℤ MAX_ARC_COST }
     ensures value { result ≡ arc.cost *ℤ pos units }
     ensures low { pos 0 ≤ℤ result }
-    ensures high { result ≤ℤ pos 85899345920000000000000 }
+    ensures high { result ≤ℤ pos (nat_abs MAX_ARC_COST * 2 ^ 32) }
 {
     i128::from(arc.cost) * i128::from(units)
 }

@@ -1,3 +1,6 @@
+//! What prices of the nodes prove of a layer's circulations, whoever found both. They are laws for those who read or
+//! embed the crate: each says of any circulation and any prices what the calls rest on.
+
 ghost use Rattle.vs_circ.specs.Laws.{CoveredCirculations, LeastCirculations, StuckTrips};
 
 /// A circulation at which nobody gains by the prices of the nodes, and which keeps the offers, is a

@@ -1,9 +1,11 @@
+//! How far the prices for leaving and for entering trips may stand from those of the nodes.
+
 ghost use Rattle.std.specs.Prelude.{◌≡◌, ℕ, ◌+◌, ◌*◌, ◌<◌, ◌≤◌, ◌↔◌, ◌≤ℤ◌, pos, nat_abs, length, false};
 ghost use Rattle.vs_instance.specs.Problem.{Problem};
 ghost use Rattle.vs_match.specs.LawfulNets.{IsLawful};
 ghost use Rattle.vs_path.specs.Residual.{AllWithin};
-ghost use Rattle.vs_circ.specs.NodePrices.{HasMovePrices};
-ghost use Rattle.vs_circ.specs.Leeways.{passing, limits_of, spare, ArcAllows, IsAllowed, AreLeeways};
+ghost use Rattle.vs_circ.specs.node_prices.NodePrices.{HasMovePrices};
+ghost use Rattle.vs_circ.specs.node_prices.Leeways.{passing, limits_of, spare, ArcAllows, IsAllowed, AreLeeways};
 
 use vs_layer::{Arc, Net};
 use vs_match::{ArcKind, LayerNet, MAX_ARC_COST};
@@ -47,19 +49,26 @@ impl Side {
     }
 }
 
-/// Sets how much leeway at each node the empty moves leave, by one pass against the arcs for leaving, and along them
-/// for entering.
-pub(crate) fn set_leeways(net: &LayerNet, side: Side, prices: &[i64], leeways: &mut [u64])
+/// Sets how much leeway for leaving at each node the empty moves leave, by one pass against the arcs.
+pub(crate) fn set_leaving(net: &LayerNet, prices: &[i64], leeways: &mut [u64])
     requires of_layer { (p : Problem) × (l : ℕ) × IsLawful p l net.now }
     requires prices { HasMovePrices net.now prices.now }
     requires size { length leeways.old ≡ length prices.now }
-    ensures { AreLeeways net.now false side prices.now leeways.new }
+    ensures { AreLeeways net.now false Side.Leaving prices.now leeways.new }
 {
     leeways.fill(0);
-    match side {
-        Side::Leaving => pass_against(net, prices, leeways),
-        Side::Entering => pass_along(net, prices, leeways),
-    }
+    pass_against(net, prices, leeways);
+}
+
+/// Sets how much leeway for entering at each node the empty moves leave, by one pass along the arcs.
+pub(crate) fn set_entering(net: &LayerNet, prices: &[i64], leeways: &mut [u64])
+    requires of_layer { (p : Problem) × (l : ℕ) × IsLawful p l net.now }
+    requires prices { HasMovePrices net.now prices.now }
+    requires size { length leeways.old ≡ length prices.now }
+    ensures { AreLeeways net.now false Side.Entering prices.now leeways.new }
+{
+    leeways.fill(0);
+    pass_along(net, prices, leeways);
 }
 
 /// The leeways for leaving, node by node from the last.
@@ -108,7 +117,8 @@ fn limit_of(net: &LayerNet, side: Side, prices: &[i64], leeways: &[u64], k: u32)
     requires prices { HasMovePrices net.now prices.now }
     requires leeways { AreLeeways net.now false side prices.now leeways.now }
     requires arc { k < length net.now.graph.arcs }
-    ensures { (y : ℕ) → y ≤ MAX_LEEWAY → (y ≤ result ↔ ArcAllows net.now false side prices.now leeways.now k y) }
+    ensures { (y : ℕ) → y ≤ MAX_LEEWAY
+        → (y ≤ result ↔ ArcAllows net.now false side prices.now leeways.now k y) }
 {
     match net.kind(k) {
         ArcKind::Trip(_) => 0,
@@ -130,5 +140,6 @@ fn spare(arc: Arc, prices: &[i64]) -> u64
     ensures value { pos result ≡ spare false prices.now arc }
     ensures few { result ≤ 2 * nat_abs MAX_NODE_PRICE + nat_abs MAX_ARC_COST }
 {
-    (prices[arc.from as usize] + arc.cost - prices[arc.to as usize]) as u64
+    let spare = prices[arc.from as usize] + arc.cost - prices[arc.to as usize];
+    spare as u64
 }

@@ -1,10 +1,12 @@
+//! A net turned round, and prices turned round with it.
+
 ghost use Rattle.std.specs.Prelude.{◌≡◌, ◌<◌, IfOk, length};
 ghost use Rattle.vs_path.specs.Residual.{AllWithin};
-ghost use Rattle.vs_circ.specs.Mirror.{AreTurned, AreTurnedArcs, IsMirror, turned};
+ghost use Rattle.vs_circ.specs.node_prices.Mirror.{AreTurned, AreTurnedArcs, IsMirror, turned};
 
 use std::alloc::Global;
 use vs_layer::{Arc, Net, NetError};
-use vs_path::MAX_PRICE;
+use vs_path::MAX_SEARCH_PRICE;
 use vs_types::Memory;
 
 /// The net turned round: each arc leads the other way, under the same number, and the nodes are numbered from the last
@@ -15,8 +17,10 @@ pub(crate) fn mirror_of(alloc: Global, net: &Net) -> Result<Net, Memory>
     let arcs = turned_arcs(alloc, net)?;
     match Net::new(alloc, net.nodes(), arcs) {
         Ok(mirror) => Ok(mirror),
-        Err(NetError::Memory) => Err(Memory),
-        Err(NetError::Fault(_fault)) => unreachable!(),
+        Err(error) => match error {
+            NetError::Memory => Err(Memory),
+            NetError::Fault(_fault) => unreachable!(),
+        },
     }
 }
 
@@ -47,7 +51,7 @@ pub(crate) fn turned(nodes: u32, arc: Arc) -> Arc
 
 /// Sets the prices of the nodes in the net turned round, by which each move costs the same.
 pub(crate) fn turn_prices(prices: &[i64], turned: &mut [i64])
-    requires within { AllWithin MAX_PRICE prices.now }
+    requires within { AllWithin MAX_SEARCH_PRICE prices.now }
     requires size { length turned.old ≡ length prices.now }
     ensures { AreTurned prices.now turned.new }
 {

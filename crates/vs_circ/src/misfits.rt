@@ -1,8 +1,10 @@
+//! How many trips change where a call begins with given units and prices.
+
 ghost use Rattle.std.specs.Prelude.{◌≡◌, ◌<◌, length};
 ghost use Rattle.vs_layer.specs.Graph.{IsNet};
 ghost use Rattle.vs_path.specs.Residual.{AllWithin};
 ghost use Rattle.vs_circ.specs.declared.shipment.TheConstants.{MAX_FIRST_PRICE};
-ghost use Rattle.vs_circ.specs.Prepared.{AreSmallOffers, HasSmallArcs};
+ghost use Rattle.vs_circ.specs.shipping.Prepared.{AreSmallOffers, HasSmallArcs};
 
 use crate::preparing::{are_first_prices, loss_on, offered_cost, offered_room, suiting};
 use vs_match::{ArcKind, LayerNet};

@@ -1,13 +1,15 @@
+//! Costs, rooms and units of the arcs before units are sent.
+
 ghost use Rattle.std.specs.Prelude.{◌≡◌, ℕ, ◌<◌, ◌≤◌, ◌↔◌, ◌≤ℤ◌, ◌<ℤ◌, ◌+ℤ◌, ◌-ℤ◌, pos, IfSome, IsTrue, MatchBool, MatchOption, length, slice_index};
 ghost use Rattle.vs_layer.specs.Graph.{arc_of};
+ghost use Rattle.vs_instance.specs.declared.limits.TheConstants.{MAX_FLEET};
 ghost use Rattle.vs_match.specs.LayerGraph.{IsLabelled};
 ghost use Rattle.vs_path.specs.Residual.{AllWithin, IsWithin, price_at};
-ghost use Rattle.vs_path.specs.declared.residual.TheConstants.{MAX_COST, MAX_NODES};
+ghost use Rattle.vs_path.specs.declared.residual.TheConstants.{MAX_STEP_COST, MAX_SEARCH_NODES};
 ghost use Rattle.vs_circ.specs.Offers.{offer_of};
-ghost use Rattle.vs_circ.specs.Prepared.{AreSmallOffers, AreOfferedCosts, AreOfferedRooms, HasSmallArcs, AllSuit, DoSuit, HasGain, IsLeftBy, offered_cost, offered_room, worth_less, AreNone, HasNoGain, passed_along};
-ghost use Rattle.vs_circ.specs.Shipments.{CanShip, IsSized};
+ghost use Rattle.vs_circ.specs.shipping.Prepared.{AreSmallOffers, AreOfferedCosts, AreOfferedRooms, HasSmallArcs, AllSuit, DoSuit, HasGain, IsLeftBy, offered_cost, offered_room, worth_less, AreNone, HasNoGain, passed_along};
+ghost use Rattle.vs_circ.specs.shipping.Shipments.{CanShip, IsSized};
 
-use crate::offers::MAX_MULTIPLIER;
 use crate::shipment::{MAX_FIRST_PRICE, Shipment};
 use vs_layer::{Arc, Net};
 use vs_match::{ArcKind, LayerNet, MAX_ARC_COST};
@@ -15,9 +17,6 @@ use vs_path::Costs;
 
 /// The room of an arc that takes as many units as there are.
 pub(crate) const UNLIMITED: u32 = 4_294_967_295;
-
-/// How many units an arc of a net has room for at most: the greatest fleet.
-pub(crate) const MAX_UNITS: u32 = 2_000;
 
 /// What an arc costs once a trip's multiplier is taken off, in 1/1000 of a cost unit.
 pub(crate) fn offered_cost(offers: &[Option<i64>], kind: ArcKind, arc: Arc) -> i64
@@ -87,7 +86,7 @@ pub(crate) fn suiting(loss: i64, room: u32, most: u32, units: u32) -> Option<u32
 pub(crate) fn loss_on(arc: Arc, cost: i64, prices: &[i64]) -> i64
     requires from { arc.from < length prices.now }
     requires to { arc.to < length prices.now }
-    requires cost { IsWithin MAX_COST cost }
+    requires cost { IsWithin MAX_STEP_COST cost }
     requires prices { AllWithin MAX_FIRST_PRICE prices.now }
     ensures { result ≡ (cost +ℤ price_at prices.now arc.from) -ℤ price_at prices.now arc.to }
 {
@@ -100,7 +99,7 @@ fn suit(net: &Net, costs: &Costs, prices: &[i64], units: &mut [u32]) -> bool
     requires units { length units.old ≡ length net.now.arcs }
     requires cost_size { length costs.now.cost.items ≡ length net.now.arcs }
     requires room_size { length costs.now.room.items ≡ length net.now.arcs }
-    requires cost { AllWithin MAX_COST costs.now.cost.items }
+    requires cost { AllWithin MAX_STEP_COST costs.now.cost.items }
     requires prices { AllWithin MAX_FIRST_PRICE prices.now }
     ensures { MatchBool result
         (AllSuit net.now costs.now.cost.items costs.now.room.items prices.now units.new)
@@ -143,7 +142,7 @@ pub(crate) fn clear(numbers: &mut [i64])
 fn pass(surplus: &mut [i64], arc: Arc, n: u32)
     requires from { arc.from < length surplus.old }
     requires to { arc.to < length surplus.old }
-    requires few { n ≤ MAX_UNITS }
+    requires few { n ≤ MAX_FLEET }
     requires within { AllWithin MAX_FIRST_PRICE surplus.old }
     ensures { surplus.new ≡ passed_along surplus.old arc n }
 {
@@ -156,7 +155,7 @@ fn pass(surplus: &mut [i64], arc: Arc, n: u32)
 pub(crate) fn leave(net: &Net, units: &[u32], surplus: &mut [i64])
     requires each_arc { length units.now ≡ length net.now.arcs }
     requires each_node { length surplus.old ≡ net.now.nodes }
-    requires few { (k : ℕ) → k < length net.now.arcs → slice_index units.now k ≤ MAX_UNITS }
+    requires few { (k : ℕ) → k < length net.now.arcs → slice_index units.now k ≤ MAX_FLEET }
     ensures { IsLeftBy net.now units.now surplus.new }
 {
     clear(surplus);
@@ -171,7 +170,7 @@ fn fit(net: &Net, costs: &Costs, prices: &mut [i64], units: &mut [u32])
     requires units { length units.old ≡ length net.now.arcs }
     requires cost_size { length costs.now.cost.items ≡ length net.now.arcs }
     requires room_size { length costs.now.room.items ≡ length net.now.arcs }
-    requires cost { AllWithin MAX_COST costs.now.cost.items }
+    requires cost { AllWithin MAX_STEP_COST costs.now.cost.items }
     requires no_gain { HasNoGain net.now costs.now.cost.items costs.now.room.items }
     ensures first { AllWithin MAX_FIRST_PRICE prices.new }
     ensures suit { AllSuit net.now costs.now.cost.items costs.now.room.items prices.new units.new }
@@ -187,7 +186,7 @@ fn fit(net: &Net, costs: &Costs, prices: &mut [i64], units: &mut [u32])
 /// and what the units leave at the nodes can be sent.
 pub(crate) fn prepare(net: &LayerNet, offers: &[Option<i64>], shipment: &mut Shipment)
     requires arcs { HasSmallArcs net.now }
-    requires nodes { net.now.graph.nodes ≤ MAX_NODES }
+    requires nodes { net.now.graph.nodes ≤ MAX_SEARCH_NODES }
     requires offers { AreSmallOffers offers.now }
     requires sized { IsSized net.now.graph shipment.old }
     ensures can { CanShip net.now.graph shipment.new }
@@ -195,18 +194,13 @@ pub(crate) fn prepare(net: &LayerNet, offers: &[Option<i64>], shipment: &mut Shi
     ensures room { AreOfferedRooms net.now offers.now shipment.new.costs.room.items }
     ensures left { IsLeftBy net.now.graph shipment.new.flow.units.items shipment.new.surplus.items }
 {
-    offer_arcs(
-        net,
-        offers,
-        &mut shipment.costs.cost,
-        &mut shipment.costs.room,
-    );
+    let cost: &mut [i64] = &mut shipment.costs.cost;
+    let room: &mut [u32] = &mut shipment.costs.room;
+    offer_arcs(net, offers, cost, room);
     let arcs = net.net();
-    fit(
-        arcs,
-        &shipment.costs,
-        &mut shipment.prices,
-        &mut shipment.flow.units,
-    );
-    leave(arcs, &shipment.flow.units, &mut shipment.surplus);
+    let prices: &mut [i64] = &mut shipment.prices;
+    let units: &mut [u32] = &mut shipment.flow.units;
+    fit(arcs, &shipment.costs, prices, units);
+    let surplus: &mut [i64] = &mut shipment.surplus;
+    leave(arcs, units, surplus);
 }

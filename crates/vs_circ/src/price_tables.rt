@@ -1,16 +1,18 @@
+//! Prices of a layer made from the prices of its nodes.
+
 ghost use Rattle.std.specs.Prelude.{◌≡◌, ℕ, ◌≤◌, ◌+ℤ◌, IfOk, length, true, false};
 ghost use Rattle.vs_instance.specs.Problem.{Problem};
 ghost use Rattle.vs_instance.specs.Instance.{IsInstance};
 ghost use Rattle.vs_match.specs.LawfulNets.{IsLawful};
 ghost use Rattle.vs_path.specs.Residual.{AllWithin, IsWithin};
-ghost use Rattle.vs_circ.specs.NodePrices.{AreMovePrices, HasMovePrices};
+ghost use Rattle.vs_circ.specs.node_prices.NodePrices.{AreMovePrices, HasMovePrices};
 ghost use Rattle.vs_circ.specs.LayerPrices.{AreHolding};
 ghost use Rattle.vs_circ.specs.PricedFlows.{PaysNoLess};
-ghost use Rattle.vs_circ.specs.Leeways.{AreFewLeeways, shifted};
-ghost use Rattle.vs_circ.specs.PriceTables.{AreEntries, IsEntry, IsTableOf, base_price};
+ghost use Rattle.vs_circ.specs.node_prices.Leeways.{AreFewLeeways, shifted};
+ghost use Rattle.vs_circ.specs.node_prices.PriceTables.{AreEntries, IsEntry, IsTableOf, base_price};
 
-use crate::layer_prices::LayerPrices;
-use crate::leeways::{MAX_LEEWAY, MAX_NODE_PRICE, Side, set_leeways};
+use crate::circ::LayerPrices;
+use crate::leeways::{MAX_LEEWAY, MAX_NODE_PRICE, Side, set_entering, set_leaving};
 use std::alloc::Global;
 use vs_instance::MAX_TRIPS;
 use vs_match::LayerNet;
@@ -27,16 +29,17 @@ pub(crate) fn layer_prices(
     entering: &mut [u64],
     leaving: &mut [u64],
 ) -> Result<LayerPrices, Memory>
-    requires of_layer { (p : Problem) × (l : ℕ) × IsInstance p × IsLawful p l net.now × (length p.trips ≡ trips) }
+    requires of_layer { (p : Problem) × (l : ℕ) × IsInstance p × IsLawful p l net.now
+        × (length p.trips ≡ trips) }
     requires prices { HasMovePrices net.now prices.now }
     requires entering { length entering.old ≡ length prices.now }
     requires leaving { length leaving.old ≡ length prices.now }
-    ensures holding { IfOk result (λ given. (p : Problem) (l : ℕ) → IsInstance p → IsLawful p l net.now
-        → length p.trips ≡ trips → AreHolding p l false given) }
+    ensures holding { IfOk result (λ given. (p : Problem) (l : ℕ) → IsInstance p
+        → IsLawful p l net.now → length p.trips ≡ trips → AreHolding p l false given) }
     ensures pays { IfOk result (PaysNoLess net.now trips prices.now) }
 {
-    set_leeways(net, Side::Entering, prices, entering);
-    set_leeways(net, Side::Leaving, prices, leaving);
+    set_entering(net, prices, entering);
+    set_leaving(net, prices, leaving);
     table_of(alloc, net, trips, prices, entering, leaving)
 }
 
@@ -49,13 +52,14 @@ pub(crate) fn ray_prices(
     prices: &[i64],
     none: &mut [u64],
 ) -> Result<LayerPrices, Memory>
-    requires of_layer { (p : Problem) × (l : ℕ) × IsInstance p × IsLawful p l net.now × (length p.trips ≡ trips) }
+    requires of_layer { (p : Problem) × (l : ℕ) × IsInstance p × IsLawful p l net.now
+        × (length p.trips ≡ trips) }
     requires none { length none.old ≡ length prices.now }
     requires each_node { length prices.now ≡ net.now.graph.nodes }
     requires within { AllWithin MAX_NODE_PRICE prices.now }
     requires moves { AreMovePrices net.now true prices.now }
-    ensures holding { IfOk result (λ given. (p : Problem) (l : ℕ) → IsInstance p → IsLawful p l net.now
-        → length p.trips ≡ trips → AreHolding p l true given) }
+    ensures holding { IfOk result (λ given. (p : Problem) (l : ℕ) → IsInstance p
+        → IsLawful p l net.now → length p.trips ≡ trips → AreHolding p l true given) }
     ensures pays { IfOk result (PaysNoLess net.now trips prices.now) }
 {
     none.fill(0);
@@ -79,10 +83,12 @@ fn table_of(
     requires leaving { AreFewLeeways prices.now leaving.now }
     ensures { IfOk result (IsTableOf net.now prices.now entering.now leaving.now trips) }
 {
+    let into = entries(alloc, net, trips, Side::Entering, prices, entering)?;
+    let from = entries(alloc, net, trips, Side::Leaving, prices, leaving)?;
     let base = base_of(net, prices);
     Ok(LayerPrices {
-        into: entries(alloc, net, trips, Side::Entering, prices, entering, base)?,
-        from: entries(alloc, net, trips, Side::Leaving, prices, leaving, base)?,
+        into,
+        from,
         fleet: prices[0] - base,
     })
 }
@@ -105,43 +111,35 @@ fn entries(
     side: Side,
     prices: &[i64],
     leeways: &[u64],
-    base: i64,
 ) -> Result<Vec<i64>, Memory>
     requires few { trips ≤ MAX_TRIPS }
     requires of_layer { (p : Problem) × (l : ℕ) × IsLawful p l net.now }
     requires each_node { length prices.now ≡ net.now.graph.nodes }
     requires within { AllWithin MAX_NODE_PRICE prices.now }
     requires leeways { AreFewLeeways prices.now leeways.now }
-    requires base { base ≡ base_price net.now prices.now }
-    ensures { IfOk result (λ entries. AreEntries net.now side prices.now leeways.now trips entries.items) }
+    ensures { IfOk result (λ entries. AreEntries net.now side prices.now leeways.now trips
+        entries.items) }
 {
     let mut entries = Vec::with_capacity(alloc, trips)?;
     for i in 0..trips {
-        entries.push(entry_of(net, side, prices, leeways, base, TripNo(i as u32)))?;
+        entries.push(entry_of(net, side, prices, leeways, TripNo(i as u32)))?;
     }
     Ok(entries)
 }
 
 /// The price for entering or for leaving a trip; 0 where the layer may not run it.
-fn entry_of(
-    net: &LayerNet,
-    side: Side,
-    prices: &[i64],
-    leeways: &[u64],
-    base: i64,
-    trip: TripNo,
-) -> i64
+fn entry_of(net: &LayerNet, side: Side, prices: &[i64], leeways: &[u64], trip: TripNo) -> i64
     requires of_layer { (p : Problem) × (l : ℕ) × IsLawful p l net.now }
     requires each_node { length prices.now ≡ net.now.graph.nodes }
     requires within { AllWithin MAX_NODE_PRICE prices.now }
     requires leeways { AreFewLeeways prices.now leeways.now }
-    requires base { base ≡ base_price net.now prices.now }
     ensures { IsEntry net.now side prices.now leeways.now trip.0 result }
 {
     let Some(k) = net.trip_arc(trip) else {
         return 0;
     };
     let node = side.passing(net.net().arc(k)) as usize;
+    let base = base_of(net, prices);
     shifted(side, prices[node] - base, leeways[node])
 }
 

@@ -1,18 +1,20 @@
+//! Least circulations of offered trips, with prices that prove them.
+
 ghost use Rattle.std.specs.Prelude.{◌≡◌, ◌≤◌, ◌*ℤ◌, pos, IfOk, length};
 ghost use Rattle.vs_types.specs.declared.numbers.LayerNo.{LayerNo};
 ghost use Rattle.vs_layer.specs.declared.arc.TheConstants.{MAX_ARCS};
 ghost use Rattle.vs_instance.specs.Problem.{Problem};
 ghost use Rattle.vs_instance.specs.Instance.{IsInstance};
 ghost use Rattle.vs_match.specs.LawfulNets.{IsLawful};
-ghost use Rattle.vs_path.specs.declared.residual.TheConstants.{MAX_COST};
+ghost use Rattle.vs_path.specs.declared.residual.TheConstants.{MAX_STEP_COST};
 ghost use Rattle.vs_path.specs.Labels.{IsSmall};
 ghost use Rattle.vs_path.specs.Residual.{AllWithin, HasSignRule, IsWithin};
-ghost use Rattle.vs_circ.specs.Centring.{AreSettled};
+ghost use Rattle.vs_circ.specs.node_prices.Centring.{AreSettled};
 ghost use Rattle.vs_circ.specs.Circulations.{IsLeastCirculation};
 ghost use Rattle.vs_circ.specs.Offers.{AreOffers};
-ghost use Rattle.vs_circ.specs.Settled.{IsSettled};
-ghost use Rattle.vs_circ.specs.Shipments.{residual_of};
-ghost use Rattle.vs_circ.specs.Values.{worth_of_units};
+ghost use Rattle.vs_circ.specs.shipping.Settled.{IsSettled};
+ghost use Rattle.vs_circ.specs.shipping.Shipments.{residual_of};
+ghost use Rattle.vs_circ.specs.shipping.Values.{worth_of_units};
 ghost use Rattle.vs_circ.specs.Works.{IsKeptFor, IsSpaceFor};
 
 use crate::centring::centre;
@@ -76,7 +78,8 @@ fn take_centred(net: &Net, kept: &mut Kept)
         kept.old.shipment.prices.items }
     requires signs { HasSignRule (residual_of net.now kept.old.shipment)
         kept.old.shipment.prices.items }
-    ensures centred { AreSettled (residual_of net.now kept.old.shipment) kept.new.space.prices.items }
+    ensures centred { AreSettled (residual_of net.now kept.old.shipment)
+        kept.new.space.prices.items }
     ensures space { IsSpaceFor net.now.nodes kept.new.space }
     ensures same { kept.new.shipment ≡ kept.old.shipment }
 {
@@ -113,9 +116,11 @@ fn circ_of(
         → IsLawful p l.0 net.now → AreOffers p l.0 offers.now
         → IsLeastCirculation p l net.now offers.now c) }
 {
-    let units = Vec::from_slice(alloc, &shipment.flow.units)?;
+    let sent: &[u32] = &shipment.flow.units;
+    let units = Vec::from_slice(alloc, sent)?;
     let prices = space.layer_prices(alloc, net, offers.len())?;
-    let value = worth_of(&shipment.costs.cost, &units);
+    let cost: &[i64] = &shipment.costs.cost;
+    let value = worth_of(cost, sent);
     Ok(Circ {
         flow: Flow { units },
         prices,
@@ -125,7 +130,7 @@ fn circ_of(
 
 /// What the units of an arc cost.
 fn worth_on(cost: i64, units: u32) -> i128
-    requires { IsWithin MAX_COST cost }
+    requires { IsWithin MAX_STEP_COST cost }
     ensures { result ≡ cost *ℤ pos units }
 {
     i128::from(cost) * i128::from(units)
@@ -135,7 +140,7 @@ fn worth_on(cost: i64, units: u32) -> i128
 fn worth_of(cost: &[i64], units: &[u32]) -> i128
     requires each_arc { length cost.now ≡ length units.now }
     requires few { length units.now ≤ MAX_ARCS }
-    requires small { AllWithin MAX_COST cost.now }
+    requires small { AllWithin MAX_STEP_COST cost.now }
     ensures { result ≡ worth_of_units cost.now units.now }
 {
     let mut worth = 0;

@@ -1,10 +1,12 @@
+//! The trips that a least circulation of offered trips runs, without prices.
+
 ghost use Rattle.std.specs.Prelude.{◌≡◌, ℕ, ◌<◌, ◌≤◌, ◌↔◌, IfOk, IsTrue, length, slice_index_or, true, false};
 ghost use Rattle.vs_types.specs.declared.numbers.LayerNo.{LayerNo};
 ghost use Rattle.vs_instance.specs.Problem.{Problem};
 ghost use Rattle.vs_instance.specs.Instance.{IsInstance};
 ghost use Rattle.vs_instance.specs.declared.limits.TheConstants.{MAX_TRIPS};
 ghost use Rattle.vs_match.specs.LawfulNets.{IsLawful};
-ghost use Rattle.vs_path.specs.declared.residual.TheConstants.{MAX_NODES};
+ghost use Rattle.vs_path.specs.declared.residual.TheConstants.{MAX_SEARCH_NODES};
 ghost use Rattle.vs_circ.specs.Circulations.{RunLeast, RunTrip};
 ghost use Rattle.vs_circ.specs.Offers.{AreOffers};
 ghost use Rattle.vs_circ.specs.Works.{IsKeptFor};
@@ -16,8 +18,8 @@ use std::alloc::Global;
 use vs_match::LayerNet;
 use vs_types::{Memory, TripNo};
 
-/// The greatest price of a node, either way, that is kept for the next call, in 1/1000 of a cost
-/// unit.
+/// The greatest price of a node, either way, that is kept for the next call, in 1/1000 of a cost unit: somewhat more
+/// than what prices lie within that were brought near, so this is done only where prices have drifted.
 const MAX_KEPT_PRICE: i64 = 500_000_000_000_000_000;
 
 /// Marks the trips that a least circulation of offered trips runs, as `relaxed` finds one, without
@@ -45,7 +47,7 @@ pub fn runs(
 fn run_from(net: &LayerNet, offers: &[Option<i64>], kept: &mut Kept, answer: &mut [bool])
     requires of_layer { (p : Problem) × (l : LayerNo) × IsInstance p × IsLawful p l.0 net.now
         × AreOffers p l.0 offers.now }
-    requires nodes { net.now.graph.nodes ≤ MAX_NODES }
+    requires nodes { net.now.graph.nodes ≤ MAX_SEARCH_NODES }
     requires kept { IsKeptFor net.now.graph kept.old }
     requires each_trip { length answer.old ≡ length offers.now }
     ensures least { (p : Problem) (l : LayerNo) → IsInstance p → IsLawful p l.0 net.now

@@ -1,12 +1,14 @@
+//! A shipment made a least circulation of offered trips.
+
 ghost use Rattle.std.specs.Prelude.{◌≡◌, ◌≤◌};
 ghost use Rattle.vs_types.specs.declared.numbers.LayerNo.{LayerNo};
 ghost use Rattle.vs_instance.specs.Problem.{Problem};
 ghost use Rattle.vs_instance.specs.Instance.{IsInstance};
 ghost use Rattle.vs_match.specs.LawfulNets.{IsLawful};
-ghost use Rattle.vs_path.specs.declared.residual.TheConstants.{MAX_NODES};
+ghost use Rattle.vs_path.specs.declared.residual.TheConstants.{MAX_SEARCH_NODES};
 ghost use Rattle.vs_circ.specs.Offers.{AreOffers};
-ghost use Rattle.vs_circ.specs.Settled.{IsSettled};
-ghost use Rattle.vs_circ.specs.Shipments.{IsSized};
+ghost use Rattle.vs_circ.specs.shipping.Settled.{IsSettled};
+ghost use Rattle.vs_circ.specs.shipping.Shipments.{IsSized};
 
 use crate::draining::drain;
 use crate::preparing::prepare;
@@ -24,7 +26,7 @@ pub(crate) fn settle(
 )
     requires of_layer { (p : Problem) × (l : LayerNo) × IsInstance p × IsLawful p l.0 net.now
         × AreOffers p l.0 offers.now }
-    requires few { net.now.graph.nodes ≤ MAX_NODES }
+    requires few { net.now.graph.nodes ≤ MAX_SEARCH_NODES }
     requires nodes { search.old.nodes ≡ net.now.graph.nodes }
     requires sized { IsSized net.now.graph shipment.old }
     ensures settled { IsSettled net.now offers.now shipment.new }

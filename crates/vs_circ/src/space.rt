@@ -1,17 +1,19 @@
+//! Numbers for the nodes of a net that each call writes afresh.
+
 ghost use Rattle.std.specs.Prelude.{◌≡◌, ℕ, ◌<◌, ◌≤◌, IfOk, IsTrue, length, true, false};
 ghost use Rattle.vs_instance.specs.Problem.{Problem};
 ghost use Rattle.vs_instance.specs.Instance.{IsInstance};
 ghost use Rattle.vs_match.specs.LawfulNets.{IsLawful};
-ghost use Rattle.vs_path.specs.declared.residual.TheConstants.{MAX_NODES, MAX_PRICE};
+ghost use Rattle.vs_path.specs.declared.residual.TheConstants.{MAX_SEARCH_NODES, MAX_SEARCH_PRICE};
 ghost use Rattle.vs_path.specs.Residual.{AllWithin};
-ghost use Rattle.vs_circ.specs.Gaps.{AreNear};
+ghost use Rattle.vs_circ.specs.node_prices.Gaps.{AreNear};
 ghost use Rattle.vs_circ.specs.LayerPrices.{AreHolding};
-ghost use Rattle.vs_circ.specs.NodePrices.{HasMovePrices};
+ghost use Rattle.vs_circ.specs.node_prices.NodePrices.{HasMovePrices};
 ghost use Rattle.vs_circ.specs.PricedFlows.{PaysNoLess};
 ghost use Rattle.vs_circ.specs.Works.{IsSpaceFor};
 
+use crate::circ::LayerPrices;
 use crate::gaps::bring_near;
-use crate::layer_prices::LayerPrices;
 use crate::price_tables::layer_prices;
 use std::alloc::Global;
 use vs_match::LayerNet;
@@ -63,8 +65,8 @@ impl Space {
     pub fn take_near(&mut self, prices: &[i64])
         requires space { IsSpaceFor (length prices.now) self.old }
         requires some { 0 < length prices.now }
-        requires few { length prices.now ≤ MAX_NODES }
-        requires within { AllWithin MAX_PRICE prices.now }
+        requires few { length prices.now ≤ MAX_SEARCH_NODES }
+        requires within { AllWithin MAX_SEARCH_PRICE prices.now }
         ensures near { AreNear prices.now self.new.prices.items }
         ensures space { IsSpaceFor (length prices.now) self.new }
     {

@@ -1,13 +1,15 @@
+//! A shipment made ready to make up for the trips that have to run.
+
 ghost use Rattle.std.specs.Prelude.{◌≡◌, ℕ, ◌<◌, ◌≤◌, length, slice_index};
 ghost use Rattle.vs_types.specs.declared.numbers.LayerNo.{LayerNo};
 ghost use Rattle.vs_instance.specs.Problem.{Problem};
 ghost use Rattle.vs_instance.specs.Instance.{IsInstance};
 ghost use Rattle.vs_match.specs.LawfulNets.{IsLawful};
 ghost use Rattle.vs_match.specs.LayerGraph.{kind_of};
-ghost use Rattle.vs_path.specs.declared.residual.TheConstants.{MAX_NODES};
+ghost use Rattle.vs_path.specs.declared.residual.TheConstants.{MAX_SEARCH_NODES};
 ghost use Rattle.vs_circ.specs.PricedFlows.{must_on, must_units};
-ghost use Rattle.vs_circ.specs.Shipments.{IsSized};
-ghost use Rattle.vs_circ.specs.Supplied.{IsSupplied};
+ghost use Rattle.vs_circ.specs.shipping.Shipments.{IsSized};
+ghost use Rattle.vs_circ.specs.shipping.Supplied.{IsSupplied};
 
 use crate::preparing::{clear, leave, offer_arcs};
 use crate::shipment::Shipment;
@@ -49,13 +51,18 @@ fn empty(units: &mut [u32])
 /// arrives, and a unit lacks where it departs. No arc carries anything, and all prices are 0.
 pub(crate) fn supply(net: &LayerNet, must: &[bool], shipment: &mut Shipment)
     requires of_layer { (p : Problem) × (l : LayerNo) × IsInstance p × IsLawful p l.0 net.now }
-    requires nodes { net.now.graph.nodes ≤ MAX_NODES }
+    requires nodes { net.now.graph.nodes ≤ MAX_SEARCH_NODES }
     requires sized { IsSized net.now.graph shipment.old }
     ensures { IsSupplied net.now must.now shipment.new }
 {
-    offer_arcs(net, &[], &mut shipment.costs.cost, &mut shipment.costs.room);
-    run(net, must, &mut shipment.flow.units);
-    leave(net.net(), &shipment.flow.units, &mut shipment.surplus);
-    empty(&mut shipment.flow.units);
-    clear(&mut shipment.prices);
+    let cost: &mut [i64] = &mut shipment.costs.cost;
+    let room: &mut [u32] = &mut shipment.costs.room;
+    offer_arcs(net, &[], cost, room);
+    let units: &mut [u32] = &mut shipment.flow.units;
+    run(net, must, units);
+    let surplus: &mut [i64] = &mut shipment.surplus;
+    leave(net.net(), units, surplus);
+    empty(units);
+    let prices: &mut [i64] = &mut shipment.prices;
+    clear(prices);
 }

@@ -1,14 +1,15 @@
+//! What is kept for the nets of the layers from one call to the next.
+
 ghost use Rattle.std.specs.Prelude.{◌≡◌, IfOk, IsTrue};
-ghost use Rattle.vs_circ.specs.Mirror.{IsMirror};
-ghost use Rattle.vs_circ.specs.Prepared.{AreSmallOffers, HasSmallArcs};
-ghost use Rattle.vs_circ.specs.Shipments.{IsSized};
-ghost use Rattle.vs_circ.specs.Works.{IsKeptAt, IsKeptFor};
+ghost use Rattle.vs_circ.specs.node_prices.Mirror.{IsMirror};
+ghost use Rattle.vs_circ.specs.shipping.Prepared.{AreSmallOffers, HasSmallArcs};
+ghost use Rattle.vs_circ.specs.shipping.Shipments.{IsSized};
+ghost use Rattle.vs_circ.specs.Works.{IsKeptAt, IsKeptFor, IsMadeFor};
 
 use crate::mirror::{mirror_of, turned};
 use crate::misfits::misfits;
-use crate::shipment::Shipment;
+use crate::shipment::{Shipment, Start};
 use crate::space::Space;
-use crate::start::Start;
 use std::alloc::Global;
 use std::mem::swap;
 use vs_layer::{Flow, Net};
@@ -16,8 +17,8 @@ use vs_match::LayerNet;
 use vs_path::{Costs, Search};
 use vs_types::Memory;
 
-/// What is kept for a net: the units that were sent last, what a call can begin with instead, the searches, the net turned
-/// round, and space to work in.
+/// What is kept for a net: the units that were sent last, what a call can begin with instead, the searches, the net
+/// turned round, and space to work in.
 #[derive(Drop)]
 pub(crate) struct Kept {
     pub shipment: Shipment,
@@ -95,12 +96,15 @@ impl Kept {
 }
 
 impl Work {
-    /// What calls for these nets keep, and space for them. With it none of them allocates anything but
-    /// its answer.
-    pub fn new(alloc: Global, nets: &[LayerNet]) -> Result<Work, Memory> {
+    /// What calls for these nets keep, one place for each in their order, and space for them. A call for a net that has
+    /// no place makes one.
+    pub fn new(alloc: Global, nets: &[LayerNet]) -> Result<Work, Memory>
+        ensures { IfOk result (IsMadeFor nets.now) }
+    {
         let mut kept = Vec::with_capacity(alloc, nets.len())?;
         for net in nets {
-            kept.push(Kept::new(alloc, net.net())?)?;
+            let start = Kept::new(alloc, net.net())?;
+            kept.push(start)?;
         }
         Ok(Work { kept })
     }

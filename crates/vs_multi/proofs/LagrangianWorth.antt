@@ -19,10 +19,10 @@ use Rattle.vs_instance.specs.Ways.{layer_of}
 use Rattle.vs_instance.proofs.CallerLemmas.{trip_of-IsTrip, total-map_add, total-map_sub, total-range_le, dec_has}
 use Rattle.vs_match.specs.LayerGraph.{LayerGraph}
 use Rattle.vs_circ.specs.declared.circ.Circ.{Circ}
-use Rattle.vs_circ.specs.declared.layer_prices.LayerPrices.{LayerPrices}
+use Rattle.vs_circ.specs.declared.circ.LayerPrices.{LayerPrices}
 use Rattle.vs_circ.specs.LayerPrices.{pays_at, trip_pays}
 use Rattle.vs_circ.specs.Offers.{offer_of}
-use Rattle.vs_circ.proofs.low.Reindexing.{over_range, total-same, total-swap}
+use Rattle.vs_circ.proofs.CallerLemmas.{over_range, total-same, total-swap}
 use Rattle.vs_prices.specs.declared.bound.Bound.{Bound}
 use Rattle.vs_prices.specs.declared.bound.Bound.TheVariants.{AtLeast, NoPlan}
 use Rattle.vs_prices.specs.declared.table.Table.{Table}

@@ -16,7 +16,7 @@ use Rattle.vs_instance.specs.Plan.{LayerBlock, all_trips}
 use Rattle.vs_instance.specs.Restriction.{IsRestriction, set_of}
 use Rattle.vs_instance.proofs.CallerLemmas.{trips_inside, dec_has}
 use Rattle.vs_circ.specs.Offers.{AreOffers, IsOffered, multipliers_of, offer_of, paid}
-use Rattle.vs_circ.proofs.low.LayerBounds.{multiplier_of-offer}
+use Rattle.vs_circ.proofs.CallerLemmas.{multiplier_of-offer}
 use Rattle.vs_multi.specs.Multipliers.{AreMultipliers, IsMultiplier}
 use Rattle.vs_multi.specs.Offers.{AreOffersTo}
 

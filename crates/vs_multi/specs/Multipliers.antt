@@ -9,7 +9,7 @@ use Rattle.vs_instance.specs.Blocks.{block_cost}
 use Rattle.vs_instance.specs.Lagrangian.{HasOwnBlock, IsStart, multiplier_of}
 use Rattle.vs_prices.specs.declared.table.Table.{Table}
 use Rattle.vs_prices.specs.Worth.{least_price}
-use Rattle.vs_circ.specs.declared.offers.TheConstants.{MAX_MULTIPLIER}
+use Rattle.vs_instance.specs.declared.limits.TheConstants.{MAX_MULTIPLIER}
 
 -- what the block of trip i alone costs in layer l, None where there is no such block
 abbrev pub IsOwnCost : Problem → LayerNo → TripNo → Option ℤ → Type 0

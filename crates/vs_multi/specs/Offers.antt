@@ -8,7 +8,7 @@ use Rattle.vs_instance.specs.Lagrangian.{multiplier_of}
 use Rattle.vs_instance.specs.Restriction.{set_of}
 use Rattle.vs_match.specs.LayerGraph.{LayerGraph}
 use Rattle.vs_circ.specs.declared.circ.Circ.{Circ}
-use Rattle.vs_circ.specs.declared.offers.TheConstants.{MAX_MULTIPLIER}
+use Rattle.vs_instance.specs.declared.limits.TheConstants.{MAX_MULTIPLIER}
 use Rattle.vs_circ.specs.Circulations.{IsLeastCirculation}
 use Rattle.vs_circ.specs.Offers.{offer_of}
 use Rattle.vs_prices.specs.declared.table.Table.{Table}

@@ -1,5 +1,5 @@
 ghost use Rattle.std.specs.Prelude.{◌≡◌, ◌<◌, ◌≤◌, ◌≤ℤ◌, pos, false, IfOk};
-ghost use Rattle.vs_circ.specs.declared.offers.TheConstants.{MAX_MULTIPLIER};
+ghost use Rattle.vs_instance.specs.declared.limits.TheConstants.{MAX_MULTIPLIER};
 ghost use Rattle.vs_instance.specs.Restriction.{IsRestriction};
 ghost use Rattle.vs_match.specs.LayerNets.{AreLayerNets};
 ghost use Rattle.vs_prices.specs.Bounds.{ReachesLagrangian};

@@ -16,7 +16,7 @@ use Rattle.vs_prices.specs.declared.bound.Bound.{Bound}
 use Rattle.vs_prices.specs.declared.bound.Bound.TheVariants.{AtLeast, NoPlan}
 use Rattle.vs_prices.specs.declared.table.Table.{Table}
 use Rattle.vs_prices.specs.Bounds.{ReachesLagrangian, ReachesValue}
-use Rattle.vs_circ.proofs.low.Reindexing.{over_range}
+use Rattle.vs_circ.proofs.CallerLemmas.{over_range}
 use Rattle.vs_multi.specs.Multipliers.{AreOfTable, AreStarts}
 use Rattle.vs_node.specs.WorkedStep.{AreBegunWith, IsWorked, ReachesStart}
 

@@ -22,9 +22,9 @@ use Rattle.vs_prices.specs.Worth.{IsRoundedUp, IsWorth, rounded_up, table_value}
 use Rattle.vs_prices.proofs.Duality.{bounds_plans}
 use Rattle.vs_prices.proofs.Rounding.{rounded_up-IsRoundedUp}
 use Rattle.vs_prices.proofs.RunningTotals.{total-map_more}
-use Rattle.vs_circ.specs.declared.layer_prices.LayerPrices.{LayerPrices}
-use Rattle.vs_circ.proofs.low.Covered.{run_exactly}
-use Rattle.vs_circ.proofs.low.Reindexing.{over_range, total-same}
+use Rattle.vs_circ.specs.declared.circ.LayerPrices.{LayerPrices}
+use Rattle.vs_circ.proofs.CallerLemmas.{run_exactly}
+use Rattle.vs_circ.proofs.CallerLemmas.{over_range, total-same}
 use Rattle.vs_node.specs.ChosenLayers.{AreSingle}
 use Rattle.vs_node.specs.LayersDone.{AreDone, AreSized, HoldsAt, IsLayerRun, IsOfFirst, StandBehind, layer_value, must_in}
 use Rattle.vs_node.specs.LeastPlans.{ShowsPlan}

@@ -9,8 +9,8 @@ use Rattle.vs_match.specs.LawfulNets.{IsLawful}
 use Rattle.vs_match.specs.LayerGraph.{LayerGraph}
 use Rattle.vs_match.specs.LayerNets.{AreLayerNets, no_net}
 use Rattle.vs_circ.specs.Circulations.{IsFixed}
-use Rattle.vs_circ.specs.declared.fixed_flow.FixedFlow.TheVariants.{Covered}
-use Rattle.vs_circ.specs.declared.layer_prices.LayerPrices.{LayerPrices}
+use Rattle.vs_circ.specs.declared.circ.FixedFlow.TheVariants.{Covered}
+use Rattle.vs_circ.specs.declared.circ.LayerPrices.{LayerPrices}
 use Rattle.vs_node.specs.LayersDone.{IsLayerRun, must_in}
 
 -- the net that stands at a layer's place is lawful

@@ -17,7 +17,7 @@ use Rattle.vs_instance.specs.Plan.{LayerBlock, IsPlan, all_trips, times_run, veh
 use Rattle.vs_instance.specs.Restriction.{IsRestriction, IsWithin, set_of}
 use Rattle.vs_circ.specs.Circulations.{RunExactly}
 use Rattle.vs_circ.specs.Offers.{MustRun}
-use Rattle.vs_circ.proofs.low.LayerBounds.{not_run}
+use Rattle.vs_circ.proofs.CallerLemmas.{not_run}
 use Rattle.vs_node.specs.ChosenLayers.{AreSingle}
 use Rattle.vs_node.specs.LayersDone.{AreBlocksOfFirst, must_in}
 use Rattle.vs_node.proofs.OneLayer.{has_must, must_has, only_layer}

@@ -15,9 +15,9 @@ use Rattle.vs_prices.specs.declared.table.Table.{Table}
 use Rattle.vs_prices.specs.Table.{prices_in, vehicle_price}
 use Rattle.vs_prices.specs.Worth.{fleet_price, least, least_price, table_value, trip_price}
 use Rattle.vs_prices.proofs.PricePlaces.{zero_at}
-use Rattle.vs_circ.specs.declared.layer_prices.LayerPrices.{LayerPrices}
+use Rattle.vs_circ.specs.declared.circ.LayerPrices.{LayerPrices}
 use Rattle.vs_circ.specs.LayerPrices.{shown_of_trips}
-use Rattle.vs_circ.proofs.low.Reindexing.{over_range, total-none, total-only, total-same, total-swap}
+use Rattle.vs_circ.proofs.CallerLemmas.{over_range, total-none, total-only, total-same, total-swap}
 use Rattle.vs_node.specs.ChosenLayers.{AreSingle}
 use Rattle.vs_node.specs.LayersDone.{AreNoPrices, StandAt, due, layer_value, must_in}
 use Rattle.vs_node.proofs.OneLayer.{has_must, must_has, only_layer}

@@ -14,9 +14,9 @@ use Rattle.vs_prices.specs.declared.table.Table.{Table}
 use Rattle.vs_prices.specs.Table.{HoldingTable, prices_in, vehicle_price}
 use Rattle.vs_prices.specs.Worth.{IsWorth}
 use Rattle.vs_prices.proofs.PricePlaces.{zero_at}
-use Rattle.vs_circ.specs.declared.layer_prices.LayerPrices.{LayerPrices}
+use Rattle.vs_circ.specs.declared.circ.LayerPrices.{LayerPrices}
 use Rattle.vs_circ.specs.LayerPrices.{shown_of_trips}
-use Rattle.vs_circ.proofs.low.Reindexing.{total-only}
+use Rattle.vs_circ.proofs.CallerLemmas.{total-only}
 use Rattle.vs_node.specs.ChosenLayers.{AreSingle}
 use Rattle.vs_node.specs.LayersDone.{AreNoPrices, AreSized, IsOfFirst, StandAt, StandBehind, layer_value, must_in}
 use Rattle.vs_node.proofs.LayerValues.{layer_value-shown, no_prices-shown, value_by_layer}

@@ -8,7 +8,7 @@ use Rattle.vs_instance.specs.Problem.{Problem}
 use Rattle.vs_instance.specs.HoldingTable.{HoldsInLayer, price_of}
 use Rattle.vs_prices.specs.declared.table.Table.{Table}
 use Rattle.vs_prices.specs.Table.{IsPrice, prices_in, vehicle_price}
-use Rattle.vs_circ.specs.declared.layer_prices.LayerPrices.{LayerPrices}
+use Rattle.vs_circ.specs.declared.circ.LayerPrices.{LayerPrices}
 use Rattle.vs_node.specs.LayersDone.{AreSized, HoldsAt, IsOfFirst, StandAt, StandBehind}
 
 module _ (p : Problem) where

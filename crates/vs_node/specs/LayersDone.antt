@@ -18,7 +18,7 @@ use Rattle.vs_types.specs.declared.numbers.LayerNo.{LayerNo}
 use Rattle.vs_layer.specs.declared.net.Flow.{Flow}
 use Rattle.vs_layer.specs.Circulation.{flow_cost}
 use Rattle.vs_match.specs.LayerGraph.{LayerGraph}
-use Rattle.vs_circ.specs.declared.layer_prices.LayerPrices.{LayerPrices}
+use Rattle.vs_circ.specs.declared.circ.LayerPrices.{LayerPrices}
 use Rattle.vs_circ.specs.Circulations.{CoverExactly}
 use Rattle.vs_circ.specs.LayerPrices.{AreHolding, shown_of_trips}
 

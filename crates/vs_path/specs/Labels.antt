@@ -1,6 +1,6 @@
 -- What a search for least paths knows while it goes on.
 use Rattle.std.specs.Prelude.{◌≡◌, ◌≢◌, ◌⊎◌, ℕ, ◌+◌, ◌*◌, ◌<◌, ◌≤◌, List, [], ◌∷◌, ◌++◌, length, set, replicate, slice_index, slice_index_or, Option, Some, None, ℤ, pos, ◌+ℤ◌, ◌-ℤ◌, ◌≤ℤ◌, ◌<ℤ◌, nat_abs}
-use Rattle.vs_path.specs.declared.residual.TheConstants.{MAX_COST, MAX_NODES, MAX_PRICE}
+use Rattle.vs_path.specs.declared.residual.TheConstants.{MAX_STEP_COST, MAX_SEARCH_NODES, MAX_SEARCH_PRICE}
 use Rattle.vs_path.specs.declared.step.Step.{Step}
 use Rattle.vs_path.specs.declared.labels.Settled.{Settled}
 use Rattle.vs_path.specs.declared.labels.Labels.{Labels}
@@ -100,15 +100,15 @@ pub record IsLowered (old new : Lists) : Type 0 where
 
 -- the numbers of a search that add up within 64 bits
 pub record IsSmall (r : ResidualNet) (prices : List ℤ) : Type 0 where
-  pub nodes : r.graph.nodes ≤ MAX_NODES
-  pub cost : AllWithin MAX_COST r.cost
+  pub nodes : r.graph.nodes ≤ MAX_SEARCH_NODES
+  pub cost : AllWithin MAX_STEP_COST r.cost
   pub each_node : length prices ≡ r.graph.nodes
-  pub each_price : AllWithin MAX_PRICE prices
+  pub each_price : AllWithin MAX_SEARCH_PRICE prices
 
 -- without the prices, a path of so many steps costs no more than they can
 abbrev pub IsNear : List ℤ → ℕ → ℕ → ℕ → ℤ → Type 0
 IsNear prices source count v label =
-    IsWithin (pos (count * nat_abs MAX_COST)) ((label +ℤ price_at prices v) -ℤ price_at prices source)
+    IsWithin (pos (count * nat_abs MAX_STEP_COST)) ((label +ℤ price_at prices v) -ℤ price_at prices source)
 
 -- the path that was found to node v, of this length, ends with a step from a node that was settled before this place
 pub record IsArrival (r : ResidualNet) (prices : List ℤ) (l : Lists) (place v : ℕ) (label : ℤ) : Type 0 where

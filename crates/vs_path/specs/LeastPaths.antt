@@ -1,7 +1,8 @@
 -- Least paths from a node by residual steps.
-use Rattle.std.specs.Prelude.{◌≡◌, ◌↔◌, ◌⊎◌, ℕ, ◌<◌, List, [], ◌∷◌, length, slice_index_or, Option, Some, None, ℤ, ◌+ℤ◌, ◌-ℤ◌, ◌≤ℤ◌, FitsSigned}
+use Rattle.std.specs.Prelude.{Bool, true, false, ◌≡◌, ◌↔◌, ◌⊎◌, ℕ, ◌<◌, List, [], ◌∷◌, length, slice_index_or, Option, Some, None, ℤ, ◌+ℤ◌, ◌-ℤ◌, ◌≤ℤ◌, FitsSigned}
 use mir.Syntax.{w64}
 use Rattle.vs_path.specs.declared.step.Step.{Step}
+use Rattle.vs_path.specs.declared.step.Step.TheVariants.{Forward, Back}
 use Rattle.vs_path.specs.declared.labels.Settled.{Settled}
 use Rattle.vs_path.specs.Residual.{ResidualNet, IsOpen, Leads, cost_along, from_of, to_of, price_at}
 use Rattle.vs_path.specs.Labels.{Lists, settled_at, step_at}
@@ -16,6 +17,12 @@ distance_at p v = slice_index_or p.distances v None
 
 abbrev pub last_step : LeastPaths → ℕ → Option Step
 last_step p v = slice_index_or p.steps v None
+
+-- a step by its arc, and whether it goes forward
+abbrev pub arc_and_way : Option Step → Option (ℕ × Bool)
+arc_and_way None = None
+arc_and_way (Some (Forward k)) = Some (k, true)
+arc_and_way (Some (Back k)) = Some (k, false)
 
 -- the least cost of residual steps from node u to node v: None exactly where there are none
 abbrev pub IsLeastCost : ResidualNet → ℕ → ℕ → Option ℤ → Type 0

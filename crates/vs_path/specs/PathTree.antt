@@ -1,6 +1,6 @@
 -- What is known while costs are corrected arc by arc, until they are the least.
 use Rattle.std.specs.Prelude.{◌≡◌, ℕ, ◌+◌, ◌*◌, ◌<◌, ◌≤◌, List, set, sum_by, Bool, true, false, Option, Some, None, ℤ, pos, ◌+ℤ◌, ◌≤ℤ◌, nat_abs}
-use Rattle.vs_path.specs.declared.residual.TheConstants.{MAX_ARC_COST, MAX_PATH_NODES}
+use Rattle.vs_path.specs.declared.residual.TheConstants.{MAX_PATH_ARC_COST, MAX_PATH_NODES}
 use Rattle.vs_path.specs.declared.step.Step.{Step}
 use Rattle.vs_path.specs.declared.path_tree.PathTree.{PathTree}
 use Rattle.vs_path.specs.Residual.{ResidualNet, AllWithin, IsOpen, Leads, cost_along, cost_of, from_of, to_of}
@@ -16,7 +16,7 @@ HasNoNegativeCycle r = (v : ℕ) (ss : List Step) → Leads r v ss v → pos 0 �
 -- the costs of paths add up within 64 bits, and there are least ones
 pub record CanCorrect (r : ResidualNet) : Type 0 where
   pub nodes : r.graph.nodes ≤ MAX_PATH_NODES
-  pub cost : AllWithin MAX_ARC_COST r.cost
+  pub cost : AllWithin MAX_PATH_ARC_COST r.cost
   pub no_negative : HasNoNegativeCycle r
 
 -- the node that the step reaches costs no less than the one that it leaves, and the step
@@ -44,7 +44,7 @@ pub record IsPathTree (r : ResidualNet) (u : ℕ) (p : LeastPaths) : Type 0 wher
   pub no_step : last_step p u ≡ None
   pub branch : (v : ℕ) (s : Step) → last_step p v ≡ Some s → IsBranch r p v s
   pub back : (v : ℕ) (c : ℤ) → distance_at p v ≡ Some c → (ss : List Step) × FollowsBack r p.steps u ss v
-  pub few : (v : ℕ) (c : ℤ) → distance_at p v ≡ Some c → c ≤ℤ pos (count_reached p * nat_abs MAX_ARC_COST)
+  pub few : (v : ℕ) (c : ℤ) → distance_at p v ≡ Some c → c ≤ℤ pos (count_reached p * nat_abs MAX_PATH_ARC_COST)
 
 -- once the node that the step reaches has this cost
 abbrev pub shortened : LeastPaths → ℕ → ℤ → Step → LeastPaths
@@ -58,11 +58,11 @@ IsNoShorter r p s = IsOpen r s → (c : ℤ) → distance_at p (from_of r s) ≡
 
 -- the most that a path costs, either way
 abbrev pub MOST : ℤ
-MOST = pos (MAX_PATH_NODES * nat_abs MAX_ARC_COST)
+MOST = pos (MAX_PATH_NODES * nat_abs MAX_PATH_ARC_COST)
 
 -- how far a cost can fall
 abbrev pub weight_of : Option ℤ → ℕ
-weight_of None = 2 * (MAX_PATH_NODES * nat_abs MAX_ARC_COST) + 1
+weight_of None = 2 * (MAX_PATH_NODES * nat_abs MAX_PATH_ARC_COST) + 1
 weight_of (Some c) = nat_abs (c +ℤ MOST)
 
 abbrev pub weight : LeastPaths → ℕ

@@ -1,3 +1,5 @@
+//! What a search for least paths knows of the nodes, and how it settles one after the other.
+
 ghost use Rattle.std.specs.Prelude.{◌≡◌, ℕ, ℤ, IfSome, ◌<◌, ◌≤◌, ◌↔◌, ◌++◌, ◌∷◌, [], ◌+ℤ◌, length, set, replicate, IsTrue, IfOk, MatchOption, Some, None, vec_capacity, slice_index, slice_index_or};
 ghost use Rattle.vs_path.specs.Residual.{IsResidual, HasSignRule, arc_no, from_of, reduced, step_along};
 ghost use Rattle.vs_path.specs.declared.labels.Settled.{Settled};
@@ -6,7 +8,7 @@ ghost use Rattle.vs_path.specs.Keys.{IsEmpty, IsLeast, IsNotAfter};
 ghost use Rattle.vs_path.specs.Labels.{AreLabels, AreFresh, AreListed, Covers, IsBetter, IsBound, IsFarthest, IsLowered, IsOver, IsReached, IsRelaxed, IsSettledAt, IsSmall, Lacks, Relaxes, lists_of, lowered, settle_in, settled_at, waiting_at};
 
 use crate::node_heap::NodeHeap;
-use crate::residual::{MAX_NODES, Residual};
+use crate::residual::{MAX_SEARCH_NODES, Residual};
 use crate::step::{Step, Way};
 use std::alloc::Global;
 use vs_types::Memory;
@@ -101,7 +103,7 @@ impl Labels {
     /// Settles the nearest node that waits, and gives it and its distance.
     fn settle_next(&mut self) -> Option<(u32, i64)>
         requires listed { AreListed (length self.old.waiting) (lists_of self.old) }
-        requires few { length self.old.waiting ≤ MAX_NODES }
+        requires few { length self.old.waiting ≤ MAX_SEARCH_NODES }
         requires space { length self.old.waiting ≤ vec_capacity self.old.order }
         requires unsettled { (v : ℕ) (key : ℤ) → waiting_at (lists_of self.old) v ≡ Some key
             → settled_at (lists_of self.old) v ≡ None }
@@ -121,7 +123,7 @@ impl Labels {
     /// Settles a node at a distance.
     fn settle(&mut self, node: u32, distance: i64)
         requires node { node < length self.old.settled.items }
-        requires few { length self.old.order.items < MAX_NODES }
+        requires few { length self.old.order.items < MAX_SEARCH_NODES }
         requires space { length self.old.order.items < vec_capacity self.old.order }
         ensures settled { self.new.settled.items ≡ set self.old.settled.items node
             (Some (record { distance = distance; place = length self.old.order.items })) }
@@ -205,8 +207,8 @@ impl Labels {
         requires each_node { length surplus.now ≡ residual.now.graph.nodes }
         requires bound { IsBound surplus.now (lists_of self.old) self.old.bound }
         ensures bound { IsBound surplus.now (lists_of self.new) self.new.bound }
-        ensures relaxes { Relaxes residual.now prices.now surplus.now step distance (lists_of self.old)
-            (lists_of self.new) }
+        ensures relaxes { Relaxes residual.now prices.now surplus.now step distance
+            (lists_of self.old) (lists_of self.new) }
         ensures order { self.new.order ≡ self.old.order }
     {
         if !residual.is_open(step) {

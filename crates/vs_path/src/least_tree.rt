@@ -1,3 +1,5 @@
+//! What a search has found, read off its labels: costs, last steps, a path, and lowered prices.
+
 ghost use Rattle.std.specs.Prelude.{◌≡◌, ◌<◌, ◌≤◌, ◌-ℤ◌, length, replicate, pos, vec_capacity, FitsSigned, Some};
 ghost use mir.Syntax.{w64};
 ghost use Rattle.vs_path.specs.Residual.{HasSignRule, IsPath, IsResidual};
@@ -36,8 +38,10 @@ impl Labels {
     {
         self.clear();
         let _ = self.explore(residual, prices, zeros, source);
-        self.least_costs(prices, source, &mut tree.distances);
-        self.settled_steps(&mut tree.steps);
+        let costs: &mut [Option<i64>] = &mut tree.distances;
+        self.least_costs(prices, source, costs);
+        let steps: &mut [Option<Step>] = &mut tree.steps;
+        self.settled_steps(steps);
         tree.steps[source as usize] = None;
     }
 
@@ -54,7 +58,8 @@ impl Labels {
             return;
         };
         for node in &self.order {
-            if let Some(settled) = self.settled[*node as usize] {
+            let known = self.settled[*node as usize];
+            if let Some(settled) = known {
                 let price = prices[*node as usize];
                 prices[*node as usize] = lowered_price(price, &farthest, &settled);
             }

@@ -1,10 +1,11 @@
 //! Least paths along the arcs of a net on which units can still be sent or taken back.
+//!
+//! The program searches by `Search`. It reaches neither `distances` nor `Paths`, which stand here for those who embed
+//! the crate, and as an oracle: they find least paths without prices, with which what a search by prices finds is
+//! compared.
 #![tactic(auto)]
 
-#[cfg(test)]
-mod examples;
 mod labels;
-mod laws;
 mod least_tree;
 mod node_heap;
 mod path_tree;
@@ -17,10 +18,12 @@ mod search;
 mod step;
 mod tournament;
 
-pub use laws::sign_rule_leaves_no_negative_cycle;
 pub use node_heap::NodeHeap;
 pub use paths::Paths;
-pub use reach::{Reach, distances};
-pub use residual::{Costs, MAX_ARC_COST, MAX_COST, MAX_NODES, MAX_PATH_NODES, MAX_PRICE, Residual};
+pub use reach::{Reach, distances, sign_rule_leaves_no_negative_cycle};
+pub use residual::{
+    Costs, MAX_PATH_ARC_COST, MAX_PATH_NODES, MAX_SEARCH_NODES, MAX_SEARCH_PRICE, MAX_STEP_COST,
+    Residual,
+};
 pub use search::{MAX_SPAN, MOST_RAISED, Search};
 pub use step::Step;

@@ -1,3 +1,5 @@
+//! Nodes with keys, of which one with the least key is taken first.
+
 ghost use Rattle.std.specs.Prelude.{◌≡◌, ◌<◌, length, set, replicate, IfOk, IfSome, MatchOption, Some, None};
 ghost use Rattle.vs_path.specs.Keys.{IsEmpty, IsLeast, IsNotAfter, key_at};
 
@@ -77,6 +79,3 @@ impl NodeHeap {
         self.queue.clear(&mut self.keys);
     }
 }
-
-#[cfg(test)]
-mod tests;

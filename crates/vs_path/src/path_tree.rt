@@ -1,3 +1,5 @@
+//! Least paths by correcting what nodes cost arc by arc, where some costs are negative.
+
 ghost use Rattle.std.specs.Prelude.{◌≡◌, ◌↔◌, ◌<◌, ◌<ℤ◌, length, set, replicate, pos, IfOk, IsTrue, Some, None, ℤ};
 ghost use Rattle.vs_path.specs.Residual.{arc_no};
 ghost use Rattle.vs_path.specs.LeastPaths.{AreLeastPaths, IsSized};
@@ -99,7 +101,8 @@ impl PathTree {
         };
         let node = residual.to(step);
         let cost = from + residual.cost(step);
-        if !is_less(cost, self.distances[node as usize]) {
+        let known = self.distances[node as usize];
+        if !is_less(cost, known) {
             return false;
         }
         self.give(node, cost, step);

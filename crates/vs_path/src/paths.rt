@@ -1,15 +1,18 @@
+//! Least paths from a node to all others.
+
 ghost use Rattle.std.specs.Prelude.{◌≡◌, ◌<◌, length, IfOk};
 ghost use Rattle.vs_path.specs.Residual.{HasSignRule};
 ghost use Rattle.vs_path.specs.Labels.{IsSmall};
-ghost use Rattle.vs_path.specs.LeastPaths.{AreLeastPaths, distance_at, last_step};
+ghost use Rattle.vs_path.specs.LeastPaths.{AreLeastPaths, IsSized, arc_and_way, distance_at, last_step};
 ghost use Rattle.vs_path.specs.PathTree.{CanCorrect};
 
 use crate::labels::Labels;
 use crate::path_tree::PathTree;
-use crate::residual::{MAX_PRICE, Residual};
+use crate::residual::{MAX_SEARCH_PRICE, Residual};
 use crate::step::Step;
 use std::alloc::Global;
 use std::marker::Model;
+use vs_layer::Net;
 use vs_types::Memory;
 
 /// Least paths from a node to all others.
@@ -39,16 +42,20 @@ impl Model for Paths {
 }
 
 impl Paths {
-    /// Paths in nets of so many nodes, none of them found yet.
-    pub fn new(alloc: Global, nodes: u32) -> Result<Paths, Memory>
-        requires { 0 < nodes }
-        ensures { IfOk result (λ paths. length paths.distances ≡ nodes) }
+    /// Paths in this net, or in any other with as many nodes, none of them found yet.
+    pub fn new(alloc: Global, net: &Net) -> Result<Paths, Memory>
+        ensures { IfOk result (IsSized net.now.nodes) }
     {
+        let nodes = net.nodes();
+        let labels = Labels::new(alloc, nodes)?;
+        let tree = PathTree::new(alloc, nodes)?;
+        let prices = vec![in alloc; 0; nodes as usize]?;
+        let zeros = vec![in alloc; 0; nodes as usize]?;
         Ok(Paths {
-            labels: Labels::new(alloc, nodes)?,
-            tree: PathTree::new(alloc, nodes)?,
-            prices: vec![in alloc; 0; nodes as usize]?,
-            zeros: vec![in alloc; 0; nodes as usize]?,
+            labels,
+            tree,
+            prices,
+            zeros,
         })
     }
 
@@ -89,13 +96,17 @@ impl Paths {
         self.tree.distances[v as usize]
     }
 
-    /// The last step of a least path to a node, None where there is no path and where the paths begin. The steps
-    /// followed back from a node come to where the paths begin.
-    pub fn step(&self, v: u32) -> Option<Step>
+    /// The arc of the last step of a least path to a node, and whether the step goes forward. None where there is no
+    /// path and where the paths begin. The steps followed back from a node come to where the paths begin.
+    pub fn step(&self, v: u32) -> Option<(u32, bool)>
         requires { v < length self.now.steps }
-        ensures { result ≡ last_step self.now v }
+        ensures { result ≡ arc_and_way (last_step self.now v) }
     {
-        self.tree.steps[v as usize]
+        match self.tree.steps[v as usize] {
+            None => None,
+            Some(Step::Forward(k)) => Some((k, true)),
+            Some(Step::Back(k)) => Some((k, false)),
+        }
     }
 }
 
@@ -103,9 +114,6 @@ impl Paths {
 /// one that is reached breaks the sign rule.
 fn keep_costs(distances: &[Option<i64>], prices: &mut [i64]) {
     for (price, distance) in prices.iter_mut().zip(distances) {
-        *price = distance.unwrap_or(MAX_PRICE);
+        *price = distance.unwrap_or(MAX_SEARCH_PRICE);
     }
 }
-
-#[cfg(test)]
-mod tests;

@@ -1,3 +1,5 @@
+//! Nodes in the order of their keys, which are kept elsewhere: a stack of the nearest, and a tournament.
+
 ghost use Rattle.std.specs.Prelude.{◌≡◌, ◌≢◌, ℕ, ◌<◌, ◌≤ℤ◌, ◌++◌, ◌∷◌, [], length, set, replicate, IfOk, MatchOption, Some, None};
 ghost use Rattle.vs_path.specs.Keys.{IsEmpty, IsNotAfter, key_at};
 ghost use Rattle.vs_path.specs.Queues.{AreForgotten, IsOn, IsQueue, IsTaken};
@@ -48,8 +50,10 @@ impl Queue {
     /// Takes out a node with the least key, before it is without a key. None where the queue is empty.
     pub fn take(&mut self, keys: &[Option<i64>]) -> Option<(u32, i64)>
         requires { IsQueue keys.now self.old }
-        ensures taken { MatchOption result (IsEmpty keys.now) (λ t. IsTaken keys.now t.0 t.1 self.new) }
-        ensures else_same { MatchOption result (IsQueue keys.now self.new) (λ t. t.0 < length keys.now) }
+        ensures taken { MatchOption result (IsEmpty keys.now)
+            (λ t. IsTaken keys.now t.0 t.1 self.new) }
+        ensures else_same { MatchOption result (IsQueue keys.now self.new)
+            (λ t. t.0 < length keys.now) }
     {
         match self.near.pop() {
             Some(node) => Some((node, self.floor)),
@@ -61,8 +65,10 @@ impl Queue {
     fn take_far(&mut self, keys: &[Option<i64>]) -> Option<(u32, i64)>
         requires queue { IsQueue keys.now self.old }
         requires none_near { self.old.near.items ≡ [] }
-        ensures taken { MatchOption result (IsEmpty keys.now) (λ t. IsTaken keys.now t.0 t.1 self.new) }
-        ensures else_same { MatchOption result (IsQueue keys.now self.new) (λ t. t.0 < length keys.now) }
+        ensures taken { MatchOption result (IsEmpty keys.now)
+            (λ t. IsTaken keys.now t.0 t.1 self.new) }
+        ensures else_same { MatchOption result (IsQueue keys.now self.new)
+            (λ t. t.0 < length keys.now) }
     {
         let key = self.far[1]?;
         let node = winner(&self.far, keys.len());

@@ -1,3 +1,5 @@
+//! Prices raised by the distances from a node.
+
 ghost use Rattle.std.specs.Prelude.{◌≡◌, length};
 ghost use Rattle.vs_path.specs.Labels.{lists_of};
 ghost use Rattle.vs_path.specs.Raising.{AreRaised, CanRaise, IsGreater, IsGreatest, rise_of};

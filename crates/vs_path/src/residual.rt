@@ -1,3 +1,5 @@
+//! A net whose arcs carry units: which steps a unit more can take, and what they cost.
+
 ghost use Rattle.std.specs.Prelude.{◌≡◌, ◌<◌, ◌≤◌, ◌↔◌, ◌≤ℤ◌, pos, length, IsTrue};
 ghost use Rattle.vs_path.specs.Labels.{IsSmall};
 ghost use Rattle.vs_path.specs.Residual.{HasSignRule, IsResidual, IsOpen, IsWithin, AllWithin, arc_no, arcs_along, from_of, to_of, cost_of, reduced};
@@ -7,19 +9,19 @@ use std::marker::Model;
 use vs_layer::{Flow, Net};
 
 /// How many nodes a net has at most in a search by prices: two for each trip, and the two of the depot.
-pub const MAX_NODES: u32 = 4_002;
+pub const MAX_SEARCH_NODES: u32 = 4_002;
 
 /// The greatest cost of an arc in a search by prices, either way.
-pub const MAX_COST: i64 = 120_000_000_000_000;
+pub const MAX_STEP_COST: i64 = 120_000_000_000_000;
 
 /// The greatest price of a node in a search by prices, either way.
-pub const MAX_PRICE: i64 = 4_000_000_000_000_000_000;
+pub const MAX_SEARCH_PRICE: i64 = 4_000_000_000_000_000_000;
 
 /// How many nodes a net has at most whose least paths are found whatever its prices.
 pub const MAX_PATH_NODES: u32 = 8_000;
 
 /// The greatest cost of an arc on such paths, either way.
-pub const MAX_ARC_COST: i64 = 1_000_000_000_000_000;
+pub const MAX_PATH_ARC_COST: i64 = 1_000_000_000_000_000;
 
 /// What a unit costs on each arc of a net, and how many units each has room for, in the order of the arcs.
 #[derive(Debug, Drop)]
@@ -76,6 +78,7 @@ impl<'a> Residual<'a> {
           arcs = arcs;
         } }
     {
+        // for the proof: its contract says that a net is one
         let _ = net.nodes();
         Residual {
             net,
@@ -132,9 +135,9 @@ impl<'a> Residual<'a> {
     /// What a step costs.
     pub fn cost(&self, step: Step) -> i64
         requires arc { arc_no step < length self.now.graph.arcs }
-        requires cost { AllWithin MAX_ARC_COST self.now.cost }
+        requires cost { AllWithin MAX_PATH_ARC_COST self.now.cost }
         ensures cost { result ≡ cost_of self.now step }
-        ensures few { IsWithin MAX_ARC_COST result }
+        ensures few { IsWithin MAX_PATH_ARC_COST result }
     {
         match step {
             Step::Forward(k) => self.costs.cost[k as usize],
@@ -145,9 +148,9 @@ impl<'a> Residual<'a> {
     /// What a step costs, with the price of the node that it leaves, less that of the node that it reaches.
     pub fn reduced(&self, prices: &[i64], step: Step) -> i64
         requires arc { arc_no step < length self.now.graph.arcs }
-        requires cost { AllWithin MAX_COST self.now.cost }
+        requires cost { AllWithin MAX_STEP_COST self.now.cost }
         requires each_node { length prices.now ≡ self.now.graph.nodes }
-        requires prices { AllWithin MAX_PRICE prices.now }
+        requires prices { AllWithin MAX_SEARCH_PRICE prices.now }
         ensures { result ≡ reduced self.now prices.now step }
     {
         let from = prices[self.from(step) as usize];
@@ -171,10 +174,10 @@ impl<'a> Residual<'a> {
     pub fn is_small(&self, prices: &[i64]) -> bool
         ensures { IsTrue result ↔ IsSmall self.now prices.now }
     {
-        if self.net.nodes() > MAX_NODES || prices.len() != self.net.nodes() as usize {
+        if self.net.nodes() > MAX_SEARCH_NODES || prices.len() != self.net.nodes() as usize {
             return false;
         }
-        all_within(&self.costs.cost, MAX_COST) && all_within(prices, MAX_PRICE)
+        all_within(&self.costs.cost, MAX_STEP_COST) && all_within(prices, MAX_SEARCH_PRICE)
     }
 
     /// Whether no residual step has a negative reduced cost.
@@ -183,10 +186,12 @@ impl<'a> Residual<'a> {
         ensures { IsTrue result ↔ HasSignRule self.now prices.now }
     {
         for k in 0..self.arcs {
-            if !self.is_kept(prices, Step::Forward(k)) {
+            let forward = self.is_kept(prices, Step::Forward(k));
+            if !forward {
                 return false;
             }
-            if !self.is_kept(prices, Step::Back(k)) {
+            let back = self.is_kept(prices, Step::Back(k));
+            if !back {
                 return false;
             }
         }

@@ -1,3 +1,5 @@
+//! A search from a node for the nearest one that lacks a unit, and prices raised to what least paths cost.
+
 ghost use Rattle.std.specs.Prelude.{◌≡◌, ℕ, ◌<◌, ◌≤◌, ◌≤ℤ◌, pos, length, slice_index, IfOk, MatchOption, vec_capacity};
 ghost use Rattle.vs_path.specs.Residual.{HasSignRule, price_at};
 ghost use Rattle.vs_path.specs.Labels.{IsSmall, Lacks};
@@ -46,8 +48,9 @@ impl Search {
         requires { 0 < nodes }
         ensures { IfOk result (λ search. search.nodes ≡ nodes) }
     {
+        let labels = Labels::new(alloc, nodes)?;
         Ok(Search {
-            labels: Labels::new(alloc, nodes)?,
+            labels,
             path: Vec::with_capacity(alloc, nodes as usize)?,
             zeros: vec![in alloc; 0; nodes as usize]?,
         })
@@ -121,11 +124,9 @@ impl Search {
     /// The nodes that were reached last, each once, the source first.
     pub fn reached(&self) -> &[u32]
         ensures reached { result.now ≡ self.now.reached }
-        ensures nodes { (i : ℕ) → i < length result.now → slice_index result.now i < self.now.nodes }
+        ensures nodes { (i : ℕ) → i < length result.now
+            → slice_index result.now i < self.now.nodes }
     {
         &self.labels.order
     }
 }
-
-#[cfg(test)]
-mod tests;

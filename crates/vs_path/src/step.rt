@@ -1,3 +1,5 @@
+//! A step along an arc, forward with a unit more or back with a unit less.
+
 ghost use Rattle.std.specs.Prelude.{◌≡◌};
 ghost use Rattle.vs_path.specs.Residual.{step_along};
 

@@ -1,3 +1,5 @@
+//! Keys at the leaves of a tree in which each inner place has the lesser of the two below it.
+
 ghost use Rattle.std.specs.Prelude.{◌≡◌, ℕ, ◌+◌, ◌*◌, ◌<◌, length, set, drop, None};
 ghost use Rattle.vs_path.specs.Keys.{key_at};
 ghost use Rattle.vs_path.specs.Tournament.{AreCovered, AreTakenOut, IsFirstOf, IsTournament};
@@ -13,9 +15,9 @@ fn first_of(left: Option<i64>, right: Option<i64>) -> Option<i64>
     }
 }
 
-/// Gives a node of so many this key, and plays its matches again. It is a tournament: the keys are the leaves of a tree in
-/// which each inner place has the lesser of the two keys below it (Knuth, The Art of Computer Programming, volume 3,
-/// section 5.2.3).
+/// Gives a node of so many this key, and plays its matches again. It is a tournament: the keys are the leaves of a
+/// tree in which each inner place has the lesser of the two keys below it (Knuth, The Art of Computer Programming,
+/// volume 3, section 5.2.3).
 pub fn put(keys: &mut [Option<i64>], count: usize, node: usize, key: Option<i64>)
     requires tournament { IsTournament count keys.old }
     requires node { node < count }
@@ -50,7 +52,8 @@ pub fn winner(keys: &[Option<i64>], count: usize) -> usize
     place - count
 }
 
-/// Takes out the keys at this place of the tree and below it, and those of their nodes, at a cost of a few steps for each.
+/// Takes out the keys at this place of the tree and below it, and those of their nodes, at a cost of a few steps for
+/// each.
 pub fn empty(tree: &mut [Option<i64>], keys: &mut [Option<i64>], place: usize)
     requires size { length tree.old ≡ 2 * length keys.old }
     requires some { 0 < place }

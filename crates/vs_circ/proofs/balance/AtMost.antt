@@ -3,7 +3,7 @@ use Rattle.std.proofs.Common.{◌≡◌, ◌≢◌, ◌<◌, ℕ, zero, suc, Lis
 use Rattle.std.proofs.lemmas.Int.{ints}
 use Rattle.vs_layer.specs.declared.arc.Arc.{Arc}
 use Rattle.vs_layer.specs.Ends.{arc_at}
-use Rattle.vs_circ.specs.Balance.{gained}
+use Rattle.vs_circ.specs.shipping.Balance.{gained}
 use Rattle.vs_circ.proofs.balance.Gained.{arc_gain}
 
 -- what the units of one arc gain

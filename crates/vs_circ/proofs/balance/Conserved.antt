@@ -5,7 +5,7 @@ use Rattle.std.proofs.lemmas.Int.{ints}
 use Rattle.std.proofs.lemmas.Bool.{cases_lt, leb-true, leb-false, le-leb, lt-leb}
 use Rattle.vs_layer.specs.Graph.{Graph, IsNet, arc_of}
 use Rattle.vs_layer.specs.Circulation.{units_in, units_out}
-use Rattle.vs_circ.specs.Balance.{gained}
+use Rattle.vs_circ.specs.shipping.Balance.{gained}
 use Rattle.vs_circ.proofs.balance.Numbers.{total-range_same}
 use Rattle.vs_circ.proofs.balance.AtMost.{gained_on, gained-two_more}
 use Rattle.vs_circ.proofs.balance.InOrder.{gained-in_order, sum-filtered, total-map_sub}

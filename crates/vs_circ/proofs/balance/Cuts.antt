@@ -9,8 +9,8 @@ use Rattle.vs_instance.specs.Lagrangian.{total}
 use Rattle.vs_path.specs.declared.step.Step.TheVariants.{Forward, Back}
 use Rattle.vs_path.specs.Residual.{price_at, IsOpen}
 use Rattle.vs_circ.specs.declared.shipment.Shipment.{Shipment}
-use Rattle.vs_circ.specs.Balance.{gained, weighed}
-use Rattle.vs_circ.specs.Shipments.{IsSized, IsStuck, residual_of}
+use Rattle.vs_circ.specs.shipping.Balance.{gained, weighed}
+use Rattle.vs_circ.specs.shipping.Shipments.{IsSized, IsStuck, residual_of}
 use Rattle.vs_circ.proofs.balance.AtMost.{gained_on, gained-none_more, gained-one_more}
 use Rattle.vs_circ.proofs.balance.Weights.{one_where, passed, passed-is, is_in, is_in-from, is_in-to}
 

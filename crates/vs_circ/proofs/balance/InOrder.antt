@@ -5,7 +5,7 @@ use Rattle.std.proofs.lemmas.Int.{ints}
 use Rattle.std.proofs.lemmas.List.Sums.{sum_by-cons}
 use Rattle.vs_layer.specs.declared.arc.Arc.{Arc}
 use Rattle.vs_instance.specs.Lagrangian.{total}
-use Rattle.vs_circ.specs.Balance.{gained}
+use Rattle.vs_circ.specs.shipping.Balance.{gained}
 use Rattle.vs_circ.proofs.balance.AtMost.{gained_on}
 
 -- numbers counted from one further on

@@ -9,8 +9,8 @@ use Rattle.vs_layer.specs.declared.arc.Arc.{Arc}
 use Rattle.vs_instance.specs.Lagrangian.{total}
 use Rattle.vs_instance.proofs.CallerLemmas.{times_sub}
 use Rattle.vs_path.specs.Residual.{AllWithin, IsWithin, price_at}
-use Rattle.vs_circ.specs.Balance.{weighed}
-use Rattle.vs_circ.specs.Prepared.{passed_along}
+use Rattle.vs_circ.specs.shipping.Balance.{weighed}
+use Rattle.vs_circ.specs.shipping.Prepared.{passed_along}
 use Rattle.vs_circ.proofs.balance.Numbers.{times_more, times_none, times_suc, total-set}
 use Rattle.vs_circ.proofs.balance.Weighed.{weighed-set}
 

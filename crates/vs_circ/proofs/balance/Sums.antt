@@ -6,8 +6,8 @@ use Rattle.std.proofs.lemmas.Int.{ints, clamps}
 use Rattle.vs_layer.specs.declared.arc.Arc.{Arc}
 use Rattle.vs_instance.specs.Lagrangian.{total}
 use Rattle.vs_path.specs.Residual.{price_at}
-use Rattle.vs_circ.specs.Balance.{gained, weighed}
-use Rattle.vs_circ.specs.Shipments.{excess}
+use Rattle.vs_circ.specs.shipping.Balance.{gained, weighed}
+use Rattle.vs_circ.specs.shipping.Shipments.{excess}
 use Rattle.vs_circ.proofs.balance.Gained.{arc_gain}
 use Rattle.vs_circ.proofs.balance.InOrder.{total-range_suc}
 use Rattle.vs_circ.proofs.balance.Numbers.{times_more, times_none, total-range_same}

@@ -5,7 +5,7 @@ use Rattle.std.proofs.lemmas.Int.{ints}
 use Rattle.std.proofs.lemmas.List.{get_or-set_same, get_or-set_other}
 use Rattle.vs_instance.specs.Lagrangian.{total}
 use Rattle.vs_path.specs.Residual.{price_at}
-use Rattle.vs_circ.specs.Balance.{weighed}
+use Rattle.vs_circ.specs.shipping.Balance.{weighed}
 use Rattle.vs_circ.proofs.balance.Numbers.{times_suc, times_pred, times_none, total-range_but, total-range_same}
 
 -- one of the numbers is another one

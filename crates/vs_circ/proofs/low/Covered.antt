@@ -13,7 +13,7 @@ use Rattle.vs_match.specs.Decomposition.{Decompose}
 use Rattle.vs_match.specs.LawfulNets.{IsLawful}
 use Rattle.vs_match.specs.LayerGraph.{LayerGraph}
 use Rattle.vs_match.proofs.CallerLemmas.{circulation_decomposes}
-use Rattle.vs_circ.specs.declared.layer_prices.LayerPrices.{LayerPrices}
+use Rattle.vs_circ.specs.declared.circ.LayerPrices.{LayerPrices}
 use Rattle.vs_circ.specs.Circulations.{CoverExactly, RunExactly}
 use Rattle.vs_circ.specs.LayerPrices.{shown_of_trips, trip_pays}
 use Rattle.vs_circ.specs.Laws.{CoveredCirculations}

@@ -17,7 +17,7 @@ use Rattle.vs_match.specs.Decomposition.{Decompose}
 use Rattle.vs_match.specs.LawfulNets.{IsLawful}
 use Rattle.vs_match.specs.LayerGraph.{IsArcOfTrip, LayerGraph}
 use Rattle.vs_match.proofs.CallerLemmas.{circulation_decomposes}
-use Rattle.vs_circ.specs.declared.layer_prices.LayerPrices.{LayerPrices}
+use Rattle.vs_circ.specs.declared.circ.LayerPrices.{LayerPrices}
 use Rattle.vs_circ.specs.Circulations.{IsLeastFlow, RunTrip, paid_by_units, paid_on}
 use Rattle.vs_circ.specs.LayerPrices.{pays_at, shown_of_offers, trip_pays}
 use Rattle.vs_circ.specs.Laws.{LeastCirculations}

@@ -16,7 +16,7 @@ use Rattle.vs_match.specs.Decomposition.{vehicles_of}
 use Rattle.vs_match.specs.LawfulNets.{IsLawful}
 use Rattle.vs_match.specs.LayerGraph.{LayerGraph, kind_of}
 use Rattle.vs_path.specs.Residual.{price_at}
-use Rattle.vs_circ.specs.NodePrices.{IsEmptyMove}
+use Rattle.vs_circ.specs.node_prices.NodePrices.{IsEmptyMove}
 use Rattle.vs_circ.specs.PricedFlows.{IsPricedFlow, arc_pays, end_node, last_arc, vehicle_price}
 use Rattle.vs_circ.proofs.low.ArcTotals.{arc_pays_units, cost_by_arcs}
 use Rattle.vs_circ.proofs.low.LawfulArcs.{last_inside, last_kind, other_arc, return_arc, return_from}

@@ -7,9 +7,9 @@ use Rattle.vs_instance.specs.Problem.{Problem}
 use Rattle.vs_match.specs.LawfulNets.{IsLawful}
 use Rattle.vs_match.specs.LayerGraph.{IsArcOfTrip, LayerGraph}
 use Rattle.vs_path.specs.Residual.{price_at}
-use Rattle.vs_circ.specs.declared.layer_prices.LayerPrices.{LayerPrices}
+use Rattle.vs_circ.specs.declared.circ.LayerPrices.{LayerPrices}
 use Rattle.vs_circ.specs.LayerPrices.{trip_pays}
-use Rattle.vs_circ.specs.NodePrices.{arc_cost}
+use Rattle.vs_circ.specs.node_prices.NodePrices.{arc_cost}
 use Rattle.vs_circ.specs.PricedFlows.{PaysNoLess}
 use Rattle.vs_circ.proofs.low.LawfulArcs.{trip_arc}
 

@@ -12,18 +12,18 @@ use Rattle.vs_instance.proofs.CallerLemmas.{times_sub, total-map_sub}
 use Rattle.vs_match.specs.declared.arc_kind.ArcKind.{ArcKind}
 use Rattle.vs_match.specs.declared.arc_kind.ArcKind.TheVariants.{Trip, Waiting, Deadhead, PullOut, PullIn, Return}
 use Rattle.vs_match.specs.LayerGraph.{LayerGraph, IsLabelled, kind_of}
-use Rattle.vs_path.specs.declared.residual.TheConstants.{MAX_COST}
+use Rattle.vs_path.specs.declared.residual.TheConstants.{MAX_STEP_COST}
 use Rattle.vs_path.specs.Residual.{IsWithin}
 use Rattle.vs_circ.specs.Circulations.{paid_on, paid_by_units}
 use Rattle.vs_circ.specs.Offers.{multipliers_of}
-use Rattle.vs_circ.specs.Prepared.{AreOfferedCosts, offered_cost}
-use Rattle.vs_circ.specs.Values.{worth_of_units, worth_on}
+use Rattle.vs_circ.specs.shipping.Prepared.{AreOfferedCosts, offered_cost}
+use Rattle.vs_circ.specs.shipping.Values.{worth_of_units, worth_on}
 use Rattle.vs_circ.proofs.low.ArcTotals.{paid_by_arcs, paid_on_units}
 use Rattle.vs_circ.proofs.low.LayerBounds.{multiplier_of-offer}
 use Rattle.vs_circ.proofs.low.Reindexing.{for_units, for_units-by_number, over_range, total-same}
 
 -- what the units of an arc cost is within 64 bits twice over
-worth-within : (cost : ℤ) (n : ℕ) → IsWithin MAX_COST cost → n < 4294967296
+worth-within : (cost : ℤ) (n : ℕ) → IsWithin MAX_STEP_COST cost → n < 4294967296
     → IsWithin (pos 515396075520000000000000) (cost *ℤ pos n)
 worth-within (pos m) n within few =
     let product = mul-le m n 120000000000000 4294967296 (omega (arith, ints, within.high)) (omega arith) in
@@ -33,7 +33,7 @@ worth-within (negsuc m) n within few =
     record { low = omega (arith, ints, product); high = omega (arith, ints) }
 
 -- the same of a cost that is a word of 64 bits
-pub worth-word : (cost worth : ℤ) (n : ℕ) → worth ≡ to_z w64 (of_z w64 cost) *ℤ pos n → IsWithin MAX_COST cost
+pub worth-word : (cost worth : ℤ) (n : ℕ) → worth ≡ to_z w64 (of_z w64 cost) *ℤ pos n → IsWithin MAX_STEP_COST cost
     → n < 4294967296 → (worth ≡ cost *ℤ pos n) × IsWithin (pos 515396075520000000000000) worth
 worth-word cost worth n is within few =
     let word : to_z w64 (of_z w64 cost) ≡ cost = omega (arith, ints, within.low, within.high) in

@@ -3,14 +3,14 @@ use Rattle.std.proofs.Common.{◌≡◌, ℕ, ◌<◌, ◌∙◌, List, length, 
 use Rattle.std.proofs.lemmas.Bool.{cases_lt}
 use Rattle.std.proofs.lemmas.Int.{ints}
 use Rattle.std.proofs.lemmas.List.{get_or_past}
-use Rattle.vs_path.specs.declared.residual.TheConstants.{MAX_PRICE}
+use Rattle.vs_path.specs.declared.residual.TheConstants.{MAX_SEARCH_PRICE}
 use Rattle.vs_path.specs.Labels.{IsSmall}
 use Rattle.vs_path.specs.Residual.{ResidualNet, IsResidual, HasSignRule, AllWithin, IsWithin, price_at}
 use Rattle.vs_circ.specs.declared.centring.TheConstants.{MAX_RAISED_PRICE}
 use Rattle.vs_circ.specs.declared.leeways.TheConstants.{MAX_NODE_PRICE}
-use Rattle.vs_circ.specs.Centring.{AreMeans, AreRaisedPrices, AreSettled}
-use Rattle.vs_circ.specs.Gaps.{AreNear}
-use Rattle.vs_circ.specs.Mirror.{AreTurned, IsMirrorOf, across}
+use Rattle.vs_circ.specs.node_prices.Centring.{AreMeans, AreRaisedPrices, AreSettled}
+use Rattle.vs_circ.specs.node_prices.Gaps.{AreNear}
+use Rattle.vs_circ.specs.node_prices.Mirror.{AreTurned, IsMirrorOf, across}
 use Rattle.vs_circ.proofs.prices.Mirrored.{sign-turned, sign-back, turned-back}
 use Rattle.vs_circ.proofs.prices.SignRules.{sign-near, sign-mean}
 
@@ -42,7 +42,7 @@ module _ (r : ResidualNet) (is : IsResidual r) (prices near : List ℤ) (small :
     nodes = small.nodes;
     cost = small.cost;
     each_node = near_is.size ∙ small.each_node;
-    each_price = within-≤ MAX_NODE_PRICE MAX_PRICE near (omega (arith, ints)) near_is.within;
+    each_price = within-≤ MAX_NODE_PRICE MAX_SEARCH_PRICE near (omega (arith, ints)) near_is.within;
   }
 
   -- they keep the sign rule
@@ -89,7 +89,7 @@ module _ (r : ResidualNet) (is : IsResidual r) (prices near : List ℤ) (small :
 
       module _ (means : List ℤ) (means_are : AreMeans low high means) where
         -- their means lie no further out than prices may
-        pub means-within : AllWithin MAX_PRICE means
+        pub means-within : AllWithin MAX_SEARCH_PRICE means
         means-within v =
             elim (cases_lt v (length low)) [
               | inl inside ↦
@@ -101,7 +101,7 @@ module _ (r : ResidualNet) (is : IsResidual r) (prices near : List ℤ) (small :
                     high = omega (arith, ints, mean.no_more, a.high, b.high);
                   }
               | inr past ↦
-                  let Is : ℤ → Type 0 = λ z. IsWithin MAX_PRICE z in
+                  let Is : ℤ → Type 0 = λ z. IsWithin MAX_SEARCH_PRICE z in
                   subst Is (sym (get_or_past means v (pos 0) (omega (arith, past, means_are.size))))
                   (record { low = omega (arith, ints); high = omega (arith, ints) })
             ]

@@ -11,8 +11,8 @@ use Rattle.vs_circ.specs.declared.leeways.Side.{Side}
 use Rattle.vs_circ.specs.declared.leeways.Side.TheVariants.{Leaving, Entering}
 use Rattle.vs_circ.specs.declared.leeways.TheConstants.{MAX_LEEWAY, MAX_NODE_PRICE}
 use Rattle.vs_circ.specs.LayerPrices.{IsPrice}
-use Rattle.vs_circ.specs.Leeways.{passing, shifted}
-use Rattle.vs_circ.specs.PriceTables.{IsEntry, base_price}
+use Rattle.vs_circ.specs.node_prices.Leeways.{passing, shifted}
+use Rattle.vs_circ.specs.node_prices.PriceTables.{IsEntry, base_price}
 use Rattle.vs_circ.specs.PricedFlows.{end_node}
 
 -- the price from which they count lies no further out than the prices

@@ -11,12 +11,12 @@ use Rattle.vs_instance.specs.HoldingTable.{HoldsInLayer, price_of, scaled}
 use Rattle.vs_match.specs.LayerGraph.{LayerGraph, IsArcOfTrip}
 use Rattle.vs_match.specs.LawfulNets.{IsLawful}
 use Rattle.vs_path.specs.Residual.{AllWithin, price_at}
-use Rattle.vs_circ.specs.declared.layer_prices.LayerPrices.{LayerPrices}
+use Rattle.vs_circ.specs.declared.circ.LayerPrices.{LayerPrices}
 use Rattle.vs_circ.specs.declared.leeways.Side.TheVariants.{Leaving, Entering}
 use Rattle.vs_circ.specs.declared.leeways.TheConstants.{MAX_NODE_PRICE}
 use Rattle.vs_circ.specs.LayerPrices.{AreHolding, IsPrice}
-use Rattle.vs_circ.specs.Leeways.{AreLeeways}
-use Rattle.vs_circ.specs.PriceTables.{IsTableOf}
+use Rattle.vs_circ.specs.node_prices.Leeways.{AreLeeways}
+use Rattle.vs_circ.specs.node_prices.PriceTables.{IsTableOf}
 use Rattle.vs_circ.specs.PricedFlows.{end_node, vehicle_price, PaysNoLess}
 use Rattle.vs_circ.proofs.prices.Walking.{rises_out, rises_on, rises_in}
 use Rattle.vs_circ.proofs.prices.Leeways.{moved_price, moved-leaving, moved-entering, still-leaving, still-entering}

@@ -9,8 +9,8 @@ use Rattle.vs_match.specs.LayerGraph.{LayerGraph, IsArcOfTrip, IsLabelled, kind_
 use Rattle.vs_path.specs.Residual.{price_at}
 use Rattle.vs_circ.specs.declared.leeways.Side.{Side}
 use Rattle.vs_circ.specs.declared.leeways.Side.TheVariants.{Leaving, Entering}
-use Rattle.vs_circ.specs.NodePrices.{IsEmptyMove}
-use Rattle.vs_circ.specs.Leeways.{AreLeeways, Allows}
+use Rattle.vs_circ.specs.node_prices.NodePrices.{IsEmptyMove}
+use Rattle.vs_circ.specs.node_prices.Leeways.{AreLeeways, Allows}
 use Rattle.vs_circ.proofs.prices.Walking.{AreMoveWeights}
 
 -- an empty move allows no more than so much

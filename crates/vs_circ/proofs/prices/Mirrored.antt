@@ -7,7 +7,7 @@ use Rattle.vs_layer.specs.Graph.{Graph, AllRight, IsNet, IsRightArc, arc_of}
 use Rattle.vs_path.specs.declared.step.Step.{Step}
 use Rattle.vs_path.specs.declared.step.Step.TheVariants.{Forward, Back}
 use Rattle.vs_path.specs.Residual.{ResidualNet, IsResidual, HasRoom, HasSignRule, arc_no, reduced, price_at}
-use Rattle.vs_circ.specs.Mirror.{AreTurned, AreTurnedArcs, IsMirrorOf, across, turned}
+use Rattle.vs_circ.specs.node_prices.Mirror.{AreTurned, AreTurnedArcs, IsMirrorOf, across, turned}
 
 -- turned round, arcs stand as they should
 pub turned-right : (g : Graph) (arcs : List Arc) → IsNet g → AreTurnedArcs g arcs → AllRight g.nodes arcs

@@ -2,10 +2,10 @@
 use Rattle.std.proofs.Common.{◌≡◌, ℕ, ◌<◌, List, length, get_or, sym, subst}
 use Rattle.vs_layer.specs.declared.arc.End.TheVariants.{From, To}
 use Rattle.vs_layer.specs.Graph.{Graph, arc_of}
-use Rattle.vs_path.proofs.labelling.ArcsOfNode.{of_node, in_node}
+use Rattle.vs_path.proofs.CallerLemmas.{of_node, in_node}
 use Rattle.vs_circ.specs.declared.leeways.Side.{Side}
 use Rattle.vs_circ.specs.declared.leeways.Side.TheVariants.{Leaving, Entering}
-use Rattle.vs_circ.specs.Leeways.{limited, limits_of}
+use Rattle.vs_circ.specs.node_prices.Leeways.{limited, limits_of}
 
 -- each of them has the node at that end
 pub limits-arc : (side : Side) (g : Graph) (v : ℕ) (ks : List ℕ) → ks ≡ limits_of side g v → (i : ℕ) → i < length ks

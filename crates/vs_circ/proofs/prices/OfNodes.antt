@@ -10,11 +10,11 @@ use Rattle.vs_instance.specs.HoldingTable.{HoldsInLayer, price_of}
 use Rattle.vs_match.specs.LawfulNets.{IsLawful}
 use Rattle.vs_match.specs.LayerGraph.{LayerGraph, IsArcOfTrip}
 use Rattle.vs_path.specs.Residual.{price_at}
-use Rattle.vs_circ.specs.declared.layer_prices.LayerPrices.{LayerPrices}
+use Rattle.vs_circ.specs.declared.circ.LayerPrices.{LayerPrices}
 use Rattle.vs_circ.specs.declared.leeways.Side.TheVariants.{Leaving, Entering}
-use Rattle.vs_circ.specs.NodePrices.{AreMovePrices}
+use Rattle.vs_circ.specs.node_prices.NodePrices.{AreMovePrices}
 use Rattle.vs_circ.specs.PricedFlows.{PaysNoLess, vehicle_price}
-use Rattle.vs_circ.specs.PriceTables.{base_price}
+use Rattle.vs_circ.specs.node_prices.PriceTables.{base_price}
 use Rattle.vs_circ.proofs.low.TripArcs.{at_trip, at_trip-arc}
 use Rattle.vs_circ.proofs.prices.Holding.{FollowNodes, following-pays, holds}
 use Rattle.vs_circ.proofs.prices.Passes.{no-leeways, none_at}

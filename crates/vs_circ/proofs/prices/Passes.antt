@@ -10,8 +10,8 @@ use Rattle.vs_match.specs.declared.arc_kind.ArcKind.TheVariants.{Trip, Waiting, 
 use Rattle.vs_match.specs.LayerGraph.{LayerGraph, kind_of}
 use Rattle.vs_circ.specs.declared.leeways.Side.{Side}
 use Rattle.vs_circ.specs.declared.leeways.TheConstants.{MAX_LEEWAY}
-use Rattle.vs_circ.specs.NodePrices.{IsEmptyMove, AreMovePrices}
-use Rattle.vs_circ.specs.Leeways.{Allows, ArcAllows, IsAllowed, AreLeeways, limits_of, passing, spare}
+use Rattle.vs_circ.specs.node_prices.NodePrices.{IsEmptyMove, AreMovePrices}
+use Rattle.vs_circ.specs.node_prices.Leeways.{Allows, ArcAllows, IsAllowed, AreLeeways, limits_of, passing, spare}
 use Rattle.vs_circ.proofs.prices.NodeLimits.{limits-arc, limits-all}
 
 -- what is allowed by one arc more

@@ -1,13 +1,13 @@
 -- Prices made from prices with the sign rule have it too.
 use Rattle.std.proofs.Common.{◌≡◌, ◌<◌, List, length, inl, inr, arith, ℤ}
 use Rattle.std.proofs.lemmas.Int.{ints, by_lt_z}
-use Rattle.vs_path.specs.declared.residual.TheConstants.{MAX_COST}
+use Rattle.vs_path.specs.declared.residual.TheConstants.{MAX_STEP_COST}
 use Rattle.vs_path.specs.declared.step.Step.{Step}
 use Rattle.vs_path.specs.declared.step.Step.TheVariants.{Forward, Back}
 use Rattle.vs_path.specs.Residual.{ResidualNet, IsResidual, HasSignRule, AllWithin, arc_no, from_of, to_of, price_at}
-use Rattle.vs_path.proofs.labelling.Lowering.{cost-within}
-use Rattle.vs_circ.specs.Centring.{AreMeans}
-use Rattle.vs_circ.specs.Gaps.{AreNear}
+use Rattle.vs_path.proofs.CallerLemmas.{cost-within}
+use Rattle.vs_circ.specs.node_prices.Centring.{AreMeans}
+use Rattle.vs_circ.specs.node_prices.Gaps.{AreNear}
 
 -- a step's ends are nodes
 step-ends : (r : ResidualNet) → IsResidual r → (s : Step) → arc_no s < r.arcs
@@ -16,7 +16,7 @@ step-ends r is (Forward k) below = let arc = is.net.each_arc k (omega (arith, is
 step-ends r is (Back k) below = let arc = is.net.each_arc k (omega (arith, is.arcs)) in (arc.to, arc.from)
 
 -- where gaps are closed
-pub sign-near : (r : ResidualNet) (old new : List ℤ) → IsResidual r → AllWithin MAX_COST r.cost
+pub sign-near : (r : ResidualNet) (old new : List ℤ) → IsResidual r → AllWithin MAX_STEP_COST r.cost
     → length old ≡ r.graph.nodes → AreNear old new → HasSignRule r old → HasSignRule r new
 sign-near r old new is costs each_node near rule s is_open =
     let ends = step-ends r is s is_open.arc in

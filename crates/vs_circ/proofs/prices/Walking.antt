@@ -16,7 +16,7 @@ use Rattle.vs_match.specs.LayerGraph.{LayerGraph, IsArcOfTrip, kind_of}
 use Rattle.vs_match.specs.WalkLaw.{IsMove, IsWalk, IsWayOut, IsWayIn}
 use Rattle.vs_match.specs.LawfulNets.{IsLawful, IsLawfulArc}
 use Rattle.vs_match.proofs.CallerLemmas.{path_cost-append}
-use Rattle.vs_circ.specs.NodePrices.{IsEmptyMove, arc_cost}
+use Rattle.vs_circ.specs.node_prices.NodePrices.{IsEmptyMove, arc_cost}
 use Rattle.vs_circ.specs.PricedFlows.{end_node}
 
 -- along each empty move the weight rises by no more than what the move costs

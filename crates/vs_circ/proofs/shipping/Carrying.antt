@@ -8,8 +8,8 @@ use Rattle.vs_layer.specs.declared.arc.Arc.{Arc}
 use Rattle.vs_path.specs.declared.step.Step.{Step}
 use Rattle.vs_path.specs.declared.step.Step.TheVariants.{Forward, Back}
 use Rattle.vs_path.specs.Residual.{step_in}
-use Rattle.vs_circ.specs.Balance.{steps_gain, step_gain}
-use Rattle.vs_circ.specs.Shipments.{CanTake, CanTakeAll, IsAmong, IsSentAlong, GainAlong}
+use Rattle.vs_circ.specs.shipping.Balance.{steps_gain, step_gain}
+use Rattle.vs_circ.specs.shipping.Shipments.{CanTake, CanTakeAll, IsAmong, IsSentAlong, GainAlong}
 use Rattle.vs_circ.proofs.balance.Numbers.{total-map_append}
 use Rattle.vs_circ.proofs.balance.Gained.{gained-more, gained-less}
 

@@ -6,23 +6,24 @@ use Rattle.std.proofs.lemmas.List.{get_or_past}
 use Rattle.vs_types.specs.declared.numbers.LayerNo.{LayerNo}
 use Rattle.vs_layer.specs.declared.net.Flow.{Flow}
 use Rattle.vs_layer.specs.Circulation.{flow_cost}
+use Rattle.vs_instance.specs.declared.limits.TheConstants.{MAX_TRIPS}
 use Rattle.vs_instance.specs.Problem.{Problem}
 use Rattle.vs_instance.specs.Instance.{IsInstance}
 use Rattle.vs_match.specs.LawfulNets.{IsLawful}
 use Rattle.vs_match.specs.LayerGraph.{LayerGraph}
 use Rattle.vs_path.specs.Residual.{AllWithin, HasSignRule, IsResidual, IsWithin, price_at}
 use Rattle.vs_circ.specs.declared.leeways.TheConstants.{MAX_NODE_PRICE}
-use Rattle.vs_circ.specs.declared.fixed_flow.FixedFlow.TheVariants.{Covered, Short}
-use Rattle.vs_circ.specs.declared.layer_prices.LayerPrices.{LayerPrices}
+use Rattle.vs_circ.specs.declared.circ.FixedFlow.TheVariants.{Covered, Short}
+use Rattle.vs_circ.specs.declared.circ.LayerPrices.{LayerPrices}
 use Rattle.vs_circ.specs.declared.shipment.Shipment.{Shipment}
 use Rattle.vs_circ.specs.Circulations.{IsFixed}
-use Rattle.vs_circ.specs.Gaps.{AreNear}
+use Rattle.vs_circ.specs.node_prices.Gaps.{AreNear}
 use Rattle.vs_circ.specs.LayerPrices.{AreHolding}
-use Rattle.vs_circ.specs.NodePrices.{HasMovePrices}
+use Rattle.vs_circ.specs.node_prices.NodePrices.{HasMovePrices}
 use Rattle.vs_circ.specs.Offers.{AreMust}
 use Rattle.vs_circ.specs.PricedFlows.{IsPricedFlow, IsStuckAt, PaysNoLess}
-use Rattle.vs_circ.specs.Shipments.{IsDrained, excess, residual_of}
-use Rattle.vs_circ.specs.Supplied.{AreRun, AreStuckPrices, HasStuckUnits, IsSupplied}
+use Rattle.vs_circ.specs.shipping.Shipments.{IsDrained, excess, residual_of}
+use Rattle.vs_circ.specs.shipping.Supplied.{AreRun, AreStuckPrices, HasStuckUnits, IsSupplied}
 use Rattle.vs_circ.proofs.balance.Weights.{is_in, is_in-from, is_in-to, one_where}
 use Rattle.vs_circ.proofs.low.Covered.{covered_circulations}
 use Rattle.vs_circ.proofs.low.Stuck.{stuck_trips}
@@ -36,7 +37,7 @@ excess-some (z ∷ surplus) = let rest = excess-some surplus in omega (arith, in
 
 -- no arc carries more units than there are trips
 few_units : (n : LayerGraph) (must : List Bool) (s : Shipment) → IsSupplied n must s → (k : ℕ)
-    → get_or s.flow.units.items k 0 ≤ 2000
+    → get_or s.flow.units.items k 0 ≤ MAX_TRIPS
 few_units n must s supplied k =
     elim (cases_lt k (length n.graph.arcs)) [
       | inl within ↦

@@ -4,7 +4,7 @@ use Rattle.std.proofs.lemmas.Int.{ints}
 use Rattle.vs_path.specs.declared.step.Step.{Step}
 use Rattle.vs_path.specs.declared.step.Step.TheVariants.{Forward, Back}
 use Rattle.vs_path.specs.Residual.{ResidualNet, IsOpen, IsPath, Leads, from_of, to_of, step_in}
-use Rattle.vs_circ.specs.Balance.{step_gain, steps_gain}
+use Rattle.vs_circ.specs.shipping.Balance.{step_gain, steps_gain}
 
 -- each step of a path is open
 pub leads-open : (r : ResidualNet) (u : ℕ) (ss : List Step) (v : ℕ) → Leads r u ss v → (i : ℕ) → i < length ss

@@ -3,6 +3,7 @@ use Rattle.std.proofs.Common.{◌≡◌, ◌<◌, ◌≤◌, ◌^◌, ℕ, List,
 use Rattle.std.proofs.lemmas.Int.{ints}
 use Rattle.std.proofs.lemmas.Bool.{cases_lt}
 use Rattle.std.proofs.lemmas.List.{get_or_past}
+use Rattle.vs_instance.specs.declared.limits.TheConstants.{MAX_FLEET}
 use Rattle.vs_layer.specs.declared.arc.Arc.{Arc}
 use Rattle.vs_layer.specs.Graph.{Graph, arc_of}
 use Rattle.vs_match.specs.declared.arc_kind.ArcKind.{ArcKind}
@@ -10,14 +11,14 @@ use Rattle.vs_match.specs.declared.arc_kind.ArcKind.TheVariants.{Trip, Waiting, 
 use Rattle.vs_match.specs.declared.layer_net.TheConstants.{MAX_ARC_COST}
 use Rattle.vs_match.specs.LayerGraph.{LayerGraph, kind_of}
 use Rattle.vs_path.specs.declared.step.Step.TheVariants.{Forward, Back}
-use Rattle.vs_path.specs.declared.residual.TheConstants.{MAX_COST, MAX_NODES}
+use Rattle.vs_path.specs.declared.residual.TheConstants.{MAX_STEP_COST, MAX_SEARCH_NODES}
 use Rattle.vs_path.specs.Residual.{HasSignRule, IsWithin, AllWithin}
 use Rattle.vs_circ.specs.declared.shipment.Shipment.{Shipment}
 use Rattle.vs_circ.specs.declared.shipment.TheConstants.{MAX_FIRST_PRICE}
-use Rattle.vs_circ.specs.declared.offers.TheConstants.{MAX_MULTIPLIER}
+use Rattle.vs_instance.specs.declared.limits.TheConstants.{MAX_MULTIPLIER}
 use Rattle.vs_circ.specs.Offers.{offer_of, paid}
-use Rattle.vs_circ.specs.Shipments.{CanShip, IsSized, residual_of}
-use Rattle.vs_circ.specs.Prepared.{AllSuit, AreOfferedCosts, AreOfferedRooms, AreSmallOffers, HasNoGain, HasSmallArcs, IsLeftBy, offered_cost, offered_room, room_if}
+use Rattle.vs_circ.specs.shipping.Shipments.{CanShip, IsSized, residual_of}
+use Rattle.vs_circ.specs.shipping.Prepared.{AllSuit, AreOfferedCosts, AreOfferedRooms, AreSmallOffers, HasNoGain, HasSmallArcs, IsLeftBy, offered_cost, offered_room, room_if}
 
 -- what a trip is paid is within 0 and 10^14
 paid-within : (offer : Option ℤ) → IfSome offer (λ m. (pos 0 ≤ℤ m) × (m ≤ℤ MAX_MULTIPLIER))
@@ -27,7 +28,7 @@ paid-within (Some m) small = small
 
 module _ (offers : List (Option ℤ)) (small : AreSmallOffers offers) where
   offered_cost-within : (kind : ArcKind) (a : Arc) → pos 0 ≤ℤ a.cost → a.cost ≤ℤ MAX_ARC_COST
-      → IsWithin MAX_COST (offered_cost offers kind a)
+      → IsWithin MAX_STEP_COST (offered_cost offers kind a)
   offered_cost-within (Trip i) a no_gain limit =
       let paid_is = paid-within (offer_of offers i.0) (small i.0) in
       record {
@@ -44,7 +45,7 @@ room_if-< : (offer : Option ℤ) → room_if offer ≤ 1
 room_if-< None = omega arith
 room_if-< (Some m) = omega arith
 
-offered_room-< : (offers : List (Option ℤ)) (kind : ArcKind) (a : Arc) → a.room ≤ 2000
+offered_room-< : (offers : List (Option ℤ)) (kind : ArcKind) (a : Arc) → a.room ≤ MAX_FLEET
     → offered_room offers kind a < 2 ^ 32
 offered_room-< offers (Trip i) a few = omega (arith, room_if-< (offer_of offers i.0))
 offered_room-< offers Waiting a few = omega arith
@@ -67,11 +68,11 @@ offered-no_gain offers Return a more no_gain trip = no_gain
 
 module _ (n : LayerGraph) (offers : List (Option ℤ)) (arcs : HasSmallArcs n) where
   pub costs-within : AreSmallOffers offers → (cost : List ℤ) → length cost ≡ length n.graph.arcs
-      → AreOfferedCosts n offers cost → AllWithin MAX_COST cost
+      → AreOfferedCosts n offers cost → AllWithin MAX_STEP_COST cost
   costs-within small cost sized offered k =
       elim (cases_lt k (length n.graph.arcs)) [
         | inl within ↦
-            subst (IsWithin MAX_COST) (sym (offered k within))
+            subst (IsWithin MAX_STEP_COST) (sym (offered k within))
             (offered_cost-within offers small (kind_of n k) (arc_of n.graph k) (arcs.no_gain k within)
             (arcs.cost k within))
         | inr past ↦
@@ -111,7 +112,8 @@ suit-signs g s suit (Forward k) open_ =
 suit-signs g s suit (Back k) open_ =
     let less = (suit k open_.arc).less open_.room in omega (arith, ints, less)
 
-pub suit-can : (n : LayerGraph) (offers : List (Option ℤ)) (s : Shipment) → HasSmallArcs n → n.graph.nodes ≤ MAX_NODES
+pub suit-can : (n : LayerGraph) (offers : List (Option ℤ)) (s : Shipment) → HasSmallArcs n → n.graph.nodes ≤
+    MAX_SEARCH_NODES
     → AreSmallOffers offers → IsSized n.graph s → AreOfferedCosts n offers s.costs.cost.items
     → AreOfferedRooms n offers s.costs.room.items → AllWithin MAX_FIRST_PRICE s.prices.items
     → AllSuit n.graph s.costs.cost.items s.costs.room.items s.prices.items s.flow.units.items

@@ -12,7 +12,7 @@ use Rattle.vs_match.specs.LayerGraph.{LayerGraph}
 use Rattle.vs_circ.specs.declared.shipment.Shipment.{Shipment}
 use Rattle.vs_circ.specs.Circulations.{IsLeastFlow, RunLeast, RunTrip, paid_by_units}
 use Rattle.vs_circ.specs.Offers.{AreOffers, IsOffered, multipliers_of}
-use Rattle.vs_circ.specs.Settled.{IsSettled}
+use Rattle.vs_circ.specs.shipping.Settled.{IsSettled}
 use Rattle.vs_circ.proofs.low.Least.{least_flow}
 use Rattle.vs_circ.proofs.prices.OfNodes.{of_nodes, of_nodes-hold, of_nodes-pay}
 

@@ -9,14 +9,14 @@ use Rattle.vs_instance.specs.Lagrangian.{total}
 use Rattle.vs_path.specs.declared.step.Step.{Step}
 use Rattle.vs_path.specs.declared.step.Step.TheVariants.{Forward, Back}
 use Rattle.vs_path.specs.declared.residual.Costs.{Costs}
-use Rattle.vs_path.specs.declared.residual.TheConstants.{MAX_PRICE, MAX_COST}
+use Rattle.vs_path.specs.declared.residual.TheConstants.{MAX_SEARCH_PRICE, MAX_STEP_COST}
 use Rattle.vs_path.specs.Residual.{ResidualNet, HasSignRule, IsWithin, AllWithin, IsOpen, IsPath, price_at, reduced, step_in}
 use Rattle.vs_path.specs.Labels.{Lacks}
 use Rattle.vs_path.specs.Search.{IsGoal}
 use Rattle.vs_circ.specs.declared.shipment.Shipment.{Shipment}
 use Rattle.vs_circ.specs.declared.shipment.TheConstants.{MAX_FIRST_PRICE}
-use Rattle.vs_circ.specs.Balance.{IsBalanced, weighed}
-use Rattle.vs_circ.specs.Shipments.{CanShip, IsSized, AreInRoom, IsSentAlong, GainAlong, Ships, CanTakeAll, CanTake, after_unit, excess, residual_of}
+use Rattle.vs_circ.specs.shipping.Balance.{IsBalanced, weighed}
+use Rattle.vs_circ.specs.shipping.Shipments.{CanShip, IsSized, AreInRoom, IsSentAlong, GainAlong, Ships, CanTakeAll, CanTake, after_unit, excess, residual_of}
 use Rattle.vs_circ.proofs.balance.Numbers.{total-set, above-pred, above-suc}
 use Rattle.vs_circ.proofs.balance.Weighed.{weighed-pred, weighed-suc}
 use Rattle.vs_circ.proofs.shipping.Paths.{leads-open, leads-gain, path-apart}
@@ -194,7 +194,7 @@ module _ (g : Graph) (old new : Shipment) (source goal : ℕ) (path : List Step)
         ∙ can.sized.surplus;
   }
 
-  prices_within : AllWithin MAX_PRICE new.prices.items
+  prices_within : AllWithin MAX_SEARCH_PRICE new.prices.items
   prices_within v =
       let before = can.prices v in
       let fell = found.fell v in
@@ -221,7 +221,7 @@ module _ (g : Graph) (old new : Shipment) (source goal : ℕ) (path : List Step)
   sent-can = record {
     sized = sized;
     nodes = can.nodes;
-    costs = subst (λ (c : Costs). AllWithin MAX_COST c.cost.items) (sym same_costs) can.costs;
+    costs = subst (λ (c : Costs). AllWithin MAX_STEP_COST c.cost.items) (sym same_costs) can.costs;
     rooms = λ k. omega (arith, room_same k, can.rooms k);
     prices = prices_within;
     first = first_within;

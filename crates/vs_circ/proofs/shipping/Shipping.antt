@@ -2,11 +2,11 @@
 use Rattle.std.proofs.Common.{◌≡◌, ◌∙◌, List, length, refl, sym, ap, subst, arith, Vec, Global, ℤ}
 use Rattle.std.proofs.lemmas.Int.{ints}
 use Rattle.vs_layer.specs.Graph.{Graph}
-use Rattle.vs_path.specs.declared.residual.TheConstants.{MAX_PRICE}
+use Rattle.vs_path.specs.declared.residual.TheConstants.{MAX_SEARCH_PRICE}
 use Rattle.vs_path.specs.Residual.{HasSignRule, IsWithin, AllWithin, price_at}
 use Rattle.vs_circ.specs.declared.shipment.Shipment.{Shipment}
 use Rattle.vs_circ.specs.declared.shipment.TheConstants.{MAX_FIRST_PRICE}
-use Rattle.vs_circ.specs.Shipments.{CanShip, Ships, residual_of}
+use Rattle.vs_circ.specs.shipping.Shipments.{CanShip, Ships, residual_of}
 
 -- nothing is sent, and the prices are the same
 pub ships-same : (g : Graph) (s : Shipment) (prices : Vec ℤ Global) → CanShip g s → prices.items ≡ s.prices.items
@@ -23,7 +23,7 @@ ships-same g s prices can same = record {
     nodes = can.nodes;
     costs = can.costs;
     rooms = can.rooms;
-    prices = subst (AllWithin MAX_PRICE) (sym same) can.prices;
+    prices = subst (AllWithin MAX_SEARCH_PRICE) (sym same) can.prices;
     first = λ v lacks. subst (λ (ps : List ℤ). IsWithin MAX_FIRST_PRICE (price_at ps v)) (sym same) (can.first v lacks);
     signs = subst (λ (ps : List ℤ). HasSignRule (residual_of g s) ps) (sym same) can.signs;
     in_room = can.in_room;

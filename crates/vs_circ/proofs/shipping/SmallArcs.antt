@@ -3,6 +3,7 @@ use Rattle.std.proofs.Common.{◌≤◌, ◌-◌, ℕ, sym, subst, arith, ℤ, p
 use Rattle.std.proofs.lemmas.Int.{ints}
 use Rattle.vs_layer.specs.declared.arc.Arc.{Arc}
 use Rattle.vs_layer.specs.Graph.{arc_of}
+use Rattle.vs_instance.specs.declared.limits.TheConstants.{MAX_FLEET}
 use Rattle.vs_instance.specs.Problem.{Problem}
 use Rattle.vs_instance.specs.Instance.{IsInstance}
 use Rattle.vs_instance.specs.Ways.{layer_of, no_trip, trip_of}
@@ -12,15 +13,15 @@ use Rattle.vs_match.specs.declared.arc_kind.ArcKind.TheVariants.{Trip, Waiting, 
 use Rattle.vs_match.specs.declared.layer_net.TheConstants.{MAX_ARC_COST}
 use Rattle.vs_match.specs.LawfulNets.{IsLawful, IsLawfulArc, IsFreeArc}
 use Rattle.vs_match.specs.LayerGraph.{LayerGraph, kind_of}
-use Rattle.vs_circ.specs.Prepared.{HasSmallArcs}
+use Rattle.vs_circ.specs.shipping.Prepared.{HasSmallArcs}
 
 record IsSmallArc (a : Arc) : Type 0 where
   no_gain : pos 0 ≤ℤ a.cost
   cost : a.cost ≤ℤ MAX_ARC_COST
-  room : a.room ≤ 2000
+  room : a.room ≤ MAX_FLEET
 
 module _ (p : Problem) (is : IsInstance p) (l : ℕ) (n : LayerGraph) (lawful : IsLawful p l n) where
-  fleet-≤ : (layer_of p l).fleet ≤ 2000
+  fleet-≤ : (layer_of p l).fleet ≤ MAX_FLEET
   fleet-≤ = (layer_of-IsLayer p is l lawful.layer).fleet
 
   free_arc : (a : Arc) → IsFreeArc p l a → IsSmallArc a

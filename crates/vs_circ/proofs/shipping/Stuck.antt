@@ -5,6 +5,7 @@ use Rattle.std.proofs.lemmas.Int.{ints}
 use Rattle.vs_types.specs.declared.numbers.LayerNo.{LayerNo}
 use Rattle.vs_layer.specs.declared.arc.Arc.{Arc}
 use Rattle.vs_layer.specs.Graph.{arc_of}
+use Rattle.vs_instance.specs.declared.limits.TheConstants.{MAX_TRIPS}
 use Rattle.vs_instance.specs.Problem.{Problem}
 use Rattle.vs_match.specs.declared.arc_kind.ArcKind.{ArcKind}
 use Rattle.vs_match.specs.LawfulNets.{IsLawful}
@@ -12,11 +13,11 @@ use Rattle.vs_match.specs.LayerGraph.{LayerGraph, kind_of}
 use Rattle.vs_path.specs.declared.step.Step.TheVariants.{Forward}
 use Rattle.vs_path.specs.Residual.{IsOpen, price_at}
 use Rattle.vs_circ.specs.declared.shipment.Shipment.{Shipment}
-use Rattle.vs_circ.specs.Balance.{gained, weighed}
-use Rattle.vs_circ.specs.NodePrices.{AreMovePrices, IsEmptyMove}
-use Rattle.vs_circ.specs.Prepared.{AreOfferedRooms, offered_room}
+use Rattle.vs_circ.specs.shipping.Balance.{gained, weighed}
+use Rattle.vs_circ.specs.node_prices.NodePrices.{AreMovePrices, IsEmptyMove}
+use Rattle.vs_circ.specs.shipping.Prepared.{AreOfferedRooms, offered_room}
 use Rattle.vs_circ.specs.PricedFlows.{IsStuckAt, end_node, last_arc, must_units, vehicle_price}
-use Rattle.vs_circ.specs.Shipments.{CanShip, IsStuck, residual_of}
+use Rattle.vs_circ.specs.shipping.Shipments.{CanShip, IsStuck, residual_of}
 use Rattle.vs_circ.proofs.balance.Gained.{arc_gain}
 use Rattle.vs_circ.proofs.balance.Cuts.{cut-arc_gain, cut-gain, cut-weighed}
 use Rattle.vs_circ.proofs.balance.Weights.{is_in, is_in-from, is_in-to, one_where, passed}
@@ -45,7 +46,7 @@ module _ (p : Problem) (l : LayerNo) (n : LayerGraph) (lawful : IsLawful p l.0 n
     (source : ℕ) (nodes : List ℕ) (can : CanShip n.graph s) (stuck : IsStuck n.graph s source nodes)
     (supplied : (weight : ℕ → ℤ) → weighed weight s.surplus.items
     ≡ gained weight n.graph.arcs (must_units n must) +ℤ gained weight n.graph.arcs s.flow.units.items)
-    (rooms : AreOfferedRooms n [] s.costs.room.items) (few : (k : ℕ) → get_or s.flow.units.items k 0 ≤ 2000)
+    (rooms : AreOfferedRooms n [] s.costs.room.items) (few : (k : ℕ) → get_or s.flow.units.items k 0 ≤ MAX_TRIPS)
     (prices : List ℤ) (priced : (v : ℕ) → price_at prices v ≡ neg_ℤ (one_where (is_in nodes) v)) where
   abbrev inside : ℕ → Bool
   inside = is_in nodes

@@ -5,6 +5,7 @@ use Rattle.std.proofs.lemmas.List.{length-map}
 use Rattle.vs_types.specs.declared.numbers.LayerNo.{LayerNo}
 use Rattle.vs_layer.specs.declared.arc.Arc.{Arc}
 use Rattle.vs_layer.specs.Graph.{arc_of}
+use Rattle.vs_instance.specs.declared.limits.TheConstants.{MAX_TRIPS}
 use Rattle.vs_instance.specs.Problem.{Problem}
 use Rattle.vs_instance.specs.Instance.{IsInstance}
 use Rattle.vs_instance.specs.Lagrangian.{total}
@@ -13,13 +14,13 @@ use Rattle.vs_match.specs.declared.arc_kind.ArcKind.{ArcKind}
 use Rattle.vs_match.specs.declared.arc_kind.ArcKind.TheVariants.{Trip, Waiting, Deadhead, PullOut, PullIn, Return}
 use Rattle.vs_match.specs.LawfulNets.{IsLawful}
 use Rattle.vs_match.specs.LayerGraph.{LayerGraph, kind_at, kind_of}
-use Rattle.vs_path.specs.declared.residual.TheConstants.{MAX_NODES}
+use Rattle.vs_path.specs.declared.residual.TheConstants.{MAX_SEARCH_NODES}
 use Rattle.vs_path.specs.declared.residual.Costs.{Costs}
 use Rattle.vs_circ.specs.declared.shipment.Shipment.{Shipment}
-use Rattle.vs_circ.specs.Prepared.{AreNone, AreOfferedCosts, AreOfferedRooms, AllSuit, IsLeftBy, offered_cost}
+use Rattle.vs_circ.specs.shipping.Prepared.{AreNone, AreOfferedCosts, AreOfferedRooms, AllSuit, IsLeftBy, offered_cost}
 use Rattle.vs_circ.specs.PricedFlows.{must_on, must_units}
-use Rattle.vs_circ.specs.Shipments.{CanShip, IsSized, Ships, excess}
-use Rattle.vs_circ.specs.Supplied.{IsSupplied}
+use Rattle.vs_circ.specs.shipping.Shipments.{CanShip, IsSized, Ships, excess}
+use Rattle.vs_circ.specs.shipping.Supplied.{IsSupplied}
 use Rattle.vs_circ.proofs.balance.Sums.{excess-weighed, gained-none, gained-≤, has_excess}
 use Rattle.vs_circ.proofs.balance.Weights.{one_where}
 use Rattle.vs_circ.proofs.balance.InOrder.{total-range_suc}
@@ -91,7 +92,7 @@ module _ (p : Problem) (is : IsInstance p) (l : LayerNo) (n : LayerGraph) (lawfu
       ]
 
   -- no more trips have to run than there are
-  few_due : total (map (λ u. pos u) (must_units n must)) ≤ℤ pos 2000
+  few_due : total (map (λ u. pos u) (must_units n must)) ≤ℤ pos MAX_TRIPS
   few_due =
       let arcs = total-kinds (must_on must) n.kinds in
       let alone = total-same due (on_trips n.kinds due) 0 (length n.kinds)
@@ -106,7 +107,7 @@ module _ (p : Problem) (is : IsInstance p) (l : LayerNo) (n : LayerGraph) (lawfu
   must-sized = length-map n.kinds (must_on must) ∙ lawful.labelled.each_arc
 
   module _ (s : Shipment) (left : IsLeftBy n.graph (must_units n must) s.surplus.items) where
-    few_left : excess s.surplus.items ≤ℤ pos 2000
+    few_left : excess s.surplus.items ≤ℤ pos MAX_TRIPS
     few_left =
         let is_weighed = excess-weighed s.surplus.items in
         let is_gained = left.balanced (one_where (has_excess s.surplus.items)) in
@@ -114,7 +115,7 @@ module _ (p : Problem) (is : IsInstance p) (l : LayerNo) (n : LayerGraph) (lawfu
         let few = few_due in
         omega (arith, ints, is_weighed, is_gained, most, few)
 
-    module _ (nodes : n.graph.nodes ≤ MAX_NODES) (sized : IsSized n.graph s)
+    module _ (nodes : n.graph.nodes ≤ MAX_SEARCH_NODES) (sized : IsSized n.graph s)
         (costs : AreOfferedCosts n [] s.costs.cost.items) (rooms : AreOfferedRooms n [] s.costs.room.items)
         (none : (k : ℕ) → get_or s.flow.units.items k 0 ≡ 0) (free : AreNone s.prices.items) where
       suits : AllSuit n.graph s.costs.cost.items s.costs.room.items s.prices.items s.flow.units.items

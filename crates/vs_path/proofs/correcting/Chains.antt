@@ -7,7 +7,7 @@ use Rattle.std.proofs.lemmas.List.{get_or-set_other}
 use Rattle.std.proofs.lemmas.List.Sums.{sum_by-cons}
 use Rattle.std.proofs.lemmas.Map.Steps.{length-le_from_distinct_below}
 use Rattle.std.specs.List.{AllByRecursion, IsDistinct, list_any}
-use Rattle.vs_path.specs.declared.residual.TheConstants.{MAX_ARC_COST}
+use Rattle.vs_path.specs.declared.residual.TheConstants.{MAX_PATH_ARC_COST}
 use Rattle.vs_path.specs.declared.step.Step.{Step}
 use Rattle.vs_path.specs.declared.step.Step.TheVariants.{Forward, Back}
 use Rattle.vs_path.specs.Residual.{ResidualNet, IsWithin, cost_along, cost_of, from_of, to_of}
@@ -75,14 +75,14 @@ cut-at r steps u v w (s ∷ ss) follows =
     ]
 
 -- what a step costs, and steps, either way
-pub cost-in : (r : ResidualNet) → CanCorrect r → (s : Step) → IsWithin MAX_ARC_COST (cost_of r s)
+pub cost-in : (r : ResidualNet) → CanCorrect r → (s : Step) → IsWithin MAX_PATH_ARC_COST (cost_of r s)
 cost-in r can (Forward k) = can.cost k
 cost-in r can (Back k) =
     let c =
     can.cost k in record { low = omega (arith, ints, c.low, c.high); high = omega (arith, ints, c.low, c.high) }
 
 costs-in : (r : ResidualNet) → CanCorrect r → (ss : List Step)
-    → IsWithin (pos (length ss * nat_abs MAX_ARC_COST)) (cost_along r ss)
+    → IsWithin (pos (length ss * nat_abs MAX_PATH_ARC_COST)) (cost_along r ss)
 costs-in r can [] = record { low = omega (arith, ints); high = omega (arith, ints) }
 costs-in r can (s ∷ ss) =
     let c = cost-in r can s in

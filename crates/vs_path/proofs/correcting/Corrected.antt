@@ -1,50 +1,12 @@
 -- Where no step is shorter any more, the paths of the tree are least ones.
-use Rattle.std.proofs.Common.{◌≡◌, ◌≢◌, ◌⊎◌, ℕ, ◌<◌, ◌∙◌, List, [], ◌∷◌, length, set, get_or, replicate, refl, sym, ap, subst, arith, inl, inr, Bool, true, false, ◌||◌, Option, Some, None, ℤ, pos, ◌≤ℤ◌, length-set}
-use Rattle.std.proofs.lemmas.Bool.{cases_eq}
+use Rattle.std.proofs.Common.{◌≡◌, ◌⊎◌, ℕ, ◌∙◌, List, [], ◌∷◌, refl, sym, ap, subst, arith, inl, inr, Bool, true, false, ◌||◌, Option, Some, None, ℤ, pos, ◌≤ℤ◌}
 use Rattle.std.proofs.lemmas.Int.{ints}
-use Rattle.std.proofs.lemmas.List.{get_or-set_same, get_or-set_other, length-replicate}
 use Rattle.vs_path.specs.declared.step.Step.{Step}
 use Rattle.vs_path.specs.Residual.{ResidualNet, Leads, cost_along, from_of}
 use Rattle.vs_path.specs.LeastPaths.{LeastPaths, AreLeastPaths, ComesBack, FollowsBack, IsLeastCost, distance_at, last_step}
 use Rattle.vs_path.specs.PathTree.{IsCorrected, IsNoShorter, IsPathTree, weight}
-use Rattle.vs_path.proofs.labelling.Exploring.{get_or-none}
 use Rattle.vs_path.proofs.found.LeastCosts.{follows-leads}
 use Rattle.vs_path.proofs.correcting.Chains.{descends}
-
--- of so many nodes node 0 alone is reached
-pub begun-tree : (r : ResidualNet) (p : LeastPaths) (n m : ℕ) → p.distances ≡ set (replicate n None) 0 (Some (pos 0))
-    → p.steps ≡ replicate m None → n ≡ r.graph.nodes → m ≡ r.graph.nodes → 0 < r.graph.nodes → IsPathTree r 0 p
-begun-tree r p n m distances steps size size_too some = record {
-  size = record {
-    distances = ap length distances ∙ length-set (replicate n None) 0 (Some (pos 0)) ∙ length-replicate n None ∙ size;
-    steps = ap length steps ∙ length-replicate m None ∙ size_too;
-  };
-  root = here;
-  no_step = none 0;
-  branch = λ v s is. let e : None ≡ Some s = sym (none v) ∙ is in absurd (cc);
-  back = λ v c is. ([], sym (only v c is).0);
-  few = λ v c is. let zero_there = (only v c is).1 in omega (arith, ints, zero_there);
-}
-  where
-    none : (v : ℕ) → last_step p v ≡ None
-    none v = ap (λ (ss : List (Option Step)). get_or ss v None) steps ∙ get_or-none m v
-
-    here : distance_at p 0 ≡ Some (pos 0)
-    here = ap (λ (ds : List (Option ℤ)). get_or ds 0 None) distances
-        ∙ get_or-set_same (replicate n None) 0 (Some (pos 0)) None
-        (omega (arith, length-replicate {A = Option ℤ} n None))
-
-    other : (v : ℕ) → v ≢ 0 → distance_at p v ≡ None
-    other v ne = ap (λ (ds : List (Option ℤ)). get_or ds v None) distances
-        ∙ get_or-set_other (replicate n None) 0 v (Some (pos 0)) None (λ e. ne e) ∙ get_or-none n v
-
-    only : (v : ℕ) (c : ℤ) → distance_at p v ≡ Some c → (v ≡ 0) × (pos 0 ≡ c)
-    only v c is = elim (cases_eq v 0) [
-      | inl same ↦
-          let e : Some (pos 0) ≡ Some c = sym here ∙ ap (distance_at p) (sym same) ∙ is in
-          let k : pos 0 ≡ c = cc in (same, k)
-      | inr ne ↦ let e : None ≡ Some c = sym (other v ne) ∙ is in absurd (cc)
-    ]
 
 -- two corrections after one another
 pub corrected-both : (r : ResidualNet) (a b c : LeastPaths) (Which Other : Step → Type 0) (one two : Bool)

@@ -4,7 +4,7 @@ use Rattle.std.proofs.lemmas.Bool.{cases_eq}
 use Rattle.std.proofs.lemmas.Int.{ints}
 use Rattle.std.proofs.lemmas.List.{get_or-set_same, get_or-set_other}
 use Rattle.std.proofs.lemmas.List.Sums.{sum_by-set}
-use Rattle.vs_path.specs.declared.residual.TheConstants.{MAX_ARC_COST}
+use Rattle.vs_path.specs.declared.residual.TheConstants.{MAX_PATH_ARC_COST}
 use Rattle.vs_path.specs.declared.step.Step.{Step}
 use Rattle.vs_path.specs.Residual.{ResidualNet, IsOpen, IsWithin, Leads, cost_of, from_of, to_of}
 use Rattle.vs_path.specs.LeastPaths.{LeastPaths, FollowsBack, distance_at, last_step}
@@ -144,7 +144,7 @@ module _ (r : ResidualNet) (u : ℕ) (p : LeastPaths) (tree : IsPathTree r u p) 
   counts : count_reached after + count_of (distance_at p v) ≡ count_reached p + 1
   counts = sum_by-set count_of p.distances v (Some label) None (omega (arith, tree.size.distances))
 
-  count-old : (o : Option ℤ) → distance_at p v ≡ o → label ≤ℤ pos (count_reached after * nat_abs MAX_ARC_COST)
+  count-old : (o : Option ℤ) → distance_at p v ≡ o → label ≤ℤ pos (count_reached after * nat_abs MAX_PATH_ARC_COST)
   count-old None e =
       let none = ap count_of e in
       let cost = cost-in r can s in
@@ -160,10 +160,10 @@ module _ (r : ResidualNet) (u : ℕ) (p : LeastPaths) (tree : IsPathTree r u p) 
   count-rises None e = let none = ap count_of e in omega (arith, counts, none)
   count-rises (Some d) e = let one = ap count_of e in omega (arith, counts, one)
 
-  pub label-few : label ≤ℤ pos (count_reached after * nat_abs MAX_ARC_COST)
+  pub label-few : label ≤ℤ pos (count_reached after * nat_abs MAX_PATH_ARC_COST)
   label-few = count-old (distance_at p v) refl
 
-  few : (w : ℕ) (d : ℤ) → distance_at after w ≡ Some d → d ≤ℤ pos (count_reached after * nat_abs MAX_ARC_COST)
+  few : (w : ℕ) (d : ℤ) → distance_at after w ≡ Some d → d ≤ℤ pos (count_reached after * nat_abs MAX_PATH_ARC_COST)
   few w d is = elim (cases_eq w v) [
     | inl same ↦
         let e : Some label ≡ Some d = sym distance-here ∙ ap (distance_at after) (sym same) ∙ is in
@@ -217,7 +217,7 @@ module _ (r : ResidualNet) (u : ℕ) (p : LeastPaths) (tree : IsPathTree r u p) 
 
 -- what a node costs along a step fits 64 bits
 pub sum-fits : (r : ResidualNet) (u : ℕ) (p : LeastPaths) → IsPathTree r u p → CanCorrect r → (x : ℕ) (c cost : ℤ)
-    → distance_at p x ≡ Some c → IsWithin MAX_ARC_COST cost → SFits w64 (c +ℤ cost)
+    → distance_at p x ≡ Some c → IsWithin MAX_PATH_ARC_COST cost → SFits w64 (c +ℤ cost)
 sum-fits r u p tree can x c cost is within =
     let low = bounded-below r u p tree can x c is in
     let high = tree.few x c is in

@@ -18,13 +18,6 @@ pub record AreMovedUpTo (l : Lists) (farthest : ℤ) (count : ℕ) (old now : Li
   pub size : length now ≡ length old
   pub each : (v : ℕ) → moved_before count (settled_at l v) farthest (price_at old v) (price_at now v)
 
-pub moved-none : (l : Lists) (farthest : ℤ) (old : List ℤ) → AreMovedUpTo l farthest 0 old old
-moved-none l farthest old = record { size = refl; each = λ v. go (settled_at l v) (price_at old v) }
-  where
-    go : (s : Option Settled) (price : ℤ) → moved_before 0 s farthest price price
-    go None price = refl
-    go (Some a) price = (λ below. absurd (omega arith), λ above. refl)
-
 pub moved-all : (nodes : ℕ) (l : Lists) (farthest : ℤ) (old now : List ℤ) (count : ℕ) → AreListed nodes l
     → length l.order ≤ count → AreMovedUpTo l farthest count old now → AreMoved l farthest old now
 moved-all nodes l farthest old now count listed all upto v = go (settled_at l v) refl (upto.each v)

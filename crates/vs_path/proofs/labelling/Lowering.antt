@@ -5,7 +5,7 @@ use Rattle.std.proofs.lemmas.Int.{ints, by_lt_z}
 use Rattle.std.proofs.lemmas.List.{get_or-set_same, get_or-set_other, get_or_default, get_or_past}
 use Rattle.vs_path.specs.declared.step.Step.{Step}
 use Rattle.vs_path.specs.declared.step.Step.TheVariants.{Forward, Back}
-use Rattle.vs_path.specs.declared.residual.TheConstants.{MAX_COST}
+use Rattle.vs_path.specs.declared.residual.TheConstants.{MAX_STEP_COST}
 use Rattle.vs_path.specs.declared.labels.Settled.{Settled}
 use Rattle.vs_path.specs.Keys.{IsNotAfter}
 use Rattle.vs_path.specs.Residual.{ResidualNet, IsOpen, IsWithin, AllWithin, HasSignRule, from_of, to_of, cost_of, reduced}
@@ -22,14 +22,14 @@ not-less (Some key) label worse =
     (λ no_less. (key, refl, no_less))
 
 -- a step costs no more than an arc can
-pub cost-within : (r : ResidualNet) (s : Step) → AllWithin MAX_COST r.cost → IsWithin MAX_COST (cost_of r s)
+pub cost-within : (r : ResidualNet) (s : Step) → AllWithin MAX_STEP_COST r.cost → IsWithin MAX_STEP_COST (cost_of r s)
 cost-within r (Forward k) costs = costs k
 cost-within r (Back k) costs =
     let c = costs k in record { low = omega (arith, ints, c.low, c.high); high = omega (arith, ints, c.low, c.high) }
 
 -- a step more adds no more than that
 pub near-step : (r : ResidualNet) (prices : List ℤ) (source place count : ℕ) (s : Step) (distance : ℤ)
-    → AllWithin MAX_COST r.cost → place < count → IsNear prices source place (from_of r s) distance
+    → AllWithin MAX_STEP_COST r.cost → place < count → IsNear prices source place (from_of r s) distance
     → IsNear prices source count (to_of r s) (distance +ℤ reduced r prices s)
 near-step r prices source place count s distance costs less near =
     let c = cost-within r s costs in
@@ -263,11 +263,6 @@ pub lowered-settled : (old after : Lists) (v : ℕ) (distance : ℤ) → IsLower
 lowered-settled old after v distance low is =
     (is.0, ap (λ (settled : List (Option Settled)). get_or settled v None) low.settled ∙ is.1, is.2)
 
-pub lowered-farthest : (old after : Lists) (distance : ℤ) → IsLowered old after → IsFarthest old distance
-    → IsFarthest after distance
-lowered-farthest old after distance low farthest v a is =
-    farthest v a (ap (λ (settled : List (Option Settled)). get_or settled v None) (sym low.settled) ∙ is)
-
 -- a step that is relaxed stays so
 pub lowered-relaxed : (r : ResidualNet) (prices surplus : List ℤ) (old after : Lists) (u : ℕ) (distance : ℤ) (s : Step)
     → IsLowered old after → IsRelaxed r prices surplus old u distance s → IsRelaxed r prices surplus after u distance s
@@ -286,11 +281,6 @@ pub both-ways : (r : ResidualNet) (prices surplus : List ℤ) (l : Lists) (u : �
     → (s : Step) → IsRelaxed r prices surplus l u distance s
 both-ways r prices surplus l u distance forward back (Forward k) = forward k
 both-ways r prices surplus l u distance forward back (Back k) = back k
-
--- a bound stays one
-pub lowered-bound : (surplus : List ℤ) (old after : Lists) (bound : Option ℤ) → IsLowered old after
-    → IsBound surplus old bound → IsBound surplus after bound
-lowered-bound surplus old after bound low is b e = let at = is b e in (at.0, at.1, low.covers at.0 b at.2)
 
 -- a read of what may be there
 pub read_at : {X : Type 0} (xs : List (Option X)) (i : ℕ) (o : Option X) → i < length xs → o ≡ get_or xs i o

@@ -1,7 +1,7 @@
 use Rattle.std.proofs.Common.{ℕ, ℤ, pos, arith}
 use Rattle.std.proofs.lemmas.Int.{ints}
 use Rattle.vs_path.specs.Residual.{price_at}
-use Rattle.vs_circ.specs.Centring.{IsMean}
+use Rattle.vs_circ.specs.node_prices.Centring.{IsMean}
 use Rattle.vs_circ.proofs.prices.Overwritten.{written-more}
 use Rattle.vs_circ.proofs.centring.take_means.Goals as goal
 

@@ -1,6 +1,6 @@
 use Rattle.std.proofs.Common.{ℕ, ℤ, pos}
 use Rattle.vs_path.specs.Residual.{price_at}
-use Rattle.vs_circ.specs.Centring.{IsMean}
+use Rattle.vs_circ.specs.node_prices.Centring.{IsMean}
 use Rattle.vs_circ.proofs.prices.Overwritten.{AreWritten}
 use Rattle.vs_circ.proofs.centring.take_means.Given as goal
 

@@ -1,5 +1,5 @@
 use Rattle.std.proofs.Common.{ℕ, ◌+◌, List, sym, subst, take}
-use Rattle.vs_circ.specs.Shipments.{IsSentAlong, GainAlong}
+use Rattle.vs_circ.specs.shipping.Shipments.{IsSentAlong, GainAlong}
 use Rattle.vs_circ.proofs.shipping.Carrying.{forward-<, back-<, sent-forward, sent-back, gain-forward, gain-back}
 use Rattle.vs_circ.proofs.draining.carry.Goals as goal
 use Rattle.vs_circ.proofs.draining.carry.Goals.{in-Forward, in-Back}

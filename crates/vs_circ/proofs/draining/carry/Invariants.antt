@@ -1,5 +1,5 @@
 use Rattle.std.proofs.Common.{take}
-use Rattle.vs_circ.specs.Shipments.{IsSentAlong, GainAlong}
+use Rattle.vs_circ.specs.shipping.Shipments.{IsSentAlong, GainAlong}
 use Rattle.vs_circ.proofs.draining.carry.Given as goal
 
 -- the steps so far are taken

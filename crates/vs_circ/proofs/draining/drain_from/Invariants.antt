@@ -1,7 +1,7 @@
 use Rattle.std.proofs.Common.{◌≡◌, ◌-◌, ◌%◌, ◌<◌, ◌≤ℤ◌, ℕ, pos}
 use Rattle.vs_path.specs.Residual.{price_at}
 use Rattle.vs_circ.specs.declared.draining.TheConstants.{STRIDE}
-use Rattle.vs_circ.specs.Shipments.{Ships}
+use Rattle.vs_circ.specs.shipping.Shipments.{Ships}
 use Rattle.vs_circ.proofs.draining.drain_from.Given as goal
 
 -- nothing is left at the nodes so far

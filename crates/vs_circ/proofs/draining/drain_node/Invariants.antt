@@ -1,6 +1,6 @@
 use Rattle.std.proofs.Common.{◌≡◌, nat_abs}
 use Rattle.vs_path.specs.Residual.{price_at}
-use Rattle.vs_circ.specs.Shipments.{Ships}
+use Rattle.vs_circ.specs.shipping.Shipments.{Ships}
 use Rattle.vs_circ.proofs.draining.drain_node.Given as goal
 
 -- units were sent

@@ -1,7 +1,7 @@
 use Rattle.std.proofs.Common.{ℕ, sym, subst}
 use Rattle.vs_layer.specs.Graph.{Graph}
-use Rattle.vs_circ.specs.Shipments.{IsStuck, Ships}
-use Rattle.vs_circ.specs.Supplied.{HasStuckUnits}
+use Rattle.vs_circ.specs.shipping.Shipments.{IsStuck, Ships}
+use Rattle.vs_circ.specs.shipping.Supplied.{HasStuckUnits}
 use Rattle.vs_circ.proofs.shipping.Supplying.{supplied-on}
 use Rattle.vs_circ.proofs.fixing.fix.Goals as goal
 

@@ -2,7 +2,7 @@ use Rattle.std.proofs.Common.{◌≡◌, ◌∙◌, ℤ, List, length, true, sym
 use Rattle.std.proofs.lemmas.List.{with_items_is}
 use Rattle.vs_path.specs.Residual.{AllWithin}
 use Rattle.vs_circ.specs.declared.leeways.TheConstants.{MAX_NODE_PRICE}
-use Rattle.vs_circ.specs.NodePrices.{AreMovePrices}
+use Rattle.vs_circ.specs.node_prices.NodePrices.{AreMovePrices}
 use Rattle.vs_circ.specs.PricedFlows.{PaysNoLess}
 use Rattle.vs_circ.proofs.shipping.Fixing.{short-fixed, stuck-by_prices, stuck-within}
 use Rattle.vs_circ.proofs.fixing.short.Goals as goal

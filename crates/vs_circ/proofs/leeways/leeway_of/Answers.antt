@@ -1,7 +1,7 @@
 use Rattle.std.proofs.Common.{◌∙◌, ap, get_or, false, arith}
 use Rattle.vs_layer.specs.Graph.{Graph}
 use Rattle.vs_circ.specs.declared.leeways.TheConstants.{MAX_LEEWAY}
-use Rattle.vs_circ.specs.Leeways.{ArcAllows, limits_of}
+use Rattle.vs_circ.specs.node_prices.Leeways.{ArcAllows, limits_of}
 use Rattle.vs_circ.proofs.prices.NodeLimits.{limits-arc}
 use Rattle.vs_circ.proofs.prices.Passes.{allowed-more, allowed-all, allowed-each}
 use Rattle.vs_circ.proofs.leeways.leeway_of.Goals as goal

@@ -1,6 +1,6 @@
 use Rattle.std.proofs.Common.{ℕ, ◌<◌, ◌≤◌, ◌↔◌, get_or, false}
 use Rattle.vs_circ.specs.declared.leeways.TheConstants.{MAX_LEEWAY}
-use Rattle.vs_circ.specs.Leeways.{ArcAllows}
+use Rattle.vs_circ.specs.node_prices.Leeways.{ArcAllows}
 use Rattle.vs_circ.proofs.leeways.leeway_of.Given as goal
 
 abbrev pub invariant-loop-k : goal.invariant-loop-k

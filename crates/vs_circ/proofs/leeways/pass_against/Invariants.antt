@@ -1,6 +1,6 @@
 use Rattle.std.proofs.Common.{false}
 use Rattle.vs_circ.specs.declared.leeways.Side.TheVariants.{Leaving}
-use Rattle.vs_circ.specs.Leeways.{AreLeeways}
+use Rattle.vs_circ.specs.node_prices.Leeways.{AreLeeways}
 use Rattle.vs_circ.proofs.leeways.pass_against.Given as goal
 
 abbrev pub invariant-loop-v : goal.invariant-loop-v

@@ -6,9 +6,9 @@ use Rattle.vs_circ.proofs.mirror.mirror_of.Goals as goal
 
 pub unreachable-requires : goal.unreachable-requires
 unreachable-requires c =
-    let fault = rw c.in-Err-Fault.field-0-is at c.in-Err-Fault.ensures.fault in
+    let fault = rw c.in-Fault.is at c.in-Err.ensures.fault in
     let arcs = c.in_ok-arcs.arcs.items in
-    no_fault c.nodes.result arcs c.in-Err-Fault._fault
+    no_fault c.nodes.result arcs c.in-Fault._fault
     (subst (λ (n : ℕ). AllRight n arcs) (sym c.nodes.ensures.count)
     (turned-right c.args.net.now arcs c.nodes.ensures.net c.in_ok-arcs.ensures))
     fault

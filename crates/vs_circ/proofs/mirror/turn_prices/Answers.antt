@@ -1,7 +1,7 @@
 use Rattle.std.proofs.Common.{◌≡◌, ◌-◌, ℕ, ℤ, pos, neg_ℤ, length, arith}
 use Rattle.std.proofs.lemmas.Int.{ints}
 use Rattle.vs_path.specs.Residual.{price_at}
-use Rattle.vs_circ.specs.Mirror.{across}
+use Rattle.vs_circ.specs.node_prices.Mirror.{across}
 use Rattle.vs_circ.proofs.prices.Overwritten.{written-more}
 use Rattle.vs_circ.proofs.mirror.turn_prices.Goals as goal
 

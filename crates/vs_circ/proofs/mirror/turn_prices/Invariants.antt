@@ -1,6 +1,6 @@
 use Rattle.std.proofs.Common.{◌≡◌, ℕ, ℤ, pos, neg_ℤ, length}
 use Rattle.vs_path.specs.Residual.{price_at}
-use Rattle.vs_circ.specs.Mirror.{across}
+use Rattle.vs_circ.specs.node_prices.Mirror.{across}
 use Rattle.vs_circ.proofs.prices.Overwritten.{AreWritten}
 use Rattle.vs_circ.proofs.mirror.turn_prices.Given as goal
 

@@ -2,7 +2,7 @@ use Rattle.std.proofs.Common.{◌≡◌, ◌∙◌, ℕ, ap}
 use Rattle.vs_layer.specs.declared.arc.Arc.{Arc}
 use Rattle.vs_layer.specs.Ends.{no_arc}
 use Rattle.vs_layer.specs.Graph.{arc_of}
-use Rattle.vs_circ.specs.Mirror.{turned}
+use Rattle.vs_circ.specs.node_prices.Mirror.{turned}
 use Rattle.vs_circ.proofs.prices.Pushed.{pushed-more}
 use Rattle.vs_circ.proofs.mirror.turned_arcs.Goals as goal
 

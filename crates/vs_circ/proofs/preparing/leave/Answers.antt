@@ -3,10 +3,11 @@ use Rattle.std.specs.List.{range_with_len}
 use Rattle.std.proofs.lemmas.Int.{ints}
 use Rattle.vs_layer.specs.declared.arc.Arc.{Arc}
 use Rattle.vs_layer.specs.Graph.{arc_of}
+use Rattle.vs_instance.specs.declared.limits.TheConstants.{MAX_FLEET}
 use Rattle.vs_instance.specs.Lagrangian.{total}
 use Rattle.vs_path.specs.Residual.{price_at}
-use Rattle.vs_circ.specs.Balance.{weighed}
-use Rattle.vs_circ.specs.Prepared.{passed_along}
+use Rattle.vs_circ.specs.shipping.Balance.{weighed}
+use Rattle.vs_circ.specs.shipping.Prepared.{passed_along}
 use Rattle.vs_circ.proofs.balance.Numbers.{total-none}
 use Rattle.vs_circ.proofs.balance.Weighed.{weighed-none}
 use Rattle.vs_circ.proofs.balance.AtMost.{gained_on}
@@ -69,7 +70,7 @@ loop-k-preserved c =
           omega (arith, ints, same, here, before, more);
       even = ap total is ∙ passed-total old (arc_of g k) n from to ∙ inv.even;
       within = λ v.
-          let near = passed-within old (arc_of g k) n from to (pos (4000 * k)) inv.within v in
+          let near = passed-within old (arc_of g k) n from to (pos (2 * MAX_FLEET * k)) inv.within v in
           let same = ap (λ (xs : List ℤ). price_at xs v) is in
           record {
             low = omega (arith, ints, near.low, same, few);

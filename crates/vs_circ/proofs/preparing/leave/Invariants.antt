@@ -1,8 +1,9 @@
 use Rattle.std.proofs.Common.{◌≡◌, ◌*◌, ℕ, ℤ, map, pos}
 use Rattle.std.specs.List.{range_with_len}
+use Rattle.vs_instance.specs.declared.limits.TheConstants.{MAX_FLEET}
 use Rattle.vs_instance.specs.Lagrangian.{total}
 use Rattle.vs_path.specs.Residual.{AllWithin}
-use Rattle.vs_circ.specs.Balance.{weighed}
+use Rattle.vs_circ.specs.shipping.Balance.{weighed}
 use Rattle.vs_circ.proofs.balance.AtMost.{gained_on}
 use Rattle.vs_circ.proofs.preparing.leave.Given as goal
 
@@ -12,5 +13,5 @@ invariant-loop-k l = record {
   balanced : (weight : ℕ → ℤ)
       → weighed weight l.surplus ≡ total (map (gained_on weight l.net.arcs l.units) (range_with_len 0 l.k));
   even : total l.surplus ≡ pos 0;
-  within : AllWithin (pos (4000 * l.k)) l.surplus;
+  within : AllWithin (pos (2 * MAX_FLEET * l.k)) l.surplus;
 }

@@ -1,7 +1,7 @@
 use Rattle.std.proofs.Common.{◌≡◌, ℕ, ◌<◌, get_or, pos}
 use Rattle.vs_layer.specs.Graph.{arc_of}
 use Rattle.vs_match.specs.LayerGraph.{kind_of}
-use Rattle.vs_circ.specs.Prepared.{offered_cost, offered_room}
+use Rattle.vs_circ.specs.shipping.Prepared.{offered_cost, offered_room}
 use Rattle.vs_circ.proofs.preparing.offer_arcs.Given as goal
 
 -- those of the arcs so far are set

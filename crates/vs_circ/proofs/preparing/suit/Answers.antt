@@ -5,7 +5,7 @@ use Rattle.std.proofs.lemmas.List.{get_or-set_same, get_or-set_other, get_or_def
 use Rattle.vs_layer.specs.declared.arc.Arc.{Arc}
 use Rattle.vs_layer.specs.Graph.{arc_of}
 use Rattle.vs_path.specs.Residual.{price_at}
-use Rattle.vs_circ.specs.Prepared.{DoSuit, worth_less}
+use Rattle.vs_circ.specs.shipping.Prepared.{DoSuit, worth_less}
 use Rattle.vs_circ.proofs.preparing.suit.Goals as goal
 
 -- the same of equal numbers

@@ -1,6 +1,6 @@
 use Rattle.std.proofs.Common.{ℕ, ◌<◌, get_or}
 use Rattle.vs_layer.specs.Graph.{arc_of}
-use Rattle.vs_circ.specs.Prepared.{DoSuit, worth_less}
+use Rattle.vs_circ.specs.shipping.Prepared.{DoSuit, worth_less}
 use Rattle.vs_circ.proofs.preparing.suit.Given as goal
 
 -- the units of the arcs so far suit them

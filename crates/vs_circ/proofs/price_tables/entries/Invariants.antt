@@ -1,5 +1,5 @@
 use Rattle.std.proofs.Common.{ℕ, ℤ, pos}
-use Rattle.vs_circ.specs.PriceTables.{IsEntry}
+use Rattle.vs_circ.specs.node_prices.PriceTables.{IsEntry}
 use Rattle.vs_circ.proofs.prices.Pushed.{AreSoFar}
 use Rattle.vs_circ.proofs.price_tables.entries.Given as goal
 

@@ -8,12 +8,12 @@ returns-clause-holding c =
     let prices = c.args.prices.now in
     if-ok c.table_of.result c.table_of.ensures
     (λ given table p l is lawful count.
-    table-holds p l n false prices c.set_leeways.new.leeways c.set_leeways-2.new.leeways c.args.trips given lawful count
-    c.requires.prices.within c.set_leeways.ensures c.set_leeways-2.ensures table)
+    table-holds p l n false prices c.set_entering.new.leeways c.set_leaving.new.leeways c.args.trips given lawful count
+    c.requires.prices.within c.set_entering.ensures c.set_leaving.ensures table)
 
 pub returns-clause-pays : goal.returns-clause-pays
 returns-clause-pays c =
     if-ok c.table_of.result c.table_of.ensures
     (λ given table.
-    table-pays c.args.net.now c.args.prices.now c.set_leeways.new.leeways c.set_leeways-2.new.leeways c.args.trips
+    table-pays c.args.net.now c.args.prices.now c.set_entering.new.leeways c.set_leaving.new.leeways c.args.trips
     given table)

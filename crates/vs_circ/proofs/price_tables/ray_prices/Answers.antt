@@ -1,6 +1,6 @@
 use Rattle.std.proofs.Common.{◌≡◌, ℕ, List, length, replicate, ◌∙◌, ap, sym, subst, rules, true}
 use Rattle.vs_circ.specs.declared.leeways.Side.TheVariants.{Leaving, Entering}
-use Rattle.vs_circ.specs.Leeways.{AreLeeways}
+use Rattle.vs_circ.specs.node_prices.Leeways.{AreLeeways}
 use Rattle.vs_circ.proofs.prices.Holding.{if-ok, table-holds, table-pays}
 use Rattle.vs_circ.proofs.prices.Passes.{no-leeways}
 use Rattle.vs_circ.proofs.price_tables.ray_prices.Goals as goal

@@ -9,6 +9,6 @@ returns c =
     let last = c.requires.within (end_node c.args.net.now) in
     record {
       vehicle = omega (arith, ints, clamps, first.low, first.high, last.low, last.high, c.base_of-base.ensures);
-      into = c.in_ok-entries.ensures;
-      from = c.in_ok-entries-2.ensures;
+      into = c.in_ok-into.ensures;
+      from = c.in_ok-from.ensures;
     }

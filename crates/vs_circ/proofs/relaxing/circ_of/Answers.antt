@@ -2,7 +2,7 @@ use Rattle.std.proofs.Common.{◌≡◌, ◌∙◌, ℕ, List, ℤ, sym, ap, sub
 use Rattle.std.specs.Int.{w128}
 use Rattle.std.proofs.lemmas.Int.{to_z-of_z}
 use Rattle.vs_circ.specs.PricedFlows.{PaysNoLess}
-use Rattle.vs_circ.specs.Values.{worth_of_units}
+use Rattle.vs_circ.specs.shipping.Values.{worth_of_units}
 use Rattle.vs_circ.proofs.shipping.Relaxed.{centred-moves, least-of-settled}
 use Rattle.vs_circ.proofs.relaxing.circ_of.Goals as goal
 
@@ -24,10 +24,10 @@ returns c = record {
       let offers = c.args.offers.now in
       let prices = c.args.space.now.prices.items in
       let Pays : ℕ → Type 0 = λ trips. PaysNoLess n trips prices c.in_ok-prices.prices in
-      let units = c.in_ok-units.ensures.items ∙ c.deref.ensures.value in
+      let units = c.in_ok-units.ensures.items ∙ c.deref-sent.ensures.value in
       let worth = c.worth_of-value.ensures
-      ∙ ap (λ (cost : List ℤ). worth_of_units cost c.deref-3.result.now) c.deref-2.ensures.value
-      ∙ ap (worth_of_units s.costs.cost.items) c.deref-3.ensures.value in
+      ∙ ap (λ (cost : List ℤ). worth_of_units cost c.deref-sent.result.now) c.deref-cost.ensures.value
+      ∙ ap (worth_of_units s.costs.cost.items) (c.deref-sent.ensures.value ∙ sym units) in
       let word : to_z w128 (of_z w128 c.worth_of-value.result) ≡ c.worth_of-value.result =
       to_z-of_z w128 c.worth_of-value.result (search (rules, c.worth_of-value.type_inv)) in
       least-of-settled p is l n lawful offers s c.requires.settled prices c.requires.prices _ are units

@@ -2,7 +2,7 @@ use Rattle.std.proofs.Common.{◌≡◌, ◌*◌, map, pos}
 use Rattle.std.specs.List.{range_with_len}
 use Rattle.vs_instance.specs.Lagrangian.{total}
 use Rattle.vs_path.specs.Residual.{IsWithin}
-use Rattle.vs_circ.specs.Values.{worth_on}
+use Rattle.vs_circ.specs.shipping.Values.{worth_on}
 use Rattle.vs_circ.proofs.relaxing.worth_of.Given as goal
 
 -- what the units of the arcs so far cost, which is never much

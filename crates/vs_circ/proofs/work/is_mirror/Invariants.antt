@@ -1,6 +1,6 @@
 use Rattle.std.proofs.Common.{◌≡◌, ◌<◌, ℕ}
 use Rattle.vs_layer.specs.Graph.{arc_of}
-use Rattle.vs_circ.specs.Mirror.{turned}
+use Rattle.vs_circ.specs.node_prices.Mirror.{turned}
 use Rattle.vs_circ.proofs.work.is_mirror.Given as goal
 
 -- the arcs so far are those of the net turned round

@@ -30,13 +30,13 @@ returns-clause-paths c =
     let costs = c.least_costs.new.costs in
     let given = c.settled_steps.new.steps in
     let costs_sized : length costs ≡ c.args.tree.now.distances.len =
-    c.least_costs.auto.costs ∙ c.deref_mut.ensures.len in
+    c.least_costs.auto.costs ∙ c.deref_mut-costs.ensures.len in
     let steps_sized : length given ≡ c.args.tree.now.steps.len =
-    c.settled_steps.auto.steps ∙ c.deref_mut-2.ensures.len in
+    c.settled_steps.auto.steps ∙ c.deref_mut-steps.ensures.len in
     let costs_long : length costs ≡ r.graph.nodes =
-    c.least_costs.auto.costs ∙ ap length c.deref_mut.ensures.value ∙ c.requires.size.distances in
+    c.least_costs.auto.costs ∙ ap length c.deref_mut-costs.ensures.value ∙ c.requires.size.distances in
     let steps_long : length given ≡ r.graph.nodes =
-    c.settled_steps.auto.steps ∙ ap length c.deref_mut-2.ensures.value ∙ c.requires.size.steps in
+    c.settled_steps.auto.steps ∙ ap length c.deref_mut-steps.ensures.value ∙ c.requires.size.steps in
     let found : LeastPaths = record { distances = costs; steps = set given source None } in
     let size : IsSized r.graph.nodes found =
     record { distances = costs_long; steps = length-set given source None ∙ steps_long } in

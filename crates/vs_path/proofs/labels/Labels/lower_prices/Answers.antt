@@ -7,10 +7,10 @@ use Rattle.vs_path.specs.Search.{AreMoved}
 use Rattle.vs_path.proofs.labelling.Lowering.{read_at}
 use Rattle.vs_path.proofs.found.Moving.{AreMovedUpTo, moved-all, moved-kept, moved-more, moved-skip, listed-within}
 use Rattle.vs_path.proofs.labels.Labels.lower_prices.Goals as goal
-use Rattle.vs_path.proofs.labels.Labels.lower_prices.Goals.{in-Some-index, in_default-index}
+use Rattle.vs_path.proofs.labels.Labels.lower_prices.Goals.{in-Some-known, in_default-known}
 
-pub index-requires-in-loop-node : goal.index-requires-in-loop-node
-index-requires-in-loop-node c =
+pub index-known-requires : goal.index-known-requires
+index-known-requires c =
     let l = lists_of c.args.self.now in
     let i = c.loop-node.node-index in
     let nodes = c.deref-node-items.result.now in
@@ -47,7 +47,7 @@ slice_copy_out-price c =
 
 pub lowered_price-requires-clause-nearer : goal.lowered_price-requires-clause-nearer
 lowered_price-requires-clause-nearer c =
-    let a = c.in-Some-index.settled in
+    let a = c.in-Some-known.settled in
     let l = lists_of c.args.self.now in
     let i = c.loop-node.node-index in
     let nodes = c.deref-node-items.result.now in
@@ -62,14 +62,14 @@ lowered_price-requires-clause-nearer c =
     ∙ c.in-Some.is in
     let is : settled_at l (get_or l.order i 0) ≡ Some a =
     ap (settled_at l) (sym at)
-    ∙ read_at l.settled (get_or nodes i 0) c.index-in-loop-node.result.now
+    ∙ read_at l.settled (get_or nodes i 0) c.index-known.result.now
     (omega (arith, at, within, c.requires.listed.settled))
-    c.index-in-loop-node.ensures ∙ c.in-Some-index.is in
+    c.index-known.ensures ∙ c.in-Some-known.is in
     (c.requires.space c.in-Some.farthest goal_is (get_or l.order i 0) a is).0
 
 pub lowered_price-requires-clause-fits : goal.lowered_price-requires-clause-fits
 lowered_price-requires-clause-fits c =
-    let a = c.in-Some-index.settled in
+    let a = c.in-Some-known.settled in
     let l = lists_of c.args.self.now in
     let i = c.loop-node.node-index in
     let nodes = c.deref-node-items.result.now in
@@ -84,9 +84,9 @@ lowered_price-requires-clause-fits c =
     ∙ c.in-Some.is in
     let is : settled_at l (get_or l.order i 0) ≡ Some a =
     ap (settled_at l) (sym at)
-    ∙ read_at l.settled (get_or nodes i 0) c.index-in-loop-node.result.now
+    ∙ read_at l.settled (get_or nodes i 0) c.index-known.result.now
     (omega (arith, at, within, c.requires.listed.settled))
-    c.index-in-loop-node.ensures ∙ c.in-Some-index.is in
+    c.index-known.ensures ∙ c.in-Some-known.is in
     let kept =
     moved-kept (length c.args.prices.now) l c.in-Some.farthest.distance c.args.prices.now c.loop-node.prices i a
     c.requires.listed inside is c.loop-node.invariant in
@@ -107,14 +107,14 @@ loop-node-preserved c =
     let at : get_or nodes i 0 ≡ get_or l.order i 0 =
     ap (λ (xs : List ℕ). get_or xs i 0) c.deref-node-items.ensures.value in
     let within = listed-within (length c.args.prices.now) l i c.requires.listed inside in
-    elim c.match-index-2.branch [
-      | in-Some-index w ↦
-          let a = w.in-Some-index.settled in
+    elim c.match-known.branch [
+      | in-Some-known w ↦
+          let a = w.in-Some-known.settled in
           let is : settled_at l (get_or l.order i 0) ≡ Some a =
           ap (settled_at l) (sym at)
-          ∙ read_at l.settled (get_or nodes i 0) c.index-in-loop-node.result.now
+          ∙ read_at l.settled (get_or nodes i 0) c.index-known.result.now
           (omega (arith, at, within, c.requires.listed.settled))
-          c.index-in-loop-node.ensures ∙ w.in-Some-index.is in
+          c.index-known.ensures ∙ w.in-Some-known.is in
           let fits : SFits w64 (price_at c.loop-node.prices (get_or nodes i 0)) = search rules in
           let fits_too : SFits w64 w.lowered_price.result = search rules in
           let price = simp to_z-of_z at w.lowered_price.ensures in
@@ -124,18 +124,18 @@ loop-node-preserved c =
           let u = get_or l.order i 0 in
           let priced : w.lowered_price.result ≡ price_at n u -ℤ (f -ℤ a.distance) =
           price ∙ ap (λ (v : ℕ). price_at n v -ℤ (f -ℤ a.distance)) at in
-          let put : c.match-index-2.prices ≡ set n u w.lowered_price.result =
+          let put : c.match-known.prices ≡ set n u w.lowered_price.result =
           written ∙ ap (λ (v : ℕ). set n v w.lowered_price.result) at in
           let P : List ℤ → Type 0 = λ ps. AreMovedUpTo l f (i + 1) c.args.prices.now ps in
           subst P (sym put)
           (moved-more (length c.args.prices.now) l f c.args.prices.now n i a w.lowered_price.result c.requires.listed
           c.loop-node.invariant.size inside is priced c.loop-node.invariant)
-      | in_default-index w ↦
+      | in_default-known w ↦
           let none : settled_at l (get_or l.order i 0) ≡ None =
           ap (settled_at l) (sym at)
-          ∙ read_at l.settled (get_or nodes i 0) c.index-in-loop-node.result.now
+          ∙ read_at l.settled (get_or nodes i 0) c.index-known.result.now
           (omega (arith, at, within, c.requires.listed.settled))
-          c.index-in-loop-node.ensures ∙ w.in_default-index.is in
+          c.index-known.ensures ∙ w.in_default-known.is in
           absurd (moved-skip (length c.args.prices.now) l i c.requires.listed inside none)
     ]
 

@@ -44,14 +44,14 @@ returns-then-not-is_less-clause-corrected c =
     sum-fits r 0 p c.requires.tree c.requires.can (from_of r s) c.in-Some.from c.cost.result from c.cost.ensures.few in
     let inside_to : c.to-node.result < length p.distances =
     omega (arith, c.to-node.ensures.of_net, c.requires.tree.size.distances) in
-    let known : distance_at p (to_of r s) ≡ c.index-2.result.now =
+    let known : distance_at p (to_of r s) ≡ c.index-known.result.now =
     ap (distance_at p) (sym c.to-node.ensures.node)
-    ∙ read_at p.distances c.to-node.result c.index-2.result.now inside_to c.index-2.ensures in
+    ∙ read_at p.distances c.to-node.result c.index-known.result.now inside_to c.index-known.ensures in
     let sum = ap (λ (z : ℤ). c.in-Some.from +ℤ z) c.cost.ensures.cost in
     let to_less = simp to_z-of_z at c.is_less.ensures.1 in
-    let worse : ((d : ℤ) → c.index-2.result.now ≡ Some d → label <ℤ d) → ⊥ =
+    let worse : ((d : ℤ) → c.index-known.result.now ≡ Some d → label <ℤ d) → ⊥ =
     λ less. let wrong : false ≡ true = sym c.if-not-is_less.true ∙ to_less less in cc in
-    let here = no-shorter r p s c.in-Some.from label c.index-2.result.now from sum known worse in
+    let here = no-shorter r p s c.in-Some.from label c.index-known.result.now from sum known worse in
     (refl, λ t same. subst (λ (k : Step). IsNoShorter r p k) (sym same) here)
 
 -- it costs less now
@@ -72,9 +72,9 @@ returns-clause-tree c =
     sum-fits r 0 p c.requires.tree c.requires.can (from_of r s) c.in-Some.from c.cost.result from c.cost.ensures.few in
     let inside_to : c.to-node.result < length p.distances =
     omega (arith, c.to-node.ensures.of_net, c.requires.tree.size.distances) in
-    let known : distance_at p (to_of r s) ≡ c.index-2.result.now =
+    let known : distance_at p (to_of r s) ≡ c.index-known.result.now =
     ap (distance_at p) (sym c.to-node.ensures.node)
-    ∙ read_at p.distances c.to-node.result c.index-2.result.now inside_to c.index-2.ensures in
+    ∙ read_at p.distances c.to-node.result c.index-known.result.now inside_to c.index-known.ensures in
     let sum = ap (λ (z : ℤ). c.in-Some.from +ℤ z) c.cost.ensures.cost in
     let is_open = c.is_open.ensures.0 c.if-not-is_open.false in
     let given_less = simp to_z-of_z at (c.is_less.ensures.0 c.if-not-is_less.false) in
@@ -104,9 +104,9 @@ returns-clause-corrected c =
     sum-fits r 0 p c.requires.tree c.requires.can (from_of r s) c.in-Some.from c.cost.result from c.cost.ensures.few in
     let inside_to : c.to-node.result < length p.distances =
     omega (arith, c.to-node.ensures.of_net, c.requires.tree.size.distances) in
-    let known : distance_at p (to_of r s) ≡ c.index-2.result.now =
+    let known : distance_at p (to_of r s) ≡ c.index-known.result.now =
     ap (distance_at p) (sym c.to-node.ensures.node)
-    ∙ read_at p.distances c.to-node.result c.index-2.result.now inside_to c.index-2.ensures in
+    ∙ read_at p.distances c.to-node.result c.index-known.result.now inside_to c.index-known.ensures in
     let sum = ap (λ (z : ℤ). c.in-Some.from +ℤ z) c.cost.ensures.cost in
     let is_open = c.is_open.ensures.0 c.if-not-is_open.false in
     let given_less = simp to_z-of_z at (c.is_less.ensures.0 c.if-not-is_less.false) in

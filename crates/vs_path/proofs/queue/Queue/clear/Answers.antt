@@ -6,6 +6,7 @@ use Rattle.vs_path.specs.Queues.{AreForgotten, AreQueued, IsOn}
 use Rattle.vs_path.proofs.heap.Emptying.{all-none, none-left}
 use Rattle.vs_path.proofs.heap.Queuing.{empty-queue, none-kept, within-keys}
 use Rattle.vs_path.proofs.queue.Queue.clear.Goals as goal
+use Rattle.vs_path.proofs.queue.Queue.clear.Goals.{After-empty}
 
 pub forget-requires : goal.forget-requires
 forget-requires c v on =
@@ -14,7 +15,7 @@ forget-requires c v on =
     within-keys c.args.keys.now v now.floor (c.requires.near_too v (subst P c.deref.ensures.value on)).0
 
 -- what the tournament has at its places then
-tree-none : (c : goal.After-self-2-1) (k : ℕ) → 0 < k → key_at c.empty.new.tree k ≡ None
+tree-none : (c : After-empty) (k : ℕ) → 0 < k → key_at c.empty.new.tree k ≡ None
 tree-none c k above =
     let tree = c.empty.new.tree in
     let kept = c.forget.new.keys in
@@ -23,7 +24,7 @@ tree-none c k above =
     ∙ ap (λ (n : ℕ). 2 * n) (sym c.forget.auto.keys) in
     none-left tree (length kept) k size c.empty.ensures.covered c.empty.ensures.empty above
 
-keys-none : (c : goal.After-self-2-1) (v : ℕ) → key_at c.empty.new.keys v ≡ None
+keys-none : (c : After-empty) (v : ℕ) → key_at c.empty.new.keys v ≡ None
 keys-none c =
     let keys = c.args.keys.now in
     let now = c.args.self.now in
@@ -50,10 +51,11 @@ returns-clause-queue c =
     let P : Keys → Type 0 = AreQueued left c.clear.new.self.items (pos 0) in
     subst P (sym items)
     (empty-queue left c.clear.new.self.items (pos 0) tree (omega (arith, long, c.requires.few))
-    (omega (arith, long, c.requires.tournament.some)) size c.clear.ensures.items (keys-none c) (tree-none c))
+    (omega (arith, long, c.requires.tournament.some)) size c.clear.ensures.items (keys-none c.before.before.before)
+    (tree-none c.before.before.before))
 
 pub returns-clause-none : goal.returns-clause-none
 returns-clause-none c =
     let left = c.empty.new.keys in
-    all-none left (keys-none c)
+    all-none left (keys-none c.before.before.before)
     ∙ ap (λ (n : ℕ). replicate n None) (c.empty.auto.keys ∙ c.forget.auto.keys)

@@ -1,5 +1,5 @@
 use Rattle.std.proofs.Common.{◌≡◌, ◌∙◌, List, ℤ, false, true, sym, ap, subst}
-use Rattle.vs_path.specs.declared.residual.TheConstants.{MAX_COST}
+use Rattle.vs_path.specs.declared.residual.TheConstants.{MAX_STEP_COST}
 use Rattle.vs_path.specs.Residual.{ResidualNet, AllWithin}
 use Rattle.vs_path.proofs.residual.Residual.is_small.Goals as goal
 
@@ -9,5 +9,5 @@ returns-else-all_within c =
     let same : c.args.self.now.cost ≡ c.deref.result.now =
     ap (λ (r : ResidualNet). r.cost) (sym c.self.view_is) ∙ sym c.deref.ensures.value in (
       λ yes. let wrong : false ≡ true = sym c.if-all_within.false ∙ yes in absurd (cc),
-      λ small. c.all_within.ensures.1 (subst (λ (zs : List ℤ). AllWithin MAX_COST zs) same small.cost),
+      λ small. c.all_within.ensures.1 (subst (λ (zs : List ℤ). AllWithin MAX_STEP_COST zs) same small.cost),
     )

@@ -1,4 +1,4 @@
-use Rattle.std.proofs.Common.{◌≡◌, ◌<◌, ◌+◌, ◌≤ℤ◌, ℕ, pos, true, false, refl, subst, arith, inl, inr}
+use Rattle.std.proofs.Common.{◌≡◌, ◌∙◌, sym, ◌<◌, ◌+◌, ◌≤ℤ◌, ℕ, pos, true, false, subst, arith, inl, inr}
 use Rattle.std.proofs.lemmas.Bool.{cases_lt}
 use Rattle.vs_path.specs.declared.step.Step.{Step}
 use Rattle.vs_path.specs.declared.step.Step.TheVariants.{Forward, Back}
@@ -26,19 +26,19 @@ kept-more r prices k forward back before (Back j) is_open below =
           let e : k ≡ j = omega arith in subst (λ (i : ℕ). IsKept r prices (Back i)) e back is_open
     ]
 
-pub returns-then-not-is_kept : goal.returns-then-not-is_kept
-returns-then-not-is_kept c = (
+pub returns-then-not-forward : goal.returns-then-not-forward
+returns-then-not-forward c = (
   λ wrong. absurd (let e : false ≡ true = wrong in cc),
-  λ rule. c.if-not-is_kept.ensures.1 (rule (Forward c.loop-k.k)),
+  λ rule. sym c.if-not-forward.true ∙ c.is_kept-forward.ensures.1 (rule (Forward c.loop-k.k)),
 )
 
-pub returns-then-not-is_kept-2 : goal.returns-then-not-is_kept-2
-returns-then-not-is_kept-2 c = (
+pub returns-then-not-back : goal.returns-then-not-back
+returns-then-not-back c = (
   λ wrong. absurd (let e : false ≡ true = wrong in cc),
-  λ rule. c.if-not-is_kept-2.ensures.1 (rule (Back c.loop-k.k)),
+  λ rule. sym c.if-not-back.true ∙ c.is_kept-back.ensures.1 (rule (Back c.loop-k.k)),
 )
 
 pub loop-k-preserved : goal.loop-k-preserved
 loop-k-preserved c =
-    kept-more c.args.self.now c.args.prices.now c.loop-k.k (c.if-not-is_kept.ensures.0 refl)
-    (c.if-not-is_kept-2.ensures.0 refl) c.loop-k.invariant
+    kept-more c.args.self.now c.args.prices.now c.loop-k.k (c.is_kept-forward.ensures.0 c.if-not-forward.false)
+    (c.is_kept-back.ensures.0 c.if-not-back.false) c.loop-k.invariant

@@ -1,7 +1,0 @@
-use Rattle.std.proofs.Common.{◌≡◌, ℕ, Bool, true, false}
-use Rattle.vs_instance.specs.Ways.{Permitted}
-use Rattle.vs_circ.proofs.prices.Pushed.{AreSoFar}
-use Rattle.vs_circ.proofs.tests.examples.must_of.Given as goal
-
-abbrev pub invariant-loop-i : goal.invariant-loop-i
-invariant-loop-i l = AreSoFar false (λ (i : ℕ) (b : Bool). b ≡ true → Permitted l.instance 0 i) l.must.items l.i

@@ -1,0 +1,3 @@
+-- What crates above cite of the proofs.
+pub use Rattle.vs_path.proofs.labelling.ArcsOfNode.{of_node, in_node}
+pub use Rattle.vs_path.proofs.labelling.Lowering.{cost-within}
