@@ -1,7 +1,6 @@
 ghost use Rattle.std.specs.Prelude.{◌≡◌, ◌*◌, ◌≤◌, ◌↔◌, max, IfSome, IsTrue};
 ghost use Rattle.vs_types.specs.declared.numbers.TheConstants.{MAX_LAYERS};
-ghost use Rattle.vs_instance.specs.declared.limits.TheConstants.{MAX_TRIPS};
-ghost use Rattle.vs_tree.specs.declared.limits.TheConstants.{MAX_BUDGET};
+ghost use Rattle.vs_instance.specs.declared.limits.TheConstants.{MAX_BUDGET, MAX_TRIPS};
 ghost use Rattle.mdvsp.specs.Budgets.{budget_of, default_budget, entries_of};
 
 use vs_instance::{Instance, MAX_LAYERS, MAX_TRIPS};

@@ -15,8 +15,8 @@ use std::thread::Threads;
 use vs_crew::Gate;
 use vs_instance::MAX_TRIPS;
 use vs_io::{Sink, SlurpError, Source, slurp};
-use vs_reader::MAX_BYTES;
 use vs_make::make_text;
+use vs_reader::MAX_BYTES;
 use vs_types::Memory;
 use vs_words::{Command, command_of};
 

@@ -2,7 +2,7 @@ ghost use Rattle.std.specs.Prelude.{◌≡◌, ◌≤◌, ◌∷◌, [], length,
 ghost use Rattle.vs_reader.specs.Names.{HaveCounts};
 ghost use Rattle.vs_tree.specs.Search.{state};
 ghost use Rattle.vs_tree.specs.Takes.{IsOver};
-ghost use Rattle.vs_tree.specs.declared.limits.TheConstants.{MAX_BUDGET, MAX_WORKERS};
+ghost use Rattle.vs_instance.specs.declared.limits.TheConstants.{MAX_BUDGET, MAX_WORKERS};
 ghost use Rattle.vs_node.specs.WorkedHistory.{AreWorked};
 ghost use Rattle.mdvsp.specs.Answered.{IsOwedFor, IsDocumentOf};
 ghost use Rattle.mdvsp.specs.Outcome.{input_limit};

@@ -20,8 +20,8 @@ pub use instance::Instance;
 pub use laws::{lagrangian_values_bound_plans, lagrangian_values_exist, starting_values_exist};
 pub use layer::Layer;
 pub use limits::{
-    MAX_FIXED, MAX_FLEET, MAX_METRES, MAX_MINUTES, MAX_MULTIPLIER, MAX_PER_METRE, MAX_PER_MINUTE,
-    MAX_PRICE, MAX_STOPS, MAX_TRIPS, TWO_DAYS,
+    MAX_BUDGET, MAX_FIXED, MAX_FLEET, MAX_METRES, MAX_MINUTES, MAX_MULTIPLIER, MAX_PER_METRE,
+    MAX_PER_MINUTE, MAX_PRICE, MAX_STOPS, MAX_TRIPS, MAX_WORKERS, TWO_DAYS,
 };
 pub use misfit::{Field, Misfit, NewError, Place};
 pub use parts::{Deadhead, Parts};

@@ -1,4 +1,4 @@
-//! The limits of an instance, and of the numbers that several crates compute with.
+//! The limits of an instance and of a search, and of the numbers that several crates compute with.
 
 /// How many stops an instance has at most.
 pub const MAX_STOPS: u32 = 500;
@@ -32,3 +32,9 @@ pub const MAX_PRICE: i64 = 1_000_000_000_000_000_000;
 
 /// The greatest multiplier of a trip, in 1/1000 of a cost unit: what a trip is paid for at most.
 pub const MAX_MULTIPLIER: i64 = 100_000_000_000_000;
+
+/// How many workers share a search at most.
+pub const MAX_WORKERS: u32 = 64;
+
+/// How many leaves a search may work on at most.
+pub const MAX_BUDGET: u32 = 100_000;

@@ -8,7 +8,7 @@ use Rattle.vs_tree.specs.declared.hand.Hand.{Hand}
 use Rattle.vs_tree.specs.declared.hand.Hand.TheVariants.{Idle, Has, Gone}
 use Rattle.vs_tree.specs.declared.spot.Spot.{Spot}
 use Rattle.vs_tree.specs.declared.spot.Spot.TheVariants.{Inner, Free, Held, Closed}
-use Rattle.vs_tree.specs.declared.limits.TheConstants.{MAX_BUDGET, MAX_WORKERS}
+use Rattle.vs_instance.specs.declared.limits.TheConstants.{MAX_BUDGET, MAX_WORKERS}
 use Rattle.vs_tree.specs.Cuts.{Places}
 use Rattle.vs_tree.specs.Free.{Entries, entry_at}
 use Rattle.vs_tree.specs.History.{FullStep, Opening, State, IsAmong, IsHeldBy, IsHistory, IsLeaf, IsLeafWorth, count_spots, is_held, spot_at, state_of}

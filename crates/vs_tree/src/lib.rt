@@ -7,7 +7,6 @@ mod entry;
 mod free_leaves;
 mod hand;
 mod laws;
-mod limits;
 mod log;
 mod next;
 mod places;
@@ -23,7 +22,6 @@ pub use laws::{
     entries_differ, histories_are_sound, leaves_are_restrictions, leaves_bound_plans,
     leaves_share_out_plans, reports_are_true, states_are_trees,
 };
-pub use limits::{MAX_BUDGET, MAX_WORKERS};
 pub use next::Next;
 pub use report::Report;
 pub use rest::rest_of;
@@ -31,6 +29,7 @@ pub use spot::Spot;
 pub use step::Step;
 pub use take::Take;
 pub use tree::Tree;
+pub use vs_instance::{MAX_BUDGET, MAX_WORKERS};
 
 #[cfg(test)]
 mod tests;

@@ -6,8 +6,7 @@ use Rattle.std.specs.declared.alloc.Global.{Global}
 use Rattle.std.proofs.lemmas.Slice.Eq.{bytes_eq-Decides}
 use Rattle.std.proofs.lemmas.List.{length-map, get_or-map}
 use Rattle.std.proofs.lemmas.List.Elements.{All-nil, All-cons}
-use Rattle.vs_instance.specs.declared.limits.TheConstants.{MAX_TRIPS}
-use Rattle.vs_tree.specs.declared.limits.TheConstants.{MAX_BUDGET, MAX_WORKERS}
+use Rattle.vs_instance.specs.declared.limits.TheConstants.{MAX_BUDGET, MAX_TRIPS, MAX_WORKERS}
 use Rattle.vs_words.specs.declared.command.Command.{Command}
 use Rattle.vs_words.specs.declared.command.Command.TheVariants.{Check, Solve, Network, Blocks, Make}
 use Rattle.vs_words.specs.declared.command.Effort.{Effort}

@@ -4,8 +4,7 @@ ghost use Rattle.std.specs.Prelude.{◌≡◌, ℕ, ◌≤◌, codes, IsTrue, Ma
 ghost use Rattle.vs_words.specs.Words.{Answers, IsAlone, IsNumberFor, IsNumberUpTo, IsWordAt, Word, command_name, least_of, most_of, other_setting, setting_name, with_setting, words_of};
 
 use crate::command::{Command, Effort};
-use vs_instance::MAX_TRIPS;
-use vs_tree::{MAX_BUDGET, MAX_WORKERS};
+use vs_instance::{MAX_BUDGET, MAX_TRIPS, MAX_WORKERS};
 
 /// The first bad word, counted from 1. Where a word is missing it is one more than there are.
 #[derive(Clone, Copy, Debug, PartialEq, Eq)]

@@ -18,7 +18,7 @@ use Rattle.vs_tree.specs.Prices.{Prices, prices_of}
 use Rattle.vs_tree.specs.Report.{IsReport}
 use Rattle.vs_tree.specs.Sound.{IsSound}
 use Rattle.vs_tree.specs.declared.report.Report.{Report}
-use Rattle.vs_tree.specs.declared.limits.TheConstants.{MAX_BUDGET}
+use Rattle.vs_instance.specs.declared.limits.TheConstants.{MAX_BUDGET}
 use Rattle.vs_cert.specs.DocumentRows.{BlockRow, DocumentRow, EndRow, IsBetween, head_of, rows_of_document, shape_row}
 use Rattle.vs_cert.specs.DocumentText.{HasText}
 use Rattle.vs_cert.specs.Shapes.{IsShapeOf}

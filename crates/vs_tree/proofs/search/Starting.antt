@@ -9,7 +9,7 @@ use Rattle.vs_prices.specs.declared.bound.Bound.TheVariants.{NoPlan}
 use Rattle.vs_tree.specs.declared.entry.Entry.{Entry}
 use Rattle.vs_tree.specs.declared.hand.Hand.{Hand}
 use Rattle.vs_tree.specs.declared.hand.Hand.TheVariants.{Idle, Gone}
-use Rattle.vs_tree.specs.declared.limits.TheConstants.{MAX_BUDGET, MAX_WORKERS}
+use Rattle.vs_instance.specs.declared.limits.TheConstants.{MAX_BUDGET, MAX_WORKERS}
 use Rattle.vs_tree.specs.declared.spot.Spot.TheVariants.{Free}
 use Rattle.vs_tree.specs.Free.{Entries, entry_at}
 use Rattle.vs_tree.specs.History.{FullStep, Opening, Place, State, IsHistory, IsLeaf, IsLeafWorth, first_state, plans_of, spot_at, state_of}
