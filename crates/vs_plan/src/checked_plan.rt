@@ -59,6 +59,7 @@ impl CheckedPlan {
         ensures blocks { result.blocks ≡ blocks_of plan }
         ensures checked { IsChecked result }
     {
+        // for the proof: the instance is within its limits
         prove!(instance.trips() <= MAX_TRIPS);
         let cost = blocks_cost(instance, &plan.blocks);
         CheckedPlan {
@@ -108,6 +109,7 @@ pub fn check_plan(
     ensures fault { IfErr result (λ e. IsFirstFault instance.now (blocks_of plan) e.1) }
     ensures refused { IfErr result (λ e. IsFault e.1 → ¬ (IsPlan instance.now (blocks_of plan))) }
 {
+    // for the proof: the instance is within its limits
     prove!(instance.trips() <= MAX_TRIPS);
     match judge(alloc, instance, &plan) {
         Ok(cost) => Ok(CheckedPlan {

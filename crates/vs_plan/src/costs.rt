@@ -112,6 +112,7 @@ pub fn block_times(instance: &Instance, block: &Block) -> (u32, u32)
     ensures in_order { result.0 ≤ result.1 }
     ensures limit { result.1 ≤ MAX_PULL_IN }
 {
+    // for the proof: the instance is within its limits
     prove!(block.layer.0 < instance.layers());
     run_times(instance, block.layer, &block.trips)
 }
@@ -123,6 +124,7 @@ pub fn block_cost(instance: &Instance, block: &Block) -> i64
     ensures value { result ≡ pos (block_cost instance.now block.now.layer block.now.trips.items) }
     ensures limit { result ≤ℤ pos (MAX_COST_PER_TRIP * length block.now.trips.items) }
 {
+    // for the proof: the instance is within its limits
     prove!(block.layer.0 < instance.layers());
     run_cost(instance, block.layer, &block.trips)
 }
@@ -133,6 +135,7 @@ pub fn blocks_cost(instance: &Instance, blocks: &[Block]) -> i64
     ensures value { result ≡ pos (plan_cost instance.now (pairs_of blocks.now)) }
     ensures limit { result ≤ℤ MAX_PLAN_COST }
 {
+    // for the proof: the instance is within its limits
     prove!(instance.trips() <= MAX_TRIPS);
     let mut cost = 0;
     for block in blocks {

@@ -44,6 +44,7 @@ fn place_fault(instance: &Instance, b: u32, block: &Block, place: u32) -> Option
     ensures { result ≡ first
         (place_faults instance.now b block.now.layer block.now.trips.items place) }
 {
+    // for the proof: the instance is within its limits
     prove!(block.layer.0 < instance.layers());
     if !instance
         .trip(block.trips[place as usize])

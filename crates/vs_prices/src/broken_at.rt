@@ -73,6 +73,7 @@ fn is_link_broken(instance: &Instance, table: &Table, l: LayerNo, i: TripNo, j: 
     requires next { j.0 < length instance.now.trips }
     ensures { result ≡ is_link_broken instance.now table.now l.0 i.0 j.0 }
 {
+    // for the proof: the instance is within its limits
     prove!(l.0 < instance.layers());
     let into = table.into_price(instance, l, j);
     let from = table.from_price(instance, l, i);
@@ -108,6 +109,7 @@ fn broken_at_trip(instance: &Instance, table: &Table, l: LayerNo, i: TripNo) -> 
     requires trip { i.0 < length instance.now.trips }
     ensures { result ≡ first (trip_breaks instance.now table.now l.0 i.0) }
 {
+    // for the proof: the instance is within its limits
     prove!(l.0 < instance.layers());
     if !instance.trip(i).layers.has(l) {
         return None;
