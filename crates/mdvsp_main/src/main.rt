@@ -34,8 +34,8 @@ exit status:
   10 solve: there is no plan   11 solve: open, the nodes ran out";
 
 /// Runs the words after the program's name over standard input and output, and ends with the run's code. Where standard
-/// error is a terminal, it tells there how far the run has come, and where the words are wrong, it tells on standard error
-/// how the program is called.
+/// error is a terminal, it tells there how far the run has come, and where the words are wrong, it tells on standard
+/// error how the program is called.
 fn main(rt: HostRuntime) -> ExitCode {
     let words = match given_words(&rt) {
         Ok(words) => words,
@@ -52,8 +52,8 @@ fn main(rt: HostRuntime) -> ExitCode {
     ExitCode::from(status.code())
 }
 
-/// Tells on standard error how the program is called, and its version where the words ask for it. Whether standard error
-/// takes it doesn't matter.
+/// Tells on standard error how the program is called, and its version where the words ask for it. Whether standard
+/// error takes it doesn't matter.
 fn tell_usage<R: Eprint>(rt: &R, words: &[String]) {
     if words
         .first()

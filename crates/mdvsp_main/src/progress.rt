@@ -5,8 +5,8 @@ use std::sync::atomic::{AtomicU64, Ordering};
 use std::time::Instant;
 use vs_crew::Gate;
 
-/// A gate that is open. It tells on standard error how many leaves were taken and for how long the run has lasted, once a
-/// second at most.
+/// A gate that is open. It tells on standard error how many leaves were taken and for how long the run has lasted, once
+/// a second at most.
 #[derive(Drop)]
 pub struct Progress<'a, R: Eprint + Clock> {
     rt: &'a R,

@@ -53,7 +53,8 @@ fn three_hundred_trips_are_planned(rt: HostRuntime) -> Result<(), Fail> {
     is_planned(&rt, rt.alloc(), &instance, "4", "20")
 }
 
-/// A gate that holds the first worker that comes for a leaf other than the root until one has come for another such leaf.
+/// A gate that holds the first worker that comes for a leaf other than the root until one has come for another such
+/// leaf.
 #[derive(Drop)]
 struct Meeting {
     came: AtomicU64,

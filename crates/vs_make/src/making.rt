@@ -96,7 +96,8 @@ fn write_deadhead(text: &mut Text, k: u32, s: u32) -> Result<(), Memory>
 /// Writes a row for each layer. The depots stand in the corners of the grid.
 fn write_layers(text: &mut Text, n: u32) -> Result<(), Memory>
     requires { n ≤ MAX_TRIPS }
-    ensures { OnOk result (text.new ≡ text.old ++ lines (map (layer_row n) (range_with_len 0 DEPOTS))) }
+    ensures { OnOk result (text.new ≡ text.old
+        ++ lines (map (layer_row n) (range_with_len 0 DEPOTS))) }
 {
     for l in 0..DEPOTS {
         write_layer(text, n, l)?;

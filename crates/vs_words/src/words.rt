@@ -169,7 +169,8 @@ fn options_of(words: &[String], first: Setting) -> Result<Command, BadWord>
 /// isn't one of the option's numbers.
 fn number_at(words: &[String], place: usize, setting: Setting) -> Option<u32>
     ensures { MatchOption result
-        ((word : Word) (n : ℕ) → IsWordAt (words_of words.now) place word → ¬ (IsNumberFor setting word n))
+        ((word : Word) (n : ℕ) → IsWordAt (words_of words.now) place word
+        → ¬ (IsNumberFor setting word n))
         (λ n. (word : Word) × IsWordAt (words_of words.now) place word × IsNumberFor setting word n) }
 {
     let word = words.get(place)?;
@@ -194,7 +195,8 @@ fn make_of(words: &[String]) -> Result<Command, BadWord>
 
 /// The number that a word of 1 to 6 digits writes. None where it isn't one, or the number is greater than `most`.
 fn number_up_to(word: &str, most: u32) -> Option<u32>
-    ensures { MatchOption result ((n : ℕ) → ¬ (IsNumberUpTo most word.now n)) (IsNumberUpTo most word.now) }
+    ensures { MatchOption result ((n : ℕ) → ¬ (IsNumberUpTo most word.now n))
+        (IsNumberUpTo most word.now) }
 {
     if word.is_empty() || word.len() > MAX_DIGITS {
         return None;
