@@ -10,11 +10,13 @@ trap 'rm -rf "$work"' EXIT
 if [ -x bin/mdvsp ]; then
   run() { bin/mdvsp "$@"; }
 else
-  echo "This runs the sources as they are, unproved, and takes some minutes; \`make\` proves the program and builds bin/mdvsp."
+  echo "bin/mdvsp isn't built, so this compiles the sources as they are, unproved, and runs them with checks: two minutes or so."
+  echo "\`make\` proves the program and builds bin/mdvsp."
   run() { (cd crates/mdvsp_main && rt try --steps 1 --seconds 1800 -- "$@" 2> "$work/log"); }
 fi
 
-run solve --nodes 20 < "$timetable" > "$work/plan.csv"
+echo "Planning $timetable .."
+run solve --nodes 1 < "$timetable" > "$work/plan.csv"
 status=$?
 if [ "$status" -ne 0 ] && [ "$status" -ne 11 ]; then
   cat "$work/log" 2> /dev/null
