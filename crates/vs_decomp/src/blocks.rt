@@ -1,3 +1,5 @@
+//! The blocks of a circulation.
+
 ghost use Rattle.std.specs.Prelude.{◌<◌, IfOk, length};
 ghost use Rattle.vs_layer.specs.Circulation.{IsCirculation};
 ghost use Rattle.vs_match.specs.Decomposition.{Decompose};

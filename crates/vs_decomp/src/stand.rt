@@ -1,3 +1,5 @@
+//! The vehicles at a node, each with the trips that it has run.
+
 ghost use Rattle.std.specs.Prelude.{◌≡◌, ◌<◌, [], ◌∷◌, ◌++◌, IfOk, OnOk, length, replicate};
 ghost use Rattle.std.specs.List.{filter};
 ghost use Rattle.vs_plan.specs.Blocks.{pair_of, pairs_of};
@@ -63,8 +65,8 @@ pub fn fresh(alloc: Global, l: LayerNo, vehicles: u32) -> Result<Stand, Memory>
 
 /// Has the vehicle run an arc of this kind.
 pub fn run(vehicle: &mut Block, kind: ArcKind) -> Result<(), Memory>
-    ensures { OnOk result
-        (pair_of vehicle.new ≡ ((pair_of vehicle.old).0, (pair_of vehicle.old).1 ++ trips_at kind)) }
+    ensures { OnOk result (pair_of vehicle.new
+        ≡ ((pair_of vehicle.old).0, (pair_of vehicle.old).1 ++ trips_at kind)) }
 {
     if let ArcKind::Trip(i) = kind {
         vehicle.trips.push(i)?;

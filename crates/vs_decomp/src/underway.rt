@@ -1,3 +1,5 @@
+//! The vehicles on their way through a net, node by node.
+
 ghost use Rattle.std.specs.Prelude.{◌≡◌, ℕ, ◌+◌, ◌-◌, ◌<◌, [], IfOk, OnOk, length, replicate, set};
 ghost use Rattle.std.specs.List.{filter};
 ghost use Rattle.vs_types.specs.declared.numbers.LayerNo.{LayerNo};

@@ -35,7 +35,8 @@ impl Model for Net {
 
     ghost view = { λ n. record { nodes = n.nodes; arcs = n.arcs.items } };
 
-    ghost invariant = { λ n. IsStarred (record { nodes = n.nodes; arcs = n.arcs.items }) n.forward n.reverse };
+    ghost invariant = { λ n. IsStarred (record { nodes = n.nodes; arcs = n.arcs.items })
+        n.forward n.reverse };
 }
 
 impl Net {
@@ -119,7 +120,8 @@ fn first_fault(nodes: u32, arcs: &[Arc]) -> Option<NetFault>
 fn fault_of(nodes: u32, count: usize, k: usize, arc: &Arc) -> Option<NetFault>
     requires of_net { k < count }
     requires few { count ≤ MAX_ARCS }
-    ensures { MatchOption result (IsRightArc nodes count k arc.now) (IsFaultOf nodes count k arc.now) }
+    ensures { MatchOption result
+        (IsRightArc nodes count k arc.now) (IsFaultOf nodes count k arc.now) }
 {
     if arc.from >= nodes || arc.to >= nodes {
         return Some(NetFault::NoSuchNode(k as u32));

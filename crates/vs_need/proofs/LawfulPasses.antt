@@ -1,5 +1,5 @@
 -- A lawful net whose arcs are in order can be gone along once.
-use Rattle.std.proofs.Common.{◌≢◌, ℕ, ◌+◌, ◌<◌, inl, inr, List, length, refl, subst, arith}
+use Rattle.std.proofs.Common.{◌≡◌, ◌≢◌, ℕ, ◌+◌, ◌<◌, inl, inr, List, length, refl, subst, arith}
 use Rattle.std.proofs.lemmas.Bool.{cases_eq}
 use Rattle.vs_layer.specs.declared.arc.Arc.{Arc}
 use Rattle.vs_layer.specs.Graph.{arc_of}
@@ -11,6 +11,7 @@ use Rattle.vs_match.specs.Events.{HasPlace}
 use Rattle.vs_match.specs.NetArcs.{IsTripArc}
 use Rattle.vs_match.specs.LayerGraph.{LayerGraph, IsArcOfTrip, arcs_in, kind_of}
 use Rattle.vs_match.specs.LayerNets.{HasRisingArcs}
+use Rattle.vs_match.specs.TripIndex.{IsBelow}
 use Rattle.vs_match.specs.LawfulNets.{IsLawful, IsLawfulArc}
 use Rattle.vs_match.proofs.CallerLemmas.{placed}
 use Rattle.vs_need.specs.Nets.{CanBePassed}
@@ -52,3 +53,15 @@ module _ (p : Problem) (l : ℕ) (n : LayerGraph) (lawful : IsLawful p l n) wher
     below = λ i k is. (arc_of_trip i k is).may_run.0;
     one_arc = lawful.one_arc;
   }
+
+-- the trip of an arc of such a net has a number below this one
+pub kind_below : (n : LayerGraph) (trips k : ℕ) → CanBePassed n trips → k < arcs_in n → IsBelow trips (kind_of n k)
+kind_below n trips k can within = by_kind (kind_of n k) refl
+  where
+    by_kind : (kind : ArcKind) → kind_of n k ≡ kind → IsBelow trips kind
+    by_kind (Trip i) is = can.below i.0 k (omega (arith, can.labelled.each_arc, within), is)
+    by_kind Waiting is = tt
+    by_kind Deadhead is = tt
+    by_kind PullOut is = tt
+    by_kind PullIn is = tt
+    by_kind Return is = tt

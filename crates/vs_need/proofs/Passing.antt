@@ -4,6 +4,7 @@ use Rattle.std.proofs.lemmas.Bool.{cases_eq, cases_lt}
 use Rattle.std.proofs.lemmas.List.{get_or-set_same, get_or-set_other}
 use Rattle.vs_types.specs.declared.numbers.TripNo.{TripNo}
 use Rattle.vs_layer.specs.declared.arc.Arc.{Arc}
+use Rattle.vs_layer.specs.declared.arc.TheConstants.{MAX_ARCS}
 use Rattle.vs_layer.specs.Graph.{arc_of}
 use Rattle.vs_instance.specs.HoldingTable.{price_of}
 use Rattle.vs_match.specs.declared.arc_kind.ArcKind.{ArcKind}
@@ -97,14 +98,14 @@ module _ (n : LayerGraph) (into : List ℤ) (ray : Bool) (t : Aim) (can : CanBeP
       }
 
   -- after the last arc all is found
-  pub all_found : (values found : List (Option ℤ)) → arcs_in n ≤ 4294967296
+  pub all_found : (values found : List (Option ℤ)) → arcs_in n ≤ MAX_ARCS
       → IsUnderWay n into ray t (arcs_in n) values found → AreGains n into ray t found
   all_found values found few under_way = record {
     at_trips = λ i k is.
         let within : k < arcs_in n = omega (arith, can.labelled.each_arc, is.0) in
         under_way.at_trips i k is (read_all (is_against t) (arcs_in n) k within);
     nowhere = under_way.nowhere;
-    wide = λ i. if_wide-≤ (arcs_in n) 4294967296 (get_or found i None) few (under_way.wide_found i);
+    wide = λ i. if_wide-≤ (arcs_in n) MAX_ARCS (get_or found i None) few (under_way.wide_found i);
   }
 
   -- an arc with a worth is no return arc

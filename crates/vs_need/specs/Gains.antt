@@ -1,6 +1,7 @@
 -- What the walks between a node and the arcs that a pass asks for are worth.
 use Rattle.std.specs.Prelude.{◌≡◌, ℕ, ◌<◌, ◌==◌, Bool, true, false, if◌then◌else◌, List, length, Option, Some, None, slice_index_or, ℤ, pos, neg_ℤ, ◌-ℤ◌}
 use Rattle.vs_layer.specs.declared.arc.Arc.{Arc}
+use Rattle.vs_layer.specs.declared.arc.TheConstants.{MAX_ARCS}
 use Rattle.vs_layer.specs.Graph.{arc_of}
 use Rattle.vs_layer.specs.Walks.{path_cost}
 use Rattle.vs_instance.specs.HoldingTable.{price_of}
@@ -59,4 +60,4 @@ pub record AreGains (n : LayerGraph) (into : List ℤ) (ray : Bool) (t : Aim) (f
   pub at_trips : (i k : ℕ) → IsArcOfTrip n.kinds i k
       → IsGreatest (IsGain n into ray t (far_of t (arc_of n.graph k))) (slice_index_or found i None)
   pub nowhere : (i : ℕ) → ((k : ℕ) → ¬ (IsArcOfTrip n.kinds i k)) → slice_index_or found i None ≡ None
-  pub wide : (i : ℕ) → IfWide 4294967296 (slice_index_or found i None)
+  pub wide : (i : ℕ) → IfWide MAX_ARCS (slice_index_or found i None)

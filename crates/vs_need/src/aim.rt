@@ -1,9 +1,11 @@
+//! What a pass asks for, and in which order it reads the arcs.
+
 ghost use Rattle.std.specs.Prelude.{◌≡◌, ◌<◌};
 ghost use Rattle.vs_need.specs.Gains.{far_of, near_of};
 ghost use Rattle.vs_need.specs.Reading.{arc_after};
 
 use vs_layer::Arc;
-use vs_types::TripNo;
+use vs_types::{LayerNo, TripNo};
 
 /// The arcs that a pass asks for: for each node it finds what the best walk is worth that joins the two.
 #[derive(Clone, Copy, Debug, PartialEq, Eq)]
@@ -16,6 +18,13 @@ pub(crate) enum Aim {
     PullOut,
     /// This trip, from which a walk leads to the node.
     After(TripNo),
+}
+
+/// A layer, and what a pass along its net asks for.
+#[derive(Clone, Copy, Debug, PartialEq, Eq)]
+pub(crate) struct LayerAim {
+    pub(crate) l: LayerNo,
+    pub(crate) aim: Aim,
 }
 
 impl Aim {

@@ -1,12 +1,12 @@
-ghost use Rattle.std.specs.Prelude.{◌≡◌, ℕ, ◌<◌, ◌≤◌, List, length};
+//! The nets of some layers, of which one arc after another is read and counted.
+
+ghost use Rattle.std.specs.Prelude.{◌≡◌, ℕ, ◌-◌, ◌^◌, ◌<◌, List, length, min};
 ghost use Rattle.vs_layer.specs.Graph.{arc_of};
 ghost use Rattle.vs_match.specs.LayerGraph.{LayerGraph, arcs_in, kind_of};
 ghost use Rattle.vs_match.specs.TripIndex.{IsTripAt};
 ghost use Rattle.vs_match.specs.LayerNets.{net_at};
 ghost use Rattle.vs_need.specs.Nets.{one_more};
-ghost use Rattle.vs_types.specs.declared.numbers.TheConstants.{MAX_LAYERS};
 
-use vs_instance::MAX_LAYERS;
 use vs_layer::Arc;
 use vs_match::{ArcKind, LayerNet};
 use vs_types::{LayerNo, TripNo};
@@ -20,9 +20,9 @@ pub trait ArcReader {
 
     ghost reads: { Self → ℕ };
 
-    /// How many layers there are.
+    /// How many layers there are, as far as a u32 can tell.
     fn layers(&self) -> u32
-        ensures { result ≡ length (nets self.now) };
+        ensures { result ≡ min (length (nets self.now)) (2 ^ 32 - 1) };
 
     /// How many nodes the net of a layer has.
     fn nodes(&self, l: LayerNo) -> u32
@@ -54,13 +54,11 @@ pub trait ArcReader {
 pub struct Counted<'a> {
     pub nets: &'a [LayerNet],
     pub reads: u64,
-    pub ghost few: { length nets.now ≤ MAX_LAYERS },
 }
 
 impl<'a> Counted<'a> {
     /// These nets, of which no arc was read.
     pub fn new(nets: &'a [LayerNet]) -> Counted<'a>
-        requires { length nets.now ≤ MAX_LAYERS }
         ensures nets { result.nets.now ≡ nets.entry.now }
         ensures reads { result.reads ≡ 0 }
     {
@@ -81,7 +79,7 @@ impl<'a> ArcReader for Counted<'a> {
     ghost reads = { λ c. c.reads };
 
     fn layers(&self) -> u32 {
-        self.nets.len() as u32
+        self.nets.len().min(u32::MAX as usize) as u32
     }
 
     fn nodes(&self, l: LayerNo) -> u32 {

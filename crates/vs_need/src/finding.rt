@@ -1,3 +1,5 @@
+//! What passes find at a table's prices, and what each trip needs.
+
 ghost use Rattle.std.specs.Prelude.{◌≡◌, ℕ, ◌+◌, ◌*◌, ◌<◌, ◌≤◌, IfSome, None, FitsSigned, length, slice_index_or, slice_range};
 ghost use mir.Syntax.{w64};
 ghost use Rattle.vs_instance.specs.Problem.{Problem};
@@ -6,7 +8,7 @@ ghost use Rattle.vs_match.specs.LayerGraph.{arcs_in};
 ghost use Rattle.vs_need.specs.Needs.{AreNeeds, IsFoundFor};
 ghost use Rattle.vs_need.specs.Room.{CanFind, CanNeed, HasRoom};
 
-use crate::aim::Aim;
+use crate::aim::LayerAim;
 use crate::arc_reader::ArcReader;
 use crate::pass::pass;
 use crate::scratch::Scratch;
@@ -18,20 +20,21 @@ pub(crate) fn find<N: ArcReader>(
     nets: &mut N,
     table: &Table,
     trips: usize,
-    l: LayerNo,
-    aim: Aim,
+    at: LayerAim,
     values: &mut [Option<i128>],
     found: &mut [Option<i128>],
 )
     ghost p: { Problem }
-    requires { CanFind p (N.nets nets.old) table.now trips l.0 (length values.old) (length found.old) }
-    ensures found { IsFoundFor p table.now l.0 aim found.new }
+    requires { CanFind p (N.nets nets.old) table.now trips at.l.0
+        (length values.old) (length found.old) }
+    ensures found { IsFoundFor p table.now at.l.0 at.aim found.new }
     ensures nets { N.nets nets.new ≡ N.nets nets.old }
-    ensures reads { N.reads nets.new ≤ N.reads nets.old + arcs_in (net_at (N.nets nets.old) l.0) }
+    ensures reads { N.reads nets.new
+        ≤ N.reads nets.old + arcs_in (net_at (N.nets nets.old) at.l.0) }
 {
-    let start = l.0 as usize * trips;
+    let start = at.l.0 as usize * trips;
     let into = &table.into[start..start + trips];
-    pass(nets, l, aim, into, table.ray, values, found);
+    pass(nets, at, into, table.ray, values, found);
 }
 
 /// What was found, as an i64.
@@ -48,8 +51,10 @@ fn narrowed(found: Option<i128>) -> Option<i64>
 /// Writes down what was found for each trip.
 fn narrow(found: &[Option<i128>], answer: &mut [Option<i64>])
     requires all { length answer.old ≤ length found.now }
-    requires fits { (i : ℕ) → i < length answer.old → IfSome (slice_index_or found.now i None) (FitsSigned w64) }
-    ensures { (i : ℕ) → i < length answer.old → slice_index_or answer.new i None ≡ slice_index_or found.now i None }
+    requires fits { (i : ℕ) → i < length answer.old
+        → IfSome (slice_index_or found.now i None) (FitsSigned w64) }
+    ensures { (i : ℕ) → i < length answer.old
+        → slice_index_or answer.new i None ≡ slice_index_or found.now i None }
 {
     for i in 0..answer.len() {
         answer[i] = narrowed(found[i]);

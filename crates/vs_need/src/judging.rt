@@ -1,3 +1,5 @@
+//! The first place where a table breaks, by what passes find.
+
 ghost use Rattle.std.specs.Prelude.{◌≡◌, ℕ, ◌+◌, ◌*◌, ◌<◌, ◌≤◌, ◌-ℤ◌, All, None, length, slice_index_or, slice_range};
 ghost use Rattle.vs_instance.specs.Firsts.{first};
 ghost use Rattle.vs_instance.specs.HoldingTable.{price_of};
@@ -100,15 +102,18 @@ fn suspect_at(
     requires trip { i.0 < length p.trips }
     ensures { IsFirstOf p table.now l.0 (trip_breaks p table.now l.0 i.0) result }
 {
-    let out = is_out_dearer(table, l, &scratch.outs, into, i);
+    let outs: &[Option<i128>] = &scratch.outs;
+    let out = is_out_dearer(table, l, outs, into, i);
     if out {
         return Some(Suspect::PullOut(i));
     }
-    let next = is_dearer(&scratch.nexts, from, i);
+    let nexts: &[Option<i128>] = &scratch.nexts;
+    let next = is_dearer(nexts, from, i);
     if next {
         return Some(Suspect::Link(i));
     }
-    let back = is_dearer(&scratch.ins, from, i);
+    let ins: &[Option<i128>] = &scratch.ins;
+    let back = is_dearer(ins, from, i);
     if back {
         return Some(Suspect::PullIn(i));
     }
@@ -170,14 +175,17 @@ fn broken_move<N: ArcReader>(
     requires { CanNeed p (N.nets nets.old) table.now l.0 scratch.old trips }
     ensures first { result ≡ first (trips_breaks p table.now l.0) }
     ensures nets { N.nets nets.new ≡ N.nets nets.old }
-    ensures reads { N.reads nets.new ≤ N.reads nets.old + 4 * arcs_in (net_at (N.nets nets.old) l.0) }
+    ensures reads { N.reads nets.new
+        ≤ N.reads nets.old + 4 * arcs_in (net_at (N.nets nets.old) l.0) }
     ensures kept { IsKept scratch.old scratch.new }
 {
     scratch.find_outs(nets, table, trips, l);
     scratch.find_nexts(nets, table, trips, l);
     scratch.find_ins(nets, table, trips, l);
-    let into = layer_prices(&table.into, trips, l);
-    let from = layer_prices(&table.from, trips, l);
+    let all_into: &[i64] = &table.into;
+    let all_from: &[i64] = &table.from;
+    let into = layer_prices(all_into, trips, l);
+    let from = layer_prices(all_from, trips, l);
     let found = first_suspect(table, into, from, l, scratch);
     let Some(suspect) = found else {
         return None;
@@ -187,7 +195,8 @@ fn broken_move<N: ArcReader>(
         Suspect::PullIn(i) => Some(BrokenAt::PullIn(l, i)),
         Suspect::Link(i) => {
             scratch.find_links(nets, table, trips, l, i);
-            first_link(table, into, from, l, i, &scratch.links)
+            let links: &[Option<i128>] = &scratch.links;
+            first_link(table, into, from, l, i, links)
         }
     }
 }
@@ -204,7 +213,8 @@ fn broken_in_layer<N: ArcReader>(
     requires { CanNeed p (N.nets nets.old) table.now l.0 scratch.old trips }
     ensures first { result ≡ first (layer_breaks p table.now l.0) }
     ensures nets { N.nets nets.new ≡ N.nets nets.old }
-    ensures reads { N.reads nets.new ≤ N.reads nets.old + 4 * arcs_in (net_at (N.nets nets.old) l.0) }
+    ensures reads { N.reads nets.new
+        ≤ N.reads nets.old + 4 * arcs_in (net_at (N.nets nets.old) l.0) }
     ensures kept { IsKept scratch.old scratch.new }
 {
     if table.fleet[l.0 as usize] < 0 {

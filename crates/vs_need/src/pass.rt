@@ -1,4 +1,6 @@
-ghost use Rattle.std.specs.Prelude.{All, ◌≡◌, ℕ, ◌+◌, ◌<◌, ◌≤◌, ◌-ℤ◌, ℤ, None, Some, Option, length, option_map, set, slice_index_or};
+//! One pass along the arcs of a net.
+
+ghost use Rattle.std.specs.Prelude.{All, ◌≡◌, ℕ, ◌+◌, ◌<◌, ◌≤◌, ◌-ℤ◌, ℤ, None, Some, Option, length, option_map, replicate, set, slice_index_or};
 ghost use Rattle.vs_layer.specs.Graph.{arc_of};
 ghost use Rattle.vs_match.specs.LayerGraph.{arcs_in, kind_of};
 ghost use Rattle.vs_match.specs.TripIndex.{IsBelow};
@@ -9,11 +11,10 @@ ghost use Rattle.vs_need.specs.Greatest.{IfWide, IsWide, greater_of};
 ghost use Rattle.vs_need.specs.Gains.{AreGains, far_of, fare, near_of, prize_of};
 ghost use Rattle.vs_need.specs.Reading.{noted, offer_of};
 
-use crate::aim::Aim;
+use crate::aim::{Aim, LayerAim};
 use crate::arc_reader::ArcReader;
-use vs_layer::Arc;
+use vs_layer::{Arc, MAX_ARCS};
 use vs_match::ArcKind;
-use vs_types::LayerNo;
 
 /// The greater of two numbers, as far as they are there.
 fn greater(a: Option<i128>, b: Option<i128>) -> Option<i128>
@@ -28,7 +29,7 @@ fn greater(a: Option<i128>, b: Option<i128>) -> Option<i128>
 
 /// What is left of a number after a cost, which counts nothing in a ray.
 fn less(value: i128, ray: bool, cost: i64) -> i128
-    requires { IsWide 4294967295 value }
+    requires { IsWide MAX_ARCS value }
     ensures { result ≡ value -ℤ fare ray cost }
 {
     if ray { value } else { value - i128::from(cost) }
@@ -59,7 +60,7 @@ fn offer(
     value: Option<i128>,
 ) -> Option<i128>
     requires trip { IsBelow (length into.now) kind }
-    requires value { IfWide 4294967295 value }
+    requires value { IfWide MAX_ARCS value }
     ensures { result ≡ offer_of into.now ray aim kind cost value }
 {
     match kind {
@@ -71,34 +72,44 @@ fn offer(
     }
 }
 
-/// Reads one arc of a pass: its far end gives the trip's entry, where it is a trip's, and its near end gets what the
-/// arc joins to it.
+/// Forgets what was found before.
+fn forget(values: &mut [Option<i128>], found: &mut [Option<i128>])
+    ensures values { values.new ≡ replicate (length values.old) None }
+    ensures found { found.new ≡ replicate (length found.old) None }
+{
+    values.fill(None);
+    found.fill(None);
+}
+
+/// Reads one arc of a pass, and what it stands for: its far end gives the trip's entry, where it is a trip's, and its
+/// near end gets what the arc joins to it.
 fn read_arc(
     aim: Aim,
     into: &[i64],
     ray: bool,
-    arc: &Arc,
-    kind: ArcKind,
+    arc: &(Arc, ArcKind),
     values: &mut [Option<i128>],
     found: &mut [Option<i128>],
 )
-    requires trip { IsBelow (length into.now) kind }
+    requires trip { IsBelow (length into.now) arc.now.1 }
     requires found { length into.now ≤ length found.old }
-    requires near { near_of aim arc.now < length values.old }
-    requires far { far_of aim arc.now < length values.old }
-    requires value { IfWide 4294967295 (slice_index_or values.old (far_of aim arc.now) None) }
-    ensures values { let far = slice_index_or values.old (far_of aim arc.now) None in
-        let near = slice_index_or values.old (near_of aim arc.now) None in
-        values.new ≡ set values.old (near_of aim arc.now)
-        (greater_of near (offer_of into.now ray aim kind arc.now.cost far)) }
-    ensures found { found.new ≡ noted kind (slice_index_or values.old (far_of aim arc.now) None) found.old }
+    requires near { near_of aim arc.now.0 < length values.old }
+    requires far { far_of aim arc.now.0 < length values.old }
+    requires value { IfWide MAX_ARCS (slice_index_or values.old (far_of aim arc.now.0) None) }
+    ensures values { let far = slice_index_or values.old (far_of aim arc.now.0) None in
+        let near = slice_index_or values.old (near_of aim arc.now.0) None in
+        values.new ≡ set values.old (near_of aim arc.now.0)
+        (greater_of near (offer_of into.now ray aim arc.now.1 arc.now.0.cost far)) }
+    ensures found { found.new
+        ≡ noted arc.now.1 (slice_index_or values.old (far_of aim arc.now.0) None) found.old }
 {
-    let value = values[aim.far(arc) as usize];
-    if let ArcKind::Trip(i) = kind {
+    let (way, kind) = arc;
+    let value = values[aim.far(way) as usize];
+    if let ArcKind::Trip(i) = *kind {
         found[i.0 as usize] = value;
     }
-    let near = aim.near(arc) as usize;
-    values[near] = greater(values[near], offer(aim, into, ray, kind, arc.cost, value));
+    let near = aim.near(way) as usize;
+    values[near] = greater(values[near], offer(aim, into, ray, *kind, way.cost, value));
 }
 
 /// For each trip what the best walk is worth that joins the far end of its arc and an arc that the aim asks for, at
@@ -106,27 +117,26 @@ fn read_arc(
 /// as their near end.
 pub(crate) fn pass<N: ArcReader>(
     nets: &mut N,
-    l: LayerNo,
-    aim: Aim,
+    at: LayerAim,
     into: &[i64],
     ray: bool,
     values: &mut [Option<i128>],
     found: &mut [Option<i128>],
 )
-    requires layer { l.0 < length (N.nets nets.old) }
-    requires net { CanBePassed (net_at (N.nets nets.old) l.0) (length into.now) }
+    requires layer { at.l.0 < length (N.nets nets.old) }
+    requires net { CanBePassed (net_at (N.nets nets.old) at.l.0) (length into.now) }
     requires prices { All IsPrice into.now }
-    requires values { (net_at (N.nets nets.old) l.0).graph.nodes ≤ length values.old }
+    requires values { (net_at (N.nets nets.old) at.l.0).graph.nodes ≤ length values.old }
     requires found { length into.now ≤ length found.old }
-    ensures found { AreGains (net_at (N.nets nets.old) l.0) into.now ray aim found.new }
+    ensures found { AreGains (net_at (N.nets nets.old) at.l.0) into.now ray at.aim found.new }
     ensures nets { N.nets nets.new ≡ N.nets nets.old }
-    ensures reads { N.reads nets.new ≤ N.reads nets.old + arcs_in (net_at (N.nets nets.old) l.0) }
+    ensures reads { N.reads nets.new
+        ≤ N.reads nets.old + arcs_in (net_at (N.nets nets.old) at.l.0) }
 {
-    values.fill(None);
-    found.fill(None);
-    let arcs = nets.arcs(l);
+    forget(values, found);
+    let arcs = nets.arcs(at.l);
     for read in 0..arcs {
-        let (arc, kind) = nets.arc(l, aim.arc_after(arcs, read));
-        read_arc(aim, into, ray, &arc, kind, values, found);
+        let arc = nets.arc(at.l, at.aim.arc_after(arcs, read));
+        read_arc(at.aim, into, ray, &arc, values, found);
     }
 }

@@ -1,3 +1,5 @@
+//! The passes of a table, each with its place in the scratch.
+
 ghost use Rattle.std.specs.Prelude.{◌≡◌, ℕ, ◌+◌, ◌<◌, ◌≤◌, length};
 ghost use Rattle.vs_instance.specs.Problem.{Problem};
 ghost use Rattle.vs_instance.specs.Pieces.{in_piece, link_piece, out_piece};
@@ -7,7 +9,7 @@ ghost use Rattle.vs_match.specs.LayerGraph.{arcs_in};
 ghost use Rattle.vs_need.specs.Needs.{AreNeeds, AreWorths};
 ghost use Rattle.vs_need.specs.Room.{CanNeed, IsKept};
 
-use crate::aim::Aim;
+use crate::aim::{Aim, LayerAim};
 use crate::arc_reader::ArcReader;
 use crate::finding::find;
 use crate::scratch::Scratch;
@@ -28,10 +30,15 @@ impl Scratch {
         ensures found { AreWorths p l.0 table.now.ray (out_piece p l.0) self.new.outs.items }
         ensures kept { IsKept self.old self.new }
         ensures nets { N.nets nets.new ≡ N.nets nets.old }
-        ensures reads { N.reads nets.new ≤ N.reads nets.old + arcs_in (net_at (N.nets nets.old) l.0) }
+        ensures reads { N.reads nets.new
+            ≤ N.reads nets.old + arcs_in (net_at (N.nets nets.old) l.0) }
     {
         let found = &mut self.outs;
-        find(nets, table, trips, l, Aim::PullOut, &mut self.values, found);
+        let at = LayerAim {
+            l,
+            aim: Aim::PullOut,
+        };
+        find(nets, table, trips, at, &mut self.values, found);
     }
 
     /// Finds what the best trip after each trip is worth.
@@ -48,10 +55,12 @@ impl Scratch {
         ensures outs { self.new.outs ≡ self.old.outs }
         ensures kept { IsKept self.old self.new }
         ensures nets { N.nets nets.new ≡ N.nets nets.old }
-        ensures reads { N.reads nets.new ≤ N.reads nets.old + arcs_in (net_at (N.nets nets.old) l.0) }
+        ensures reads { N.reads nets.new
+            ≤ N.reads nets.old + arcs_in (net_at (N.nets nets.old) l.0) }
     {
         let found = &mut self.nexts;
-        find(nets, table, trips, l, Aim::Next, &mut self.values, found);
+        let at = LayerAim { l, aim: Aim::Next };
+        find(nets, table, trips, at, &mut self.values, found);
     }
 
     /// Finds what the pull-in from each trip is worth.
@@ -69,10 +78,15 @@ impl Scratch {
         ensures nexts { self.new.nexts ≡ self.old.nexts }
         ensures kept { IsKept self.old self.new }
         ensures nets { N.nets nets.new ≡ N.nets nets.old }
-        ensures reads { N.reads nets.new ≤ N.reads nets.old + arcs_in (net_at (N.nets nets.old) l.0) }
+        ensures reads { N.reads nets.new
+            ≤ N.reads nets.old + arcs_in (net_at (N.nets nets.old) l.0) }
     {
         let found = &mut self.ins;
-        find(nets, table, trips, l, Aim::PullIn, &mut self.values, found);
+        let at = LayerAim {
+            l,
+            aim: Aim::PullIn,
+        };
+        find(nets, table, trips, at, &mut self.values, found);
     }
 
     /// Finds what the link from one trip to each is worth.
@@ -90,17 +104,14 @@ impl Scratch {
             → AreWorths p l.0 table.now.ray (link_piece p l.0 i.0) self.new.links.items }
         ensures kept { IsKept self.old self.new }
         ensures nets { N.nets nets.new ≡ N.nets nets.old }
-        ensures reads { N.reads nets.new ≤ N.reads nets.old + arcs_in (net_at (N.nets nets.old) l.0) }
+        ensures reads { N.reads nets.new
+            ≤ N.reads nets.old + arcs_in (net_at (N.nets nets.old) l.0) }
     {
         let found = &mut self.links;
-        find(
-            nets,
-            table,
-            trips,
+        let at = LayerAim {
             l,
-            Aim::After(i),
-            &mut self.values,
-            found,
-        );
+            aim: Aim::After(i),
+        };
+        find(nets, table, trips, at, &mut self.values, found);
     }
 }

@@ -1,3 +1,5 @@
+//! Room for what passes find.
+
 ghost use Rattle.std.specs.Prelude.{ℕ, ◌<◌, ◌≤◌, IfOk, length};
 ghost use Rattle.vs_match.specs.LayerNets.{net_at};
 

@@ -22,11 +22,13 @@ first_link-requires g c =
     record {
       prices =
           cut_of g.p (g.N.ArcReader.nets c.args.nets.now) c.args.table.now c.args.l.0 c.args.trips c.args.scratch.now
-          c.deref.result.now c.layer_prices-into.result.now c.deref-2.result.now c.layer_prices-from.result.now given
-          c.deref.ensures.value c.deref-2.ensures.value c.layer_prices-into.ensures c.layer_prices-from.ensures;
+          c.deref-all_into.result.now c.layer_prices-into.result.now c.deref-all_from.result.now
+          c.layer_prices-from.result.now given
+          c.deref-all_into.ensures.value c.deref-all_from.ensures.value c.layer_prices-into.ensures
+          c.layer_prices-from.ensures;
       may_run = is.0;
-      known = subst Q (sym c.deref-in-Link.ensures.value) (c.find_links.ensures.found is.0);
+      known = subst Q (sym c.deref-links.ensures.value) (c.find_links.ensures.found is.0);
       each_trip =
-          ap (λ (found : List (Option ℤ)). length found) c.deref-in-Link.ensures.value ∙ fourth ∙ third ∙ second ∙ first
+          ap (λ (found : List (Option ℤ)). length found) c.deref-links.ensures.value ∙ fourth ∙ third ∙ second ∙ first
           ∙ room;
     }

@@ -6,8 +6,8 @@ use Rattle.vs_need.proofs.judging.suspect_at.Goals as goal
 pub returns-then-out : goal.returns-then-out
 returns-then-out g c =
     let given = c.requires.0 in
-    let out = out_test g.p c.args.table.now c.args.l.0 c.args.i.0 c.is_out_dearer-out.result c.deref.result.now
-    c.args.scratch.now.outs.items c.args.into.now c.is_out_dearer-out.ensures c.deref.ensures.value
+    let out = out_test g.p c.args.table.now c.args.l.0 c.args.i.0 c.is_out_dearer-out.result c.deref-outs.result.now
+    c.args.scratch.now.outs.items c.args.into.now c.is_out_dearer-out.ensures c.deref-outs.ensures.value
     given.prices.into_is in
     at_out g.p c.args.table.now c.args.l.0 c.args.scratch.now given.known c.args.i.0 c.requires.1
     (may_run g.p c.args.l.0 c.args.i.0) refl (sym c.if-out.true ∙ out)
@@ -21,11 +21,11 @@ is_dearer-back-requires-clause-prices g c = let given = c.requires.0 in given.pr
 pub returns-then-next : goal.returns-then-next
 returns-then-next g c =
     let given = c.requires.0 in
-    let out = out_test g.p c.args.table.now c.args.l.0 c.args.i.0 c.is_out_dearer-out.result c.deref.result.now
-    c.args.scratch.now.outs.items c.args.into.now c.is_out_dearer-out.ensures c.deref.ensures.value
+    let out = out_test g.p c.args.table.now c.args.l.0 c.args.i.0 c.is_out_dearer-out.result c.deref-outs.result.now
+    c.args.scratch.now.outs.items c.args.into.now c.is_out_dearer-out.ensures c.deref-outs.ensures.value
     given.prices.into_is in
-    let next = dearer_test g.p c.args.table.now c.args.l.0 c.args.i.0 c.is_dearer-next.result c.deref-2.result.now
-    c.args.scratch.now.nexts.items c.args.from.now c.is_dearer-next.ensures c.deref-2.ensures.value
+    let next = dearer_test g.p c.args.table.now c.args.l.0 c.args.i.0 c.is_dearer-next.result c.deref-nexts.result.now
+    c.args.scratch.now.nexts.items c.args.from.now c.is_dearer-next.ensures c.deref-nexts.ensures.value
     given.prices.from_is in
     at_next g.p c.args.table.now c.args.l.0 c.args.scratch.now given.known c.args.i.0 c.requires.1
     (may_run g.p c.args.l.0 c.args.i.0) refl (sym c.if-out.false ∙ out) (sym c.if-next.true ∙ next)
@@ -33,14 +33,14 @@ returns-then-next g c =
 pub returns-then-back : goal.returns-then-back
 returns-then-back g c =
     let given = c.requires.0 in
-    let out = out_test g.p c.args.table.now c.args.l.0 c.args.i.0 c.is_out_dearer-out.result c.deref.result.now
-    c.args.scratch.now.outs.items c.args.into.now c.is_out_dearer-out.ensures c.deref.ensures.value
+    let out = out_test g.p c.args.table.now c.args.l.0 c.args.i.0 c.is_out_dearer-out.result c.deref-outs.result.now
+    c.args.scratch.now.outs.items c.args.into.now c.is_out_dearer-out.ensures c.deref-outs.ensures.value
     given.prices.into_is in
-    let next = dearer_test g.p c.args.table.now c.args.l.0 c.args.i.0 c.is_dearer-next.result c.deref-2.result.now
-    c.args.scratch.now.nexts.items c.args.from.now c.is_dearer-next.ensures c.deref-2.ensures.value
+    let next = dearer_test g.p c.args.table.now c.args.l.0 c.args.i.0 c.is_dearer-next.result c.deref-nexts.result.now
+    c.args.scratch.now.nexts.items c.args.from.now c.is_dearer-next.ensures c.deref-nexts.ensures.value
     given.prices.from_is in
-    let back = dearer_test g.p c.args.table.now c.args.l.0 c.args.i.0 c.is_dearer-back.result c.deref-3.result.now
-    c.args.scratch.now.ins.items c.args.from.now c.is_dearer-back.ensures c.deref-3.ensures.value
+    let back = dearer_test g.p c.args.table.now c.args.l.0 c.args.i.0 c.is_dearer-back.result c.deref-ins.result.now
+    c.args.scratch.now.ins.items c.args.from.now c.is_dearer-back.ensures c.deref-ins.ensures.value
     given.prices.from_is in
     at_back g.p c.args.table.now c.args.l.0 c.args.scratch.now given.known c.args.i.0 c.requires.1
     (may_run g.p c.args.l.0 c.args.i.0) refl (sym c.if-out.false ∙ out) (sym c.if-next.false ∙ next)
@@ -49,14 +49,14 @@ returns-then-back g c =
 pub returns : goal.returns
 returns g c =
     let given = c.requires.0 in
-    let out = out_test g.p c.args.table.now c.args.l.0 c.args.i.0 c.is_out_dearer-out.result c.deref.result.now
-    c.args.scratch.now.outs.items c.args.into.now c.is_out_dearer-out.ensures c.deref.ensures.value
+    let out = out_test g.p c.args.table.now c.args.l.0 c.args.i.0 c.is_out_dearer-out.result c.deref-outs.result.now
+    c.args.scratch.now.outs.items c.args.into.now c.is_out_dearer-out.ensures c.deref-outs.ensures.value
     given.prices.into_is in
-    let next = dearer_test g.p c.args.table.now c.args.l.0 c.args.i.0 c.is_dearer-next.result c.deref-2.result.now
-    c.args.scratch.now.nexts.items c.args.from.now c.is_dearer-next.ensures c.deref-2.ensures.value
+    let next = dearer_test g.p c.args.table.now c.args.l.0 c.args.i.0 c.is_dearer-next.result c.deref-nexts.result.now
+    c.args.scratch.now.nexts.items c.args.from.now c.is_dearer-next.ensures c.deref-nexts.ensures.value
     given.prices.from_is in
-    let back = dearer_test g.p c.args.table.now c.args.l.0 c.args.i.0 c.is_dearer-back.result c.deref-3.result.now
-    c.args.scratch.now.ins.items c.args.from.now c.is_dearer-back.ensures c.deref-3.ensures.value
+    let back = dearer_test g.p c.args.table.now c.args.l.0 c.args.i.0 c.is_dearer-back.result c.deref-ins.result.now
+    c.args.scratch.now.ins.items c.args.from.now c.is_dearer-back.ensures c.deref-ins.ensures.value
     given.prices.from_is in
     at_none g.p c.args.table.now c.args.l.0 c.args.scratch.now given.known c.args.i.0 c.requires.1
     (may_run g.p c.args.l.0 c.args.i.0) refl (sym c.if-out.false ∙ out) (sym c.if-next.false ∙ next)

@@ -7,5 +7,5 @@ abbrev pub invariant-loop-read : goal.invariant-loop-read
 invariant-loop-read g l = record {
   nets : g.N.ArcReader.nets l.nets ≡ g.N.ArcReader.nets l.fn.nets;
   reads : g.N.ArcReader.reads l.nets ≤ g.N.ArcReader.reads l.fn.nets + l.read;
-  under_way : IsUnderWay (net_at (g.N.ArcReader.nets l.fn.nets) l.l.0) l.into l.ray l.aim l.read l.values l.found;
+  under_way : IsUnderWay (net_at (g.N.ArcReader.nets l.fn.nets) l.at.l.0) l.into l.ray l.at.aim l.read l.values l.found;
 }
