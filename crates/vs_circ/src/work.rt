@@ -1,6 +1,6 @@
 //! What is kept for the nets of the layers from one call to the next.
 
-ghost use Rattle.std.specs.Prelude.{◌≡◌, IfOk, IsTrue};
+ghost use Rattle.std.specs.Prelude.{◌≡◌, IfOk, IsTrue, length};
 ghost use Rattle.vs_circ.specs.node_prices.Mirror.{IsMirror};
 ghost use Rattle.vs_circ.specs.shipping.Prepared.{AreSmallOffers, HasSmallArcs};
 ghost use Rattle.vs_circ.specs.shipping.Shipments.{IsSized};
@@ -138,16 +138,25 @@ fn empty_shipment(alloc: Global, net: &Net) -> Result<Shipment, Memory>
 {
     let arcs = net.arcs() as usize;
     let nodes = net.nodes() as usize;
+    let costs = no_costs(alloc, arcs)?;
     Ok(Shipment {
         flow: Flow {
             units: vec![in alloc; 0; arcs]?,
         },
-        costs: Costs {
-            cost: vec![in alloc; 0; arcs]?,
-            room: vec![in alloc; 0; arcs]?,
-        },
+        costs,
         prices: vec![in alloc; 0; nodes]?,
         surplus: vec![in alloc; 0; nodes]?,
+    })
+}
+
+/// So many arcs that cost nothing and take nothing.
+fn no_costs(alloc: Global, arcs: usize) -> Result<Costs, Memory>
+    ensures cost { IfOk result (λ costs. length costs.cost.items ≡ arcs) }
+    ensures room { IfOk result (λ costs. length costs.room.items ≡ arcs) }
+{
+    Ok(Costs {
+        cost: vec![in alloc; 0; arcs]?,
+        room: vec![in alloc; 0; arcs]?,
     })
 }
 
