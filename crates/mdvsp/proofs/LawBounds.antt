@@ -8,11 +8,11 @@ use Rattle.vs_instance.specs.Problem.{Problem}
 use Rattle.vs_instance.specs.Restriction.{permitted_sets}
 use Rattle.vs_prices.specs.declared.bound.Bound.{Bound}
 use Rattle.vs_prices.specs.declared.bound.Bound.TheVariants.{AtLeast, NoPlan}
-use Rattle.vs_tree.specs.declared.claim.Claim.{Claim}
-use Rattle.vs_tree.specs.declared.claim.Claim.TheVariants.{Optimal, Infeasible, StillOpen}
-use Rattle.vs_cert.specs.declared.document.Document.{Document}
+use Rattle.vs_cases.specs.declared.claim.Claim.{Claim}
+use Rattle.vs_cases.specs.declared.claim.Claim.TheVariants.{Optimal, Infeasible, StillOpen}
+use Rattle.vs_document.specs.declared.document.Document.{Document}
 use Rattle.vs_prices.specs.declared.table.Table.{Table}
-use Rattle.vs_tree.specs.Claims.{claim_found}
+use Rattle.vs_cases.specs.Claims.{claim_found}
 use Rattle.vs_prices.specs.Worth.{IsWorth}
 use Rattle.vs_words.specs.declared.command.Effort.{Effort}
 use Rattle.mdvsp.specs.declared.status.Status.{Status}
@@ -20,8 +20,8 @@ use Rattle.mdvsp.specs.declared.status.Status.TheVariants as status
 use Rattle.mdvsp.specs.Laws.{IsDoneWhereShown}
 use Rattle.mdvsp.specs.Owed.{OwesDocument, status_of}
 use Rattle.vs_reader.specs.Rows.{Row}
-use Rattle.vs_tree.specs.Tree.{Tree, Leaf, Split, LeafPlace, leaves, splits}
-use Rattle.vs_check.specs.Answers.{AreWorths, IsAnswer, IsBoundOf}
+use Rattle.vs_cases.specs.Tree.{Tree, Leaf, Split, LeafPlace, leaves, splits}
+use Rattle.vs_answer.specs.Answers.{AreWorths, IsAnswer, IsBoundOf}
 use Rattle.mdvsp.specs.Budgets.{budget_of}
 use Rattle.mdvsp.specs.SolveAnswer.{SolveAnswer}
 use Rattle.mdvsp.proofs.FirstStates.{given_budget, greedy_plan, zero_listed}

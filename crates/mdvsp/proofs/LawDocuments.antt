@@ -1,68 +1,11 @@
 -- A document that `solve` owes is judged `yes` behind its instance's records.
-use Rattle.std.proofs.Common.{◌≡◌, ℕ, ◌<◌, List, [], ◌∷◌, ◌++◌, length, take, refl, sym, subst, inl, inr, arith, ◌∙◌}
-use Rattle.std.proofs.lemmas.List.{get_or_default, length_push}
-use Rattle.std.proofs.lemmas.List.Elements.{All-nil, All-push}
-use Rattle.std.proofs.lemmas.List.Quantifiers.{all_pairs_push}
-use Rattle.vs_instance.specs.Problem.{Problem}
-use Rattle.vs_reader.specs.InstanceText.{IsNew, Declared, nothing_yet, Adds, AddAll, instance_records}
-use Rattle.vs_reader.specs.NameRules.{AreNames}
-use Rattle.vs_reader.specs.Names.{IsName, NameLists}
-use Rattle.vs_reader.specs.Rows.{Field, Row, lines}
-use Rattle.vs_reader.specs.Texts.{HasRows, StandsFor, EndsInLine}
-use Rattle.vs_reader.proofs.texts.LineLemmas.{stands_behind}
-use Rattle.vs_reader.proofs.texts.TextLemmas.{stands_counts}
-use Rattle.vs_cert.specs.DocumentRows.{document_rows}
-use Rattle.vs_cert.proofs.written.WrittenForms.{stands as stands_for}
-use Rattle.vs_cert.proofs.written.WrittenPlain.{plain_document}
+use Rattle.std.proofs.Common.{ℕ, List, [], ◌∷◌, ◌++◌, take, refl, sym, subst}
+use Rattle.vs_reader.specs.Rows.{Row, lines}
+use Rattle.vs_reader.specs.Texts.{HasRows, EndsInLine}
+use Rattle.vs_document.proofs.CallerLemmas.{read_back}
 use Rattle.vs_words.specs.declared.command.Effort.{Effort}
 use Rattle.mdvsp.specs.declared.status.Status.{Status}
 use Rattle.mdvsp.specs.Owed.{OwesDocument, OwesYes, yes_row}
-
--- names of layers and of trips, no two of a kind the same
-pub record HaveNames (names : NameLists) : Type 0 where
-  pub layers : AreNames names.layers
-  pub trips : AreNames names.trips
-
--- what records declare as names are names
-no_names : AreNames []
-no_names = record { each = All-nil IsName; apart = λ i j d before within. absurd (omega arith); few = omega arith }
-
-one_more_name : (names : List Field) (name : Field) → AreNames names → IsNew names name → length names < 2000
-    → AreNames (names ++ name ∷ [])
-one_more_name names name are new room = record {
-  each = All-push IsName names name are.each new.name;
-  apart = all_pairs_push (λ f g. ¬ (f ≡ g)) names name are.apart
-      (λ k d within same. new.new (k, within, get_or_default names k name d within ∙ same));
-  few = let more = length_push names name in omega (arith, more, room);
-}
-
-adds_names : (old : Declared) (row : Row) (new : Declared) → Adds old row new → HaveNames old.names
-    → HaveNames new.names
-adds_names old row new (inl a) h =
-    subst (λ (d : Declared). HaveNames d.names) (sym a.added) (record { layers = h.layers; trips = h.trips })
-adds_names old row new (inr (inl a)) h =
-    subst (λ (d : Declared). HaveNames d.names) (sym a.added) (record { layers = h.layers; trips = h.trips })
-adds_names old row new (inr (inr (inl a))) h = subst (λ (d : Declared). HaveNames d.names) (sym a.added)
-    (record {
-      layers =
-          one_more_name old.names.layers a.name h.layers a.new_name (let room = a.room in omega arith);
-      trips = h.trips;
-    })
-adds_names old row new (inr (inr (inr a))) h = subst (λ (d : Declared). HaveNames d.names) (sym a.added)
-    (record { layers = h.layers; trips = one_more_name old.names.trips a.name h.trips a.new_name a.room })
-
-add_all_names : (old : Declared) (rows : List Row) (new : Declared) → AddAll old rows new → HaveNames old.names
-    → HaveNames new.names
-add_all_names old [] new h have = subst (λ (d : Declared). HaveNames d.names) (sym h) have
-add_all_names old (row ∷ rows) new h have = add_all_names h.0 rows new h.2 (adds_names old row h.0 h.1 have)
-
-pub instance_names : (bytes : List ℕ) (p : Problem) (names : NameLists) (before : ℕ) (rest : List Row)
-    → StandsFor bytes p names before rest → HaveNames names
-instance_names bytes p names before rest stands =
-    let t = stands.text in
-    subst HaveNames (sym t.names_are)
-    (add_all_names nothing_yet (instance_records stands.rows) t.declared t.declares
-    (record { layers = no_names; trips = no_names }))
 
 -- behind the records they are one text
 pub solved_holds : (effort : Effort) (bytes read : List ℕ) (answer : Status) (rows : List Row)
@@ -73,21 +16,17 @@ solved_holds effort bytes read answer rows owed has ends =
     let p = owed.problem in
     let names = owed.names in
     let d = owed.document in
-    let written = document_rows p names d in
-    let stands = owed.text.instance in
-    let instance = stands.text.makes.instance in
-    let counts = stands_counts bytes p names owed.text.before owed.text.rest stands in
-    let have = instance_names bytes p names owed.text.before owed.text.rest stands in
-    let plain = plain_document names have.layers have.trips p d instance counts owed.solves.has_text in
+    let back = read_back bytes read p names owed.text.before owed.text.rest d owed.text.instance has ends
+    owed.solves.has_text in
     subst (λ (others : List Row). OwesYes (read ++ lines others) (yes_row d ∷ [])) (sym owed.rows_are) (record {
       problem = p;
       names = names;
       document = d;
       text = record {
         before = owed.text.before;
-        rest = written;
-        instance = stands_behind bytes read p names owed.text.before owed.text.rest written stands has ends plain refl;
-        document = stands_for p names instance counts d owed.solves.has_text;
+        rest = back.rest;
+        instance = back.instance;
+        document = back.document;
       };
       holds = owed.solves.answer.holds;
       proves = owed.proves;

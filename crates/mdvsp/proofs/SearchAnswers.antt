@@ -5,20 +5,20 @@ use Rattle.vs_instance.specs.Problem.{Problem}
 use Rattle.vs_prices.specs.Bounds.{IsNoLess}
 use Rattle.vs_prices.specs.declared.bound.Bound.{Bound}
 use Rattle.vs_prices.specs.declared.bound.Bound.TheVariants.{AtLeast, NoPlan}
-use Rattle.vs_tree.specs.Claims.{claim_found}
+use Rattle.vs_cases.specs.Claims.{claim_found}
 use Rattle.vs_tree.specs.History.{FullStep, IsHistory, Opening, State, state_of}
 use Rattle.vs_tree.specs.Report.{IsLesser, IsReport, bound_of}
-use Rattle.vs_tree.specs.declared.report.Report.{Report}
+use Rattle.vs_tree.specs.declared.calls.Report.{Report}
 use Rattle.vs_tree.specs.Sound.{IsOpening}
 use Rattle.vs_tree.specs.Takes.{IsOver}
 use Rattle.vs_node.specs.WorkedHistory.{AreWorked}
 use Rattle.vs_node.proofs.WorkedSearches.{worked_searches_reach_the_start}
-use Rattle.vs_cert.specs.DocumentText.{HasText}
+use Rattle.vs_document.specs.DocumentText.{HasText}
 use Rattle.vs_cert.specs.StateDocument.{IsDocumentOf}
-use Rattle.vs_cert.specs.declared.document.Document.{Document}
-use Rattle.vs_check.specs.Answers.{IsAnswer, ReachesStart}
-use Rattle.vs_check.specs.Laws.{EachReachesTheStart}
-use Rattle.vs_check.proofs.StateAnswers.{bounds_reach_the_start, finished_searches_answer}
+use Rattle.vs_document.specs.declared.document.Document.{Document}
+use Rattle.vs_answer.specs.Answers.{IsAnswer, ReachesStart}
+use Rattle.vs_answer.specs.Laws.{EachReachesTheStart}
+use Rattle.vs_answer.proofs.CallerLemmas.{bounds_reach_the_start, finished_searches_answer}
 use Rattle.mdvsp.specs.SolveAnswer.{BeginsFor, SolveAnswer}
 
 module _ (p : Problem) (budget workers : ℕ) (o : Opening) (steps : List FullStep) (d : Document)

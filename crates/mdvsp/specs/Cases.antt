@@ -4,10 +4,10 @@ use Rattle.vs_instance.specs.Problem.{Problem}
 use Rattle.vs_reader.specs.Names.{NameLists}
 use Rattle.vs_reader.specs.Rows.{Row}
 use Rattle.vs_reader.specs.Texts.{StandsFor}
-use Rattle.vs_cert.specs.DocumentRefusals.{AreRefused}
-use Rattle.vs_cert.specs.DocumentText.{DocumentText}
-use Rattle.vs_cert.specs.declared.document.Document.{Document}
-use Rattle.vs_cert.specs.declared.refused.DocWhy.{DocWhy}
+use Rattle.vs_document.specs.DocumentRefusals.{AreRefused}
+use Rattle.vs_document.specs.DocumentText.{DocumentText}
+use Rattle.vs_document.specs.declared.document.Document.{Document}
+use Rattle.vs_document.specs.declared.refused.DocWhy.{DocWhy}
 
 -- the bytes stand for an instance, whatever follows its records
 pub record SolveText (bytes : List ℕ) (p : Problem) (names : NameLists) : Type 0 where

@@ -8,8 +8,8 @@ use Rattle.vs_reader.specs.declared.refused.Refused.{Refused}
 use Rattle.vs_reader.specs.declared.refused.Why.{Why}
 use Rattle.vs_reader.specs.declared.refused.Why.TheVariants as why
 use Rattle.vs_reader.specs.Rows.{Field, Row}
-use Rattle.vs_cert.specs.declared.refused.DocWhy.{DocWhy}
-use Rattle.vs_cert.specs.declared.refused.DocWhy.TheVariants as doc
+use Rattle.vs_document.specs.declared.refused.DocWhy.{DocWhy}
+use Rattle.vs_document.specs.declared.refused.DocWhy.TheVariants as doc
 
 abbrev pub misfit_name : Misfit → Field
 misfit_name (Range field place) = codes "Range"

@@ -3,7 +3,7 @@
 ghost use Rattle.std.specs.Prelude.{◌≡◌, ◌≢◌, ℕ, ◌+◌, ◌*◌, ◌≤◌, List, [], ◌∷◌, ◌++◌, take, Some};
 ghost use Rattle.vs_reader.specs.Texts.{HasRows, EndsInLine};
 ghost use Rattle.vs_instance.specs.Restriction.{permitted_sets};
-ghost use Rattle.vs_check.specs.Answers.{choices};
+ghost use Rattle.vs_answer.specs.Answers.{choices};
 ghost use Rattle.vs_words.specs.declared.command.Command.{Command};
 ghost use Rattle.vs_words.specs.declared.command.Effort.{Effort};
 ghost use Rattle.mdvsp.specs.declared.status.Status.{Status};

@@ -1,6 +1,3 @@
-pub mod words
-pub mod rows
-pub mod parts
-pub mod written
-pub mod alike
 pub mod states
+pub mod ReadBack
+pub mod CallerLemmas

@@ -2,14 +2,14 @@
 use Rattle.std.specs.Prelude.{◌≡◌, ℕ, ◌≤◌, List, [], ◌∷◌, ◌++◌, length, slice_get, Some}
 use Rattle.vs_tree.specs.History.{Opening, State}
 use Rattle.vs_tree.specs.StateTree.{IsTreeOf}
-use Rattle.vs_tree.specs.Tree.{Tree}
+use Rattle.vs_cases.specs.Tree.{Tree}
 use Rattle.vs_tree.specs.declared.spot.Spot.{Spot}
 use Rattle.vs_tree.specs.declared.spot.Spot.TheVariants.{Inner, Free, Held, Closed}
 use Rattle.vs_cert.specs.Numbering.{with_number}
-use Rattle.vs_cert.specs.Shapes.{preorder}
+use Rattle.vs_document.specs.Shapes.{preorder}
 use Rattle.vs_cert.specs.StateDocument.{IsRenumbered, first_times, tables_named}
-use Rattle.vs_cert.specs.declared.shape.Shape.{Shape}
-use Rattle.vs_cert.specs.declared.shape.Shape.TheVariants as shape
+use Rattle.vs_document.specs.declared.document.Shape.{Shape}
+use Rattle.vs_document.specs.declared.document.Shape.TheVariants as shape
 
 -- the rows of the state's tree, whose leaves name the tables of these numbers by their places
 pub record AreRowsOf (o : Opening) (s : State) (numbers : List ℕ) (rows : List Shape) : Type 0 where

@@ -1,23 +1,9 @@
-//! What holds of every document and its text.
+//! What holds of the text of every search.
 
-ghost use Rattle.vs_cert.specs.Laws.{DocumentsAreNotRefused, DocumentsOfRowsAreAlike, RowsAreRefusedOnce, WrittenRowsStandForTheirDocument};
+ghost use Rattle.vs_cert.specs.Laws.{WrittenSearchesAreReadBack};
 
-/// The rows as which a document is written stand for it.
-pub fn written_rows_stand_for_their_document()
-    ensures { WrittenRowsStandForTheirDocument }
-{}
-
-/// Rows that stand for a document aren't refused.
-pub fn documents_are_not_refused()
-    ensures { DocumentsAreNotRefused }
-{}
-
-/// Rows are refused at one row, and for one reason.
-pub fn rows_are_refused_once()
-    ensures { RowsAreRefusedOnce }
-{}
-
-/// Documents that the same rows stand for say the same.
-pub fn documents_of_rows_are_alike()
-    ensures { DocumentsOfRowsAreAlike }
+/// Behind the records of its instance, the last of which is ended by a line end, what `write` gives for a search is
+/// read as a document with the search's report, its cheapest plan, its tree of cases, and the tables that leaves name.
+pub fn written_searches_are_read_back()
+    ensures { WrittenSearchesAreReadBack }
 {}

@@ -1,22 +1,15 @@
-//! The document of a plan: what it has, how it is read and how it is written.
+//! The document of a search, as it is written: the rest of what a document is stands below.
 #![tactic(auto)]
 
-mod document;
 mod laws;
-mod limits;
-mod reading;
-mod refused;
-mod shape;
-mod text;
-mod writing;
+mod numbering;
+mod tree_document;
+mod tree_rows;
 
-pub use document::Document;
-pub use laws::{
-    documents_are_not_refused, documents_of_rows_are_alike, rows_are_refused_once,
-    written_rows_stand_for_their_document,
+pub use laws::written_searches_are_read_back;
+pub use tree_document::write;
+pub use vs_document::{
+    DocError, DocWhy, Document, Shape, Text, bound_field, claim_field, cost_field,
+    documents_are_not_refused, documents_of_rows_are_alike, read, rows_are_refused_once, text_of,
+    written_documents_are_read_back, written_rows_stand_for_their_document,
 };
-pub use reading::read;
-pub use refused::{DocError, DocWhy};
-pub use shape::Shape;
-pub use text::Text;
-pub use writing::{bound_field, claim_field, cost_field, text_of, write};

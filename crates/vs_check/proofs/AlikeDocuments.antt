@@ -14,24 +14,25 @@ use Rattle.vs_plan.specs.Blocks.{blocks_of}
 use Rattle.vs_prices.specs.declared.bound.Bound.{Bound}
 use Rattle.vs_prices.specs.declared.broken_at.BrokenAt.{BrokenAt}
 use Rattle.vs_prices.specs.declared.table.Table.{Table}
-use Rattle.vs_tree.specs.Claims.{claim_found}
-use Rattle.vs_tree.specs.Tree.{Tree, Leaf, Split, right_of, with_set}
-use Rattle.vs_tree.specs.declared.claim.Claim.{Claim}
-use Rattle.vs_tree.proofs.Restrictions.{left-restricts, right-restricts}
-use Rattle.vs_cert.specs.Alike.{AreAlike}
-use Rattle.vs_cert.specs.Form.{Suits}
-use Rattle.vs_cert.specs.DocumentText.{Agree}
-use Rattle.vs_cert.specs.Shapes.{IsShapeOf, preorder}
-use Rattle.vs_cert.specs.declared.document.Document.{Document}
-use Rattle.vs_cert.specs.declared.shape.Shape.{Shape}
-use Rattle.vs_cert.specs.declared.shape.Shape.TheVariants as shape
-use Rattle.vs_check.specs.Flaws.{broken_flaws, claim_flaws, flaws_of, is_proper_part, leaf_flaws, named_flaws, plan_flaws, shape_flaws, table_flaws, tables_flaws, tree_flaws}
+use Rattle.vs_cases.specs.Claims.{claim_found}
+use Rattle.vs_cases.specs.Tree.{Tree, Leaf, Split, right_of, with_set}
+use Rattle.vs_cases.specs.declared.claim.Claim.{Claim}
+use Rattle.vs_cases.proofs.CallerLemmas.{left-restricts, right-restricts}
+use Rattle.vs_document.specs.Alike.{AreAlike}
+use Rattle.vs_document.specs.Form.{Suits}
+use Rattle.vs_document.specs.DocumentText.{Agree}
+use Rattle.vs_document.specs.Shapes.{IsShapeOf, preorder}
+use Rattle.vs_document.specs.declared.document.Document.{Document}
+use Rattle.vs_document.specs.declared.document.Shape.{Shape}
+use Rattle.vs_document.specs.declared.document.Shape.TheVariants as shape
+use Rattle.vs_check.specs.Flaws.{broken_flaws, claim_flaws, flaws_of, leaf_flaws, named_flaws, plan_flaws, shape_flaws, table_flaws, tables_flaws, tree_flaws}
+use Rattle.vs_types.specs.Parts.{is_proper_part}
 use Rattle.vs_check.specs.Laws.{AlikeDocumentsAreJudgedAlike}
 use Rattle.vs_check.specs.declared.flaw.Flaw.{Flaw}
 use Rattle.vs_check.specs.declared.flaw.Flaw.TheVariants.{BadSplit}
 use Rattle.vs_check.proofs.AgreeingTables.{same_breaks, same_worth}
 use Rattle.vs_check.proofs.Flawless.{holds_from_none, none_from_holds}
-use Rattle.vs_check.proofs.ProperParts.{proper_from_test}
+use Rattle.vs_types.proofs.CallerLemmas.{proper_from_test}
 use Rattle.vs_check.proofs.TreeRows.{All-both, flaws_of_tree}
 
 module _ (p : Problem) where

@@ -12,18 +12,18 @@ use Rattle.vs_instance.proofs.CallerLemmas.{None, both_none, none-append, false_
 use Rattle.vs_plan.specs.Blocks.{IsOfInstance, blocks_of}
 use Rattle.vs_plan.specs.PlanFaults.{faults_of}
 use Rattle.vs_plan.specs.declared.plan_fault.PlanFault.{PlanFault}
-use Rattle.vs_plan.proofs.Faultless.{faultless, plan_from_faultless}
+use Rattle.vs_plan.proofs.CallerLemmas.{faultless, plan_from_faultless}
 use Rattle.vs_prices.specs.Breaks.{breaks_of}
 use Rattle.vs_prices.specs.Table.{HoldingTable}
 use Rattle.vs_prices.specs.declared.broken_at.BrokenAt.{BrokenAt}
 use Rattle.vs_prices.specs.declared.table.Table.{Table}
-use Rattle.vs_prices.proofs.NoBreaks.{holds_nowhere_broken, nowhere_broken}
-use Rattle.vs_cert.specs.declared.document.Document.{Document}
+use Rattle.vs_prices.proofs.CallerLemmas.{holds_nowhere_broken, nowhere_broken}
+use Rattle.vs_document.specs.declared.document.Document.{Document}
 use Rattle.vs_check.specs.Flaws.{broken_flaws, cost_flaws, flaws_of, plan_flaws, shape_flaws, table_flaws, tables_flaws}
-use Rattle.vs_cert.specs.Form.{Suits}
-use Rattle.vs_cert.specs.Shapes.{IsShapeOf}
+use Rattle.vs_document.specs.Form.{Suits}
+use Rattle.vs_document.specs.Shapes.{IsShapeOf}
 use Rattle.vs_check.specs.HoldingDocument.{HasTree, HoldingDocument}
-use Rattle.vs_tree.specs.Claims.{claim_found}
+use Rattle.vs_cases.specs.Claims.{claim_found}
 use Rattle.vs_check.proofs.PlanFlaws.{claims_same, right_cost, same_claims}
 use Rattle.vs_check.proofs.StrongTrees.{none_from_strong, strong_from_none}
 use Rattle.vs_check.proofs.TreeRows.{flaws_of_tree}

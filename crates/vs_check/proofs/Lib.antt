@@ -2,7 +2,6 @@ pub mod PlanFlaws
 pub mod LeafFlaws
 pub mod WalkSteps
 pub mod RowFlaws
-pub mod ProperParts
 pub mod TreeRows
 pub mod Parts
 pub mod StrongTrees
@@ -11,12 +10,4 @@ pub mod Claims
 pub mod NamedFlaws
 pub mod AgreeingTables
 pub mod AlikeDocuments
-pub mod FlawExamples
-pub mod StateDocuments
-pub mod NamedTables
-pub mod AnswerBounds
-pub mod AnswerWorths
-pub mod AnswerCounts
-pub mod StateAnswers
-pub mod LeafCounts
-pub mod EnoughBudgets
+pub mod CallerLemmas

@@ -11,19 +11,20 @@ use Rattle.vs_instance.specs.Instance.{IsInstance}
 use Rattle.vs_instance.specs.Problem.{Problem}
 use Rattle.vs_instance.specs.Restriction.{IsRestriction, permitted_sets, set_of}
 use Rattle.vs_instance.proofs.CallerLemmas.{first-skip, first-stop, permitted_sets-IsRestriction}
-use Rattle.vs_tree.specs.Tree.{Tree, Leaf, Split, right_of, with_set}
-use Rattle.vs_tree.proofs.Restrictions.{left-restricts, right-restricts}
-use Rattle.vs_cert.specs.Shapes.{IsShapeOf, preorder}
-use Rattle.vs_cert.specs.declared.document.Document.{Document}
-use Rattle.vs_cert.specs.declared.shape.Shape.{Shape}
-use Rattle.vs_cert.specs.declared.shape.Shape.TheVariants as shape
-use Rattle.vs_check.specs.Flaws.{is_proper_part, named_flaws, shape_flaws, tree_flaws}
+use Rattle.vs_cases.specs.Tree.{Tree, Leaf, Split, right_of, with_set}
+use Rattle.vs_cases.proofs.CallerLemmas.{left-restricts, right-restricts}
+use Rattle.vs_document.specs.Shapes.{IsShapeOf, preorder}
+use Rattle.vs_document.specs.declared.document.Document.{Document}
+use Rattle.vs_document.specs.declared.document.Shape.{Shape}
+use Rattle.vs_document.specs.declared.document.Shape.TheVariants as shape
+use Rattle.vs_check.specs.Flaws.{named_flaws, shape_flaws, tree_flaws}
+use Rattle.vs_types.specs.Parts.{is_proper_part}
 use Rattle.vs_check.specs.Walk.{GoesOver, IsBehindPart, IsOnLeft, sets_ahead, sets_along}
 use Rattle.vs_check.specs.declared.flaw.Flaw.{Flaw}
 use Rattle.vs_check.specs.declared.flaw.Flaw.TheVariants.{BadSplit}
 use Rattle.vs_check.specs.declared.walk.Change.{Change}
 use Rattle.vs_check.specs.declared.walk.Walk.{Walk}
-use Rattle.vs_check.proofs.ProperParts.{proper_from_test}
+use Rattle.vs_types.proofs.CallerLemmas.{proper_from_test}
 use Rattle.vs_check.proofs.TreeRows.{flaws_of_tree}
 
 -- a tree, and the layers in which each trip may be run at its root

@@ -4,9 +4,9 @@ use Rattle.vs_types.specs.declared.layer_set.LayerSet.{LayerSet}
 use Rattle.vs_types.specs.declared.numbers.TripNo.{TripNo}
 use Rattle.vs_instance.specs.Problem.{Problem}
 use Rattle.vs_instance.specs.Restriction.{set_of}
-use Rattle.vs_cert.specs.declared.document.Document.{Document}
-use Rattle.vs_cert.specs.declared.shape.Shape.TheVariants.{Split}
-use Rattle.vs_check.specs.Flaws.{is_proper_part}
+use Rattle.vs_document.specs.declared.document.Document.{Document}
+use Rattle.vs_document.specs.declared.document.Shape.TheVariants.{Split}
+use Rattle.vs_types.specs.Parts.{is_proper_part}
 use Rattle.vs_check.specs.Walk.{GoesOver, IsOnLeft}
 use Rattle.vs_check.specs.declared.flaw.Flaw.{Flaw}
 use Rattle.vs_check.specs.declared.flaw.Flaw.TheVariants.{BadSplit}

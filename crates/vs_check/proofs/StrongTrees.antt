@@ -12,18 +12,19 @@ use Rattle.vs_instance.proofs.CallerLemmas.{None, both_none, none-append}
 use Rattle.vs_prices.specs.Worth.{Reaches, worth_of}
 use Rattle.vs_prices.specs.declared.bound.Bound.{Bound}
 use Rattle.vs_prices.specs.declared.table.Table.{Table}
-use Rattle.vs_prices.proofs.Worths.{worth_is, worth_of-IsWorth}
-use Rattle.vs_tree.specs.Tree.{Tree, Leaf, Split, LeafPlace, leaves, right_of, with_set}
-use Rattle.vs_tree.proofs.Restrictions.{left-restricts, restriction-layers, right-restricts}
-use Rattle.vs_cert.specs.Shapes.{IsShapeOf, preorder}
-use Rattle.vs_cert.specs.declared.shape.Shape.{Shape}
-use Rattle.vs_cert.specs.declared.shape.Shape.TheVariants as shape
-use Rattle.vs_check.specs.Flaws.{is_proper_part, named_flaws, tree_flaws}
+use Rattle.vs_prices.proofs.CallerLemmas.{worth_is, worth_of-IsWorth}
+use Rattle.vs_cases.specs.Tree.{Tree, Leaf, Split, LeafPlace, leaves, right_of, with_set}
+use Rattle.vs_cases.proofs.CallerLemmas.{left-restricts, restriction-layers, right-restricts}
+use Rattle.vs_document.specs.Shapes.{IsShapeOf, preorder}
+use Rattle.vs_document.specs.declared.document.Shape.{Shape}
+use Rattle.vs_document.specs.declared.document.Shape.TheVariants as shape
+use Rattle.vs_check.specs.Flaws.{named_flaws, tree_flaws}
+use Rattle.vs_types.specs.Parts.{is_proper_part}
 use Rattle.vs_check.specs.HoldingDocument.{IsStrongLeaf, IsStrongTree}
 use Rattle.vs_check.specs.declared.flaw.Flaw.{Flaw}
 use Rattle.vs_check.specs.declared.flaw.Flaw.TheVariants.{BadSplit}
 use Rattle.vs_check.proofs.LeafFlaws.{none_from_reaches, reaches_from_none}
-use Rattle.vs_check.proofs.ProperParts.{proper_from_test, test_from_proper}
+use Rattle.vs_types.proofs.CallerLemmas.{proper_from_test, test_from_proper}
 use Rattle.vs_check.proofs.TreeRows.{All-both}
 
 module _ (p : Problem) (tables : List Table) (bound : Option ℤ) where

@@ -3,7 +3,7 @@ use Rattle.std.proofs.Common.{◌≡◌, true, false, List, [], ◌∷◌, ◌++
 use Rattle.std.proofs.lemmas.List.{reverse-append, set-get_or, set-set}
 use Rattle.vs_types.specs.declared.layer_set.LayerSet.{LayerSet}
 use Rattle.vs_types.specs.declared.numbers.TripNo.{TripNo}
-use Rattle.vs_tree.specs.Tree.{with_set}
+use Rattle.vs_cases.specs.Tree.{with_set}
 use Rattle.vs_check.specs.declared.walk.Change.{Change}
 use Rattle.vs_check.specs.Walk.{sets_along}
 

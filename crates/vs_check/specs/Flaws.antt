@@ -1,8 +1,7 @@
 -- What is wrong with a document, as one list in the order in which it is judged.
-use Rattle.std.specs.Prelude.{ℕ, ◌+◌, ◌<◌, ◌==◌, ◌&&◌, nat_lt, Bool, true, false, not, if◌then◌else◌, List, [], ◌∷◌, ◌++◌, length, flat_map, ℤ, pos, int_lt, Option, Some, None, slice_get}
+use Rattle.std.specs.Prelude.{ℕ, ◌+◌, ◌<◌, Bool, true, false, not, if◌then◌else◌, List, [], ◌∷◌, ◌++◌, length, flat_map, ℤ, pos, int_lt, Option, Some, None, slice_get}
 use Rattle.std.specs.List.{enumerate_from}
 use Rattle.std.specs.Ordering.{int_eq}
-use Rattle.vs_types.specs.LayerSet.{members}
 use Rattle.vs_types.specs.declared.layer_set.LayerSet.{LayerSet}
 use Rattle.vs_instance.specs.Firsts.{first, when}
 use Rattle.vs_instance.specs.Problem.{Problem}
@@ -19,17 +18,16 @@ use Rattle.vs_prices.specs.declared.bound.Bound.TheVariants.{AtLeast, NoPlan}
 use Rattle.vs_prices.specs.declared.broken_at.BrokenAt.{BrokenAt}
 use Rattle.vs_prices.specs.declared.broken_at.BrokenAt.TheVariants as broken
 use Rattle.vs_prices.specs.declared.table.Table.{Table}
-use Rattle.vs_tree.specs.declared.claim.Claim.{Claim}
-use Rattle.vs_tree.specs.declared.claim.Claim.TheVariants.{Optimal, Infeasible, StillOpen}
-use Rattle.vs_cert.specs.declared.document.Document.{Document}
+use Rattle.vs_cases.specs.declared.claim.Claim.{Claim}
+use Rattle.vs_cases.specs.declared.claim.Claim.TheVariants.{Optimal, Infeasible, StillOpen}
+use Rattle.vs_document.specs.declared.document.Document.{Document}
 use Rattle.vs_check.specs.declared.flaw.Flaw.{Flaw}
 use Rattle.vs_check.specs.declared.flaw.Flaw.TheVariants.{Plan, CostDiffers, TableBroken, BadSplit, LeafTooWeak, ClaimDiffers}
-use Rattle.vs_cert.specs.Shapes.{preorder}
+use Rattle.vs_document.specs.Shapes.{preorder}
 use Rattle.vs_check.specs.declared.verdict.Verdict.{Verdict}
 use Rattle.vs_check.specs.declared.verdict.Verdict.TheVariants.{Yes, No}
-use Rattle.vs_tree.specs.Claims.{claim_found}
-use Rattle.vs_tree.specs.Rest.{rest_of}
-use Rattle.vs_tree.specs.Tree.{Tree, Leaf, Split, right_of, with_set}
+use Rattle.vs_cases.specs.Claims.{claim_found}
+use Rattle.vs_cases.specs.Tree.{Tree, Leaf, Split, right_of, with_set}
 use Rattle.vs_check.specs.Trees.{trees_of}
 
 -- beside a printed cost: the first fault of the blocks, and where they have none, a cost that isn't theirs
@@ -65,14 +63,8 @@ abbrev pub named_flaws : Problem → Option ℤ → ℕ → List LayerSet → Op
 named_flaws p bound position sets None = []
 named_flaws p bound position sets (Some table) = leaf_flaws position (worth_of p sets table) bound
 
--- the part has some of the set's layers, and not all of them
-abbrev pub is_proper_part : LayerSet → LayerSet → Bool
-is_proper_part part whole = nat_lt 0 (length (members part)) && (length (members (rest_of part whole)) == 0)
-    && nat_lt 0 (length (members (rest_of whole part)))
-
 -- Row by row, of a tree whose first row is at this position, where each trip may be run in a layer of these sets.
--- Behind
--- a split that doesn't share out its trip's set nothing of its parts is told.
+-- Behind a split that doesn't share out its trip's set nothing of its parts is told.
 abbrev pub tree_flaws : Problem → List Table → Option ℤ → ℕ → List LayerSet → Tree → List Flaw
 tree_flaws p tables bound position sets (Leaf table) = named_flaws p bound position sets (slice_get tables table)
 tree_flaws p tables bound position sets (Split trip left lower upper) =

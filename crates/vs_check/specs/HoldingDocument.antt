@@ -9,11 +9,11 @@ use Rattle.vs_prices.specs.declared.bound.Bound.{Bound}
 use Rattle.vs_prices.specs.declared.table.Table.{Table}
 use Rattle.vs_prices.specs.Table.{Fits, HoldingTable}
 use Rattle.vs_prices.specs.Worth.{IsWorth, Reaches}
-use Rattle.vs_tree.specs.Claims.{claim_found}
-use Rattle.vs_tree.specs.declared.claim.Claim.TheVariants.{Optimal, Infeasible}
-use Rattle.vs_tree.specs.Tree.{Tree, IsGoodTree, LeafPlace, leaves}
-use Rattle.vs_cert.specs.Shapes.{preorder}
-use Rattle.vs_cert.specs.declared.document.Document.{Document}
+use Rattle.vs_cases.specs.Claims.{claim_found}
+use Rattle.vs_cases.specs.declared.claim.Claim.TheVariants.{Optimal, Infeasible}
+use Rattle.vs_cases.specs.Tree.{Tree, IsGoodTree, LeafPlace, leaves}
+use Rattle.vs_document.specs.Shapes.{preorder}
+use Rattle.vs_document.specs.declared.document.Document.{Document}
 
 -- the blocks are a plan of the printed cost, and where none is printed there are none
 abbrev pub HasPlan : Problem → Document → Type 0
@@ -50,8 +50,8 @@ pub record HoldingDocument (p : Problem) (d : Document) : Type 0 where
   pub claim : d.claim ≡ claim_found d.cost d.bound
 
 -- What a document that holds proves, whoever wrote it: its blocks are a plan of the printed cost; no plan of the
--- instance costs less than the
--- printed bound, and where the bound is none there is no plan; where it claims so, no plan costs less than its own.
+-- instance costs less than the printed bound, and where the bound is none there is no plan; where it claims so, no plan
+-- costs less than its own.
 pub record ProvesItsClaim (p : Problem) (d : Document) : Type 0 where
   pub plan : IfSome d.cost (λ cost. IsPlan p (blocks_of d.plan) × (cost ≡ pos (plan_cost p (blocks_of d.plan))))
   pub bound : IfSome d.bound (λ bound. (blocks : List LayerBlock) → IsPlan p blocks → bound ≤ℤ pos (plan_cost p blocks))

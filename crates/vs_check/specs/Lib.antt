@@ -2,5 +2,4 @@ pub mod Trees
 pub mod HoldingDocument
 pub mod Flaws
 pub mod Walk
-pub mod Answers
 pub mod Laws

@@ -8,11 +8,5 @@ mod verdict;
 mod walk;
 
 pub use flaw::Flaw;
-pub use laws::{
-    alike_documents_are_judged_alike, documents_of_states_hold,
-    holding_documents_prove_their_claims,
-};
+pub use laws::{alike_documents_are_judged_alike, holding_documents_prove_their_claims};
 pub use verdict::{Verdict, check};
-
-#[cfg(test)]
-mod tests;

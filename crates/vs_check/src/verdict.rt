@@ -1,12 +1,15 @@
+//! The verdict on a document: its flaws one after the other, the first of which is told.
+
 ghost use Rattle.std.specs.Prelude.{◌≡◌, ◌<◌, ◌^◌, ◌↔◌, length, slice_get, All, IfOk};
-ghost use Rattle.vs_check.specs.Flaws.{claim_flaws, is_proper_part, leaf_flaws, named_flaws};
+ghost use Rattle.vs_check.specs.Flaws.{claim_flaws, leaf_flaws, named_flaws};
+ghost use Rattle.vs_types.specs.Parts.{is_proper_part};
 ghost use Rattle.vs_check.specs.Flaws.{plan_flaws, shape_flaws};
 ghost use Rattle.vs_check.specs.Flaws.{IsVerdictWithin, flaws_of, tables_flaws, verdict_of};
 ghost use Rattle.vs_check.specs.Walk.{GoesOver};
-ghost use Rattle.vs_cert.specs.Form.{IsReadFor};
-ghost use Rattle.vs_cert.specs.Shapes.{IsShapeOf};
+ghost use Rattle.vs_document.specs.Form.{IsReadFor};
+ghost use Rattle.vs_document.specs.Shapes.{IsShapeOf};
 ghost use Rattle.vs_check.specs.HoldingDocument.{HoldingDocument, ProvesItsClaim};
-ghost use Rattle.vs_tree.specs.Claims.{claim_found};
+ghost use Rattle.vs_cases.specs.Claims.{claim_found};
 ghost use Rattle.vs_instance.specs.Firsts.{first};
 ghost use Rattle.vs_instance.specs.Instance.{IsInstance};
 ghost use Rattle.vs_instance.specs.Restriction.{IsRestriction};
@@ -18,12 +21,13 @@ ghost use Rattle.vs_need.specs.Room.{HasRoom};
 use crate::flaw::Flaw;
 use crate::walk::Walk;
 use std::alloc::Global;
-use vs_cert::{Document, Shape};
+use vs_cases::claim_found;
+use vs_document::{Document, Shape};
 use vs_instance::{Instance, MAX_TRIPS};
-use vs_need::{Counted, Scratch, broken_for, layer_nets};
+use vs_match::layer_nets;
+use vs_need::{Counted, Scratch, broken_for};
 use vs_plan::{PlanError, judge};
 use vs_prices::{Bound, Table, worth};
-use vs_tree::{claim_found, rest_of};
 use vs_types::{LayerSet, Memory};
 
 /// Whether a document holds, and else its first flaw.
@@ -51,8 +55,12 @@ fn plan_flaw(
     match judge(alloc, instance, &document.plan) {
         Err(PlanError::Memory) => Err(Memory),
         Err(PlanError::Fault(fault)) => Ok(Some(Flaw::Plan(fault))),
-        Ok(found) if found == cost => Ok(None),
-        Ok(found) => Ok(Some(Flaw::CostDiffers(cost, found))),
+        Ok(found) => {
+            if found == cost {
+                return Ok(None);
+            }
+            Ok(Some(Flaw::CostDiffers(cost, found)))
+        }
     }
 }
 
@@ -102,13 +110,6 @@ fn weak_flaw(position: u32, worth: Bound, bound: Option<i128>) -> Option<Flaw>
     }
 }
 
-/// Whether a part has some of a set's layers, and not all of them.
-fn is_proper_part(part: LayerSet, whole: LayerSet) -> bool
-    ensures { result ≡ is_proper_part part whole }
-{
-    part.count() > 0 && rest_of(part, whole).count() == 0 && rest_of(whole, part).count() > 0
-}
-
 /// The flaw of a leaf at this position, which names this table, where each trip may be run in a
 /// layer of its set.
 fn leaf_flaw(
@@ -149,11 +150,13 @@ fn row_flaw(
             walk.leave_part();
             Ok(flaw)
         }
-        Shape::Split { trip, left } if is_proper_part(left, walk.layers(trip)) => {
-            walk.enter_left(trip, left)?;
-            Ok(None)
+        Shape::Split { trip, left } => {
+            if left.is_proper_part(walk.layers(trip)) {
+                walk.enter_left(trip, left)?;
+                return Ok(None);
+            }
+            Ok(Some(Flaw::BadSplit(position)))
         }
-        Shape::Split { .. } => Ok(Some(Flaw::BadSplit(position))),
     }
 }
 
@@ -169,7 +172,8 @@ fn shape_flaw(
 {
     let mut walk = Walk::new(alloc, instance)?;
     for (position, row) in document.shape.iter().enumerate() {
-        if let Some(flaw) = row_flaw(instance, document, position as u32, *row, &mut walk)? {
+        let found = row_flaw(instance, document, position as u32, *row, &mut walk)?;
+        if let Some(flaw) = found {
             return Ok(Some(flaw));
         }
     }

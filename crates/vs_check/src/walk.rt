@@ -1,9 +1,10 @@
+//! A tree of cases gone over row by row, with the layers that each trip has at the row at hand.
+
 ghost use Rattle.std.specs.Prelude.{◌<◌, length, All};
 
 use std::alloc::Global;
 use vs_instance::Instance;
 use vs_prices::permitted_sets;
-use vs_tree::rest_of;
 use vs_types::{LayerSet, Memory, TripNo};
 
 /// What is done once a part of a tree is behind: a trip gets other layers.
@@ -71,7 +72,7 @@ impl Walk {
         })?;
         self.ahead.push(Change {
             trip,
-            layers: rest_of(whole, left),
+            layers: whole.minus(left),
             begins_part: true,
         })?;
         self.sets[trip.0 as usize] = left;

@@ -10,9 +10,9 @@ use Rattle.vs_prices.specs.Worth.{IsWorth}
 use Rattle.vs_prices.specs.declared.bound.Bound.{Bound}
 use Rattle.vs_prices.specs.declared.table.Table.{Table}
 use Rattle.vs_tree.specs.Sound.{IsPlanOf}
-use Rattle.vs_tree.specs.Tree.{IsProperPart}
-use Rattle.vs_tree.specs.declared.next.Next.{Next}
-use Rattle.vs_tree.specs.declared.next.Next.TheVariants.{Close, Split}
+use Rattle.vs_types.specs.Parts.{IsProperPart}
+use Rattle.vs_tree.specs.declared.calls.Next.{Next}
+use Rattle.vs_tree.specs.declared.calls.Next.TheVariants.{Close, Split}
 use Rattle.vs_node.specs.NextSteps.{IsOpen}
 use Rattle.vs_node.specs.WorkedStep.{IsWorked}
 use Rattle.vs_node.specs.declared.outcome.Outcome.{Outcome}

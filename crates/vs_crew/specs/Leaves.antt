@@ -6,8 +6,8 @@ use Rattle.vs_tree.specs.History.{Opening, State, IsAmong, IsCheaper, IsHeldBy, 
 use Rattle.vs_tree.specs.Prices.{prices_of}
 use Rattle.vs_tree.specs.Search.{Search, state}
 use Rattle.vs_tree.specs.Takes.{IsOver}
-use Rattle.vs_tree.specs.declared.take.Take.{Take}
-use Rattle.vs_tree.specs.declared.take.Take.TheVariants.{Node, Wait, Done, Spent}
+use Rattle.vs_tree.specs.declared.calls.Take.{Take}
+use Rattle.vs_tree.specs.declared.calls.Take.TheVariants.{Node, Wait, Done, Spent}
 use Rattle.vs_node.specs.declared.outcome.Outcome.{Outcome}
 use Rattle.vs_node.specs.declared.task.Task.{Task}
 use Rattle.vs_crew.specs.Found.{IsFound, IsLawfulTask}

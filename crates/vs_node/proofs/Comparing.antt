@@ -9,7 +9,7 @@ use Rattle.vs_prices.specs.declared.bound.Bound.TheVariants.{AtLeast, NoPlan}
 use Rattle.vs_prices.specs.declared.table.Table.{Table}
 use Rattle.vs_prices.specs.Bounds.{IsNoLess, IsWorthNoLess, ReachesLagrangian, ReachesValue}
 use Rattle.vs_prices.specs.Worth.{IsWorth, worth_of}
-use Rattle.vs_prices.proofs.Worths.{worth_of-IsWorth, worth_once}
+use Rattle.vs_prices.proofs.CallerLemmas.{worth_of-IsWorth, worth_once}
 
 no_less-itself : (a : Bound) → IsNoLess a a
 no_less-itself NoPlan = tt

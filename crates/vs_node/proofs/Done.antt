@@ -19,9 +19,7 @@ use Rattle.vs_prices.specs.declared.bound.Bound.TheVariants.{AtLeast}
 use Rattle.vs_prices.specs.declared.table.Table.{Table}
 use Rattle.vs_prices.specs.Table.{Fits}
 use Rattle.vs_prices.specs.Worth.{IsRoundedUp, IsWorth, rounded_up, table_value}
-use Rattle.vs_prices.proofs.Duality.{bounds_plans}
-use Rattle.vs_prices.proofs.Rounding.{rounded_up-IsRoundedUp}
-use Rattle.vs_prices.proofs.RunningTotals.{total-map_more}
+use Rattle.vs_prices.proofs.CallerLemmas.{bounds_plans, rounded_up-IsRoundedUp, total-map_more}
 use Rattle.vs_circ.specs.declared.circ.LayerPrices.{LayerPrices}
 use Rattle.vs_circ.proofs.CallerLemmas.{run_exactly}
 use Rattle.vs_circ.proofs.CallerLemmas.{over_range, total-same}

@@ -14,7 +14,7 @@ use Rattle.vs_instance.proofs.CallerLemmas.{none_times, total-map_sub}
 use Rattle.vs_prices.specs.declared.table.Table.{Table}
 use Rattle.vs_prices.specs.Table.{prices_in, vehicle_price}
 use Rattle.vs_prices.specs.Worth.{fleet_price, least, least_price, table_value, trip_price}
-use Rattle.vs_prices.proofs.PricePlaces.{zero_at}
+use Rattle.vs_prices.proofs.CallerLemmas.{zero_at}
 use Rattle.vs_circ.specs.declared.circ.LayerPrices.{LayerPrices}
 use Rattle.vs_circ.specs.LayerPrices.{shown_of_trips}
 use Rattle.vs_circ.proofs.CallerLemmas.{over_range, total-none, total-only, total-same, total-swap}

@@ -8,7 +8,7 @@ use Rattle.vs_instance.specs.Problem.{Problem}
 use Rattle.vs_instance.specs.Instance.{IsInstance}
 use Rattle.vs_instance.specs.Ways.{no_trip}
 use Rattle.vs_instance.specs.Restriction.{IsRestriction, set_of}
-use Rattle.vs_tree.specs.Rest.{has}
+use Rattle.vs_types.specs.Parts.{has}
 use Rattle.vs_circ.specs.Offers.{AreMust, MustRun}
 use Rattle.vs_node.specs.ChosenLayers.{AreSingle}
 use Rattle.vs_node.specs.LayersDone.{must_in}

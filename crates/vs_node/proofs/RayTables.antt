@@ -13,7 +13,7 @@ use Rattle.vs_prices.specs.declared.bound.Bound.TheVariants.{NoPlan}
 use Rattle.vs_prices.specs.declared.table.Table.{Table}
 use Rattle.vs_prices.specs.Table.{HoldingTable, prices_in, vehicle_price}
 use Rattle.vs_prices.specs.Worth.{IsWorth}
-use Rattle.vs_prices.proofs.PricePlaces.{zero_at}
+use Rattle.vs_prices.proofs.CallerLemmas.{zero_at}
 use Rattle.vs_circ.specs.declared.circ.LayerPrices.{LayerPrices}
 use Rattle.vs_circ.specs.LayerPrices.{shown_of_trips}
 use Rattle.vs_circ.proofs.CallerLemmas.{total-only}

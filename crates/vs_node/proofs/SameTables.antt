@@ -15,7 +15,7 @@ use Rattle.vs_prices.specs.declared.bound.Bound.TheVariants.{AtLeast, NoPlan}
 use Rattle.vs_prices.specs.declared.table.Table.{Table}
 use Rattle.vs_prices.specs.Table.{prices_in}
 use Rattle.vs_prices.specs.Worth.{IsWorth, least, rounded_up, table_value, worth_of}
-use Rattle.vs_prices.proofs.Worths.{worth_is, worth_of-IsWorth}
+use Rattle.vs_prices.proofs.CallerLemmas.{worth_is, worth_of-IsWorth}
 use Rattle.vs_node.specs.SameTables.{AreSame}
 
 -- what prices are worth, before they are rounded

@@ -9,10 +9,8 @@ use Rattle.std.proofs.lemmas.List.Elements.{All-filter, All-from_get_or, filter_
 use Rattle.std.proofs.lemmas.List.FromFn.{get_or-range_with_len, length-range_with_len}
 use Rattle.vs_types.specs.LayerSet.{Has, members, layer_numbers}
 use Rattle.vs_types.specs.declared.layer_set.LayerSet.{LayerSet}
-use Rattle.vs_types.proofs.CallerLemmas.{Contains-members_below, IsStrictlyIncreasing-members, members-some}
-use Rattle.vs_tree.specs.Rest.{rest_of}
-use Rattle.vs_tree.specs.Tree.{IsProperPart}
-use Rattle.vs_tree.proofs.Rests.{Has-rest}
+use Rattle.vs_types.proofs.CallerLemmas.{Contains-members_below, IsStrictlyIncreasing-members, members-some, Has-rest}
+use Rattle.vs_types.specs.Parts.{rest_of, IsProperPart}
 use Rattle.vs_node.specs.SplitRule.{IsLowestAlone}
 
 layer_numbers-range : layer_numbers ≡ range_with_len 0 16

@@ -14,8 +14,7 @@ use Rattle.vs_prices.specs.declared.table.Table.{Table}
 use Rattle.vs_prices.specs.Bounds.{IsBelow, IsNoLess, IsWorthNoLess, ReachesLagrangian, ReachesValue}
 use Rattle.vs_prices.specs.Table.{Fits, HoldingTable}
 use Rattle.vs_prices.specs.Worth.{IsBoundOn, IsWorth, trip_price}
-use Rattle.vs_prices.proofs.Duality.{bounds_plans}
-use Rattle.vs_prices.proofs.Worths.{worth_once}
+use Rattle.vs_prices.proofs.CallerLemmas.{bounds_plans, worth_once}
 use Rattle.vs_node.specs.ChosenLayers.{AreChosen, AreSingle}
 use Rattle.vs_node.specs.LeastPlans.{IsBestWithin, IsPlanWithin, ShowsPlan}
 use Rattle.vs_node.specs.NextSteps.{IsOpen}

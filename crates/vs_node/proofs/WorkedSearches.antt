@@ -11,22 +11,17 @@ use Rattle.vs_prices.specs.Bounds.{IsNoLess, ReachesValue}
 use Rattle.vs_prices.specs.Worth.{IsWorth, worth_of}
 use Rattle.vs_prices.specs.declared.bound.Bound.{Bound}
 use Rattle.vs_prices.specs.declared.table.Table.{Table}
-use Rattle.vs_prices.proofs.Worths.{worth_of-IsWorth}
+use Rattle.vs_prices.proofs.CallerLemmas.{worth_of-IsWorth}
 use Rattle.vs_tree.specs.declared.spot.Spot.{Spot}
 use Rattle.vs_tree.specs.declared.spot.Spot.TheVariants.{Inner, Free, Held, Closed as ClosedSpot}
 use Rattle.vs_tree.specs.Prices.{AreLawful, AreWorth, Prices, no_prices, prices_of}
 use Rattle.vs_tree.specs.Sound.{IsOpening, IsSound}
-use Rattle.vs_tree.specs.Tree.{IsProperPart, right_of, with_set}
+use Rattle.vs_cases.specs.Tree.{right_of, with_set}
+use Rattle.vs_types.specs.Parts.{IsProperPart}
 use Rattle.vs_tree.specs.History.{FullStep, Opening, Place, State, Took, Split, Closed, Offered, GaveBack, IsLeaf, IsLeafWorth, MayCome, MayFollow, MayGive, MaySplit, after, first_state, is_inner, left_part, no_place, place_at, prices_at, right_part, sets_at, spot_at, state_after, table_of, with_spot}
-use Rattle.vs_tree.proofs.LawfulPrices.{lawful_worth}
-use Rattle.vs_tree.proofs.Spots.{leaf_within}
-use Rattle.vs_tree.proofs.Restrictions.{left-restricts, right-restricts}
-use Rattle.vs_tree.proofs.Rests.{rest-within}
-use Rattle.vs_tree.proofs.RunIn.{set_of-other, set_of-same}
-use Rattle.vs_tree.proofs.sound.Closed.{last-prices}
-use Rattle.vs_tree.proofs.sound.Grown.{Where, split, other, lower, upper, nowhere, where_is, split-here, split-lower, split-nowhere, split-other, split-upper}
-use Rattle.vs_tree.proofs.sound.Histories.{first_sound, step_sound}
-use Rattle.vs_tree.proofs.sound.Relabelled.{leaves-kept, prices-kept, same-worth, sets-kept, spot-here, spot-there}
+use Rattle.vs_tree.proofs.CallerLemmas.{lawful_worth, leaf_within, last-prices, Where, split, other, lower, upper, nowhere, where_is, split-here, split-lower, split-nowhere, split-other, split-upper, first_sound, step_sound, leaves-kept, prices-kept, same-worth, sets-kept, spot-here, spot-there}
+use Rattle.vs_cases.proofs.CallerLemmas.{left-restricts, right-restricts, set_of-other, set_of-same}
+use Rattle.vs_types.proofs.CallerLemmas.{rest-within}
 use Rattle.vs_node.specs.Laws.{WorkedSearchesReachTheStart}
 use Rattle.vs_node.specs.WorkedHistory.{AreWorkedFrom, AreWorkedPrices, IsWorkedStep}
 use Rattle.vs_node.specs.WorkedStep.{IsWorked}

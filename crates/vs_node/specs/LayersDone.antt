@@ -10,7 +10,7 @@ use Rattle.vs_instance.specs.HoldingTable.{HoldsInLayer}
 use Rattle.vs_instance.specs.Lagrangian.{total}
 use Rattle.vs_instance.specs.Plan.{LayerBlock, plan_cost, times_run, vehicles_used}
 use Rattle.vs_instance.specs.Restriction.{set_of, IsWithin}
-use Rattle.vs_tree.specs.Rest.{has}
+use Rattle.vs_types.specs.Parts.{has}
 use Rattle.vs_prices.specs.declared.table.Table.{Table}
 use Rattle.vs_prices.specs.Table.{IsPrice, prices_in, vehicle_price}
 use Rattle.vs_prices.specs.Worth.{fleet_price, trip_price}

@@ -9,9 +9,9 @@ use Rattle.vs_prices.specs.declared.bound.Bound.{Bound}
 use Rattle.vs_prices.specs.declared.table.Table.{Table}
 use Rattle.vs_prices.specs.Bounds.{IsBelow}
 use Rattle.vs_prices.specs.Worth.{IsWorth}
-use Rattle.vs_tree.specs.declared.next.Next.{Next}
-use Rattle.vs_tree.specs.declared.next.Next.TheVariants.{Close, Split}
-use Rattle.vs_tree.specs.Tree.{IsProperPart}
+use Rattle.vs_tree.specs.declared.calls.Next.{Next}
+use Rattle.vs_tree.specs.declared.calls.Next.TheVariants.{Close, Split}
+use Rattle.vs_types.specs.Parts.{IsProperPart}
 use Rattle.vs_node.specs.SplitRule.{IsLowestAlone, IsSplitTrip}
 
 abbrev pub cost_of : Option Checked → Option ℤ

@@ -7,8 +7,8 @@ use Rattle.vs_prices.specs.declared.table.Table.{Table}
 use Rattle.vs_prices.specs.declared.bound.Bound.{Bound}
 use Rattle.vs_prices.specs.Worth.{IsWorth}
 use Rattle.vs_match.specs.LayerGraph.{LayerGraph}
-use Rattle.vs_tree.specs.declared.next.Next.{Next}
-use Rattle.vs_tree.specs.declared.next.Next.TheVariants.{Close, Split}
+use Rattle.vs_tree.specs.declared.calls.Next.{Next}
+use Rattle.vs_tree.specs.declared.calls.Next.TheVariants.{Close, Split}
 use Rattle.vs_node.specs.declared.outcome.Outcome.{Outcome}
 use Rattle.vs_node.specs.declared.task.Task.{Task}
 use Rattle.vs_node.specs.ChosenLayers.{AreChosen}

@@ -5,7 +5,7 @@ ghost use Rattle.vs_prices.specs.Bounds.{IsWorthNoLess};
 ghost use Rattle.vs_prices.specs.Table.{Fits, HoldingTable};
 ghost use Rattle.vs_prices.specs.Worth.{IsWorth};
 ghost use Rattle.vs_prices.specs.declared.bound.Bound.{Bound};
-ghost use Rattle.vs_tree.specs.declared.next.Next.TheVariants.{Close};
+ghost use Rattle.vs_tree.specs.declared.calls.Next.TheVariants.{Close};
 ghost use Rattle.vs_node.specs.ChosenLayers.{AreSingle};
 ghost use Rattle.vs_node.specs.NextSteps.{IsOpen};
 ghost use Rattle.vs_node.specs.Outcomes.{HasPlan, IsNextAfter};

@@ -1,7 +1,7 @@
 ghost use Rattle.std.specs.Prelude.{◌≤◌, ◌≡◌, ℕ, ◌<◌, length, MatchOption, OnSome};
 ghost use Rattle.vs_instance.specs.declared.limits.TheConstants.{MAX_TRIPS};
 ghost use Rattle.vs_types.specs.LayerSet.{members};
-ghost use Rattle.vs_tree.specs.Tree.{IsProperPart};
+ghost use Rattle.vs_types.specs.Parts.{IsProperPart};
 ghost use Rattle.vs_node.specs.SplitRule.{HasChoice, HoldsOfNone, IsDisputed, IsLowest, IsLowestAlone, IsSplitTrip};
 
 use vs_types::{LayerSet, TripNo};

@@ -3,7 +3,7 @@ ghost use Rattle.vs_instance.specs.Restriction.{IsRestriction};
 ghost use Rattle.vs_match.specs.LayerNets.{AreLayerNets};
 ghost use Rattle.vs_prices.specs.Bounds.{IsWorthNoLess};
 ghost use Rattle.vs_prices.specs.Table.{Fits, HoldingTable};
-ghost use Rattle.vs_tree.specs.declared.next.Next.TheVariants.{Close};
+ghost use Rattle.vs_tree.specs.declared.calls.Next.TheVariants.{Close};
 ghost use Rattle.vs_node.specs.ChosenLayers.{AreSingle};
 ghost use Rattle.vs_node.specs.Outcomes.{HasPlan, IsFollowedBy};
 ghost use Rattle.vs_node.specs.WorkedStep.{IsWorked, ReachesStart};

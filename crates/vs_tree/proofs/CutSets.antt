@@ -4,11 +4,11 @@ use Rattle.std.proofs.lemmas.Bool.{cases_eq, eq-eqb, ne_eqb}
 use Rattle.std.proofs.lemmas.List.{get_or_append_left, get_or-append-add, get_or-set_same, get_or-set_other}
 use Rattle.vs_types.specs.declared.layer_set.LayerSet.{LayerSet}
 use Rattle.vs_instance.specs.Restriction.{set_of}
-use Rattle.vs_tree.specs.declared.cut.Cut.{Cut}
+use Rattle.vs_tree.specs.declared.spot.Cut.{Cut}
 use Rattle.vs_tree.specs.declared.spot.Spot.{Spot}
 use Rattle.vs_tree.specs.Cuts.{AreCuts, AreLaid, IsLaid, cut_at, laid, places_of, sets_after, sets_of}
 use Rattle.vs_tree.specs.History.{Place, no_place, place_at, with_spot}
-use Rattle.vs_tree.specs.Tree.{with_set}
+use Rattle.vs_cases.specs.Tree.{with_set}
 
 abbrev sets_at : List (List LayerSet) → ℕ → List LayerSet
 sets_at all k = get_or all k []

@@ -21,9 +21,7 @@ use Rattle.vs_prices.specs.declared.bound.Bound.TheVariants.{AtLeast, NoPlan}
 use Rattle.vs_prices.specs.declared.table.Table.{Table}
 use Rattle.vs_prices.specs.Table.{Fits, IsPrice, prices_in}
 use Rattle.vs_prices.specs.Worth.{BoundsPlans, IsRoundedUp, IsWorth, least, worth_of}
-use Rattle.vs_prices.proofs.Duality.{bounds_plans}
-use Rattle.vs_prices.proofs.PricePlaces.{zeros_hold}
-use Rattle.vs_prices.proofs.Worths.{worth_of-IsWorth, worth_once}
+use Rattle.vs_prices.proofs.CallerLemmas.{bounds_plans, zeros_hold, worth_of-IsWorth, worth_once}
 use Rattle.vs_tree.specs.Prices.{AreLawful, AreWorth, Prices, prices_of, zero_prices}
 use denote.RawPtr.{null_ptr}
 
@@ -38,10 +36,6 @@ vec_of xs few = record {
   ok = (refl, omega arith);
   small = few;
 }
-
-vec_of-items : (xs : List ℤ) (few : length xs < 2 ^ 63) → (vec_of xs few).items ≡ xs
-unfolding vec_of
-vec_of-items xs few = refl
 
 abbrev zeros : ℕ → List ℤ
 zeros n = replicate n (pos 0)

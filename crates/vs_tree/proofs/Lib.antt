@@ -1,4 +1,3 @@
-pub mod Bits
 pub mod Accepted
 pub mod CutSets
 pub mod LawfulPrices
@@ -9,10 +8,6 @@ pub mod Spots
 pub mod search
 pub mod sound
 pub mod TrueReports
-pub mod Rests
-pub mod RunIn
-pub mod Restrictions
-pub mod Sharing
-pub mod ClaimExamples
 pub mod trees
 pub mod Entries
+pub mod CallerLemmas

@@ -34,13 +34,6 @@ at_most_or_less x y = by_test (int_lt y x) refl
     by_test true is = inr (less is)
     by_test false is = inl (at_most is)
 
--- of two bounds one is no less than the other
-pub no_less-either : (a b : Bound) → (¬ (IsNoLess a b)) → IsNoLess b a
-no_less-either NoPlan b less = absurd (less tt)
-no_less-either (AtLeast n) NoPlan less = tt
-no_less-either (AtLeast n) (AtLeast m) less =
-    elim (at_most_or_less m n) [ inl no_less ↦ absurd (less no_less) | inr above ↦ omega (arith, ints, above) ]
-
 not_after-refl : (a : Option Entry) → IsNotAfter a a
 not_after-refl None = tt
 not_after-refl (Some a) = (no_less-refl a.worth, λ same. omega arith)
@@ -59,40 +52,6 @@ not_after-trans (Some a) (Some b) (Some c) ab bc = (
       let second = bc.1 (no_less-trans b.worth a.worth c.worth ab.0 same) in
       omega (arith, first, second),
 )
-
--- the one that isn't taken no later than the other is taken after it
-pub not_after-either : (a b : Entry) → (¬ (IsNotAfter (Some a) (Some b))) → IsNotAfter (Some b) (Some a)
-not_after-either a b after =
-    elim (decide b.worth a.worth) [
-      | inl no_less ↦ (
-        no_less-back no_less,
-        λ same. omega (arith, late no_less),
-      )
-      | inr less ↦ (no_less-either b.worth a.worth less, λ same. absurd (less same))
-    ]
-  where
-    decide : (x y : Bound) → IsNoLess x y ⊎ (¬ (IsNoLess x y))
-    decide NoPlan y = inl tt
-    decide (AtLeast n) NoPlan = inr (λ h. h)
-    decide (AtLeast n) (AtLeast m) =
-        elim (at_most_or_less m n) [
-          | inl h ↦ inl h
-          | inr above ↦ inr (λ h. omega (arith, ints, above, h))
-        ]
-
-    late : IsNoLess b.worth a.worth → b.leaf < a.leaf
-    late no_less =
-        elim (cases_lt b.leaf a.leaf) [
-          | inl less ↦ less
-          | inr not_less ↦ absurd (after (no_less, λ same. not_less))
-        ]
-
-    no_less-back : IsNoLess b.worth a.worth → IsNoLess a.worth b.worth
-    no_less-back no_less =
-        elim (decide a.worth b.worth) [
-          | inl back ↦ back
-          | inr less ↦ absurd (after (no_less, λ same. absurd (less same)))
-        ]
 
 first-none : (a : Option Entry) → IsNotAfter a None
 first-none None = tt
@@ -223,30 +182,4 @@ root-is_first entries count entry t root =
           let P : Option Entry → Type 0 = λ a. IsNotAfter a (entry_at (drop count entries) w) in
           let Q : Option Entry → Type 0 = λ b. IsNotAfter (Some entry) b in
           subst Q has (subst P root first);
-    }
-
-abbrev none_entry : Option Entry
-none_entry = None
-
-all_none : (n k : ℕ) → entry_at (replicate n none_entry) k ≡ None
-all_none n k =
-    elim (cases_lt k n) [
-      | inl inside ↦ get_or-replicate n k none_entry none_entry inside
-      | inr past ↦ get_or_past (replicate n none_entry) k none_entry (omega (arith, length-replicate n none_entry))
-    ]
-
--- so many places without entries are a tournament
-pub no_entries : (count : ℕ) (entries : Entries) → 0 < count → entries ≡ replicate (2 * count) None
-    → IsTournament count entries
-no_entries count entries some is =
-    let none : (k : ℕ) → entry_at entries k ≡ None = λ k.
-    ap (λ (es : Entries). entry_at es k) is ∙ all_none (2 * count) k in
-    record {
-      some = some;
-      size = ap (λ (es : Entries). length es) is ∙ length-replicate (2 * count) none_entry;
-      played = λ k pos within. rw (none k, none (2 * k), none (2 * k + 1)) (record {
-        one = inl refl;
-        before_left = tt;
-        before_right = tt;
-      });
     }

@@ -1,8 +1,8 @@
 -- What the calls of a search add to its history.
 use Rattle.std.specs.Prelude.{◌≡◌, ℕ, [], ◌∷◌, ◌++◌, length, Bool, true, false, Some, None}
 use Rattle.vs_plan.specs.CheckedPlan.{Checked}
-use Rattle.vs_tree.specs.declared.next.Next.{Next}
-use Rattle.vs_tree.specs.declared.next.Next.TheVariants.{Close, Split}
+use Rattle.vs_tree.specs.declared.calls.Next.{Next}
+use Rattle.vs_tree.specs.declared.calls.Next.TheVariants.{Close, Split}
 use Rattle.vs_tree.specs.Prices.{Prices}
 use Rattle.vs_tree.specs.History as full
 use Rattle.vs_tree.specs.History.{FullStep, State, IsHeldBy}

@@ -4,12 +4,12 @@ use Rattle.std.specs.declared.alloc.Global.{Global}
 use Rattle.std.specs.declared.vec.Vec.{Vec}
 use Rattle.vs_types.specs.declared.layer_set.LayerSet.{LayerSet}
 use Rattle.vs_instance.specs.Restriction.{set_of}
-use Rattle.vs_tree.specs.declared.cut.Cut.{Cut}
+use Rattle.vs_tree.specs.declared.spot.Cut.{Cut}
 use Rattle.vs_tree.specs.declared.spot.Spot.{Spot}
 use Rattle.vs_tree.specs.declared.spot.Spot.TheVariants.{Inner, Free}
 use Rattle.vs_types.specs.declared.numbers.TripNo.{TripNo}
 use Rattle.vs_tree.specs.History.{Place, place_at, with_spot}
-use Rattle.vs_tree.specs.Tree.{with_set}
+use Rattle.vs_cases.specs.Tree.{with_set}
 
 -- the places, and how many there may be
 pub record Places : Type 0 where

@@ -1,6 +1,5 @@
--- How a search is seen where workers share it: its opening as a list of numbers, and its steps as entries, each a
--- list of
--- numbers that begins with its worker.
+-- How a search is seen where workers share it: its opening as a list of numbers, and its steps as entries, each a list
+-- of numbers that begins with its worker.
 use Rattle.std.specs.Prelude.{◌≡◌, ℕ, List, [], ◌∷◌, ◌++◌}
 use base.Stored.{Gv, gnil, gnum, gcons}
 use Rattle.vs_tree.specs.Codes.{coded_opening, coded_step}

@@ -1,50 +1,17 @@
--- What holds of every tree of cases.
-use Rattle.std.specs.Prelude.{◌≡◌, ℕ, ◌<◌, ◌↔◌, List, All, slice_get, Some, IsSomeAnd, pos, ◌≤ℤ◌}
-use Rattle.vs_types.specs.LayerSet.{Has}
-use Rattle.vs_types.specs.declared.layer_set.LayerSet.{LayerSet}
+-- What holds of every history of a search.
+use Rattle.std.specs.Prelude.{ℕ, List, IsSomeAnd, pos, ◌≤ℤ◌}
 use Rattle.vs_instance.specs.Problem.{Problem}
-use Rattle.vs_instance.specs.Instance.{IsInstance}
 use Rattle.vs_instance.specs.Plan.{LayerBlock, IsPlan, plan_cost}
-use Rattle.vs_instance.specs.Restriction.{IsRestriction, IsWithin}
 use Rattle.vs_prices.specs.Worth.{BoundsPlans}
 use Rattle.vs_prices.specs.declared.bound.Bound.{Bound}
-use Rattle.vs_tree.specs.declared.claim.Claim.{Claim}
-use Rattle.vs_tree.specs.declared.claim.Claim.TheVariants.{Optimal, Infeasible, StillOpen}
-use Rattle.vs_tree.specs.declared.report.Report.{Report}
+use Rattle.vs_cases.specs.declared.claim.Claim.{Claim}
+use Rattle.vs_cases.specs.declared.claim.Claim.TheVariants.{Optimal, Infeasible, StillOpen}
+use Rattle.vs_tree.specs.declared.calls.Report.{Report}
 use Rattle.vs_tree.specs.History.{FullStep, Opening, State, IsHistory, IsLeaf, IsLeafWorth, incumbent, sets_at, state_of}
 use Rattle.vs_tree.specs.Report.{IsReport}
-use Rattle.vs_tree.specs.Rest.{rest_of}
 use Rattle.vs_tree.specs.Sound.{IsOpening, IsPlanOf, IsSound}
 use Rattle.vs_tree.specs.StateTree.{IsTreeOf}
-use Rattle.vs_tree.specs.Tree.{Tree, IsGoodTree, LeafPlace, leaves}
-
--- the blocks lie within the restriction of leaf k
-pub record LiesIn (places : List LeafPlace) (k : ℕ) (blocks : List LayerBlock) : Type 0 where
-  pub place : LeafPlace
-  pub is : slice_get places k ≡ Some place
-  pub within : IsWithin place.sets blocks
-
--- the blocks lie in one leaf, and in no other
-pub record LiesInOne (places : List LeafPlace) (blocks : List LayerBlock) : Type 0 where
-  pub leaf : ℕ
-  pub lies : LiesIn places leaf blocks
-  pub only : (k : ℕ) → LiesIn places k blocks → k ≡ leaf
-
--- in every instance, each plan within a restriction lies in exactly one leaf of a good tree that has it at its root
-abbrev pub LeavesShareOutPlans : Type 0
-LeavesShareOutPlans = (p : Problem) (sets : List LayerSet) (tree : Tree) (blocks : List LayerBlock) → IsInstance p
-    → IsRestriction p sets → IsGoodTree sets tree → IsPlan p blocks → IsWithin sets blocks
-    → LiesInOne (leaves sets tree) blocks
-
--- the sets of each leaf of such a tree are a restriction
-abbrev pub LeavesAreRestrictions : Type 0
-LeavesAreRestrictions = (p : Problem) (sets : List LayerSet) (tree : Tree) → IsInstance p → IsRestriction p sets
-    → IsGoodTree sets tree → All (λ place. IsRestriction p place.sets) (leaves sets tree)
-
--- what a set leaves of another: its layers are those of the whole that aren't the part's
-abbrev pub RestsLeaveTheOthers : Type 0
-RestsLeaveTheOthers =
-    (whole part : LayerSet) (l : ℕ) → l < 16 → Has (rest_of whole part) l ↔ (Has whole l × ¬ (Has part l))
+use Rattle.vs_cases.specs.Tree.{Tree}
 
 -- every state that a history leads to is sound
 abbrev pub HistoriesAreSound : Type 0

@@ -1,7 +1,6 @@
-pub mod Rest
-pub mod Tree
+pub use Rattle.vs_cases.specs.Tree
 pub mod Laws
-pub mod Claims
+pub use Rattle.vs_cases.specs.Claims
 pub mod Prices
 pub mod History
 pub mod Sound

@@ -4,8 +4,8 @@ use Rattle.vs_types.specs.declared.layer_set.LayerSet.{LayerSet}
 use Rattle.vs_prices.specs.declared.bound.Bound.{Bound}
 use Rattle.vs_prices.specs.declared.bound.Bound.TheVariants.{NoPlan}
 use Rattle.vs_tree.specs.declared.entry.Entry.{Entry}
-use Rattle.vs_tree.specs.declared.hand.Hand.{Hand}
-use Rattle.vs_tree.specs.declared.hand.Hand.TheVariants.{Idle, Has, Gone}
+use Rattle.vs_tree.specs.declared.calls.Hand.{Hand}
+use Rattle.vs_tree.specs.declared.calls.Hand.TheVariants.{Idle, Has, Gone}
 use Rattle.vs_tree.specs.declared.spot.Spot.{Spot}
 use Rattle.vs_tree.specs.declared.spot.Spot.TheVariants.{Inner, Free, Held, Closed}
 use Rattle.vs_instance.specs.declared.limits.TheConstants.{MAX_BUDGET, MAX_WORKERS}

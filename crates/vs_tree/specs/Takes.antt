@@ -5,8 +5,8 @@ use Rattle.vs_instance.specs.Problem.{Problem}
 use Rattle.vs_prices.specs.Bounds.{IsBelow}
 use Rattle.vs_prices.specs.declared.bound.Bound.{Bound}
 use Rattle.vs_prices.specs.declared.table.Table.{Table}
-use Rattle.vs_tree.specs.declared.take.Take.{Take}
-use Rattle.vs_tree.specs.declared.take.Take.TheVariants.{Node, Wait, Done, Spent}
+use Rattle.vs_tree.specs.declared.calls.Take.{Take}
+use Rattle.vs_tree.specs.declared.calls.Take.TheVariants.{Node, Wait, Done, Spent}
 use Rattle.vs_tree.specs.History as full
 use Rattle.vs_tree.specs.History.{FullStep, Opening, State, IsFree, IsLeafWorth, IsNextLeaf, count_spots, is_held, known, prices_at, sets_at}
 use Rattle.vs_tree.specs.Prices.{prices_of}

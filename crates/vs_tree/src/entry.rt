@@ -1,3 +1,5 @@
+//! The free leaves in the order in which they are taken.
+
 ghost use Rattle.std.specs.Prelude.{◌↔◌, IsTrue, Some};
 ghost use Rattle.vs_tree.specs.Free.{IsFirstOf, IsNotAfter};
 

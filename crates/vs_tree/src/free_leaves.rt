@@ -1,3 +1,5 @@
+//! The free leaves of a search, of which the next to be taken is found at once.
+
 ghost use Rattle.std.specs.Prelude.{◌≡◌, ◌+◌, ◌*◌, ◌<◌, length, set, drop, replicate, IfOk, MatchOption, None};
 ghost use Rattle.vs_tree.specs.Free.{IsEmpty, IsFirst, IsTournament};
 

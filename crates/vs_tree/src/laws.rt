@@ -1,20 +1,7 @@
-//! What holds of every tree.
+//! What holds of every history of a search.
 
 ghost use Rattle.vs_tree.specs.Entries.{EntriesDiffer};
-ghost use Rattle.vs_tree.specs.Laws.{LeavesAreRestrictions, LeavesShareOutPlans};
 ghost use Rattle.vs_tree.specs.Laws.{HistoriesAreSound, LeavesBoundPlans, ReportsAreTrue, StatesAreTrees};
-
-/// The leaves of a good tree share out the plans of its root: each plan within the root's restriction lies
-/// within that of exactly one leaf.
-pub fn leaves_share_out_plans()
-    ensures { LeavesShareOutPlans }
-{}
-
-/// The leaves of a good tree have restrictions: some layer is left for each trip, and each that is left is
-/// one of the root's.
-pub fn leaves_are_restrictions()
-    ensures { LeavesAreRestrictions }
-{}
 
 /// Every state that a history of a search leads to is sound: each plan of the instance lies in exactly one leaf,
 /// every table fits and holds, every accepted plan is one of the instance and cheaper than the one before, no closed
@@ -39,8 +26,8 @@ pub fn states_are_trees()
     ensures { StatesAreTrees }
 {}
 
-/// Written out as numbers, as workers that share a search see it, two different openings differ, and so do two different
-/// steps.
+/// Written out as numbers, as workers that share a search see it, two different openings differ, and so do two
+/// different steps.
 pub fn entries_differ()
     ensures { EntriesDiffer }
 {}

@@ -1,3 +1,5 @@
+//! The history of a search, with its tables and plans.
+
 ghost use Rattle.std.specs.Prelude.{◌≡◌, ◌+◌, ◌<◌, ◌++◌, ◌∷◌, [], length, map, IfOk, slice_index_or, None, option_copied, option_map};
 ghost use Rattle.std.specs.List.{last_or};
 ghost use Rattle.vs_tree.specs.History.{plans_of};

@@ -1,12 +1,13 @@
+//! The spots of a tree of cases, and the layers that each trip has there.
+
 ghost use Rattle.std.specs.Prelude.{◌≡◌, ◌≢◌, ℕ, ◌+◌, ◌<◌, ◌≤◌, ◌++◌, ◌∷◌, [], length, IfOk, All, slice_index_or};
 ghost use Rattle.vs_instance.specs.Restriction.{permitted_sets, set_of};
 ghost use Rattle.vs_tree.specs.History.{place_at, with_spot};
 ghost use Rattle.vs_tree.specs.Cuts.{AreCuts, AreLaid, laid, part_at, sets_of, split_at};
-ghost use Rattle.vs_tree.specs.Tree.{with_set};
+ghost use Rattle.vs_cases.specs.Tree.{with_set};
 ghost use Rattle.vs_tree.specs.declared.spot.Spot.TheVariants.{Free};
 
-use crate::cut::Cut;
-use crate::spot::Spot;
+use crate::spot::{Cut, Spot};
 use std::alloc::Global;
 use std::marker::Model;
 use vs_instance::Instance;
@@ -150,9 +151,11 @@ impl Places {
         requires size { length sets.old ≡ length (place_at self.now.places k).sets }
         ensures { sets.new ≡ (place_at self.now.places k).sets }
     {
+        let permitted: &[LayerSet] = &self.permitted;
+        let cuts: &[Cut] = &self.cuts;
         sets.fill(LayerSet(0));
-        lay_cuts(&self.permitted, &self.cuts, k as usize, sets);
-        lay_permitted(&self.permitted, sets);
+        lay_cuts(permitted, cuts, k as usize, sets);
+        lay_permitted(permitted, sets);
     }
 }
 

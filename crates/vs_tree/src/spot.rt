@@ -1,3 +1,5 @@
+//! The places of a tree of cases, and how they came.
+
 use vs_types::{LayerSet, TripNo};
 
 /// A place in a tree of cases. A leaf is one that isn't `Inner`.
@@ -24,4 +26,12 @@ pub enum Spot {
     Closed {
         table: u32,
     },
+}
+
+/// How a spot came: the parent was split, and here the trip is run in these layers.
+#[derive(Clone, Copy, Debug, PartialEq, Eq)]
+pub struct Cut {
+    pub parent: u32,
+    pub trip: TripNo,
+    pub layers: LayerSet,
 }

@@ -1,3 +1,5 @@
+//! The steps of a history.
+
 use vs_types::{LayerSet, TripNo};
 
 /// A step of a search. Spots, tables and accepted plans are numbered from 0 in the order in which they came.

@@ -1,3 +1,5 @@
+//! A search: its tree of cases, its history, and the calls of its workers.
+
 ghost use Rattle.std.specs.Prelude.{◌≡◌, ◌<◌, ◌≤◌, ◌∷◌, [], length, map, IfOk, IfSome, slice_index_or};
 ghost use Rattle.std.specs.Prelude.{true, ◌⊎◌, ◌^◌, ℕ, ◌++◌, ◌↔◌, IsTrue, count_by, option_copied, None};
 ghost use Rattle.vs_tree.specs.History as full;
@@ -8,7 +10,8 @@ ghost use Rattle.vs_instance.specs.Restriction.{IsRestriction, set_of};
 ghost use Rattle.vs_prices.specs.Bounds.{IsNoLess};
 ghost use Rattle.vs_prices.specs.Table.{Fits};
 ghost use Rattle.vs_prices.specs.Worth.{IsWorth};
-ghost use Rattle.vs_tree.specs.Tree.{IsProperPart, right_of, with_set};
+ghost use Rattle.vs_cases.specs.Tree.{right_of, with_set};
+ghost use Rattle.vs_types.specs.Parts.{IsProperPart};
 ghost use Rattle.vs_tree.specs.Report.{IsLeastOf, IsReport, bound_of};
 ghost use Rattle.vs_tree.specs.Takes.{AreBuffersKept, IsSized, IsTake, taking};
 ghost use Rattle.vs_tree.specs.Log.{plain_step};
@@ -16,21 +19,17 @@ ghost use Rattle.vs_tree.specs.Prices.{no_prices, prices_of};
 ghost use Rattle.vs_tree.specs.Search.{IsHand, hand_at, is_busy, state};
 ghost use Rattle.vs_tree.specs.Sound.{IsOpening, IsPlanOf};
 
-use crate::claim::claim_found;
+use crate::calls::{Hand, Next, Report, Take};
 use crate::entry::Entry;
 use crate::free_leaves::FreeLeaves;
-use crate::hand::Hand;
 use crate::log::{Log, Rooms};
-use crate::next::Next;
 use crate::places::Places;
-use crate::report::Report;
-use crate::rest::rest_of;
 use crate::spot::Spot;
 use crate::step::Step;
-use crate::take::Take;
 use std::alloc::Global;
 use std::marker::Model;
 use std::snapshot::Snapshot;
+use vs_cases::claim_found;
 use vs_instance::{Instance, MAX_BUDGET, MAX_WORKERS};
 use vs_plan::CheckedPlan;
 use vs_prices::{Bound, Table, permitted_sets, worth};
@@ -477,7 +476,7 @@ fn part_worths(
     ensures size { length sets.new ≡ length sets.old }
 {
     let i = trip.0 as usize;
-    let right = rest_of(sets[i], left);
+    let right = sets[i].minus(left);
     sets[i] = left;
     let lower = worth(instance, sets, table);
     sets[i] = right;

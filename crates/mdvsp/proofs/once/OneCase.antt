@@ -5,20 +5,17 @@ use Rattle.vs_instance.specs.Problem.{Problem}
 use Rattle.vs_reader.specs.Names.{NameLists}
 use Rattle.vs_reader.specs.Rows.{Row}
 use Rattle.vs_reader.proofs.texts.TextLemmas.{one_reading, refused_none}
-use Rattle.vs_cert.specs.Alike.{AreAlike}
-use Rattle.vs_cert.specs.DocumentRefusals.{AreRefused}
-use Rattle.vs_cert.specs.DocumentText.{DocumentText}
-use Rattle.vs_cert.specs.declared.document.Document.{Document}
-use Rattle.vs_cert.specs.declared.refused.DocWhy.{DocWhy}
-use Rattle.vs_cert.proofs.alike.AlikeDocuments.{alike as alike_documents}
-use Rattle.vs_cert.proofs.rows.RefusedOnce.{document_not_refused, refused_once}
-use Rattle.vs_cert.proofs.alike.Suiting.{suits-text}
+use Rattle.vs_document.specs.Alike.{AreAlike}
+use Rattle.vs_document.specs.DocumentRefusals.{AreRefused}
+use Rattle.vs_document.specs.DocumentText.{DocumentText}
+use Rattle.vs_document.specs.declared.document.Document.{Document}
+use Rattle.vs_document.specs.declared.refused.DocWhy.{DocWhy}
+use Rattle.vs_document.proofs.CallerLemmas.{alike as alike_documents, document_not_refused, refused_once, suits-text, instance_names}
 use Rattle.vs_check.specs.Laws.{AreJudgedAlike}
-use Rattle.vs_check.proofs.AlikeDocuments.{judged_alike}
+use Rattle.vs_check.proofs.CallerLemmas.{judged_alike}
 use Rattle.mdvsp.specs.Cases.{CheckText}
 use Rattle.mdvsp.specs.Owed.{OwesDocumentRefusal, OwesNoCase}
 use Rattle.mdvsp.specs.RefusalRows.{document_refusal_row}
-use Rattle.mdvsp.proofs.LawDocuments.{instance_names}
 
 -- two readings of the same bytes behind which documents stand
 pub record IsSameCase (p q : Problem) (names others : NameLists) (d e : Document) : Type 0 where

@@ -7,12 +7,12 @@ use Rattle.vs_instance.specs.Restriction.{permitted_sets}
 use Rattle.vs_plan.specs.Blocks.{blocks_of}
 use Rattle.vs_reader.specs.Rows.{Row}
 use Rattle.vs_reader.proofs.texts.TextLemmas.{one_reading, refused_none}
-use Rattle.vs_tree.specs.declared.claim.Claim.{Claim}
-use Rattle.vs_tree.specs.declared.claim.Claim.TheVariants.{Optimal, Infeasible, StillOpen}
-use Rattle.vs_cert.specs.declared.document.Document.{Document}
-use Rattle.vs_check.specs.Answers.{choices}
+use Rattle.vs_cases.specs.declared.claim.Claim.{Claim}
+use Rattle.vs_cases.specs.declared.claim.Claim.TheVariants.{Optimal, Infeasible, StillOpen}
+use Rattle.vs_document.specs.declared.document.Document.{Document}
+use Rattle.vs_answer.specs.Answers.{choices}
 use Rattle.vs_check.specs.HoldingDocument.{ProvesItsClaim}
-use Rattle.vs_check.proofs.EnoughBudgets.{enough_budgets_leave_nothing_open}
+use Rattle.vs_answer.proofs.CallerLemmas.{enough_budgets_leave_nothing_open}
 use Rattle.vs_words.specs.declared.command.Effort.{Effort}
 use Rattle.mdvsp.specs.declared.status.Status.{Status}
 use Rattle.mdvsp.specs.declared.status.Status.TheVariants as status

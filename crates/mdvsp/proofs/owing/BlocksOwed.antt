@@ -10,9 +10,9 @@ use Rattle.vs_plan.specs.PlanFaults.{faults_of}
 use Rattle.vs_plan.specs.declared.plan_fault.PlanFault.{PlanFault}
 use Rattle.vs_check.specs.Flaws.{IsFlawWithin, flaws_of}
 use Rattle.vs_check.specs.declared.flaw.Flaw.TheVariants.{Plan}
-use Rattle.vs_check.proofs.NamedFlaws.{verdict_named}
+use Rattle.vs_check.proofs.CallerLemmas.{verdict_named}
 use Rattle.mdvsp.specs.Cases.{CheckText}
-use Rattle.vs_cert.specs.declared.document.Document.{Document}
+use Rattle.vs_document.specs.declared.document.Document.{Document}
 use Rattle.vs_reader.specs.Names.{NameLists, HaveCounts}
 use Rattle.vs_reader.specs.Rows.{lines}
 use Rattle.mdvsp.specs.declared.answer.Answer.{Answer}

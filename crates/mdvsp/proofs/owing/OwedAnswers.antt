@@ -2,9 +2,9 @@
 use Rattle.std.proofs.Common.{◌≡◌, ℕ, List, [], ◌∷◌, Result, Ok, Err, Option, Some, None, inl, inr, refl, sym, subst, IfOk}
 use Rattle.vs_types.specs.declared.memory.Memory.{Memory}
 use Rattle.vs_instance.specs.Problem.{Problem}
-use Rattle.vs_tree.specs.declared.claim.Claim.{Claim}
-use Rattle.vs_tree.specs.declared.claim.Claim.TheVariants.{Optimal, Infeasible, StillOpen}
-use Rattle.vs_cert.specs.declared.document.Document.{Document}
+use Rattle.vs_cases.specs.declared.claim.Claim.{Claim}
+use Rattle.vs_cases.specs.declared.claim.Claim.TheVariants.{Optimal, Infeasible, StillOpen}
+use Rattle.vs_document.specs.declared.document.Document.{Document}
 use Rattle.vs_check.specs.HoldingDocument.{HoldingDocument}
 use Rattle.vs_reader.specs.declared.refused.Refused.{Refused}
 use Rattle.vs_reader.specs.Names.{NameLists}
@@ -17,9 +17,9 @@ use Rattle.vs_words.specs.declared.command.Command.{Command}
 use Rattle.vs_words.specs.declared.command.Effort.{Effort}
 use Rattle.vs_words.specs.declared.command.Command.TheVariants.{Check, Solve, Network}
 use Rattle.mdvsp.specs.Answered.{HasSizes, IsDocumentOf, IsNoCase, IsOwedFor, RefusesCase, case_error}
-use Rattle.vs_cert.specs.DocumentRefusals.{AreRefused}
-use Rattle.vs_cert.specs.DocumentRows.{document_rows}
-use Rattle.vs_cert.specs.declared.refused.DocWhy.{DocWhy}
+use Rattle.vs_document.specs.DocumentRefusals.{AreRefused}
+use Rattle.vs_document.specs.DocumentRows.{document_rows}
+use Rattle.vs_document.specs.declared.refused.DocWhy.{DocWhy}
 use Rattle.mdvsp.specs.Budgets.{budget_of}
 use Rattle.mdvsp.specs.Cases.{CheckText, SolveText}
 use Rattle.mdvsp.specs.Owed.{Owes, SolveOwes, OwesDocument, OwesRefusal, status_of, yes_row}
@@ -30,7 +30,7 @@ use Rattle.vs_check.specs.Flaws.{flaws_of, verdict_of}
 use Rattle.vs_check.specs.declared.flaw.Flaw.{Flaw}
 use Rattle.vs_check.specs.declared.verdict.Verdict.{Verdict}
 use Rattle.vs_check.specs.declared.verdict.Verdict.TheVariants.{No}
-use Rattle.vs_check.proofs.Claims.{prove_their_claims}
+use Rattle.vs_check.proofs.CallerLemmas.{prove_their_claims}
 
 -- rows that are owed with a status, as an answer has them
 pub owed_so : (command : Command) (bytes : List ℕ) (answer : Answer) (wanted : Status) (rows : List Row)

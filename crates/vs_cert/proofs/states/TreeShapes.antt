@@ -9,12 +9,13 @@ use Rattle.vs_instance.specs.Instance.{IsInstance}
 use Rattle.vs_instance.specs.Problem.{Problem}
 use Rattle.vs_instance.specs.Restriction.{IsRestriction, set_of}
 use Rattle.vs_instance.specs.Ways.{no_trip}
-use Rattle.vs_tree.specs.Tree.{Tree, Leaf, Split, IsGoodTree, IsProperPart, right_of, with_set}
-use Rattle.vs_tree.proofs.Restrictions.{left-restricts, right-restricts}
-use Rattle.vs_cert.specs.Shapes.{IsShapeOf, preorder}
+use Rattle.vs_cases.specs.Tree.{Tree, Leaf, Split, IsGoodTree, right_of, with_set}
+use Rattle.vs_types.specs.Parts.{IsProperPart}
+use Rattle.vs_cases.proofs.CallerLemmas.{left-restricts, right-restricts}
+use Rattle.vs_document.specs.Shapes.{IsShapeOf, preorder}
 use Rattle.vs_cert.specs.StateDocument.{IsRenumbered}
-use Rattle.vs_cert.specs.declared.shape.Shape.{Shape}
-use Rattle.vs_cert.specs.declared.shape.Shape.TheVariants as shape
+use Rattle.vs_document.specs.declared.document.Shape.{Shape}
+use Rattle.vs_document.specs.declared.document.Shape.TheVariants as shape
 
 module _ (p : Problem) (instance : IsInstance p) (numbers : List ℕ) where
   abbrev IsRow : Shape → Type 0

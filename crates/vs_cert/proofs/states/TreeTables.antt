@@ -11,17 +11,17 @@ use Rattle.vs_prices.specs.declared.table.Table.{Table}
 use Rattle.vs_tree.specs.History.{Opening, State}
 use Rattle.vs_tree.specs.Prices.{AreLawful, Prices, no_prices, prices_of}
 use Rattle.vs_tree.specs.Sound.{IsSound}
-use Rattle.vs_tree.specs.StateTree.{IsTreeAt}
-use Rattle.vs_tree.proofs.LawfulPrices.{lawful_fits}
-use Rattle.vs_tree.specs.Tree.{Tree, Leaf, Split, right_of, with_set}
-use Rattle.vs_cert.specs.DocumentRows.{DocumentRow, table_rows}
+use Rattle.vs_tree.specs.StateTree.{IsTreeAt, IsTreeOf}
+use Rattle.vs_tree.proofs.CallerLemmas.{lawful_fits}
+use Rattle.vs_cases.specs.Tree.{Tree, Leaf, Split, right_of, with_set}
+use Rattle.vs_document.specs.DocumentRows.{DocumentRow, table_rows}
 use Rattle.vs_cert.specs.StateDocument.{first_times, tables_named}
 use Rattle.vs_cert.specs.TreeRows.{AreRowsOf}
 use Rattle.vs_cert.specs.TreeText.{prices_of_number, prices_rows}
-use Rattle.vs_cert.specs.declared.shape.Shape.{Shape}
+use Rattle.vs_document.specs.declared.document.Shape.{Shape}
 
 -- what is true of numbers is true of them once each
-pub first_times-All : (P : ℕ → Type 0) (xs : List ℕ) → All P xs → All P (first_times xs)
+first_times-All : (P : ℕ → Type 0) (xs : List ℕ) → All P xs → All P (first_times xs)
 first_times-All P [] each = All-nil P
 first_times-All P (n ∷ rest) each =
     All-cons P n (filter (λ m. not (m == n)) (first_times rest)) (All-head P n rest each)
@@ -52,11 +52,12 @@ module _ (o : Opening) (s : State) (sound : IsSound o s) where
       (named lower at.lower (with_set sets trip left) at.first at.is_lower)
       (named upper at.upper (with_set sets trip (right_of sets trip left)) at.second at.is_upper)
 
+  pub named_within : (tree : Tree) → IsTreeOf o.problem s tree → All IsNumber (first_times (tables_named tree))
+  named_within tree is =
+      first_times-All IsNumber (tables_named tree) (named tree 0 (permitted_sets p) is.spots is.is_tree)
+
   pub numbers_within : (numbers : List ℕ) (rows : List Shape) → AreRowsOf o s numbers rows → All IsNumber numbers
-  numbers_within numbers rows are =
-      subst (All IsNumber) (sym are.numbers_are)
-      (first_times-All IsNumber (tables_named are.tree)
-      (named are.tree 0 (permitted_sets p) are.is_tree.spots are.is_tree.is_tree))
+  numbers_within numbers rows are = subst (All IsNumber) (sym are.numbers_are) (named_within are.tree are.is_tree)
 
   -- a table of the prices of one of them fits
   pub number_fits : (n : ℕ) (t : Table) → IsNumber n → prices_of t ≡ prices_of_number s n → Fits p t

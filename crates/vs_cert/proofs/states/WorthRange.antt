@@ -21,9 +21,8 @@ use Rattle.vs_prices.specs.Table.{Fits, IsPrice, into_price, from_price, vehicle
 use Rattle.vs_prices.specs.Worth.{IsRoundedUp, IsWorth, fleet_price, least, least_price, table_value, trip_price}
 use Rattle.vs_prices.specs.declared.bound.Bound.TheVariants.{AtLeast}
 use Rattle.vs_prices.specs.declared.table.Table.{Table}
-use Rattle.vs_prices.proofs.PriceNumbers.{IsScaled, scaled-IsScaled}
-use Rattle.vs_prices.proofs.RunningTotals.{product_within}
-use Rattle.vs_cert.proofs.written.PriceRanges.{price_anywhere, prices_in_all}
+use Rattle.vs_prices.proofs.CallerLemmas.{IsScaled, scaled-IsScaled, product_within}
+use Rattle.vs_document.proofs.CallerLemmas.{price_anywhere, prices_in_all}
 
 -- numbers at most so far from 0
 abbrev pub Within : ℕ → ℤ → Type 0

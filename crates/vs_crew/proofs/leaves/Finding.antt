@@ -13,8 +13,8 @@ use Rattle.vs_prices.specs.declared.bound.Bound.{Bound}
 use Rattle.vs_prices.specs.declared.bound.Bound.TheVariants.{AtLeast, NoPlan}
 use Rattle.vs_prices.specs.declared.table.Table.{Table}
 use Rattle.vs_tree.specs.Sound.{IsPlanOf}
-use Rattle.vs_tree.specs.declared.next.Next.{Next}
-use Rattle.vs_tree.specs.declared.next.Next.TheVariants.{Close, Split}
+use Rattle.vs_tree.specs.declared.calls.Next.{Next}
+use Rattle.vs_tree.specs.declared.calls.Next.TheVariants.{Close, Split}
 use Rattle.vs_node.specs.LeastPlans.{IsBestWithin}
 use Rattle.vs_node.specs.NextSteps.{cost_of}
 use Rattle.vs_node.specs.Outcomes.{HasNext, HasPlan}

@@ -9,9 +9,7 @@ use Rattle.vs_tree.specs.Prices.{Prices, no_prices, prices_of}
 use Rattle.vs_tree.specs.Search.{Search, state}
 use Rattle.vs_tree.specs.Sound.{IsOpening, IsSound}
 use Rattle.vs_tree.specs.declared.spot.Spot.{Spot}
-use Rattle.vs_tree.proofs.search.Facts.{state-last}
-use Rattle.vs_tree.proofs.sound.Histories.{histories_are_sound}
-use Rattle.vs_tree.proofs.sound.Relabelled.{prices-kept}
+use Rattle.vs_tree.proofs.CallerLemmas.{state-last, histories_are_sound, prices-kept}
 use Rattle.vs_node.specs.WorkedHistory.{AreWorkedFrom}
 use Rattle.vs_node.specs.declared.outcome.Outcome.{Outcome}
 use Rattle.vs_node.specs.declared.task.Task.{Task}

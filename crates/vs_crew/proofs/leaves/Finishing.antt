@@ -8,10 +8,10 @@ use Rattle.vs_prices.specs.declared.bound.Bound.{Bound}
 use Rattle.vs_tree.specs.Calls.{finishing}
 use Rattle.vs_tree.specs.History.{Opening, State, IsHeldBy, IsLeafWorth, MayCome, MayGive, known, prices_at, sets_at}
 use Rattle.vs_tree.specs.Prices.{AreWorth, prices_of}
-use Rattle.vs_tree.specs.Tree.{IsProperPart}
-use Rattle.vs_tree.specs.declared.next.Next.{Next}
-use Rattle.vs_tree.specs.declared.next.Next.TheVariants.{Close, Split}
-use Rattle.vs_tree.proofs.LawfulPrices.{worth_of_table}
+use Rattle.vs_types.specs.Parts.{IsProperPart}
+use Rattle.vs_tree.specs.declared.calls.Next.{Next}
+use Rattle.vs_tree.specs.declared.calls.Next.TheVariants.{Close, Split}
+use Rattle.vs_tree.proofs.CallerLemmas.{worth_of_table}
 use Rattle.vs_node.specs.NextSteps.{IsOpen}
 use Rattle.vs_node.specs.WorkedHistory.{AreWorkedPrices}
 use Rattle.vs_node.specs.WorkedStep.{IsWorked}

@@ -6,13 +6,11 @@ use Rattle.vs_tree.specs.Calls.{finishing}
 use Rattle.vs_tree.specs.Entries.{worker_of}
 use Rattle.vs_tree.specs.History.{Place, State, Split, Closed, IsHeldBy, after, is_held, is_inner, left_part, no_place, place_at, right_part, sets_at, spot_at}
 use Rattle.vs_tree.specs.Prices.{Prices}
-use Rattle.vs_tree.specs.declared.next.Next.{Next}
-use Rattle.vs_tree.specs.declared.next.Next.TheVariants.{Close, Split as SplitNext}
+use Rattle.vs_tree.specs.declared.calls.Next.{Next}
+use Rattle.vs_tree.specs.declared.calls.Next.TheVariants.{Close, Split as SplitNext}
 use Rattle.vs_tree.specs.declared.spot.Spot.{Spot}
 use Rattle.vs_tree.specs.declared.spot.Spot.TheVariants.{Inner, Closed as ClosedSpot}
-use Rattle.vs_tree.proofs.Spots.{leaf_within}
-use Rattle.vs_tree.proofs.sound.Grown.{split, other, lower, upper, nowhere, where_is, split-here, split-lower, split-nowhere, split-other, split-upper}
-use Rattle.vs_tree.proofs.sound.Relabelled.{held-before, spot-here}
+use Rattle.vs_tree.proofs.CallerLemmas.{leaf_within, split, other, lower, upper, nowhere, where_is, split-here, split-lower, split-nowhere, split-other, split-upper, held-before, spot-here}
 
 -- where the spot of the only leaf that a worker held is held no more, it holds none
 none-after : (s n : State) (w leaf : ℕ) → is_held (spot_at n leaf) ≡ false

@@ -11,8 +11,7 @@ use Rattle.vs_tree.specs.Calls.{offering, with_step}
 use Rattle.vs_tree.specs.Entries.{worker_of}
 use Rattle.vs_tree.specs.History.{FullStep, State, IsCheaper, after, first_state, known}
 use Rattle.vs_tree.specs.Search.{Search, state}
-use Rattle.vs_tree.proofs.Accepted.{below-before, last-more}
-use Rattle.vs_tree.proofs.search.Facts.{state-last}
+use Rattle.vs_tree.proofs.CallerLemmas.{below-before, last-more, state-last}
 use Rattle.vs_node.specs.NextSteps.{IsOpen}
 use Rattle.vs_node.specs.WorkedHistory.{AreWorkedFrom, IsWorkedStep}
 use Rattle.vs_crew.specs.Leaves.{HasOffered}

@@ -4,9 +4,9 @@ use Rattle.vs_tree.specs.Calls.{with_step}
 use Rattle.vs_tree.specs.History.{FullStep, Opening, State, Took, GaveBack, IsAmong, first_state}
 use Rattle.vs_tree.specs.Search.{Search, state}
 use Rattle.vs_tree.specs.Takes.{taking}
-use Rattle.vs_tree.specs.declared.take.Take.{Take}
-use Rattle.vs_tree.specs.declared.take.Take.TheVariants.{Node, Wait, Done, Spent}
-use Rattle.vs_tree.proofs.search.Facts.{state-last}
+use Rattle.vs_tree.specs.declared.calls.Take.{Take}
+use Rattle.vs_tree.specs.declared.calls.Take.TheVariants.{Node, Wait, Done, Spent}
+use Rattle.vs_tree.proofs.CallerLemmas.{state-last}
 use Rattle.vs_node.specs.WorkedHistory.{AreWorkedFrom}
 use Rattle.vs_crew.specs.Crew.{AreWorkedAfter, IsShared}
 use Rattle.vs_crew.specs.Sharing.{AreBy, GoesOnBy}

@@ -11,16 +11,11 @@ use Rattle.vs_tree.specs.Prices.{no_prices, prices_of}
 use Rattle.vs_tree.specs.Search.{Search, state}
 use Rattle.vs_tree.specs.Sound.{IsOpening, IsSound}
 use Rattle.vs_tree.specs.Takes.{AreBuffersKept, IsOver, IsSized, IsTake, taking}
-use Rattle.vs_tree.specs.declared.take.Take.{Take}
-use Rattle.vs_tree.specs.declared.take.Take.TheVariants.{Node, Wait, Done, Spent}
+use Rattle.vs_tree.specs.declared.calls.Take.{Take}
+use Rattle.vs_tree.specs.declared.calls.Take.TheVariants.{Node, Wait, Done, Spent}
 use Rattle.vs_tree.specs.declared.spot.Spot.{Spot}
 use Rattle.vs_tree.specs.declared.spot.Spot.TheVariants.{Held}
-use Rattle.vs_tree.proofs.LawfulPrices.{lawful_fits}
-use Rattle.vs_tree.proofs.Spots.{leaf_within}
-use Rattle.vs_tree.proofs.search.Facts.{state-last}
-use Rattle.vs_tree.proofs.search.Hands.{among-filter}
-use Rattle.vs_tree.proofs.sound.Histories.{histories_are_sound}
-use Rattle.vs_tree.proofs.sound.Relabelled.{sets-kept, spot-here}
+use Rattle.vs_tree.proofs.CallerLemmas.{lawful_fits, leaf_within, state-last, among-filter, histories_are_sound, sets-kept, spot-here}
 use Rattle.vs_node.specs.declared.task.Task.{Task}
 use Rattle.vs_crew.specs.Found.{IsLawfulTask}
 use Rattle.vs_crew.specs.Leaves.{HoldsLeaf, IsTold}

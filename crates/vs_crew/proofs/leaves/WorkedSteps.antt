@@ -15,9 +15,9 @@ use Rattle.vs_prices.specs.declared.table.Table.{Table}
 use Rattle.vs_tree.specs.Calls.{finishing}
 use Rattle.vs_tree.specs.History.{FullStep, Opening, State, after, first_state, state_after, state_of}
 use Rattle.vs_tree.specs.Prices.{Prices, prices_of}
-use Rattle.vs_tree.specs.declared.next.Next.{Next}
-use Rattle.vs_tree.specs.declared.next.Next.TheVariants.{Close, Split}
-use Rattle.vs_tree.proofs.LawfulPrices.{worth_of_table}
+use Rattle.vs_tree.specs.declared.calls.Next.{Next}
+use Rattle.vs_tree.specs.declared.calls.Next.TheVariants.{Close, Split}
+use Rattle.vs_tree.proofs.CallerLemmas.{worth_of_table}
 use Rattle.vs_node.specs.WorkedHistory.{AreWorkedFrom, AreWorkedPrices, IsWorkedStep}
 use Rattle.vs_node.specs.WorkedStep.{IsWorked}
 use Rattle.vs_crew.specs.Crew.{AreWorkedAfter}

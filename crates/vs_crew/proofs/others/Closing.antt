@@ -8,7 +8,7 @@ use Rattle.vs_tree.specs.History.{FullStep, Opening, IsHistory, state_of}
 use Rattle.vs_tree.specs.Search.{Search, state}
 use Rattle.vs_tree.specs.Sound.{IsOpening}
 use Rattle.vs_tree.specs.Takes.{IsOver}
-use Rattle.vs_tree.proofs.Entries.{same_opening, same_step}
+use Rattle.vs_tree.proofs.CallerLemmas.{same_opening, same_step}
 use Rattle.vs_node.specs.WorkedHistory.{AreWorkedFrom}
 use Rattle.vs_crew.specs.Crew.{AreWorkedAfter, HasGoneOn}
 use Rattle.vs_crew.specs.Sharing.{HasEnded, KnowsEnds, NoneIsHeld, Shared, WasOver, shared_entries, shared_opening}

@@ -5,7 +5,7 @@ use Rattle.std.proofs.lemmas.Bool.{eq-eqb}
 use Rattle.vs_turn.specs.Calls.{AreCalls, NoCalls, has_ticket}
 use Rattle.vs_tree.specs.Entries.{entry_of, worker_of}
 use Rattle.vs_tree.specs.History.{FullStep, Opening, State, MayFollow, after, state_after}
-use Rattle.vs_tree.proofs.Entries.{same_step}
+use Rattle.vs_tree.proofs.CallerLemmas.{same_step}
 use Rattle.vs_crew.specs.Sharing.{AreBy, AreByOthers, IsIdle}
 use Rattle.vs_crew.proofs.others.Keeping.{Keeps, both_keep, same_keeps, step_keeps}
 

@@ -12,12 +12,7 @@ use Rattle.vs_tree.specs.History.{FullStep, Opening, Place, State, Took, Split, 
 use Rattle.vs_tree.specs.Prices.{Prices}
 use Rattle.vs_tree.specs.declared.spot.Spot.{Spot}
 use Rattle.vs_tree.specs.declared.spot.Spot.TheVariants.{Inner, Free, Held, Closed as ClosedSpot}
-use Rattle.vs_tree.proofs.Accepted.{below-before, cheaper_or_not, last-more}
-use Rattle.vs_tree.proofs.Spots.{leaf_within}
-use Rattle.vs_tree.proofs.search.Hands.{among-filter}
-use Rattle.vs_tree.proofs.sound.GaveBack.{among-cons}
-use Rattle.vs_tree.proofs.sound.Grown.{split, other, lower, upper, nowhere, where_is, split-here, split-lower, split-nowhere, split-other, split-upper}
-use Rattle.vs_tree.proofs.sound.Relabelled.{held-before, sets-kept, spot-here, spot-there}
+use Rattle.vs_tree.proofs.CallerLemmas.{below-before, cheaper_or_not, last-more, leaf_within, among-filter, among-cons, split, other, lower, upper, nowhere, where_is, split-here, split-lower, split-nowhere, split-other, split-upper, held-before, sets-kept, spot-here, spot-there}
 
 -- the worker's leaf is as it was, it holds no other one, it hasn't given back nor offered anything, there are more
 -- tables, and what is known costs no more

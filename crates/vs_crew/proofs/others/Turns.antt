@@ -7,7 +7,7 @@ use Rattle.vs_turn.specs.Seats.{SeatModel, released_seat}
 use Rattle.vs_tree.specs.Entries.{entry_of, opening_entry}
 use Rattle.vs_tree.specs.History.{FullStep, Opening, State, state_of}
 use Rattle.vs_tree.specs.Search.{Search, state}
-use Rattle.vs_tree.proofs.Entries.{same_opening}
+use Rattle.vs_tree.proofs.CallerLemmas.{same_opening}
 use Rattle.vs_crew.specs.Sharing.{GoesOnBy, HeldWhenLeft, Knows, Says, Shared, shared_entries, shared_opening}
 use Rattle.vs_crew.proofs.others.Histories.{are_called, not_called, steps_begin}
 

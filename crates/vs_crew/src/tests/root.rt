@@ -5,12 +5,12 @@ ghost use Rattle.vs_crew.specs.Sharing.{AreBy};
 ghost use Rattle.vs_tree.specs.History.{Split, Took};
 ghost use Rattle.vs_tree.specs.Prices.{prices_of, zero_prices};
 ghost use Rattle.vs_tree.specs.Takes.{IsSized};
-ghost use Rattle.vs_tree.specs.Tree.{IsProperPart};
+ghost use Rattle.vs_types.specs.Parts.{IsProperPart};
 
 use std::alloc::Global;
 use vs_instance::Instance;
 use vs_prices::Table;
-use vs_tree::{Next, Take, Tree, rest_of};
+use vs_tree::{Next, Take, Tree};
 use vs_types::{LayerNo, LayerSet, Memory, TripNo};
 
 /// A search of 5 leaves at most by two workers, as it starts.
@@ -45,7 +45,7 @@ fn first_alone(set: LayerSet) -> Option<LayerSet>
     ensures { IfSome result (λ left. IsProperPart left set) }
 {
     let left = LayerSet::only(LayerNo(0));
-    if !set.has(LayerNo(0)) || rest_of(set, left).count() == 0 {
+    if !set.has(LayerNo(0)) || set.minus(left).count() == 0 {
         return None;
     }
     Some(left)

@@ -4,7 +4,7 @@ use Rattle.std.proofs.lemmas.List.{set-get_or}
 use Rattle.vs_types.specs.declared.layer_set.LayerSet.{LayerSet}
 use Rattle.vs_prices.specs.declared.bound.Bound.{Bound}
 use Rattle.vs_tree.specs.declared.entry.Entry.{Entry}
-use Rattle.vs_tree.specs.declared.hand.Hand.TheVariants.{Idle, Has}
+use Rattle.vs_tree.specs.declared.calls.Hand.TheVariants.{Idle, Has}
 use Rattle.vs_tree.specs.declared.spot.Spot.{Spot}
 use Rattle.vs_tree.specs.declared.spot.Spot.TheVariants.{Held, Closed as ClosedSpot}
 use Rattle.vs_tree.specs.Free.{entry_at}

@@ -1,8 +1,8 @@
 -- What the hands are once a worker gave its leaf back, or closed it.
 use Rattle.std.proofs.Common.{◌≡◌, ◌≢◌, ℕ, ◌<◌, length, Bool, true, false, List, sym, ap, ◌∙◌, subst, inl, inr}
 use Rattle.std.proofs.lemmas.Bool.{cases_eq}
-use Rattle.vs_tree.specs.declared.hand.Hand.{Hand}
-use Rattle.vs_tree.specs.declared.hand.Hand.TheVariants.{Idle, Has, Gone}
+use Rattle.vs_tree.specs.declared.calls.Hand.{Hand}
+use Rattle.vs_tree.specs.declared.calls.Hand.TheVariants.{Idle, Has, Gone}
 use Rattle.vs_tree.specs.declared.spot.Spot.TheVariants.{Held}
 use Rattle.vs_tree.specs.History.{State, IsAmong, IsHeldBy, spot_at}
 use Rattle.vs_tree.specs.Search.{IsHandOf, IsSearch, Parts, hand_at}

@@ -2,8 +2,8 @@
 use Rattle.std.proofs.Common.{◌≡◌, ◌≢◌, ℕ, suc, ◌+◌, ◌<◌, ◌≤◌, true, false, cond, List, [], ◌∷◌, ◌++◌, length, set, refl, sym, ap, ◌∙◌, subst, arith, inl, inr, Option, None, Some, ℤ, length-append, length-set, sum_by}
 use Rattle.vs_plan.specs.CheckedPlan.{Checked}
 use Rattle.vs_prices.specs.declared.bound.Bound.{Bound}
-use Rattle.vs_tree.specs.declared.hand.Hand.{Hand}
-use Rattle.vs_tree.specs.declared.hand.Hand.TheVariants.{Idle, Has}
+use Rattle.vs_tree.specs.declared.calls.Hand.{Hand}
+use Rattle.vs_tree.specs.declared.calls.Hand.TheVariants.{Idle, Has}
 use Rattle.vs_tree.specs.Cuts.{Places}
 use Rattle.vs_tree.specs.Free.{Entries, entry_at}
 use Rattle.vs_tree.specs.History.{FullStep, Offered, Opening, State, IsAmong, IsHeldBy, IsHistory, IsLeafWorth, MayOffer, after, first_state, plans_of, spot_at, state_of}

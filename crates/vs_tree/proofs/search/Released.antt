@@ -2,7 +2,7 @@
 use Rattle.std.proofs.Common.{◌≡◌, ◌≢◌, ℕ, ◌<◌, ◌≤◌, Bool, true, false, cond, [], ◌∷◌, ◌++◌, length, set, get_or, refl, sym, ap, ◌∙◌, arith, inl, inr, append-nil, suc}
 use Rattle.std.proofs.lemmas.List.{set-get_or}
 use Rattle.vs_prices.specs.declared.bound.Bound.TheVariants.{NoPlan}
-use Rattle.vs_tree.specs.declared.hand.Hand.TheVariants.{Idle, Has, Gone}
+use Rattle.vs_tree.specs.declared.calls.Hand.TheVariants.{Idle, Has, Gone}
 use Rattle.vs_tree.specs.declared.spot.Spot.{Spot}
 use Rattle.vs_tree.specs.declared.spot.Spot.TheVariants.{Free}
 use Rattle.vs_tree.specs.History.{GaveBack, Opening, State, IsAmong, IsHeldBy, after, is_held, is_inner, prices_at, spot_at, state_of, table_of, with_spot}

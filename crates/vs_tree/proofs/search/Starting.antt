@@ -7,8 +7,8 @@ use Rattle.vs_plan.specs.CheckedPlan.{Checked}
 use Rattle.vs_prices.specs.declared.bound.Bound.{Bound}
 use Rattle.vs_prices.specs.declared.bound.Bound.TheVariants.{NoPlan}
 use Rattle.vs_tree.specs.declared.entry.Entry.{Entry}
-use Rattle.vs_tree.specs.declared.hand.Hand.{Hand}
-use Rattle.vs_tree.specs.declared.hand.Hand.TheVariants.{Idle, Gone}
+use Rattle.vs_tree.specs.declared.calls.Hand.{Hand}
+use Rattle.vs_tree.specs.declared.calls.Hand.TheVariants.{Idle, Gone}
 use Rattle.vs_instance.specs.declared.limits.TheConstants.{MAX_BUDGET, MAX_WORKERS}
 use Rattle.vs_tree.specs.declared.spot.Spot.TheVariants.{Free}
 use Rattle.vs_tree.specs.Free.{Entries, entry_at}

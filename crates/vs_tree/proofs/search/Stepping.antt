@@ -3,7 +3,7 @@ use Rattle.std.proofs.Common.{◌≡◌, ◌≢◌, ℕ, ◌+◌, ◌*◌, ◌<�
 use Rattle.std.proofs.lemmas.Bool.{cases_eq}
 use Rattle.std.proofs.lemmas.List.{get_or-set_same, get_or-set_other}
 use Rattle.vs_prices.specs.declared.bound.Bound.{Bound}
-use Rattle.vs_tree.specs.declared.hand.Hand.{Hand}
+use Rattle.vs_tree.specs.declared.calls.Hand.{Hand}
 use Rattle.vs_tree.specs.declared.spot.Spot.{Spot}
 use Rattle.vs_tree.specs.Free.{Entries, entry_at}
 use Rattle.vs_tree.specs.History.{FullStep, Opening, Place, State, IsLeaf, IsLeafWorth, MayCome, after, count_spots, is_held, is_inner, IsHistory, first_state, spot_at, state_of, with_spot}

@@ -1,5 +1,5 @@
 use Rattle.std.proofs.Common.{subst, sym}
-use Rattle.vs_cert.specs.DocumentRefusals.{IsRefusal}
+use Rattle.vs_document.specs.DocumentRefusals.{IsRefusal}
 use Rattle.mdvsp.specs.Answered.{RefusesCase}
 use Rattle.mdvsp.proofs.owing.OwedAnswers.{no_document_case}
 use Rattle.mdvsp.proofs.case.read_case.Goals as goal

@@ -2,7 +2,7 @@ use Rattle.std.proofs.Common.{Some, refl, sym, ap, ◌∙◌}
 use Rattle.std.proofs.lemmas.Option.{none-some}
 use Rattle.vs_instance.specs.Firsts.{first}
 use Rattle.vs_instance.proofs.CallerLemmas.{none_from_first}
-use Rattle.vs_cert.proofs.alike.Suiting.{suits-read}
+use Rattle.vs_document.proofs.CallerLemmas.{suits-read}
 use Rattle.vs_check.specs.Flaws.{flaws_of}
 use Rattle.vs_check.proofs.Claims.{prove_their_claims}
 use Rattle.vs_check.proofs.Flawless.{holds_from_none, none_from_holds}

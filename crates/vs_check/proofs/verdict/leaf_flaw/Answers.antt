@@ -4,7 +4,7 @@ use Rattle.std.proofs.lemmas.Option.{slice_get_read}
 use Rattle.vs_instance.specs.Firsts.{first}
 use Rattle.vs_prices.specs.declared.bound.Bound.{Bound}
 use Rattle.vs_prices.specs.declared.table.Table.{Table}
-use Rattle.vs_prices.proofs.Worths.{worth_is}
+use Rattle.vs_prices.proofs.CallerLemmas.{worth_is}
 use Rattle.vs_check.specs.Flaws.{leaf_flaws, named_flaws}
 use Rattle.vs_check.proofs.verdict.leaf_flaw.Goals as goal
 

@@ -10,8 +10,8 @@ use Rattle.vs_check.proofs.verdict.plan_flaw.Goals as goal
 same_bits : (x y : ℤ) → FitsSigned w64 x → FitsSigned w64 y → of_z w64 x ≡ of_z w64 y → x ≡ y
 same_bits x y f g e = sym (to_z-of_z w64 x f) ∙ ap (to_z w64) e ∙ to_z-of_z w64 y g
 
-pub returns-in-Ok : goal.returns-in-Ok
-returns-in-Ok c =
+pub returns-then-found-cost : goal.returns-then-found-cost
+returns-then-found-cost c =
     let p = c.args.instance.now in
     let blocks = blocks_of c.args.document.now.plan in
     let cost_fits : FitsSigned w64 c.in-Some.cost = search rules in
@@ -22,8 +22,8 @@ returns-in-Ok c =
     (ap (plan_flaws p blocks) c.in-Some.is
     ∙ right_cost p blocks c.in-Some.cost c.in-Ok.ensures.plan.0 (sym same ∙ c.in-Ok.ensures.plan.1)))
 
-pub returns-in-Ok-2 : goal.returns-in-Ok-2
-returns-in-Ok-2 c =
+pub returns-in-Ok : goal.returns-in-Ok
+returns-in-Ok c =
     let p = c.args.instance.now in
     let blocks = blocks_of c.args.document.now.plan in
     let cost_fits : FitsSigned w64 c.in-Some.cost = search rules in

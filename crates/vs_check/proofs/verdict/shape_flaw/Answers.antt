@@ -1,8 +1,8 @@
 use Rattle.std.proofs.Common.{◌+◌, ◌<◌, ◌≤◌, List, length, drop, sym, ap, subst, arith}
 use Rattle.std.specs.List.{All}
 use Rattle.vs_instance.specs.Firsts.{first}
-use Rattle.vs_cert.specs.Shapes.{IsShapeOf}
-use Rattle.vs_cert.specs.declared.shape.Shape.{Shape}
+use Rattle.vs_document.specs.Shapes.{IsShapeOf}
+use Rattle.vs_document.specs.declared.document.Shape.{Shape}
 use Rattle.vs_check.specs.Flaws.{shape_flaws}
 use Rattle.vs_check.proofs.Parts.{Follows, IsBefore, none_left, root_before, row_follows, walk_restricts}
 use Rattle.vs_check.proofs.verdict.shape_flaw.Goals as goal
@@ -35,7 +35,7 @@ returns-in-Some c =
     let named : All (IsShapeOf p (length d.tables.items)) rows =
     subst (All (IsShapeOf p (length d.tables.items))) (sym rows_are) c.requires.read.shapes in
     let follows = row_follows p d c.requires.instance rows position _ c.loop-position-test.true named walk
-    c.row_flaw.new.walk all before c.in_ok-flaw.field-0 c.in_ok-flaw.ensures in
+    c.row_flaw.new.walk all before c.in_ok-found.found c.in_ok-found.ensures in
     sym (subst (Follows p d (drop (position + 1) rows) (position + 1) c.row_flaw.new.walk all) c.in-Some.is follows)
 
 pub loop-position-preserved : goal.loop-position-preserved
@@ -52,7 +52,7 @@ loop-position-preserved c =
     let named : All (IsShapeOf p (length d.tables.items)) rows =
     subst (All (IsShapeOf p (length d.tables.items))) (sym rows_are) c.requires.read.shapes in
     let follows = row_follows p d c.requires.instance rows position _ c.loop-position-test.true named walk
-    c.row_flaw.new.walk all before c.in_ok-flaw.field-0 c.in_ok-flaw.ensures in
+    c.row_flaw.new.walk all before c.in_ok-found.found c.in_ok-found.ensures in
     subst (λ (rs : List Shape). IsBefore p d (drop (position + 1) rs) (position + 1) c.row_flaw.new.walk all) rows_are
     (subst (Follows p d (drop (position + 1) rows) (position + 1) c.row_flaw.new.walk all) c.in_default.is follows)
 

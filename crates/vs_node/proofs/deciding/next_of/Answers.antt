@@ -1,7 +1,7 @@
 use Rattle.std.proofs.Common.{subst}
 use Rattle.vs_prices.specs.declared.bound.Bound.{Bound}
 use Rattle.vs_prices.specs.Bounds.{IsBelow}
-use Rattle.vs_prices.proofs.Worths.{worth_once}
+use Rattle.vs_prices.proofs.CallerLemmas.{worth_once}
 use Rattle.vs_node.specs.NextSteps.{IsOpen, cost_of}
 use Rattle.vs_node.proofs.deciding.next_of.Goals as goal
 

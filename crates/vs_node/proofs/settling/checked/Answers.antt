@@ -1,6 +1,6 @@
 use Rattle.std.proofs.Common.{arith}
 use Rattle.vs_plan.specs.Blocks.{pairs_of}
-use Rattle.vs_plan.proofs.PlanTrips.{plan_trips}
+use Rattle.vs_plan.proofs.CallerLemmas.{plan_trips}
 use Rattle.vs_node.proofs.settling.checked.Goals as goal
 
 pub check_plan-requires : goal.check_plan-requires

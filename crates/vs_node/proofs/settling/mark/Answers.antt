@@ -2,8 +2,8 @@ use Rattle.std.proofs.Common.{◌≡◌, ◌+◌, ◌<◌, Bool, false, List, []
 use Rattle.std.specs.Int.{bit_at}
 use Rattle.std.proofs.lemmas.List.{get_or-map, length-map, take_all, take_more, take_more_set}
 use Rattle.vs_instance.specs.Restriction.{set_of}
-use Rattle.vs_prices.proofs.NoBreaks.{same_test}
-use Rattle.vs_tree.specs.Rest.{has}
+use Rattle.vs_prices.proofs.CallerLemmas.{same_test}
+use Rattle.vs_types.specs.Parts.{has}
 use Rattle.vs_node.specs.LayersDone.{must_in}
 use Rattle.vs_node.proofs.settling.mark.Goals as goal
 

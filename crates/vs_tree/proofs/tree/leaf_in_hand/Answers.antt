@@ -1,7 +1,7 @@
 use Rattle.std.proofs.Common.{◌≡◌, ◌∙◌, ℕ, Bool, true, sym, refl}
 use Rattle.std.proofs.lemmas.List.{get_or_default}
-use Rattle.vs_tree.specs.declared.hand.Hand.{Hand}
-use Rattle.vs_tree.specs.declared.hand.Hand.TheVariants.{Idle, Has, Gone}
+use Rattle.vs_tree.specs.declared.calls.Hand.{Hand}
+use Rattle.vs_tree.specs.declared.calls.Hand.TheVariants.{Idle, Has, Gone}
 use Rattle.vs_tree.specs.Search.{hand_at, is_busy}
 use Rattle.vs_tree.proofs.tree.leaf_in_hand.Goals as goal
 

@@ -4,8 +4,8 @@ use Rattle.std.proofs.lemmas.List.{get_or_read, length-set}
 use Rattle.std.proofs.lemmas.List.Elements.{All-push}
 use Rattle.vs_types.specs.declared.layer_set.LayerSet.{LayerSet}
 use Rattle.vs_instance.specs.Restriction.{set_of}
-use Rattle.vs_tree.specs.Rest.{rest_of}
-use Rattle.vs_tree.specs.Tree.{right_of, with_set}
+use Rattle.vs_types.specs.Parts.{rest_of}
+use Rattle.vs_cases.specs.Tree.{right_of, with_set}
 use Rattle.vs_check.specs.declared.walk.Change.{Change}
 use Rattle.vs_check.specs.Walk.{sets_along}
 use Rattle.vs_check.proofs.WalkSteps.{ahead_on_left, back, on}
@@ -26,11 +26,11 @@ invariant_of-self-2 c =
     let is_trip : trip.0 < length (set sets trip.0 left) = omega (arith, length-set sets trip.0 left, c.requires) in
     let before : All named ahead =
     λ k d within. omega (arith, length-set sets trip.0 left, c.args.self.now.named k d within) in
-    let pushed : c.push-2.new.self.items ≡ (ahead ++ back trip whole ∷ []) ++ on trip c.rest_of.result ∷ [] =
-    pushed_both ahead c.push.new.self.items c.push-2.new.self.items (back trip whole) (on trip c.rest_of.result)
+    let pushed : c.push-2.new.self.items ≡ (ahead ++ back trip whole ∷ []) ++ on trip c.minus.result ∷ [] =
+    pushed_both ahead c.push.new.self.items c.push-2.new.self.items (back trip whole) (on trip c.minus.result)
     c.in_ok-push.ensures.items c.in_ok-push-2.ensures.items in
     record {
-      named = subst (All named) (sym pushed) (All-push named (ahead ++ back trip whole ∷ []) (on trip c.rest_of.result)
+      named = subst (All named) (sym pushed) (All-push named (ahead ++ back trip whole ∷ []) (on trip c.minus.result)
           (All-push named ahead (back trip whole) before is_trip) is_trip);
     }
 
@@ -41,14 +41,14 @@ returns c =
     let left = c.args.left in
     let whole = c.index-whole.result.now in
     let ahead = c.args.self.now.ahead.items in
-    let right = c.rest_of.result in
+    let right = c.minus.result in
     let pushed : c.push-2.new.self.items ≡ (ahead ++ back trip whole ∷ []) ++ on trip right ∷ [] =
-    pushed_both ahead c.push.new.self.items c.push-2.new.self.items (back trip whole) (on trip c.rest_of.result)
+    pushed_both ahead c.push.new.self.items c.push-2.new.self.items (back trip whole) (on trip c.minus.result)
     c.in_ok-push.ensures.items c.in_ok-push-2.ensures.items in
     let set_is : whole ≡ set_of sets trip.0 =
     get_or_read sets trip.0 whole c.requires c.index-whole.ensures (record { 0 = 0 }) in
     let right_is : right ≡ right_of sets trip left =
-    c.rest_of.ensures.value ∙ ap (λ (s : LayerSet). rest_of s left) set_is in
+    c.minus.ensures.value ∙ ap (λ (s : LayerSet). rest_of s left) set_is in
     record {
       sets = refl;
       ahead = ap (λ (cs : List Change). sets_along (with_set sets trip left) (reverse cs)) pushed

@@ -3,7 +3,7 @@ use Rattle.std.proofs.lemmas.List.{with_items_is}
 use Rattle.vs_instance.specs.Problem.{Problem}
 use Rattle.vs_tree.specs.Search.{Search, state}
 use Rattle.vs_tree.specs.Takes.{IsSized, IsTake, taking}
-use Rattle.vs_tree.specs.declared.take.Take.{Take}
+use Rattle.vs_tree.specs.declared.calls.Take.{Take}
 use Rattle.vs_node.specs.declared.task.Task.{Task}
 use Rattle.vs_crew.specs.Leaves.{IsTold}
 use Rattle.vs_crew.specs.Sharing.{GoesOnBy, HeldWhenLeft, IsIdle, Shared}

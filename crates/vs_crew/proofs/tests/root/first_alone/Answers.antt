@@ -9,7 +9,7 @@ pub returns : goal.returns
 returns c =
     let first : Has c.args.set 0 = search rules in
     let some : 0 < c.count.result = grind (arith, nat_tests) in
-    let same = ap (λ (s : LayerSet). length (members s)) c.rest_of.ensures.value in
+    let same = ap (λ (s : LayerSet). length (members s)) c.minus.ensures.value in
     record {
       some = members-some c.only-left.result 0 (lit< tt) ((c.only-left.ensures 0).1 refl);
       within = λ l has. subst (Has c.args.set) (sym ((c.only-left.ensures l).0 has)) first;

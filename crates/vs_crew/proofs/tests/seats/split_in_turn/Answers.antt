@@ -8,7 +8,7 @@ use Rattle.vs_tree.specs.Log.{plain_step}
 use Rattle.vs_tree.specs.Search.{Search}
 use Rattle.vs_tree.specs.Takes.{IsSized}
 use Rattle.vs_tree.specs.declared.step.Step.{Step}
-use Rattle.vs_tree.proofs.Entries.{same_opening}
+use Rattle.vs_tree.proofs.CallerLemmas.{same_opening}
 use Rattle.vs_turn.specs.Calls.{AreCalls, GoOn}
 use Rattle.vs_turn.specs.Seats.{HeldModel, SeatModel}
 use Rattle.vs_turn.proofs.CallerLemmas.{adds_none}

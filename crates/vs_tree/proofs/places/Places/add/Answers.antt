@@ -1,7 +1,7 @@
 use Rattle.std.proofs.Common.{ℕ, [], ◌∷◌, length, ap, sym, arith, subst, List, length-append}
 use Rattle.vs_types.specs.declared.layer_set.LayerSet.{LayerSet}
 use Rattle.vs_types.specs.declared.numbers.TripNo.{TripNo}
-use Rattle.vs_tree.specs.declared.cut.Cut.{Cut}
+use Rattle.vs_tree.specs.declared.spot.Cut.{Cut}
 use Rattle.vs_tree.specs.declared.spot.Spot.{Spot}
 use Rattle.vs_tree.specs.declared.spot.Spot.TheVariants.{Free}
 use Rattle.vs_tree.specs.Cuts.{AreCuts, IsCut}
@@ -60,5 +60,5 @@ returns-clause-places c =
     let size = seen-size i.permitted.items i.spots i.cuts i.room c.args.self.now are c.self.view_is in
     seen-more i.permitted.items i.spots i.cuts i.room c.args.self.now are c.self.view_is (Free c.args.table)
     (cut c.args.parent c.args.trip c.args.layers)
-    c.push.new.self.items c.push-2.new.self.items c.in-Ok.ensures.items c.in-Ok-push.ensures.items
+    _ _ c.in-Ok.ensures.items c.in-Ok-push.ensures.items
     (omega (arith, size, c.requires.parent))

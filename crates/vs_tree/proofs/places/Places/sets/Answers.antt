@@ -9,7 +9,7 @@ pub lay_cuts-requires-clause-spot : goal.lay_cuts-requires-clause-spot
 lay_cuts-requires-clause-spot c =
     let i = c.self.inside in
     let size = seen-size i.permitted.items i.spots i.cuts i.room c.args.self.now c.self.invariant c.self.view_is in
-    omega (arith, size, c.requires.spot, c.self.invariant.each, c.deref-2.ensures.len, i.cuts.ok.0)
+    omega (arith, size, c.requires.spot, c.self.invariant.each, c.deref-cuts.ensures.len, i.cuts.ok.0)
 
 pub lay_cuts-requires-clause-size : goal.lay_cuts-requires-clause-size
 lay_cuts-requires-clause-size c =
@@ -17,7 +17,7 @@ lay_cuts-requires-clause-size c =
     let size = seen-size i.permitted.items i.spots i.cuts i.room c.args.self.now c.self.invariant c.self.view_is in
     let sets = seen-sets_size i.permitted.items i.spots i.cuts i.room c.args.self.now c.self.invariant c.self.view_is
     c.args.k (omega (arith, size, c.requires.spot)) in
-    omega (arith, sets, c.requires.size, c.fill.ensures.len, c.deref.ensures.len, i.permitted.ok.0)
+    omega (arith, sets, c.requires.size, c.fill.ensures.len, c.deref-permitted.ensures.len, i.permitted.ok.0)
 
 pub lay_permitted-requires : goal.lay_permitted-requires
 lay_permitted-requires c =
@@ -30,7 +30,7 @@ lay_permitted-requires c =
       sets,
       c.requires.size,
       c.fill.ensures.len,
-      c.deref-3.ensures.len,
+      c.deref-permitted.ensures.len,
       i.permitted.ok.0,
       c.lay_cuts.auto.sets,
     )
@@ -42,11 +42,9 @@ returns c =
     let inside : c.args.k < length i.spots.items = omega (arith, size, c.requires.spot) in
     let sets = seen-sets_size i.permitted.items i.spots i.cuts i.room c.args.self.now c.self.invariant c.self.view_is
     c.args.k inside in
-    let whole : c.deref-3.result.now ≡ c.deref.result.now = c.deref-3.ensures.value ∙ sym c.deref.ensures.value in
     seen-laid i.permitted.items i.spots i.cuts i.room c.args.self.now c.self.invariant c.self.view_is c.args.k inside
-    c.deref.result.now c.deref-2.result.now c.lay_cuts.new.sets c.lay_permitted.new.sets
-    c.deref.ensures.value c.deref-2.ensures.value
+    c.deref-permitted.result.now c.deref-cuts.result.now c.lay_cuts.new.sets c.lay_permitted.new.sets
+    c.deref-permitted.ensures.value c.deref-cuts.ensures.value
     (omega (arith, sets, c.requires.size, c.fill.ensures.len, c.lay_cuts.auto.sets))
     (c.lay_permitted.auto.sets) c.lay_cuts.ensures
-    (λ j within. c.lay_permitted.ensures j within
-    ∙ ap (λ (x : List LayerSet). laid (set_of c.lay_cuts.new.sets j) (set_of x j)) whole)
+    c.lay_permitted.ensures

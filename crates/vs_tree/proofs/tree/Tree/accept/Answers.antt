@@ -2,8 +2,8 @@ use Rattle.std.proofs.Common.{◌≡◌, ℕ, true, false, List, [], ◌∷◌, 
 use Rattle.std.proofs.lemmas.Int.{to_z-of_z}
 use Rattle.vs_plan.specs.CheckedPlan.{Checked}
 use Rattle.vs_tree.specs.Calls.{HoldsSome, offering, with_step}
-use Rattle.vs_tree.specs.declared.hand.Hand.{Hand}
-use Rattle.vs_tree.specs.declared.hand.Hand.TheVariants.{Has}
+use Rattle.vs_tree.specs.declared.calls.Hand.{Hand}
+use Rattle.vs_tree.specs.declared.calls.Hand.TheVariants.{Has}
 use Rattle.vs_tree.specs.History as full
 use Rattle.vs_tree.specs.History.{FullStep, IsAmong, IsCheaper, MayOffer, known, state_of}
 use Rattle.vs_tree.specs.Log.{Log}

@@ -4,7 +4,7 @@ use Rattle.std.specs.Vec.{with_items}
 use Rattle.vs_types.specs.declared.layer_set.LayerSet.{LayerSet}
 use Rattle.vs_instance.specs.Restriction.{IsRestriction}
 use Rattle.vs_prices.specs.Worth.{IsWorth}
-use Rattle.vs_tree.specs.declared.hand.Hand.TheVariants.{Idle}
+use Rattle.vs_tree.specs.declared.calls.Hand.TheVariants.{Idle}
 use Rattle.vs_tree.specs.declared.step.Step.TheVariants.{Closed}
 use Rattle.vs_tree.specs.History as full
 use Rattle.vs_tree.specs.History.{FullStep, MayClose, is_inner, place_at, sets_at, spot_at, state_of}

@@ -3,7 +3,7 @@ use Rattle.std.proofs.lemmas.List.{get_or_default}
 use Rattle.vs_prices.specs.declared.bound.Bound.{Bound}
 use Rattle.vs_prices.specs.declared.bound.Bound.TheVariants.{NoPlan}
 use Rattle.vs_tree.specs.Calls.{HoldsSome, with_step}
-use Rattle.vs_tree.specs.declared.hand.Hand.TheVariants.{Has, Gone}
+use Rattle.vs_tree.specs.declared.calls.Hand.TheVariants.{Has, Gone}
 use Rattle.vs_tree.specs.declared.spot.Spot.TheVariants.{Free}
 use Rattle.vs_tree.specs.History as full
 use Rattle.vs_tree.specs.History.{IsHeldBy, after, is_held, is_inner, spot_at, state_of, table_of, with_spot}

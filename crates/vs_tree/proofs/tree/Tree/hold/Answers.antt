@@ -1,5 +1,5 @@
 use Rattle.std.proofs.Common.{ℕ, false, length, ap, sym, ◌∙◌, subst, arith, refl, length-set, set, ◌*◌}
-use Rattle.vs_tree.specs.declared.hand.Hand.TheVariants.{Has}
+use Rattle.vs_tree.specs.declared.calls.Hand.TheVariants.{Has}
 use Rattle.vs_tree.specs.declared.spot.Spot.TheVariants.{Held}
 use Rattle.vs_tree.specs.History.{MayTake, is_inner, table_of, with_spot}
 use Rattle.vs_tree.specs.Log.{Log}

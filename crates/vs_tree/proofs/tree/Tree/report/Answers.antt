@@ -2,7 +2,7 @@ use Rattle.std.proofs.Common.{◌≡◌, List, length, sym, ◌∙◌, subst, ar
 use Rattle.vs_prices.specs.declared.bound.Bound.{Bound}
 use Rattle.vs_tree.specs.History.{known, state_of}
 use Rattle.vs_tree.specs.Report.{IsLeastOf, IsLesser, IsReport}
-use Rattle.vs_tree.specs.declared.report.Report.{Report}
+use Rattle.vs_tree.specs.declared.calls.Report.{Report}
 use Rattle.vs_tree.specs.Search.{Search, state}
 use Rattle.vs_tree.proofs.search.Facts.{places_within}
 use Rattle.vs_tree.proofs.search.Inside.{opening_of, parts_of}

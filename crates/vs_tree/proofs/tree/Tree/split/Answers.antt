@@ -5,7 +5,7 @@ use Rattle.vs_types.specs.LayerSet.{members}
 use Rattle.vs_types.specs.declared.layer_set.LayerSet.{LayerSet}
 use Rattle.vs_instance.specs.Restriction.{IsRestriction, set_of}
 use Rattle.vs_prices.specs.Worth.{IsWorth}
-use Rattle.vs_tree.specs.declared.hand.Hand.TheVariants.{Idle}
+use Rattle.vs_tree.specs.declared.calls.Hand.TheVariants.{Idle}
 use Rattle.vs_tree.specs.declared.step.Step.TheVariants.{Split}
 use Rattle.vs_tree.specs.Calls.{with_step}
 use Rattle.vs_tree.specs.Cuts.{split_at}
@@ -15,8 +15,9 @@ use Rattle.vs_tree.specs.History.{FullStep, MaySplit, is_inner, place_at, sets_a
 use Rattle.vs_tree.specs.Log.{Log, full_step}
 use Rattle.vs_tree.specs.Prices.{AreWorth, Prices, no_prices, prices_of}
 use Rattle.vs_tree.specs.Search.{IsSearch, Parts, Search, state}
-use Rattle.vs_tree.specs.Tree.{IsProperPart, right_of, with_set}
-use Rattle.vs_tree.proofs.Rests.{some-layers}
+use Rattle.vs_cases.specs.Tree.{right_of, with_set}
+use Rattle.vs_types.specs.Parts.{IsProperPart}
+use Rattle.vs_types.proofs.CallerLemmas.{some-layers}
 use Rattle.vs_tree.proofs.search.Facts.{leaf_is, restriction-at, sets-are, tables_are, within_budget}
 use Rattle.vs_tree.proofs.search.GivingBack.{worker_inside}
 use Rattle.vs_tree.proofs.search.Inside.{opening_of, parts_of}

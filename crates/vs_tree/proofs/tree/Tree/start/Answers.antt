@@ -7,8 +7,8 @@ use Rattle.vs_plan.specs.CheckedPlan.{Checked}
 use Rattle.vs_types.specs.declared.layer_set.LayerSet.{LayerSet}
 use Rattle.vs_prices.specs.declared.bound.Bound.{Bound}
 use Rattle.vs_prices.specs.Worth.{IsWorth}
-use Rattle.vs_tree.specs.declared.hand.Hand.{Hand}
-use Rattle.vs_tree.specs.declared.hand.Hand.TheVariants.{Idle}
+use Rattle.vs_tree.specs.declared.calls.Hand.{Hand}
+use Rattle.vs_tree.specs.declared.calls.Hand.TheVariants.{Idle}
 use Rattle.vs_tree.specs.History.{plans_of}
 use Rattle.vs_tree.specs.Free.{Entries}
 use Rattle.vs_tree.specs.Prices.{AreWorth, Prices, no_prices, zero_prices}

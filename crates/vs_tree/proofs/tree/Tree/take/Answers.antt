@@ -1,6 +1,6 @@
 use Rattle.std.proofs.Common.{◌≡◌, ◌<◌, List, ap, sym, ◌∙◌, subst, arith, count_by, Option, ℤ, true}
 use Rattle.vs_prices.specs.Bounds.{IsBelow}
-use Rattle.vs_tree.specs.declared.hand.Hand.{Hand}
+use Rattle.vs_tree.specs.declared.calls.Hand.{Hand}
 use Rattle.vs_tree.specs.History.{IsNextLeaf, count_spots, is_held, known, state_of}
 use Rattle.vs_tree.specs.Search.{Search, is_busy, state}
 use Rattle.vs_tree.specs.Takes.{IsRoomLeft, IsWorkLeft, held_leaves}

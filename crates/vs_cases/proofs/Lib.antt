@@ -1,0 +1,4 @@
+pub mod RunIn
+pub mod Restrictions
+pub mod Sharing
+pub mod CallerLemmas

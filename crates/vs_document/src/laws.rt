@@ -1,0 +1,30 @@
+//! What holds of every document and its text.
+
+ghost use Rattle.vs_document.specs.Laws.{DocumentsAreNotRefused, DocumentsOfRowsAreAlike, RowsAreRefusedOnce};
+ghost use Rattle.vs_document.specs.Laws.{WrittenDocumentsAreReadBack, WrittenRowsStandForTheirDocument};
+
+/// The rows as which a document is written stand for it.
+pub fn written_rows_stand_for_their_document()
+    ensures { WrittenRowsStandForTheirDocument }
+{}
+
+/// Rows that stand for a document aren't refused.
+pub fn documents_are_not_refused()
+    ensures { DocumentsAreNotRefused }
+{}
+
+/// Rows are refused at one row, and for one reason.
+pub fn rows_are_refused_once()
+    ensures { RowsAreRefusedOnce }
+{}
+
+/// Documents that the same rows stand for say the same.
+pub fn documents_of_rows_are_alike()
+    ensures { DocumentsOfRowsAreAlike }
+{}
+
+/// Behind the records of its instance, the last of which is ended by a line end, the text of a document is read as that
+/// document.
+pub fn written_documents_are_read_back()
+    ensures { WrittenDocumentsAreReadBack }
+{}

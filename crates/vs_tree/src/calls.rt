@@ -1,0 +1,50 @@
+//! What passes between a search and its workers: what a worker has in hand, what it is told when it asks, what it makes
+//! of a leaf, and what the search reports.
+
+use vs_cases::Claim;
+use vs_types::{LayerSet, TripNo};
+
+/// What a worker of a search has in hand.
+#[derive(Clone, Copy, Debug, PartialEq, Eq)]
+pub enum Hand {
+    Idle,
+    /// A leaf, and whether the worker offered a plan since it took it.
+    Has { leaf: u32, offered: bool },
+    /// It gave its leaf back, and takes no more.
+    Gone,
+}
+
+/// What a worker that asks for a leaf is told.
+#[derive(Clone, Copy, Debug, PartialEq, Eq)]
+pub enum Take {
+    /// It has this leaf now. `known` is the cost of the cheapest plan so far, in cost units.
+    Node { leaf: u32, known: Option<i64> },
+    /// No leaf is to be had now, but one is held, and there may be more once it was worked on.
+    Wait,
+    /// No leaf leaves room for a plan cheaper than the cheapest so far.
+    Done,
+    /// As many leaves as the budget allows were worked on.
+    Spent,
+}
+
+/// What becomes of a leaf once it was worked on.
+#[derive(Clone, Copy, Debug, PartialEq, Eq)]
+pub enum Next {
+    /// Its table shows that no plan within it is wanted.
+    Close,
+    /// Two leaves take its place: in one the trip is run in a layer of `left`, in the other in a layer
+    /// that `left` leaves of the trip's set.
+    Split { trip: TripNo, left: LayerSet },
+}
+
+/// What a search has found. Costs and bounds are in cost units.
+#[derive(Clone, Copy, Debug, PartialEq, Eq)]
+pub struct Report {
+    pub claim: Claim,
+    /// What the cheapest plan costs, None where none was found.
+    pub cost: Option<i64>,
+    /// No plan costs less than this; None where there is no plan.
+    pub bound: Option<i128>,
+    /// How many leaves were worked on.
+    pub finished: u32,
+}
