@@ -1,3 +1,5 @@
+//! What the records read so far declare.
+
 ghost use Rattle.std.specs.Prelude.{◌≡◌, ◌≤◌, [], length, codes};
 ghost use Rattle.csv.specs.Records.{fields_of};
 ghost use Rattle.vs_types.specs.declared.numbers.TheConstants.{MAX_LAYERS};
@@ -44,70 +46,70 @@ impl Draft {
     }
 
     /// Adds what a record declares, which has this number. After an error the draft is of no more use.
-    pub fn add(&mut self, number: u32, record: &ByteRecord) -> Result<(), RecordError>
+    pub fn add(&mut self, number: u32, row: &ByteRecord) -> Result<(), RecordError>
         requires layers { length self.old.names.layers ≤ MAX_LAYERS }
-        ensures { JudgedOrMemory (rules self.old.names (fields_of record.now))
-            (AddsRecord number self.old (fields_of record.now) self.new) result }
+        ensures { JudgedOrMemory (rules self.old.names (fields_of row.now))
+            (AddsRecord number self.old (fields_of row.now) self.new) result }
     {
-        match Kind::of(field(record, 0)) {
-            Some(Kind::Stop) => self.add_stop(record),
-            Some(Kind::Deadhead) => self.add_deadhead(number, record),
-            Some(Kind::Layer) => self.add_layer(number, record),
-            Some(Kind::Trip) => self.add_trip(number, record),
+        match Kind::of(field(row, 0)) {
+            Some(Kind::Stop) => self.add_stop(row),
+            Some(Kind::Deadhead) => self.add_deadhead(number, row),
+            Some(Kind::Layer) => self.add_layer(number, row),
+            Some(Kind::Trip) => self.add_trip(number, row),
             None => Err(RecordError::Refused(Why::UnknownKind)),
         }
     }
 
     /// Adds the stop that a record declares.
-    fn add_stop(&mut self, record: &ByteRecord) -> Result<(), RecordError>
-        requires { field_of (fields_of record.now) 0 ≡ codes "stop" }
-        ensures { JudgedOrMemory (stop_rules self.old.names (fields_of record.now))
-            (AddsStop (declared_of self.old) (fields_of record.now) (declared_of self.new)
+    fn add_stop(&mut self, row: &ByteRecord) -> Result<(), RecordError>
+        requires { field_of (fields_of row.now) 0 ≡ codes "stop" }
+        ensures { JudgedOrMemory (stop_rules self.old.names (fields_of row.now))
+            (AddsStop (declared_of self.old) (fields_of row.now) (declared_of self.new)
             × self.new.numbers ≡ self.old.numbers) result }
     {
-        let name = records::stop(&self.names, record)?;
+        let name = records::stop(&self.names, row)?;
         self.names.add_stop(name)?;
         Ok(())
     }
 
     /// Adds the deadhead that a record declares, which has this number.
-    fn add_deadhead(&mut self, number: u32, record: &ByteRecord) -> Result<(), RecordError>
-        requires { field_of (fields_of record.now) 0 ≡ codes "deadhead" }
-        ensures { JudgedOrMemory (deadhead_rules self.old.names (fields_of record.now))
-            (AddsDeadhead (declared_of self.old) (fields_of record.now) (declared_of self.new)
+    fn add_deadhead(&mut self, number: u32, row: &ByteRecord) -> Result<(), RecordError>
+        requires { field_of (fields_of row.now) 0 ≡ codes "deadhead" }
+        ensures { JudgedOrMemory (deadhead_rules self.old.names (fields_of row.now))
+            (AddsDeadhead (declared_of self.old) (fields_of row.now) (declared_of self.new)
             × NumbersDeadhead number self.old.numbers self.new.numbers) result }
     {
         let guess = Ends::after(self.deadheads.last());
-        let deadhead = records::deadhead(&self.names, guess, record)?;
+        let deadhead = records::deadhead(&self.names, guess, row)?;
         self.deadheads.push(deadhead)?;
         self.numbers.deadheads.push(number)?;
         Ok(())
     }
 
     /// Adds the layer that a record declares, which has this number.
-    fn add_layer(&mut self, number: u32, record: &ByteRecord) -> Result<(), RecordError>
-        requires { field_of (fields_of record.now) 0 ≡ codes "layer" }
-        ensures { JudgedOrMemory (layer_rules self.old.names (fields_of record.now))
-            (AddsLayer (declared_of self.old) (fields_of record.now) (declared_of self.new)
+    fn add_layer(&mut self, number: u32, row: &ByteRecord) -> Result<(), RecordError>
+        requires { field_of (fields_of row.now) 0 ≡ codes "layer" }
+        ensures { JudgedOrMemory (layer_rules self.old.names (fields_of row.now))
+            (AddsLayer (declared_of self.old) (fields_of row.now) (declared_of self.new)
             × NumbersLayer number self.old.numbers self.new.numbers) result }
     {
-        let layer = records::layer(&self.names, record)?;
-        self.names.add_layer(field(record, 1))?;
+        let layer = records::layer(&self.names, row)?;
+        self.names.add_layer(field(row, 1))?;
         self.layers.push(layer)?;
         self.numbers.layers.push(number)?;
         Ok(())
     }
 
     /// Adds the trip that a record declares, which has this number.
-    fn add_trip(&mut self, number: u32, record: &ByteRecord) -> Result<(), RecordError>
-        requires kind { field_of (fields_of record.now) 0 ≡ codes "trip" }
+    fn add_trip(&mut self, number: u32, row: &ByteRecord) -> Result<(), RecordError>
+        requires kind { field_of (fields_of row.now) 0 ≡ codes "trip" }
         requires layers { length self.old.names.layers ≤ MAX_LAYERS }
-        ensures { JudgedOrMemory (trip_rules self.old.names (fields_of record.now))
-            (AddsTrip (declared_of self.old) (fields_of record.now) (declared_of self.new)
+        ensures { JudgedOrMemory (trip_rules self.old.names (fields_of row.now))
+            (AddsTrip (declared_of self.old) (fields_of row.now) (declared_of self.new)
             × NumbersTrip number self.old.numbers self.new.numbers) result }
     {
-        let trip = records::trip(&self.names, record)?;
-        self.names.add_trip(field(record, 1))?;
+        let trip = records::trip(&self.names, row)?;
+        self.names.add_trip(field(row, 1))?;
         self.trips.push(trip)?;
         self.numbers.trips.push(number)?;
         Ok(())

@@ -1,3 +1,5 @@
+//! The kinds of records, by the first field.
+
 ghost use Rattle.std.specs.Prelude.{◌≡◌};
 ghost use Rattle.std.specs.Str.{bytes_eq};
 ghost use Rattle.vs_reader.specs.Kinds.{kind_of};

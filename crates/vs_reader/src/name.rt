@@ -1,3 +1,5 @@
+//! Which fields are names.
+
 ghost use Rattle.std.specs.Prelude.{◌≡◌, ◌↔◌, IsTrue, MatchOption};
 ghost use Rattle.vs_reader.specs.Names.{IsName, IsNameByte};
 

@@ -1,3 +1,5 @@
+//! Names of one kind, numbered in order and found by an ordered map.
+
 ghost use Rattle.std.specs.Prelude.{◌≡◌, ℕ, ◌<◌, ◌+◌, ◌^◌, [], ◌∷◌, ◌++◌, length, Contains, MatchOption, IfSome, IfOk, OnOk, slice_index_or};
 ghost use Rattle.std.specs.String.{string_bytes};
 ghost use Rattle.vs_reader.specs.Names.{IsName, Names as Numbered};

@@ -1,3 +1,5 @@
+//! The numbers that fields write.
+
 ghost use Rattle.std.specs.Prelude.{◌≡◌, ℕ, ◌≤◌, MatchOption};
 ghost use Rattle.std.specs.Str.Parse.{digits_value};
 ghost use Rattle.vs_reader.specs.Numbers.{AreDigits, IsNumber};

@@ -1,3 +1,5 @@
+//! The fields of one record, and why a record adds nothing.
+
 ghost use Rattle.std.specs.Prelude.{◌≡◌};
 ghost use Rattle.csv.specs.Records.{fields_of};
 ghost use Rattle.vs_reader.specs.Rows.{field_of};
@@ -43,22 +45,22 @@ impl<T: Drop> From<AllocFailed<T>> for RecordError {
 }
 
 /// A field of a record, empty where the record has fewer.
-pub fn field(record: &ByteRecord, k: usize) -> &[u8]
-    ensures { result.now ≡ field_of (fields_of record.now) k }
+pub fn field(row: &ByteRecord, k: usize) -> &[u8]
+    ensures { result.now ≡ field_of (fields_of row.now) k }
 {
-    record.get(k).unwrap_or(&[])
+    row.get(k).unwrap_or(&[])
 }
 
 /// Whether a record is `instance`, `1`.
-pub fn is_header(record: &ByteRecord) -> bool
-    ensures { result ≡ is_header (fields_of record.now) }
+pub fn is_header(row: &ByteRecord) -> bool
+    ensures { result ≡ is_header (fields_of row.now) }
 {
-    record.len() == 2 && is_text(field(record, 0), "instance") && is_text(field(record, 1), "1")
+    row.len() == 2 && is_text(field(row, 0), "instance") && is_text(field(row, 1), "1")
 }
 
 /// Whether the first field of a record is `result`.
-pub fn is_result(record: &ByteRecord) -> bool
-    ensures { result ≡ is_result (fields_of record.now) }
+pub fn is_result(row: &ByteRecord) -> bool
+    ensures { result ≡ is_result (fields_of row.now) }
 {
-    is_text(field(record, 0), "result")
+    is_text(field(row, 0), "result")
 }

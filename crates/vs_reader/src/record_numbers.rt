@@ -1,3 +1,5 @@
+//! The numbers of the records that declare deadheads, layers and trips.
+
 ghost use Rattle.std.specs.Prelude.{◌≡◌, List, [], slice_index_or};
 ghost use Rattle.vs_reader.specs.Rows.{Row};
 ghost use Rattle.vs_reader.specs.Refusals.{misfit_row};

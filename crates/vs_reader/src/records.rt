@@ -1,4 +1,5 @@
 //! The records of each kind, judged in the order of their rules.
+
 ghost use Rattle.std.specs.Prelude.{◌≡◌, ℕ, ◌<◌, ◌≤◌, [], ◌∷◌, length, drop, codes};
 ghost use Rattle.csv.specs.Records.{fields_of};
 ghost use Rattle.vs_types.specs.declared.numbers.TheConstants.{MAX_LAYERS};
@@ -44,15 +45,15 @@ impl Ends {
 }
 
 /// The name of a stop that a record declares.
-pub fn stop<'r>(names: &Names, record: &'r ByteRecord) -> Result<&'r [u8], Why>
-    requires { field_of (fields_of record.now) 0 ≡ codes "stop" }
-    ensures { Judged (stop_rules names.now (fields_of record.now))
-        (λ name. name.now ≡ field_of (fields_of record.now) 1) result }
+pub fn stop<'r>(names: &Names, row: &'r ByteRecord) -> Result<&'r [u8], Why>
+    requires { field_of (fields_of row.now) 0 ≡ codes "stop" }
+    ensures { Judged (stop_rules names.now (fields_of row.now))
+        (λ name. name.now ≡ field_of (fields_of row.now) 1) result }
 {
-    if record.len() != 2 {
+    if row.len() != 2 {
         return Err(Why::FieldCount);
     }
-    let name = written_name(field(record, 1))?;
+    let name = written_name(row, 1)?;
     if names.stop_of(name).is_some() {
         return Err(Why::NameTwice);
     }
@@ -63,17 +64,17 @@ pub fn stop<'r>(names: &Names, record: &'r ByteRecord) -> Result<&'r [u8], Why>
 }
 
 /// The deadhead that a record declares, which may well lead between the stops guessed.
-pub fn deadhead(names: &Names, guess: Ends, record: &ByteRecord) -> Result<Deadhead, Why>
-    requires kind { field_of (fields_of record.now) 0 ≡ codes "deadhead" }
-    ensures { Judged (deadhead_rules names.now (fields_of record.now))
-        (DeadheadRow names.now.stops (fields_of record.now)) result }
+pub fn deadhead(names: &Names, guess: Ends, row: &ByteRecord) -> Result<Deadhead, Why>
+    requires kind { field_of (fields_of row.now) 0 ≡ codes "deadhead" }
+    ensures { Judged (deadhead_rules names.now (fields_of row.now))
+        (DeadheadRow names.now.stops (fields_of row.now)) result }
 {
-    if record.len() != 5 {
+    if row.len() != 5 {
         return Err(Why::FieldCount);
     }
-    let Ends { from, to } = known_ends(names, guess, record)?;
-    let minutes = written_number(field(record, 3))?;
-    let metres = written_number(field(record, 4))?;
+    let Ends { from, to } = known_ends(names, guess, row)?;
+    let minutes = written_number(row, 3)?;
+    let metres = written_number(row, 4)?;
     Ok(Deadhead {
         from,
         to,
@@ -83,23 +84,23 @@ pub fn deadhead(names: &Names, guess: Ends, record: &ByteRecord) -> Result<Deadh
 }
 
 /// The layer that a record declares.
-pub fn layer(names: &Names, record: &ByteRecord) -> Result<Layer, Why>
-    requires kind { field_of (fields_of record.now) 0 ≡ codes "layer" }
-    ensures { Judged (layer_rules names.now (fields_of record.now))
-        (LayerRow names.now.stops (fields_of record.now) (field_of (fields_of record.now) 1)) result }
+pub fn layer(names: &Names, row: &ByteRecord) -> Result<Layer, Why>
+    requires kind { field_of (fields_of row.now) 0 ≡ codes "layer" }
+    ensures { Judged (layer_rules names.now (fields_of row.now))
+        (LayerRow names.now.stops (fields_of row.now) (field_of (fields_of row.now) 1)) result }
 {
-    if record.len() != 7 {
+    if row.len() != 7 {
         return Err(Why::FieldCount);
     }
-    let name = written_name(field(record, 1))?;
+    let name = written_name(row, 1)?;
     if names.layer_of(name).is_some() {
         return Err(Why::NameTwice);
     }
-    let depot = known_stop(names, field(record, 2))?;
-    let fleet = written_number(field(record, 3))?;
-    let fixed = written_number(field(record, 4))?;
-    let per_minute = written_number(field(record, 5))?;
-    let per_metre = written_number(field(record, 6))?;
+    let depot = known_stop(names, row, 2)?;
+    let fleet = written_number(row, 3)?;
+    let fixed = written_number(row, 4)?;
+    let per_minute = written_number(row, 5)?;
+    let per_metre = written_number(row, 6)?;
     if names.layers() >= MAX_LAYERS as usize {
         return Err(Why::TooMany);
     }
@@ -113,25 +114,25 @@ pub fn layer(names: &Names, record: &ByteRecord) -> Result<Layer, Why>
 }
 
 /// The trip that a record declares.
-pub fn trip(names: &Names, record: &ByteRecord) -> Result<Trip, Why>
-    requires kind { field_of (fields_of record.now) 0 ≡ codes "trip" }
+pub fn trip(names: &Names, row: &ByteRecord) -> Result<Trip, Why>
+    requires kind { field_of (fields_of row.now) 0 ≡ codes "trip" }
     requires layers { length names.now.layers ≤ MAX_LAYERS }
-    ensures { Judged (trip_rules names.now (fields_of record.now))
-        (TripRow names.now (fields_of record.now) (field_of (fields_of record.now) 1)) result }
+    ensures { Judged (trip_rules names.now (fields_of row.now))
+        (TripRow names.now (fields_of row.now) (field_of (fields_of row.now) 1)) result }
 {
-    if record.len() < 8 {
+    if row.len() < 8 {
         return Err(Why::FieldCount);
     }
-    let name = written_name(field(record, 1))?;
+    let name = written_name(row, 1)?;
     if names.trip_of(name).is_some() {
         return Err(Why::NameTwice);
     }
-    let from = known_stop(names, field(record, 2))?;
-    let start = written_time(field(record, 3))?;
-    let to = known_stop(names, field(record, 4))?;
-    let end = written_time(field(record, 5))?;
-    let metres = written_number(field(record, 6))?;
-    let layers = named_layers(names, record)?;
+    let from = known_stop(names, row, 2)?;
+    let start = written_time(row, 3)?;
+    let to = known_stop(names, row, 4)?;
+    let end = written_time(row, 5)?;
+    let metres = written_number(row, 6)?;
+    let layers = named_layers(names, row)?;
     if names.trips() >= MAX_TRIPS as usize {
         return Err(Why::TooMany);
     }
@@ -146,15 +147,15 @@ pub fn trip(names: &Names, record: &ByteRecord) -> Result<Trip, Why>
 }
 
 /// The layers that the fields of a record name from the eighth on.
-fn named_layers(names: &Names, record: &ByteRecord) -> Result<LayerSet, Why>
-    requires fields { 7 ≤ length (fields_of record.now) }
+fn named_layers(names: &Names, row: &ByteRecord) -> Result<LayerSet, Why>
+    requires fields { 7 ≤ length (fields_of row.now) }
     requires layers { length names.now.layers ≤ MAX_LAYERS }
-    ensures { Judged (layer_names names.now.layers [] (drop 7 (fields_of record.now)))
-        (NameLayers names.now.layers (drop 7 (fields_of record.now))) result }
+    ensures { Judged (layer_names names.now.layers [] (drop 7 (fields_of row.now)))
+        (NameLayers names.now.layers (drop 7 (fields_of row.now))) result }
 {
     let mut set = LayerSet(0);
-    for k in 7..record.len() {
-        let l = known_layer(names, field(record, k))?;
+    for k in 7..row.len() {
+        let l = known_layer(names, row, k)?;
         if set.has(l) {
             return Err(Why::NameTwice);
         }
@@ -163,60 +164,64 @@ fn named_layers(names: &Names, record: &ByteRecord) -> Result<LayerSet, Why>
     Ok(set)
 }
 
-/// The name that a field writes.
-fn written_name(field: &[u8]) -> Result<&str, Why>
-    ensures { Judged (WritesName field.now ∷ []) (λ name. name.now ≡ field.now) result }
+/// The name that field k of a record writes.
+fn written_name(row: &ByteRecord, k: usize) -> Result<&str, Why>
+    ensures { let field = field_of (fields_of row.now) k in
+        Judged (WritesName field ∷ []) (λ name. name.now ≡ field) result }
 {
-    name(field).ok_or(Why::BadName)
+    name(field(row, k)).ok_or(Why::BadName)
 }
 
-/// The stop that a field names.
-fn known_stop(names: &Names, field: &[u8]) -> Result<StopNo, Why>
-    ensures { Judged (known_name names.now.stops field.now)
-        (λ k. Numbered names.now.stops field.now k.0) result }
+/// The stop that field k of a record names.
+fn known_stop(names: &Names, row: &ByteRecord, k: usize) -> Result<StopNo, Why>
+    ensures { let field = field_of (fields_of row.now) k in
+        Judged (known_name names.now.stops field) (λ s. Numbered names.now.stops field s.0) result }
 {
-    let name = written_name(field)?;
+    let name = written_name(row, k)?;
     names.stop_of(name).ok_or(Why::UnknownName)
 }
 
 /// The stops that the two fields of a record after its kind name, which may well be those guessed.
-fn known_ends(names: &Names, guess: Ends, record: &ByteRecord) -> Result<Ends, Why>
-    ensures { Judged (ends_rules names.now (fields_of record.now))
-        (NamesEnds names.now (fields_of record.now)) result }
+fn known_ends(names: &Names, guess: Ends, row: &ByteRecord) -> Result<Ends, Why>
+    ensures { Judged (ends_rules names.now (fields_of row.now))
+        (NamesEnds names.now (fields_of row.now)) result }
 {
-    let from = known_stop_near(names, guess.from, field(record, 1))?;
-    let to = known_stop_near(names, guess.to, field(record, 2))?;
+    let from = known_stop_near(names, guess.from, row, 1)?;
+    let to = known_stop_near(names, guess.to, row, 2)?;
     Ok(Ends { from, to })
 }
 
-/// The stop that a field names, which may well be the one guessed.
-fn known_stop_near(names: &Names, guess: StopNo, field: &[u8]) -> Result<StopNo, Why>
-    ensures { Judged (known_name names.now.stops field.now)
-        (λ k. Numbered names.now.stops field.now k.0) result }
+/// The stop that field k of a record names, which may well be the one guessed.
+fn known_stop_near(names: &Names, guess: StopNo, row: &ByteRecord, k: usize) -> Result<StopNo, Why>
+    ensures { let field = field_of (fields_of row.now) k in
+        Judged (known_name names.now.stops field) (λ s. Numbered names.now.stops field s.0) result }
 {
-    let name = written_name(field)?;
+    let name = written_name(row, k)?;
     names.stop_near(guess, name).ok_or(Why::UnknownName)
 }
 
-/// The one layer that a field names.
-fn known_layer(names: &Names, field: &[u8]) -> Result<LayerNo, Why>
-    ensures { Judged (known_name names.now.layers field.now) (λ l. Numbered names.now.layers field.now l.0
-        × ((j : ℕ) → Numbered names.now.layers field.now j → j ≡ l.0)) result }
+/// The one layer that field k of a record names.
+fn known_layer(names: &Names, row: &ByteRecord, k: usize) -> Result<LayerNo, Why>
+    ensures { let field = field_of (fields_of row.now) k in
+        Judged (known_name names.now.layers field) (λ l. Numbered names.now.layers field l.0
+        × ((j : ℕ) → Numbered names.now.layers field j → j ≡ l.0)) result }
 {
-    let name = written_name(field)?;
+    let name = written_name(row, k)?;
     names.layer_of(name).ok_or(Why::UnknownName)
 }
 
-/// The number that a field writes.
-fn written_number(field: &[u8]) -> Result<u64, Why>
-    ensures { Judged (WritesNumber field.now ∷ []) (IsNumber field.now) result }
+/// The number that field k of a record writes.
+fn written_number(row: &ByteRecord, k: usize) -> Result<u64, Why>
+    ensures { let field = field_of (fields_of row.now) k in
+        Judged (WritesNumber field ∷ []) (IsNumber field) result }
 {
-    number(field).ok_or(Why::BadNumber)
+    number(field(row, k)).ok_or(Why::BadNumber)
 }
 
-/// The minute of a time that a field writes, from 0:00 of the first day.
-fn written_time(field: &[u8]) -> Result<u32, Why>
-    ensures { Judged (WritesTime field.now ∷ []) (λ t. IsTime field.now t) result }
+/// The minute of a time that field k of a record writes, from 0:00 of the first day.
+fn written_time(row: &ByteRecord, k: usize) -> Result<u32, Why>
+    ensures { let field = field_of (fields_of row.now) k in
+        Judged (WritesTime field ∷ []) (λ t. IsTime field t) result }
 {
-    time(field).ok_or(Why::BadTime)
+    time(field(row, k)).ok_or(Why::BadTime)
 }

@@ -1,3 +1,5 @@
+//! Why a text is refused, and at which record.
+
 ghost use Rattle.std.specs.Prelude.{◌≡◌};
 ghost use Rattle.vs_reader.specs.declared.refused.ReadError.TheVariants.{Memory};
 

@@ -1,3 +1,5 @@
+//! Rows of fields that are kept, and how they are put together.
+
 ghost use Rattle.std.specs.Prelude.{◌≡◌, ◌+◌, ◌<◌, ◌≤◌, ◌^◌, [], ◌∷◌, ◌++◌, length, take, slice_index_or, OnOk};
 ghost use Rattle.csv.specs.Records.{fields_of};
 ghost use Rattle.vs_reader.specs.RowEnds.{end_of, row_weight};
@@ -91,15 +93,15 @@ impl RowBuilder {
     }
 
     /// Adds a record as the last row.
-    pub fn push(&mut self, record: &ByteRecord) -> Result<(), Memory>
+    pub fn push(&mut self, row: &ByteRecord) -> Result<(), Memory>
         requires whole { IsWhole self.old }
-        requires room { size_of self.old + row_weight (fields_of record.now) < 2 ^ 32 }
-        ensures rows { OnOk result (built self.new ≡ built self.old ++ fields_of record.now ∷ []) }
+        requires room { size_of self.old + row_weight (fields_of row.now) < 2 ^ 32 }
+        ensures rows { OnOk result (built self.new ≡ built self.old ++ fields_of row.now ∷ []) }
         ensures whole { OnOk result (IsWhole self.new) }
-        ensures size { OnOk result (size_of self.new ≡ size_of self.old + row_weight (fields_of record.now)) }
+        ensures size { OnOk result (size_of self.new ≡ size_of self.old + row_weight (fields_of row.now)) }
     {
-        for k in 0..record.len() {
-            self.push_field(field(record, k))?;
+        for k in 0..row.len() {
+            self.push_field(field(row, k))?;
         }
         self.row_ends.push(self.field_ends.len() as u32)?;
         Ok(())

@@ -1,3 +1,5 @@
+//! The records of a text, one after another.
+
 ghost use Rattle.std.specs.Prelude.{◌≡◌, List, [], IfOk};
 ghost use Rattle.csv.specs.Records.{fields_of};
 ghost use Rattle.vs_reader.specs.Rows.{Row};

@@ -1,3 +1,5 @@
+//! The times that fields write.
+
 ghost use Rattle.std.specs.Prelude.{◌≡◌, ℕ, ◌<◌, MatchOption};
 ghost use Rattle.vs_instance.specs.declared.limits.TheConstants.{TWO_DAYS};
 ghost use Rattle.vs_reader.specs.Numbers.{IsTime};

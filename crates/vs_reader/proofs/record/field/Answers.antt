@@ -7,4 +7,4 @@ use Rattle.vs_reader.proofs.record.field.Goals as goal
 pub returns : goal.returns
 returns c =
     ap (λ (b : Bor Field). b.now) c.unwrap_or.ensures
-    ∙ field_or_empty (fields_of c.args.record.now) c.args.k c.get.result _ c.get.ensures.value refl
+    ∙ field_or_empty (fields_of c.args.row.now) c.args.k c.get.result _ c.get.ensures.value refl

@@ -7,13 +7,13 @@ use Rattle.vs_reader.proofs.records.layer.Goals as goal
 
 pub returns : goal.returns
 returns c =
-    let row = fields_of c.args.record.now in
-    let depot = rw c.field-2.ensures at c.in_ok-depot.ensures in
-    let fleet = rw c.field-3.ensures at c.in_ok-fleet.ensures in
-    let fixed = rw c.field-4.ensures at c.in_ok-fixed.ensures in
-    let per_minute = rw c.field-5.ensures at c.in_ok-per_minute.ensures in
-    let per_metre = rw c.field-6.ensures at c.in_ok-per_metre.ensures in
-    let name = rw c.field.ensures at c.in_ok-name.ensures in
+    let row = fields_of c.args.row.now in
+    let depot = c.in_ok-depot.ensures in
+    let fleet = c.in_ok-fleet.ensures in
+    let fixed = c.in_ok-fixed.ensures in
+    let per_minute = c.in_ok-per_minute.ensures in
+    let per_metre = c.in_ok-per_metre.ensures in
+    let name = c.in_ok-name.ensures in
     let room : length c.args.names.now.layers < MAX_LAYERS = omega (arith, c.layers.ensures.count, c.if-layers.false) in
     let new : ¬ (Contains c.args.names.now.layers (field_of row 1)) = search rules in (
       (

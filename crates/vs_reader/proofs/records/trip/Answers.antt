@@ -12,11 +12,11 @@ use Rattle.vs_reader.proofs.records.trip.Goals as goal
 
 pub returns-in_err-start : goal.returns-in_err-start
 returns-in_err-start c =
-    let row = fields_of c.args.record.now in
+    let row = fields_of c.args.row.now in
     let many : 8 ≤ length row = omega (arith, c.len.ensures, c.if-len-lt8.false) in
-    let name = rw c.field.ensures at c.in_ok-name.ensures in
+    let name = c.in_ok-name.ensures in
     let new : ¬ (Contains c.args.names.now.trips (field_of row 1)) = search rules in
-    let from = rw c.field-2.ensures at c.in_ok-from.ensures in
+    let from = c.in_ok-from.ensures in
     let p = err_from_is_err_and c.from_residual-in_err-start.result c.from_residual-in_err-start.ensures.1 in
     rw (p.1, p.2)
     (inr (
@@ -30,8 +30,8 @@ returns-in_err-start c =
             inr (
               from.0.1.0,
               BreaksFirst-stop (WritesTime (field_of row 3) ∷ [])
-                  (after_start c.args.names.now row) c.in_err-start.field-0.0
-                  (rw c.field-3.ensures at c.in_err-start.ensures),
+                  (after_start c.args.names.now row) _
+                  c.in_err-start.ensures,
             ),
           ),
         ),
@@ -40,12 +40,12 @@ returns-in_err-start c =
 
 pub returns-in_err-to : goal.returns-in_err-to
 returns-in_err-to c =
-    let row = fields_of c.args.record.now in
+    let row = fields_of c.args.row.now in
     let many : 8 ≤ length row = omega (arith, c.len.ensures, c.if-len-lt8.false) in
-    let name = rw c.field.ensures at c.in_ok-name.ensures in
+    let name = c.in_ok-name.ensures in
     let new : ¬ (Contains c.args.names.now.trips (field_of row 1)) = search rules in
-    let from = rw c.field-2.ensures at c.in_ok-from.ensures in
-    let start = rw c.field-3.ensures at c.in_ok-start.ensures in
+    let from = c.in_ok-from.ensures in
+    let start = c.in_ok-start.ensures in
     let p = err_from_is_err_and c.from_residual-in_err-to.result c.from_residual-in_err-to.ensures.1 in
     rw (p.1, p.2)
     (inr (
@@ -61,7 +61,7 @@ returns-in_err-to c =
               inr (
                 start.0.0,
                 BreaksFirst-stop (known_name c.args.names.now.stops (field_of row 4))
-                    (after_to c.args.names.now row) c.in_err-to.field-0.0 (rw c.field-4.ensures at c.in_err-to.ensures),
+                    (after_to c.args.names.now row) _ c.in_err-to.ensures,
               ),
             ),
           ),
@@ -71,13 +71,13 @@ returns-in_err-to c =
 
 pub returns-in_err-end : goal.returns-in_err-end
 returns-in_err-end c =
-    let row = fields_of c.args.record.now in
+    let row = fields_of c.args.row.now in
     let many : 8 ≤ length row = omega (arith, c.len.ensures, c.if-len-lt8.false) in
-    let name = rw c.field.ensures at c.in_ok-name.ensures in
+    let name = c.in_ok-name.ensures in
     let new : ¬ (Contains c.args.names.now.trips (field_of row 1)) = search rules in
-    let from = rw c.field-2.ensures at c.in_ok-from.ensures in
-    let start = rw c.field-3.ensures at c.in_ok-start.ensures in
-    let to = rw c.field-4.ensures at c.in_ok-to.ensures in
+    let from = c.in_ok-from.ensures in
+    let start = c.in_ok-start.ensures in
+    let to = c.in_ok-to.ensures in
     let p = err_from_is_err_and c.from_residual-in_err-end.result c.from_residual-in_err-end.ensures.1 in
     rw (p.1, p.2)
     (inr (
@@ -97,8 +97,8 @@ returns-in_err-end c =
                   inr (
                     to.0.1.0,
                     BreaksFirst-stop (WritesTime (field_of row 5) ∷ [])
-                        (after_end c.args.names.now row) c.in_err-end.field-0.0
-                        (rw c.field-5.ensures at c.in_err-end.ensures),
+                        (after_end c.args.names.now row) _
+                        c.in_err-end.ensures,
                   ),
                 ),
               ),
@@ -110,14 +110,14 @@ returns-in_err-end c =
 
 pub returns-in_err-metres : goal.returns-in_err-metres
 returns-in_err-metres c =
-    let row = fields_of c.args.record.now in
+    let row = fields_of c.args.row.now in
     let many : 8 ≤ length row = omega (arith, c.len.ensures, c.if-len-lt8.false) in
-    let name = rw c.field.ensures at c.in_ok-name.ensures in
+    let name = c.in_ok-name.ensures in
     let new : ¬ (Contains c.args.names.now.trips (field_of row 1)) = search rules in
-    let from = rw c.field-2.ensures at c.in_ok-from.ensures in
-    let start = rw c.field-3.ensures at c.in_ok-start.ensures in
-    let to = rw c.field-4.ensures at c.in_ok-to.ensures in
-    let ends = rw c.field-5.ensures at c.in_ok-end.ensures in
+    let from = c.in_ok-from.ensures in
+    let start = c.in_ok-start.ensures in
+    let to = c.in_ok-to.ensures in
+    let ends = c.in_ok-end.ensures in
     let p = err_from_is_err_and c.from_residual-in_err-metres.result c.from_residual-in_err-metres.ensures.1 in
     rw (p.1, p.2)
     (inr (
@@ -138,8 +138,8 @@ returns-in_err-metres c =
                     to.0.1.0,
                     inr (
                       ends.0.0,
-                      BreaksFirst-stop (WritesNumber (field_of row 6) ∷ []) _ c.in_err-metres.field-0.0
-                          (rw c.field-6.ensures at c.in_err-metres.ensures),
+                      BreaksFirst-stop (WritesNumber (field_of row 6) ∷ []) _ _
+                          c.in_err-metres.ensures,
                     ),
                   ),
                 ),
@@ -152,15 +152,15 @@ returns-in_err-metres c =
 
 pub returns-in_err-layers : goal.returns-in_err-layers
 returns-in_err-layers c =
-    let row = fields_of c.args.record.now in
+    let row = fields_of c.args.row.now in
     let many : 8 ≤ length row = omega (arith, c.len.ensures, c.if-len-lt8.false) in
-    let name = rw c.field.ensures at c.in_ok-name.ensures in
+    let name = c.in_ok-name.ensures in
     let new : ¬ (Contains c.args.names.now.trips (field_of row 1)) = search rules in
-    let from = rw c.field-2.ensures at c.in_ok-from.ensures in
-    let start = rw c.field-3.ensures at c.in_ok-start.ensures in
-    let to = rw c.field-4.ensures at c.in_ok-to.ensures in
-    let ends = rw c.field-5.ensures at c.in_ok-end.ensures in
-    let metres = rw c.field-6.ensures at c.in_ok-metres.ensures in
+    let from = c.in_ok-from.ensures in
+    let start = c.in_ok-start.ensures in
+    let to = c.in_ok-to.ensures in
+    let ends = c.in_ok-end.ensures in
+    let metres = c.in_ok-metres.ensures in
     let p = err_from_is_err_and c.from_residual-in_err-layers.result c.from_residual-in_err-layers.ensures.1 in
     rw (p.1, p.2)
     (inr (
@@ -184,7 +184,7 @@ returns-in_err-layers c =
                       inr (
                         metres.0.0,
                         BreaksFirst-stop
-                            (layer_names c.args.names.now.layers [] (drop 7 row)) _ c.in_err-layers.field-0.0
+                            (layer_names c.args.names.now.layers [] (drop 7 row)) _ _
                             c.in_err-layers.ensures,
                       ),
                     ),
@@ -199,15 +199,15 @@ returns-in_err-layers c =
 
 pub returns-then-trips : goal.returns-then-trips
 returns-then-trips c =
-    let row = fields_of c.args.record.now in
+    let row = fields_of c.args.row.now in
     let many : 8 ≤ length row = omega (arith, c.len.ensures, c.if-len-lt8.false) in
-    let name = rw c.field.ensures at c.in_ok-name.ensures in
+    let name = c.in_ok-name.ensures in
     let new : ¬ (Contains c.args.names.now.trips (field_of row 1)) = search rules in
-    let from = rw c.field-2.ensures at c.in_ok-from.ensures in
-    let start = rw c.field-3.ensures at c.in_ok-start.ensures in
-    let to = rw c.field-4.ensures at c.in_ok-to.ensures in
-    let ends = rw c.field-5.ensures at c.in_ok-end.ensures in
-    let metres = rw c.field-6.ensures at c.in_ok-metres.ensures in
+    let from = c.in_ok-from.ensures in
+    let start = c.in_ok-start.ensures in
+    let to = c.in_ok-to.ensures in
+    let ends = c.in_ok-end.ensures in
+    let metres = c.in_ok-metres.ensures in
     let full : ¬ (length c.args.names.now.trips < MAX_TRIPS) =
     λ room. absurd (omega (arith, c.trips.ensures.count, c.if-trips.true)) in
     inr (
@@ -246,15 +246,15 @@ returns-then-trips c =
 
 pub returns : goal.returns
 returns c =
-    let row = fields_of c.args.record.now in
+    let row = fields_of c.args.row.now in
     let many : 8 ≤ length row = omega (arith, c.len.ensures, c.if-len-lt8.false) in
-    let name = rw c.field.ensures at c.in_ok-name.ensures in
+    let name = c.in_ok-name.ensures in
     let new : ¬ (Contains c.args.names.now.trips (field_of row 1)) = search rules in
-    let from = rw c.field-2.ensures at c.in_ok-from.ensures in
-    let start = rw c.field-3.ensures at c.in_ok-start.ensures in
-    let to = rw c.field-4.ensures at c.in_ok-to.ensures in
-    let ends = rw c.field-5.ensures at c.in_ok-end.ensures in
-    let metres = rw c.field-6.ensures at c.in_ok-metres.ensures in
+    let from = c.in_ok-from.ensures in
+    let start = c.in_ok-start.ensures in
+    let to = c.in_ok-to.ensures in
+    let ends = c.in_ok-end.ensures in
+    let metres = c.in_ok-metres.ensures in
     let room : length c.args.names.now.trips < MAX_TRIPS = omega (arith, c.trips.ensures.count, c.if-trips.false) in
     let last =
     AreKept-append (layer_names c.args.names.now.layers [] (drop 7 row))

@@ -5,11 +5,11 @@ use Rattle.vs_reader.proofs.declaring.RuleLemmas.{trip_room}
 use Rattle.vs_reader.proofs.draft.Draft.add_trip.Goals as goal
 
 pub add_trip-requires-clause-room : goal.add_trip-requires-clause-room
-add_trip-requires-clause-room c = trip_room c.args.self.now.names (fields_of c.args.record.now) c.in_ok-trip.ensures.0
+add_trip-requires-clause-room c = trip_room c.args.self.now.names (fields_of c.args.row.now) c.in_ok-trip.ensures.0
 
 pub returns : goal.returns
 returns c =
-    let row = fields_of c.args.record.now in
+    let row = fields_of c.args.row.now in
     let kept = c.in_ok-trip.ensures.0 in (
       kept,
       (

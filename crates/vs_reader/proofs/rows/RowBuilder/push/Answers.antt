@@ -12,7 +12,7 @@ loop-k-init c = HasFields-nothing c.args.self.now c.requires.whole
 
 pub push_field-requires : goal.push_field-requires
 push_field-requires c =
-    let row = fields_of c.args.record.now in
+    let row = fields_of c.args.row.now in
     let within : c.loop-k.k < length row = omega (arith, c.len-k-end.ensures) in
     omega (
       arith,
@@ -24,7 +24,7 @@ push_field-requires c =
 
 pub loop-k-preserved : goal.loop-k-preserved
 loop-k-preserved c =
-    let row = fields_of c.args.record.now in
+    let row = fields_of c.args.row.now in
     let within : c.loop-k.k < length row = omega (arith, c.len-k-end.ensures) in
     let next : take (c.loop-k.k + 1) row ≡ take c.loop-k.k row ++ c.field.result.now ∷ [] =
     take_more row c.loop-k.k [] within ∙ ap (λ (f : Field). take c.loop-k.k row ++ f ∷ []) (sym c.field.ensures) in
@@ -34,9 +34,9 @@ loop-k-preserved c =
     c.in_ok-push_field.ensures.bytes c.in_ok-push_field.ensures.fields c.in_ok-push_field.ensures.rows)
 
 -- all fields of the record were added
-has_all : (c : In_ok-push) → HasFields c.args.self.now c.loop-k.self (fields_of c.args.record.now)
+has_all : (c : In_ok-push) → HasFields c.args.self.now c.loop-k.self (fields_of c.args.row.now)
 has_all c =
-    let row = fields_of c.args.record.now in
+    let row = fields_of c.args.row.now in
     subst (λ (fs : Row). HasFields c.args.self.now c.loop-k.self fs)
     (take_all c.loop-k.k row (omega (arith, c.len-k-end.ensures))) c.loop-k.invariant
 
@@ -52,11 +52,11 @@ row_end c =
 pub returns-clause-rows : goal.returns-clause-rows
 unfolding ended
 returns-clause-rows c =
-    built-push c.args.self.now c.loop-k.self (ended c) (fields_of c.args.record.now) c.requires.whole
+    built-push c.args.self.now c.loop-k.self (ended c) (fields_of c.args.row.now) c.requires.whole
     (has_all c) refl refl (row_end c)
 
 pub returns-clause-whole : goal.returns-clause-whole
 unfolding ended
 returns-clause-whole c =
-    IsWhole-push c.args.self.now c.loop-k.self (ended c) (fields_of c.args.record.now) c.requires.whole
+    IsWhole-push c.args.self.now c.loop-k.self (ended c) (fields_of c.args.row.now) c.requires.whole
     (has_all c) refl refl (row_end c)
