@@ -10,7 +10,7 @@ ghost use Rattle.vs_match.specs.Sweep.{IsKept, IsMatched};
 ghost use Rattle.vs_match.specs.ArcsOf.{deadhead_of};
 
 use crate::arc_kind::{ArcKind, LayerArc};
-use crate::matching::Matching;
+use crate::matching::{LayerMatching, Matching};
 use crate::nodes::Nodes;
 use crate::rates::{fleet, rate};
 use crate::stay::{Stay, at_stop, by_stop};
@@ -34,16 +34,9 @@ pub fn push_deadheads(
         (length arcs.new.items ≤ length arcs.old.items + MAX_STOPS * (MAX_STOPS * MAX_TRIPS)) }
 {
     let departures = by_stop(*arcs.allocator(), &nodes.departures, instance.stops())?;
+    let by = LayerMatching { l, matching };
     for stop in 0..instance.stops() {
-        push_from(
-            instance,
-            l,
-            matching,
-            nodes,
-            &departures,
-            StopNo(stop),
-            arcs,
-        )?;
+        push_from(instance, by, nodes, &departures, StopNo(stop), arcs)?;
     }
     Ok(())
 }
@@ -51,20 +44,19 @@ pub fn push_deadheads(
 /// Puts the deadheads from a stop, to the departures at each stop, to the arcs.
 fn push_from(
     instance: &Instance,
-    l: LayerNo,
-    matching: Matching,
+    by: LayerMatching,
     nodes: &Nodes,
     departures: &[&[Stay]],
     from: StopNo,
     arcs: &mut Vec<LayerArc>,
 ) -> Result<(), Memory>
-    requires layer { l.0 < length instance.now.layers }
+    requires layer { by.l.0 < length instance.now.layers }
     requires from { from.0 < instance.now.stops }
-    requires nodes { AreNodes instance.now l.0 nodes.now }
+    requires nodes { AreNodes instance.now by.l.0 nodes.now }
     requires departures { AreByStop instance.now.stops nodes.now.departures.items
         (map (λ g. g.now) departures.now) }
     ensures adds { OnOk result
-        (Adds (IsDeadheadFrom instance.now l.0 matching nodes.now.events.items from.0)
+        (Adds (IsDeadheadFrom instance.now by.l.0 by.matching nodes.now.events.items from.0)
         arcs.old.items arcs.new.items) }
     ensures few { OnOk result
         (length arcs.new.items ≤ length arcs.old.items + MAX_STOPS * MAX_TRIPS) }
@@ -78,7 +70,7 @@ fn push_from(
         if from != to {
             if let Some(way) = instance.way(from, to) {
                 let there = departures[to.0 as usize];
-                push_matches(instance, l, matching, way, arrivals, there, arcs)?;
+                push_matches(instance, by, way, arrivals, there, arcs)?;
             }
         }
     }
@@ -88,20 +80,19 @@ fn push_from(
 /// Puts the deadheads by one way to the arcs, in one sweep over the arrivals before it and the departures behind it.
 fn push_matches(
     instance: &Instance,
-    l: LayerNo,
-    matching: Matching,
+    by: LayerMatching,
     way: Way,
     arrivals: &[Stay],
     departures: &[Stay],
     arcs: &mut Vec<LayerArc>,
 ) -> Result<(), Memory>
-    requires layer { l.0 < length instance.now.layers }
+    requires layer { by.l.0 < length instance.now.layers }
     requires minutes { way.minutes ≤ MAX_MINUTES }
     requires metres { way.metres ≤ MAX_METRES }
     requires arrivals { IsRising arrivals.now × All (λ s. s.minute < TWO_DAYS) arrivals.now }
     requires departures { IsRising departures.now × All (λ s. s.minute < TWO_DAYS) departures.now }
     ensures adds { OnOk result
-        (Adds (IsMatched instance.now l.0 matching way arrivals.now departures.now)
+        (Adds (IsMatched instance.now by.l.0 by.matching way arrivals.now departures.now)
         arcs.old.items arcs.new.items) }
     ensures few { OnOk result
         (length arcs.new.items ≤ length arcs.old.items + length arrivals.now) }
@@ -111,8 +102,8 @@ fn push_matches(
         first = first_from(departures, first, arrival.minute + way.minutes);
         if first < departures.len() {
             let departure = departures[first];
-            if is_kept(matching, way, arrivals, k, &departure) {
-                arcs.push(deadhead_arc(instance, l, way, arrival, &departure))?;
+            if is_kept(by.matching, way, arrivals, k, &departure) {
+                arcs.push(deadhead_arc(instance, by.l, way, arrival, &departure))?;
             }
         }
     }

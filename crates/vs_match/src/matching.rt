@@ -22,6 +22,13 @@ pub enum Matching {
     Latest,
 }
 
+/// A layer, and the matching by which its net is made.
+#[derive(Clone, Copy)]
+pub struct LayerMatching {
+    pub l: LayerNo,
+    pub matching: Matching,
+}
+
 /// The net of a layer by first match. Costs are in 1/1000 of a cost unit.
 pub fn first_match(alloc: Global, instance: &Instance, l: LayerNo) -> Result<LayerNet, Memory>
     requires { l.0 < length instance.now.layers }

@@ -22,8 +22,9 @@ returns-then-is_empty-clause-adds c =
     rw (← c.deref.ensures.value) c.at_stop-arrivals.ensures.same in
     let none = eqb-true _ 0 (sym c.is_empty.ensures ∙ c.if-is_empty.true) in
     adds-none
-    (IsDeadheadFrom p c.args.l.0 c.args.matching c.args.nodes.now.events.items c.args.from.0) c.args.arcs.now.items
-    (none_from p c.args.l.0 c.args.nodes.now c.requires.nodes c.args.matching c.args.from
+    (IsDeadheadFrom p c.args.by.l.0 c.args.by.matching c.args.nodes.now.events.items c.args.from.0)
+    c.args.arcs.now.items
+    (none_from p c.args.by.l.0 c.args.nodes.now c.requires.nodes c.args.by.matching c.args.from
     c.at_stop-arrivals.result.now from none)
 
 pub push_matches-requires-clause-arrivals : goal.push_matches-requires-clause-arrivals
@@ -31,7 +32,7 @@ push_matches-requires-clause-arrivals c =
     let from : AreAt c.args.from c.args.nodes.now.arrivals.items c.at_stop-arrivals.result.now =
     rw (← c.deref.ensures.value) c.at_stop-arrivals.ensures.same in (
       c.at_stop-arrivals.ensures.rising,
-      arrivals_within c.args.instance.now c.args.l.0 c.args.nodes.now c.requires.nodes
+      arrivals_within c.args.instance.now c.args.by.l.0 c.args.nodes.now c.requires.nodes
           c.stops-to-end.ensures.instance c.args.from c.at_stop-arrivals.result.now from,
     )
 
@@ -43,7 +44,7 @@ push_matches-requires-clause-departures c =
     at_this_stop stops c.args.nodes.now.departures.items c.args.departures.now c.requires.departures c.loop-to.to
     within in (
       there.1,
-      departures_within c.args.instance.now c.args.l.0 c.args.nodes.now c.requires.nodes
+      departures_within c.args.instance.now c.args.by.l.0 c.args.nodes.now c.requires.nodes
           c.stops-to-end.ensures.instance (record { 0 = c.loop-to.to })
           (get_or c.args.departures.now c.loop-to.to nowhere).now there.0,
     )
@@ -51,14 +52,14 @@ push_matches-requires-clause-departures c =
 pub loop-to-preserved : goal.loop-to-preserved
 loop-to-preserved c =
     let p = c.args.instance.now in
-    let l = c.args.l.0 in
+    let l = c.args.by.l.0 in
     let nodes = c.args.nodes.now in
     let are = c.requires.nodes in
     let k = c.args.from.0 in
     let s = c.loop-to.to in
     let old = c.args.arcs.now.items in
     let before = c.loop-to.arcs.items in
-    let To = IsDeadheadTo p l c.args.matching nodes.events.items k in
+    let To = IsDeadheadTo p l c.args.by.matching nodes.events.items k in
     let from : AreAt c.args.from nodes.arrivals.items c.at_stop-arrivals.result.now =
     rw (← c.deref.ensures.value) c.at_stop-arrivals.ensures.same in
     elim c.if-ne.branch [
@@ -72,7 +73,7 @@ loop-to-preserved c =
           let all = ap length c.deref.ensures.value in
           record {
             adds = rw arcs (upto-many To s old before _ c.loop-to.invariant.adds
-                (matches_are p l nodes are c.args.matching b.in-Some.way c.args.from (record { 0 = s }) apart
+                (matches_are p l nodes are c.args.by.matching b.in-Some.way c.args.from (record { 0 = s }) apart
                 (sym b.in-Some.ensures)
                 c.at_stop-arrivals.result.now (get_or c.args.departures.now s nowhere).now from there.0 before _
                 b.in_ok-push_matches.ensures.adds));
@@ -83,7 +84,7 @@ loop-to-preserved c =
           let same = ap (λ (v : Vec LayerArc Global). v.items) b.arcs-is in
           record {
             adds = rw same (upto-skip To s old before c.loop-to.invariant.adds
-                (none_without p l nodes are c.args.matching k s
+                (none_without p l nodes are c.args.by.matching k s
                 (λ w is. none-some w (sym b.in_default.is ∙ b.way.ensures ∙ is))));
             few = rw same (omega (arith, c.loop-to.invariant.few));
           }
@@ -93,7 +94,7 @@ loop-to-preserved c =
           record {
             adds = rw same
                 (upto-skip To s old before c.loop-to.invariant.adds
-                (none_itself p l nodes are c.args.matching k s itself));
+                (none_itself p l nodes are c.args.by.matching k s itself));
             few = rw same (omega (arith, c.loop-to.invariant.few));
           }
     ]
@@ -105,8 +106,8 @@ returns-clause-adds c =
     omega (arith, c.loop-to.auto.to-end, c.loop-to-test.false, c.stops-to-end.ensures.count) in
     let P : ℕ → Type 0 =
     λ n. Adds
-    (Upto (IsDeadheadTo p c.args.l.0 c.args.matching c.args.nodes.now.events.items c.args.from.0) n)
+    (Upto (IsDeadheadTo p c.args.by.l.0 c.args.by.matching c.args.nodes.now.events.items c.args.from.0) n)
     c.args.arcs.now.items c.loop-to.arcs.items in
-    from_all p c.args.l.0 c.args.nodes.now c.requires.nodes c.stops-to-end.ensures.instance c.args.matching
+    from_all p c.args.by.l.0 c.args.nodes.now c.requires.nodes c.stops-to-end.ensures.instance c.args.by.matching
     c.args.from.0 c.args.arcs.now.items c.loop-to.arcs.items
     (subst P all c.loop-to.invariant.adds)

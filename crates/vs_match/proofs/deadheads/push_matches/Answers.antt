@@ -15,7 +15,7 @@ no_stay = record { stop = record { 0 = 0 }; minute = 0; node = 0 }
 pub loop-k-init : goal.loop-k-init
 loop-k-init c = record {
   adds = upto-none
-      (OfArrival c.args.instance.now c.args.l.0 c.args.matching c.args.way c.args.arrivals.now
+      (OfArrival c.args.instance.now c.args.by.l.0 c.args.by.matching c.args.way c.args.arrivals.now
       c.args.departures.now) c.args.arcs.now.items;
   few = omega arith;
   within = omega arith;
@@ -24,14 +24,14 @@ loop-k-init c = record {
 
 pub first_from-first-requires-clause-earlier : goal.first_from-first-requires-clause-earlier
 first_from-first-requires-clause-earlier c =
-    early_take c.args.instance.now c.args.l.0 c.args.matching c.args.way c.args.arrivals.now c.args.departures.now
+    early_take c.args.instance.now c.args.by.l.0 c.args.by.matching c.args.way c.args.arrivals.now c.args.departures.now
     c.requires.arrivals.0 c.requires.departures.0
     c.loop-k.k c.loop-k-test.true no_stay c.loop-k.first c.loop-k.invariant.within c.loop-k.invariant.early
 
 pub loop-k-preserved : goal.loop-k-preserved
 loop-k-preserved c =
     let p = c.args.instance.now in
-    let l = c.args.l.0 in
+    let l = c.args.by.l.0 in
     let w = c.args.way in
     let xs = c.args.arrivals.now in
     let ys = c.args.departures.now in
@@ -41,11 +41,11 @@ loop-k-preserved c =
     let bound = c.first_from-first.ensures.place.1 in
     let old = c.args.arcs.now.items in
     let before = c.loop-k.arcs.items in
-    let From = OfArrival p l c.args.matching w xs ys in
+    let From = OfArrival p l c.args.by.matching w xs ys in
     let up = c.requires.arrivals.0 in
     let up' = c.requires.departures.0 in
     let within = c.loop-k-test.true in
-    let early = early_more p l c.args.matching w xs ys up up' k within no_stay place bound earlier in
+    let early = early_more p l c.args.by.matching w xs ys up up' k within no_stay place bound earlier in
     elim c.if-first-departures.branch [
       | then-first-departures+then-is_kept+in_ok-push b ↦
           let until = get_or ys place no_stay in
@@ -59,8 +59,8 @@ loop-k-preserved c =
           record {
             adds = rw items
                 (upto-one From k old before _ c.loop-k.invariant.adds
-                (of_arrival p l c.args.matching w xs ys up up' k within no_stay until first kept)
-                (only_arrival p l c.args.matching w xs ys up up' k within no_stay until first));
+                (of_arrival p l c.args.by.matching w xs ys up up' k within no_stay until first kept)
+                (only_arrival p l c.args.by.matching w xs ys up up' k within no_stay until first));
             few = rw items
                 (omega (
                   arith,
@@ -81,7 +81,7 @@ loop-k-preserved c =
                 (λ x of. false≢true
                 (sym b.if-is_kept.false
                 ∙ (b.is_kept.ensures no_stay).1
-                (kept_of p l c.args.matching w xs ys up up' k within no_stay until first x of))));
+                (kept_of p l c.args.by.matching w xs ys up up' k within no_stay until first x of))));
             few = rw same (omega (arith, c.loop-k.invariant.few));
             within = bound;
             early = early;
@@ -90,7 +90,7 @@ loop-k-preserved c =
           let same = ap (λ (v : Vec LayerArc Global). v.items) b.arcs-is in
           record {
             adds = rw same (upto-skip From k old before c.loop-k.invariant.adds
-                (none_of_arrival p l c.args.matching w xs ys up up' k within no_stay place
+                (none_of_arrival p l c.args.by.matching w xs ys up up' k within no_stay place
                 b.if-first-departures.false earlier));
             few = rw same (omega (arith, c.loop-k.invariant.few));
             within = bound;
@@ -102,8 +102,10 @@ pub returns-clause-adds : goal.returns-clause-adds
 returns-clause-adds c =
     let all : c.loop-k.k ≡ length c.args.arrivals.now = omega (arith, c.loop-k.auto.k-end, c.loop-k-test.false) in
     let From =
-    OfArrival c.args.instance.now c.args.l.0 c.args.matching c.args.way c.args.arrivals.now c.args.departures.now in
+    OfArrival c.args.instance.now c.args.by.l.0 c.args.by.matching c.args.way c.args.arrivals.now
+    c.args.departures.now in
     let P : ℕ → Type 0 = λ n. Adds (Upto From n) c.args.arcs.now.items c.loop-k.arcs.items in
-    are_matches c.args.instance.now c.args.l.0 c.args.matching c.args.way c.args.arrivals.now c.args.departures.now
+    are_matches c.args.instance.now c.args.by.l.0 c.args.by.matching c.args.way c.args.arrivals.now
+    c.args.departures.now
     c.args.arcs.now.items c.loop-k.arcs.items
     (subst P all c.loop-k.invariant.adds)

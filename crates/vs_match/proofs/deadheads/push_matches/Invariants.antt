@@ -8,7 +8,7 @@ use Rattle.vs_match.proofs.deadheads.push_matches.Given as goal
 abbrev pub invariant-loop-k : goal.invariant-loop-k
 invariant-loop-k l = record {
   adds : Adds
-      (Upto (OfArrival l.instance l.l.0 l.matching l.way l.arrivals l.departures) l.k) l.initial.arcs.items
+      (Upto (OfArrival l.instance l.by.l.0 l.by.matching l.way l.arrivals l.departures) l.k) l.initial.arcs.items
       l.arcs.items;
   few : length l.arcs.items ≤ length l.initial.arcs.items + l.k;
   within : l.first ≤ length l.departures;
