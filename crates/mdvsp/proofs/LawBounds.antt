@@ -24,6 +24,7 @@ use Rattle.vs_cases.specs.Tree.{Tree, Leaf, Split, LeafPlace, leaves, splits}
 use Rattle.vs_answer.specs.Answers.{AreWorths, IsAnswer, IsBoundOf}
 use Rattle.mdvsp.specs.Budgets.{budget_of}
 use Rattle.mdvsp.specs.SolveAnswer.{SolveAnswer}
+use Rattle.mdvsp.proofs.once.SearchesAgree.{optimal_from}
 use Rattle.mdvsp.proofs.FirstStates.{given_budget, greedy_plan, zero_listed}
 
 -- the worth of one leaf
@@ -102,11 +103,6 @@ record TellsBy (cost : Option ℤ) (n : ℤ) (answer : Status) : Type 0 where
   pub done_only : answer ≡ status.Done → IsSomeAnd cost (λ c. c ≤ℤ n)
   pub done_there : IsSomeAnd cost (λ c. c ≤ℤ n) → answer ≡ status.Done
   pub or_open : (answer ≡ status.Done) ⊎ (answer ≡ status.StillOpen)
-
-optimal_from : (claim : Claim) → status_of claim ≡ status.Done → claim ≡ Optimal
-optimal_from Optimal e = refl
-optimal_from Infeasible e = cc
-optimal_from StillOpen e = cc
 
 status_tells : (cost : Option ℤ) (n : ℤ) (claim : Claim) (answer : Status) → answer ≡ status_of claim
     → Tells cost n claim → TellsBy cost n answer

@@ -5,3 +5,4 @@ pub mod OneRefusal
 pub mod OneCase
 pub mod OneAnswer
 pub mod SolveStatus
+pub mod SearchesAgree

@@ -1,5 +1,5 @@
 -- What is answered before it is written.
-use Rattle.std.specs.Prelude.{◌≡◌, ℕ, List, Result, Ok, Err, ◌⊎◌}
+use Rattle.std.specs.Prelude.{◌≡◌, ℕ, List, [], ◌∷◌, Result, Ok, Err, ◌⊎◌}
 use Rattle.vs_types.specs.declared.memory.Memory.{Memory}
 use Rattle.vs_io.specs.Bytes.{Appends, AppendsPrefix}
 use Rattle.vs_io.specs.Faults.{Rose}
@@ -18,6 +18,9 @@ use Rattle.mdvsp.specs.declared.case.CaseError.TheVariants as error
 use Rattle.mdvsp.specs.Network.{AreNetworkRows}
 use Rattle.mdvsp.specs.Owed.{Owes, OwesNoCase, status_of}
 use Rattle.vs_reader.specs.Rows.{Row, lines}
+use Rattle.vs_reader.specs.Texts.{IsRefused}
+use Rattle.vs_reader.specs.declared.refused.Refused.{Refused}
+use Rattle.mdvsp.specs.RefusalRows.{refusal_row}
 
 -- the text is the lines of rows that are owed for the bytes, with this answer
 pub record IsOwedFor (command : Command) (bytes : List ℕ) (answer : Answer) : Type 0 where
@@ -32,6 +35,13 @@ IsSaid (Ok answer) said taken taken_after faults faults_after =
     ((said ≡ answer.status) × Appends taken taken_after answer.text.items)
     ⊎ ((said ≡ WriteFault) × AppendsPrefix taken taken_after answer.text.items × Rose faults faults_after)
 IsSaid (Err memory) said taken taken_after faults faults_after = (said ≡ NoMemory) × (taken_after ≡ taken)
+
+-- the row that refuses a text which is no instance
+pub record RefusesText (bytes : List ℕ) (answer : Answer) : Type 0 where
+  pub refused : Refused
+  pub is_refused : IsRefused bytes refused
+  pub status_is : answer.status ≡ BadInput
+  pub text_is : answer.text.items ≡ lines (refusal_row refused ∷ [])
 
 -- the rows that refuse a text which is no instance with a document behind it
 pub record IsNoCase (bytes : List ℕ) (answer : Answer) : Type 0 where

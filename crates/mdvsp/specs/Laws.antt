@@ -1,5 +1,5 @@
 -- What the answers of `solve` have to do with each other, and which commands owe one thing.
-use Rattle.std.specs.Prelude.{◌≡◌, ◌⊎◌, ℕ, false, List, [], ◌∷◌, MatchOption, IfSome, IsSomeAnd, ℤ, ◌≤ℤ◌}
+use Rattle.std.specs.Prelude.{◌≡◌, ◌≢◌, ◌⊎◌, ℕ, false, List, [], ◌∷◌, MatchOption, IfSome, IsSomeAnd, ℤ, ◌≤ℤ◌}
 use Rattle.vs_instance.specs.Problem.{Problem}
 use Rattle.vs_instance.specs.Restriction.{permitted_sets}
 use Rattle.vs_plan.specs.Blocks.{blocks_of}
@@ -60,3 +60,9 @@ MayBothBe a b = (a ≡ b) ⊎ ((a ≡ status.StillOpen) × IsSettled b) ⊎ ((b 
 -- the bound of one answer isn't above the cost of the other
 abbrev pub NeverPasses : Document → Document → Type 0
 NeverPasses d e = IfSome d.bound (λ bound. IfSome e.cost (λ cost. bound ≤ℤ cost))
+
+-- where one answer shows that its plan is optimal, the other doesn't show that there is none, and a plan that it shows
+-- to be optimal costs the same
+pub record NeverDisagree (a b : Status) (d e : Document) : Type 0 where
+  pub never_both : a ≡ status.Done → b ≢ status.Infeasible
+  pub one_cost : a ≡ status.Done → b ≡ status.Done → d.cost ≡ e.cost

@@ -42,6 +42,12 @@ CouldNotRead command left left_after faults faults_after ReadFault =
 CouldNotRead command left left_after faults faults_after TooLong = TookTooMany left left_after × Reads command
 CouldNotRead command left left_after faults faults_after Memory = TookFew left left_after
 
+-- how a run ends that couldn't read
+abbrev pub unread_status : SlurpError → Status
+unread_status ReadFault = status.ReadFault
+unread_status TooLong = status.TooLong
+unread_status Memory = status.NoMemory
+
 -- a run: its words, the bytes that the source has left before and after it, those that the sink has taken before and
 -- after it, and both counts of
 -- faults before and after it

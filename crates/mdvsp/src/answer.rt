@@ -1,21 +1,23 @@
 //! What a run answers.
 
-ghost use Rattle.std.specs.Prelude.{◌≡◌, ◌≤◌, [], ◌∷◌, length, IfOk};
+ghost use Rattle.std.specs.Prelude.{◌≡◌, ℕ, ◌≤◌, List, [], ◌∷◌, length, IfOk};
 ghost use Rattle.vs_check.specs.Flaws.{IsFlawWithin};
-ghost use Rattle.mdvsp.specs.Answered.{IsSaid};
+ghost use Rattle.mdvsp.specs.Answered.{IsSaid, RefusesText};
 ghost use Rattle.mdvsp.specs.FlawRows.{no_row};
 ghost use Rattle.mdvsp.specs.Owed.{yes_row};
 ghost use Rattle.mdvsp.specs.RefusalRows.{document_refusal_row, refusal_row, too_large_row, words_row};
+ghost use Rattle.vs_reader.specs.ReadErrors.{RefusesAs};
 ghost use Rattle.vs_reader.specs.Rows.{lines};
+ghost use Rattle.vs_reader.specs.Texts.{IsRefused};
 
 use crate::flaws::flaw_fields;
 use crate::refusal::{write_document_why, write_why};
 use crate::status::Status;
 use std::alloc::Global;
-use vs_cert::{DocWhy, Document, Text, bound_field, claim_field, cost_field};
 use vs_check::Flaw;
+use vs_document::{DocWhy, Document, Text, bound_field, claim_field, cost_field};
 use vs_io::{Sink, emit};
-use vs_reader::{Names, Refused};
+use vs_reader::{Names, ReadError, Refused};
 use vs_types::Memory;
 use vs_words::BadWord;
 
@@ -29,7 +31,8 @@ pub struct Answer {
 impl Answer {
     /// The words are wrong at a place.
     pub fn bad_word(alloc: Global, bad: BadWord) -> Result<Answer, Memory>
-        ensures { IfOk result (λ a. (a.status ≡ Status.BadWords) × (a.text.items ≡ lines (words_row bad.0 ∷ []))) }
+        ensures { IfOk result (λ a. (a.status ≡ Status.BadWords)
+            × (a.text.items ≡ lines (words_row bad.0 ∷ []))) }
     {
         let mut text = Text::new(alloc);
         text.begin_row("words")?;
@@ -39,8 +42,9 @@ impl Answer {
     }
 
     /// The input is no instance text.
-    pub fn refused(alloc: Global, refused: Refused) -> Result<Answer, Memory>
-        ensures { IfOk result (λ a. (a.status ≡ Status.BadInput) × (a.text.items ≡ lines (refusal_row refused ∷ []))) }
+    fn refused(alloc: Global, refused: Refused) -> Result<Answer, Memory>
+        ensures { IfOk result (λ a. (a.status ≡ Status.BadInput)
+            × (a.text.items ≡ lines (refusal_row refused ∷ []))) }
     {
         let mut text = Text::new(alloc);
         text.begin_row("refused")?;
@@ -50,9 +54,21 @@ impl Answer {
         Ok(Answer::of(Status::BadInput, text))
     }
 
+    /// The input couldn't be read as an instance text.
+    pub fn no_instance(alloc: Global, error: ReadError) -> Result<Answer, Memory>
+        ensures { (bytes : List ℕ)
+            → RefusesAs (IsRefused bytes) error → IfOk result (RefusesText bytes) }
+    {
+        match error {
+            ReadError::Refused(refused) => Answer::refused(alloc, refused),
+            ReadError::Memory => Err(Memory),
+        }
+    }
+
     /// So many nodes are too many for the instance.
     pub fn too_large(alloc: Global) -> Result<Answer, Memory>
-        ensures { IfOk result (λ a. (a.status ≡ Status.BadInput) × (a.text.items ≡ lines (too_large_row ∷ []))) }
+        ensures { IfOk result (λ a. (a.status ≡ Status.BadInput)
+            × (a.text.items ≡ lines (too_large_row ∷ []))) }
     {
         let mut text = Text::new(alloc);
         text.begin_row("refused")?;
@@ -78,7 +94,8 @@ impl Answer {
 
     /// The document holds.
     pub fn yes(alloc: Global, document: &Document) -> Result<Answer, Memory>
-        ensures { IfOk result (λ a. (a.status ≡ Status.Done) × (a.text.items ≡ lines (yes_row document.now ∷ []))) }
+        ensures { IfOk result (λ a. (a.status ≡ Status.Done)
+            × (a.text.items ≡ lines (yes_row document.now ∷ []))) }
     {
         let mut text = Text::new(alloc);
         text.begin_row("yes")?;
@@ -92,7 +109,8 @@ impl Answer {
     /// The document doesn't hold, first of all for this flaw.
     pub fn no(alloc: Global, names: &Names, flaw: Flaw) -> Result<Answer, Memory>
         requires { IsFlawWithin (length names.now.layers) (length names.now.trips) flaw }
-        ensures { IfOk result (λ a. (a.status ≡ Status.SaysNo) × (a.text.items ≡ lines (no_row names.now flaw ∷ []))) }
+        ensures { IfOk result (λ a. (a.status ≡ Status.SaysNo)
+            × (a.text.items ≡ lines (no_row names.now flaw ∷ []))) }
     {
         let mut text = Text::new(alloc);
         text.begin_row("no")?;
@@ -115,7 +133,8 @@ impl Answer {
 
 /// Writes the answer's text, and says how the run ends.
 pub fn say<O: Sink>(answer: Result<Answer, Memory>, output: &mut O) -> Status
-    ensures said { IsSaid answer result (O.taken output.old) (O.taken output.new) (O.faults output.old) (O.faults output.new) }
+    ensures said { IsSaid answer result (O.taken output.old) (O.taken output.new)
+        (O.faults output.old) (O.faults output.new) }
     ensures never_falls { O.faults output.old ≤ O.faults output.new }
 {
     let answer = match answer {

@@ -1,3 +1,5 @@
+//! How many leaves a search may work on.
+
 ghost use Rattle.std.specs.Prelude.{◌≡◌, ◌*◌, ◌≤◌, ◌↔◌, max, IfSome, IsTrue};
 ghost use Rattle.vs_types.specs.declared.numbers.TheConstants.{MAX_LAYERS};
 ghost use Rattle.vs_instance.specs.declared.limits.TheConstants.{MAX_BUDGET, MAX_TRIPS};

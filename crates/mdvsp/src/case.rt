@@ -1,3 +1,5 @@
+//! An instance and the document behind it, as a text gives them.
+
 ghost use Rattle.std.specs.Prelude.{◌≡◌, ◌≤◌, length, IfErr, IfOk};
 ghost use Rattle.vs_reader.specs.Texts.{StandsFor};
 ghost use Rattle.vs_document.specs.Form.{IsReadFor};
@@ -8,8 +10,8 @@ ghost use Rattle.mdvsp.specs.Outcome.{input_limit};
 
 use crate::answer::Answer;
 use std::alloc::Global;
-use vs_cert::{DocError, Document};
-use vs_reader::{Input, ReadError};
+use vs_document::{DocError, Document};
+use vs_reader::Input;
 use vs_types::Memory;
 
 /// An instance with its names, and the document that stands behind it.
@@ -37,7 +39,7 @@ pub fn read_case(alloc: Global, bytes: &[u8]) -> Result<Case, CaseError>
     ensures refused { IfErr result (RefusesCase bytes.now) }
 {
     let input = read_instance(alloc, bytes)?;
-    match vs_cert::read(alloc, &input) {
+    match vs_document::read(alloc, &input) {
         Ok(document) => Ok(Case { input, document }),
         Err(DocError::Refused { row, why }) => {
             Err(refusal(Answer::refused_document(alloc, row, why)))
@@ -56,8 +58,7 @@ fn read_instance(alloc: Global, bytes: &[u8]) -> Result<Input, CaseError>
 {
     match vs_reader::read(alloc, bytes) {
         Ok(input) => Ok(input),
-        Err(ReadError::Refused(refused)) => Err(refusal(Answer::refused(alloc, refused))),
-        Err(ReadError::Memory) => Err(CaseError::Memory),
+        Err(error) => Err(refusal(Answer::no_instance(alloc, error))),
     }
 }
 

@@ -1,3 +1,5 @@
+//! `check`: whether a document holds.
+
 ghost use Rattle.std.specs.Prelude.{◌≤◌, length, IfOk};
 ghost use Rattle.mdvsp.specs.Answered.{IsOwedFor};
 ghost use Rattle.mdvsp.specs.Outcome.{input_limit};

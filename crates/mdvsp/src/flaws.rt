@@ -1,10 +1,12 @@
+//! The fields that tell why a document doesn't hold.
+
 ghost use Rattle.std.specs.Prelude.{◌≡◌, [], ◌∷◌, ◌++◌, length, OnOk};
 ghost use Rattle.vs_check.specs.Flaws.{IsBreakWithin, IsFaultWithin, IsFlawWithin};
 ghost use Rattle.mdvsp.specs.FlawRows.{broken_fields, fault_fields, flaw_fields, position_field};
 ghost use Rattle.vs_reader.specs.Rows.{more_fields};
 
-use vs_cert::{Text, bound_field, claim_field};
 use vs_check::Flaw;
+use vs_document::{Text, bound_field, claim_field};
 use vs_plan::PlanFault;
 use vs_prices::BrokenAt;
 use vs_reader::Names;

@@ -8,7 +8,7 @@ ghost use Rattle.vs_words.specs.declared.command.Command.{Command};
 ghost use Rattle.vs_words.specs.declared.command.Effort.{Effort};
 ghost use Rattle.mdvsp.specs.declared.status.Status.{Status};
 ghost use Rattle.mdvsp.specs.declared.status.Status.TheVariants as status;
-ghost use Rattle.mdvsp.specs.Laws.{IsDetermined, IsDoneWhereShown, MayBothBe, NeverPasses};
+ghost use Rattle.mdvsp.specs.Laws.{IsDetermined, IsDoneWhereShown, MayBothBe, NeverDisagree, NeverPasses};
 ghost use Rattle.mdvsp.specs.Owed.{CheckOwes, Owes, OwesDocument, yes_row};
 ghost use Rattle.vs_reader.specs.Rows.{Row, lines};
 
@@ -25,7 +25,8 @@ pub fn solved_documents_hold()
 /// list of rows. So no input has two verdicts.
 pub fn one_answer()
     ensures { (command : Command) (bytes : List ℕ) (a b : Status) (r s : List Row)
-        → IsDetermined command → Owes command bytes a r → Owes command bytes b s → (a ≡ b) × (r ≡ s) }
+        → IsDetermined command → Owes command bytes a r → Owes command bytes b s
+        → (a ≡ b) × (r ≡ s) }
 {}
 
 /// What a command is owed has one status, but that a search may leave open what another one settles. So nothing is
@@ -35,12 +36,19 @@ pub fn one_status()
         → Owes command bytes a r → Owes command bytes b s → MayBothBe a b }
 {}
 
-/// Of two searches of one instance, with whatever efforts, neither has a bound above what the other's plan costs. So two
-/// plans that are optimal cost the same.
+/// Of two searches of one instance, with whatever efforts, neither has a bound above what the other's plan costs.
 pub fn bounds_never_pass_costs()
     ensures { (m n : Effort) (bytes : List ℕ) (a b : Status) (r s : List Row)
         (owed : OwesDocument m bytes a r) (also : OwesDocument n bytes b s)
         → NeverPasses owed.document also.document }
+{}
+
+/// No search of an instance, with whatever effort, answers that there is no plan where another one answers that its
+/// plan is optimal. Two plans that are optimal cost the same.
+pub fn searches_agree()
+    ensures { (m n : Effort) (bytes : List ℕ) (a b : Status) (r s : List Row)
+        (owed : OwesDocument m bytes a r) (also : OwesDocument n bytes b s)
+        → NeverDisagree a b owed.document also.document }
 {}
 
 /// Without a node a run is done exactly where there is a greedy plan and it costs no more than the table of zeros is

@@ -17,7 +17,7 @@ mod timetable;
 
 pub use laws::{
     bounds_never_pass_costs, done_where_shown, enough_nodes_leave_nothing_open, one_answer,
-    one_status, solved_documents_hold,
+    one_status, searches_agree, solved_documents_hold,
 };
 pub use running::run;
 pub use status::Status;

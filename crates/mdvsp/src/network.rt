@@ -1,3 +1,5 @@
+//! `network`: how large the nets of each layer are.
+
 ghost use Rattle.std.specs.Prelude.{◌≡◌, ◌<◌, ◌≤◌, [], ◌∷◌, ◌++◌, codes, length, IfOk, OnOk};
 ghost use Rattle.vs_match.specs.declared.matching.Matching.TheVariants as Matching;
 ghost use Rattle.vs_reader.specs.Names.{HaveCounts};
@@ -9,10 +11,10 @@ ghost use Rattle.mdvsp.specs.Outcome.{input_limit};
 use crate::answer::Answer;
 use crate::status::Status;
 use std::alloc::Global;
-use vs_cert::Text;
+use vs_document::Text;
 use vs_instance::Instance;
 use vs_match::{NetCounts, counts, first_match, full_count, latest_first_match};
-use vs_reader::{Names, ReadError, read};
+use vs_reader::{Names, read_instance};
 use vs_types::{LayerNo, Memory};
 use vs_words::Command;
 
@@ -21,10 +23,9 @@ pub fn answer_network(alloc: Global, bytes: &[u8]) -> Result<Answer, Memory>
     requires { length bytes.now ≤ input_limit }
     ensures { IfOk result (IsOwedFor Command.Network bytes.now) }
 {
-    match read(alloc, bytes) {
-        Ok(input) => sizes_of(alloc, &input.instance, &input.names),
-        Err(ReadError::Refused(refused)) => Answer::refused(alloc, refused),
-        Err(ReadError::Memory) => Err(Memory),
+    match read_instance(alloc, bytes) {
+        Ok(timetable) => sizes_of(alloc, &timetable.instance, &timetable.names),
+        Err(error) => Answer::no_instance(alloc, error),
     }
 }
 
@@ -68,7 +69,8 @@ fn write_first(
     full: u64,
 ) -> Result<(), Memory>
     requires { l.0 < length instance.now.layers }
-    ensures { OnOk result (WritesNet instance.now layer.now l.0 Matching.First full text.old text.new) }
+    ensures { OnOk result (WritesNet
+        instance.now layer.now l.0 Matching.First full text.old text.new) }
 {
     let net = first_match(alloc, instance, l)?;
     write_sizes(text, layer, "first", counts(&net), full)
@@ -84,7 +86,8 @@ fn write_latest(
     full: u64,
 ) -> Result<(), Memory>
     requires { l.0 < length instance.now.layers }
-    ensures { OnOk result (WritesNet instance.now layer.now l.0 Matching.Latest full text.old text.new) }
+    ensures { OnOk result (WritesNet
+        instance.now layer.now l.0 Matching.Latest full text.old text.new) }
 {
     let net = latest_first_match(alloc, instance, l)?;
     write_sizes(text, layer, "latest", counts(&net), full)
@@ -108,7 +111,8 @@ fn write_sizes(
 
 /// Begins the row of a net with its layer and its name.
 fn begin_sizes(text: &mut Text, layer: &str, net: &str) -> Result<(), Memory>
-    ensures { OnOk result (text.new ≡ text.old ++ fields (codes "network" ∷ layer.now ∷ net.now ∷ [])) }
+    ensures { OnOk result (text.new ≡ text.old
+        ++ fields (codes "network" ∷ layer.now ∷ net.now ∷ [])) }
 {
     text.begin_row("network")?;
     text.field(layer)?;

@@ -4,7 +4,7 @@ ghost use Rattle.vs_reader.specs.Rows.{more_fields};
 ghost use Rattle.mdvsp.specs.RefusalRows.{document_name, document_number};
 ghost use Rattle.mdvsp.specs.RefusalRows.{misfit_details, misfit_name, range_name, stop_fields, why_details, why_name, why_number};
 
-use vs_cert::{DocWhy, Text};
+use vs_document::{DocWhy, Text};
 use vs_instance::{Field, Misfit};
 use vs_reader::Why;
 use vs_types::{Memory, StopNo};

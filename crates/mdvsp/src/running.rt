@@ -1,6 +1,9 @@
+//! A whole run: from words and an input to an answer that is written.
+
 ghost use Rattle.std.specs.Prelude.{◌≡◌, ℕ, ◌≤◌, List, length, IfErr, IfOk};
 ghost use Rattle.mdvsp.specs.Answered.{IsOwedFor};
-ghost use Rattle.mdvsp.specs.Outcome.{CouldNotRead, Ends, HasRead, input_limit};
+ghost use Rattle.mdvsp.specs.Laws.{IsDetermined};
+ghost use Rattle.mdvsp.specs.Outcome.{CouldNotRead, Ends, HasRead, input_limit, unread_status};
 ghost use Rattle.vs_words.specs.Words.{AskFor, AskToRead, IsWithinLimits, Reads, Word, words_of};
 
 use crate::answer::{Answer, say};
@@ -18,7 +21,7 @@ use vs_io::{Sink, SlurpError, Source, slurp};
 use vs_make::make_text;
 use vs_reader::MAX_BYTES;
 use vs_types::Memory;
-use vs_words::{Command, command_of};
+use vs_words::{Command, Effort, command_of};
 
 /// Does what the words ask for, and says how it ended. The input is read to its end, and nothing is
 /// written before the whole output stands. Where the words are wrong, and by `make`, nothing is read. The workers of a
@@ -43,24 +46,58 @@ pub fn run<R: Threads + Wait + Sync, I: Source, O: Sink, G: Gate + Sync>(
       sink_faults_after = O.faults output.new;
     }) result }
     ensures untouched { ¬ (AskToRead (words_of words.now)) → input.new ≡ input.old }
-    ensures never_falls { (I.faults input.old ≤ I.faults input.new) × (O.faults output.old ≤ O.faults output.new) }
+    ensures never_falls { (I.faults input.old ≤ I.faults input.new)
+        × (O.faults output.old ≤ O.faults output.new) }
 {
     match command_of(words) {
-        Ok(command) => obey(rt, alloc, command, input, output, gate),
+        Ok(command) => match command {
+            Command::Solve(effort) => search(rt, alloc, effort, input, output, gate),
+            _ => obey(alloc, command, input, output),
+        },
         Err(bad) => say(Answer::bad_word(alloc, bad), output),
     }
 }
 
-/// Reads what the command takes, does what it asks for, and says how it ended.
-fn obey<R: Threads + Wait + Sync, I: Source, O: Sink, G: Gate + Sync>(
+/// Reads an instance, searches it with this effort, and says how it ended.
+fn search<R: Threads + Wait + Sync, I: Source, O: Sink, G: Gate + Sync>(
     rt: &R,
     alloc: Global,
-    command: Command,
+    effort: Effort,
     input: &mut I,
     output: &mut O,
     gate: &G,
 ) -> Status
-    requires { IsWithinLimits command }
+    requires { IsWithinLimits (Command.Solve effort) }
+    ensures ends { (words : List Word) → AskFor words (Command.Solve effort) → Ends (record {
+      words = words;
+      left = I.left input.old;
+      left_after = I.left input.new;
+      taken = O.taken output.old;
+      taken_after = O.taken output.new;
+      source_faults = I.faults input.old;
+      source_faults_after = I.faults input.new;
+      sink_faults = O.faults output.old;
+      sink_faults_after = O.faults output.new;
+    }) result }
+    ensures never_falls { (I.faults input.old ≤ I.faults input.new)
+        × (O.faults output.old ≤ O.faults output.new) }
+{
+    match input_of(alloc, Command::Solve(effort), input) {
+        Ok(bytes) => say(answer_solve(rt, alloc, effort, &bytes, gate), output),
+        Err(error) => unread(error),
+    }
+}
+
+/// Reads what a command other than `solve` takes, does what it asks for, and says how it ended. It starts no thread and
+/// waits for none.
+fn obey<I: Source, O: Sink>(
+    alloc: Global,
+    command: Command,
+    input: &mut I,
+    output: &mut O,
+) -> Status
+    requires limits { IsWithinLimits command }
+    requires determined { IsDetermined command }
     ensures ends { (words : List Word) → AskFor words command → Ends (record {
       words = words;
       left = I.left input.old;
@@ -73,13 +110,23 @@ fn obey<R: Threads + Wait + Sync, I: Source, O: Sink, G: Gate + Sync>(
       sink_faults_after = O.faults output.new;
     }) result }
     ensures untouched { ¬ (Reads command) → input.new ≡ input.old }
-    ensures never_falls { (I.faults input.old ≤ I.faults input.new) × (O.faults output.old ≤ O.faults output.new) }
+    ensures never_falls { (I.faults input.old ≤ I.faults input.new)
+        × (O.faults output.old ≤ O.faults output.new) }
 {
     match input_of(alloc, command, input) {
-        Ok(bytes) => say(answer_to(rt, alloc, command, &bytes, gate), output),
-        Err(SlurpError::ReadFault) => Status::ReadFault,
-        Err(SlurpError::TooLong) => Status::TooLong,
-        Err(SlurpError::Memory) => Status::NoMemory,
+        Ok(bytes) => say(answer_to(alloc, command, &bytes), output),
+        Err(error) => unread(error),
+    }
+}
+
+/// How a run ends whose input couldn't be read.
+fn unread(error: SlurpError) -> Status
+    ensures { result ≡ unread_status error }
+{
+    match error {
+        SlurpError::ReadFault => Status::ReadFault,
+        SlurpError::TooLong => Status::TooLong,
+        SlurpError::Memory => Status::NoMemory,
     }
 }
 
@@ -89,7 +136,8 @@ fn input_of<I: Source>(
     command: Command,
     input: &mut I,
 ) -> Result<Vec<u8>, SlurpError>
-    ensures read { IfOk result (λ bytes. HasRead command (I.left input.old) (I.left input.new) bytes.items) }
+    ensures read { IfOk result (λ bytes.
+        HasRead command (I.left input.old) (I.left input.new) bytes.items) }
     ensures few { IfOk result (λ bytes. length bytes.items ≤ input_limit) }
     ensures failed { IfErr result
         (CouldNotRead command (I.left input.old) (I.left input.new) (I.faults input.old) (I.faults input.new)) }
@@ -102,24 +150,19 @@ fn input_of<I: Source>(
     }
 }
 
-/// What the command answers for the bytes of its input.
-fn answer_to<R: Threads + Wait + Sync, G: Gate + Sync>(
-    rt: &R,
-    alloc: Global,
-    command: Command,
-    bytes: &[u8],
-    gate: &G,
-) -> Result<Answer, Memory>
+/// What a command other than `solve` answers for the bytes of its input.
+fn answer_to(alloc: Global, command: Command, bytes: &[u8]) -> Result<Answer, Memory>
     requires few { length bytes.now ≤ input_limit }
     requires limits { IsWithinLimits command }
+    requires determined { IsDetermined command }
     ensures { IfOk result (IsOwedFor command bytes.now) }
 {
     match command {
         Command::Check => answer_check(alloc, bytes),
-        Command::Solve(effort) => answer_solve(rt, alloc, effort, bytes, gate),
         Command::Network => answer_network(alloc, bytes),
         Command::Blocks => answer_blocks(alloc, bytes),
         Command::Make(n) => answer_make(alloc, n),
+        Command::Solve(_) => unreachable!(),
     }
 }
 

@@ -1,3 +1,5 @@
+//! `solve`: a search of the instance, and its document.
+
 ghost use Rattle.std.specs.Prelude.{◌≡◌, ◌≤◌, ◌∷◌, [], length, IfOk};
 ghost use Rattle.vs_reader.specs.Names.{HaveCounts};
 ghost use Rattle.vs_tree.specs.Search.{state};
@@ -19,9 +21,9 @@ use std::thread::Threads;
 use vs_cert::write;
 use vs_crew::{Gate, run};
 use vs_instance::Instance;
-use vs_need::layer_nets;
+use vs_match::layer_nets;
 use vs_plan::greedy;
-use vs_reader::{Input, ReadError, read};
+use vs_reader::{Timetable, read_instance};
 use vs_tree::{Claim, Tree};
 use vs_types::Memory;
 use vs_words::{Command, Effort};
@@ -38,13 +40,12 @@ pub fn answer_solve<R: Threads + Wait + Sync, G: Gate + Sync>(
     requires effort { IsWithinLimits (Command.Solve effort) }
     ensures { IfOk result (IsOwedFor (Command.Solve effort) bytes.now) }
 {
-    match read(alloc, bytes) {
-        Ok(input) => match budget_of(&input.instance, effort.nodes) {
-            Some(budget) => plan_of(rt, alloc, &input, budget, effort.workers, gate),
+    match read_instance(alloc, bytes) {
+        Ok(timetable) => match budget_of(&timetable.instance, effort.nodes) {
+            Some(budget) => plan_of(rt, alloc, &timetable, budget, effort.workers, gate),
             None => Answer::too_large(alloc),
         },
-        Err(ReadError::Refused(refused)) => Answer::refused(alloc, refused),
-        Err(ReadError::Memory) => Err(Memory),
+        Err(error) => Answer::no_instance(alloc, error),
     }
 }
 
@@ -52,20 +53,20 @@ pub fn answer_solve<R: Threads + Wait + Sync, G: Gate + Sync>(
 fn plan_of<R: Threads + Wait + Sync, G: Gate + Sync>(
     rt: &R,
     alloc: Global,
-    input: &Input,
+    timetable: &Timetable,
     budget: u32,
     workers: u32,
     gate: &G,
 ) -> Result<Answer, Memory>
-    requires counts { HaveCounts input.now.instance input.now.names }
+    requires counts { HaveCounts timetable.now.instance timetable.now.names }
     requires budget { budget ≤ MAX_BUDGET }
     requires some_workers { 1 ≤ workers }
     requires few_workers { workers ≤ MAX_WORKERS }
-    ensures { IfOk result (IsDocumentOf input.now.instance input.now.names budget workers) }
+    ensures { IfOk result (IsDocumentOf timetable.now.instance timetable.now.names budget workers) }
 {
-    let tree = searched(rt, alloc, &input.instance, budget, workers, gate)?;
+    let tree = searched(rt, alloc, &timetable.instance, budget, workers, gate)?;
     let _instance = tree.instance();
-    let text = write(alloc, &tree, &input.names)?;
+    let text = write(alloc, &tree, &timetable.names)?;
     Ok(Answer {
         status: claim_status(tree.report().claim),
         text,

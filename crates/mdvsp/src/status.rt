@@ -1,3 +1,5 @@
+//! How a run ends.
+
 ghost use Rattle.std.specs.Prelude.{◌≡◌};
 ghost use Rattle.mdvsp.specs.Status.{code_of};
 
@@ -22,7 +24,7 @@ pub enum Status {
     TooLong,
     /// There is no plan.
     Infeasible,
-    /// The nodes ran out before the plan was shown to be optimal.
+    /// The cases that the search may work on ran out before the plan was shown to be optimal.
     StillOpen,
 }
 

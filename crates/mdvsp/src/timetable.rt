@@ -1,3 +1,5 @@
+//! `blocks`: the timetable of a document's blocks.
+
 ghost use Rattle.std.specs.Prelude.{◌≡◌, ℕ, List, ◌+◌, ◌<◌, ◌≤◌, [], ◌∷◌, ◌++◌, All, codes, decimal, length, map, IfOk, OnOk};
 ghost use Rattle.vs_instance.specs.Blocks.{IsBlock};
 ghost use Rattle.vs_instance.specs.Plan.{IsPlan};
@@ -14,8 +16,8 @@ use crate::answer::Answer;
 use crate::case::{Case, CaseError, read_case};
 use crate::status::Status;
 use std::alloc::Global;
-use vs_cert::Text;
 use vs_check::Flaw;
+use vs_document::Text;
 use vs_instance::Instance;
 use vs_plan::{Block, PlanError, block_cost, block_times, judge};
 use vs_reader::Names;
@@ -49,8 +51,10 @@ fn answer_for(alloc: Global, case: &Case) -> Result<Answer, Memory>
     let plan = &case.document.plan;
     match judge(alloc, instance, plan) {
         Ok(_) => timetable_of(alloc, instance, names, &plan.blocks),
-        Err(PlanError::Fault(fault)) => Answer::no(alloc, names, Flaw::Plan(fault)),
-        Err(PlanError::Memory) => Err(Memory),
+        Err(error) => match error {
+            PlanError::Fault(fault) => Answer::no(alloc, names, Flaw::Plan(fault)),
+            PlanError::Memory => Err(Memory),
+        },
     }
 }
 
@@ -84,7 +88,8 @@ fn write_block(
     requires number { k < usize.MAX }
     requires block { IsBlock instance.now block.now.layer block.now.trips.items }
     requires names { HaveCounts instance.now names.now }
-    ensures { OnOk result (text.new ≡ text.old ++ lines (vehicle_rows instance.now names.now k (pair_of block.now))) }
+    ensures { OnOk result (text.new ≡ text.old
+        ++ lines (vehicle_rows instance.now names.now k (pair_of block.now))) }
 {
     write_vehicle(text, instance, names, k, block)?;
     write_runs(text, instance, names, k, &block.trips)
@@ -101,7 +106,8 @@ fn write_vehicle(
     requires number { k < usize.MAX }
     requires block { IsBlock instance.now block.now.layer block.now.trips.items }
     requires names { HaveCounts instance.now names.now }
-    ensures { OnOk result (text.new ≡ text.old ++ line (vehicle_row instance.now names.now k (pair_of block.now))) }
+    ensures { OnOk result (text.new ≡ text.old
+        ++ line (vehicle_row instance.now names.now k (pair_of block.now))) }
 {
     let (out, back) = block_times(instance, block);
     begin_vehicle(text, names, k, block.layer, out)?;
@@ -141,7 +147,8 @@ fn write_runs(
     requires number { k < usize.MAX }
     requires trips { All (λ i. i.0 < length instance.now.trips) trips.now }
     requires names { HaveCounts instance.now names.now }
-    ensures { OnOk result (text.new ≡ text.old ++ lines (map (run_row instance.now names.now k) trips.now)) }
+    ensures { OnOk result (text.new ≡ text.old
+        ++ lines (map (run_row instance.now names.now k) trips.now)) }
 {
     for i in trips {
         write_run(text, instance, names, k, *i)?;

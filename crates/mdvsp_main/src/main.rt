@@ -31,7 +31,7 @@ commands:
 exit status:
   0 done, solve: the plan is optimal   1 check, blocks: no   2 wrong words   3 the input is refused
   4 reading failed   5 writing failed   6 no memory   7 the input is too long
-  10 solve: there is no plan   11 solve: open, the nodes ran out";
+  10 solve: there is no plan   11 solve: open, the cases ran out";
 
 /// Runs the words after the program's name over standard input and output, and ends with the run's code. Where standard
 /// error is a terminal, it tells there how far the run has come, and where the words are wrong, it tells on standard

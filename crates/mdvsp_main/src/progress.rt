@@ -5,7 +5,7 @@ use std::sync::atomic::{AtomicU64, Ordering};
 use std::time::Instant;
 use vs_crew::Gate;
 
-/// A gate that is open. It tells on standard error how many leaves were taken and for how long the run has lasted, once
+/// A gate that is open. It tells on standard error how many cases were taken and for how long the run has lasted, once
 /// a second at most.
 #[derive(Drop)]
 pub struct Progress<'a, R: Eprint + Clock> {
@@ -47,7 +47,7 @@ impl<R: Eprint + Clock> Gate for Progress<'_, R> {
         };
         let seconds = passed.as_secs();
         if self.told.swap(seconds, Ordering::SeqCst) != seconds {
-            let _ = eprint!(self.rt; "\r{taken} leaves taken, {seconds} seconds");
+            let _ = eprint!(self.rt; "\r{taken} cases taken, {seconds} seconds");
         }
     }
 }

@@ -10,8 +10,14 @@ use std::thread::Threads;
 use trial_fixtures::texts::{END, LAYER, LONG_TRIPS, STOPS, TABLE, TRIPS};
 
 /// Six trips: four from D to P, and two from Q to D.
-const SIX_TRIPS: &str =
-    "trip,t1,D,7:30,P,8:00,0,L1\ntrip,t2,D,7:35,P,8:05,0,L1\ntrip,t3,D,7:40,P,8:10,0,L1\ntrip,t4,D,7:50,P,8:20,0,L1\ntrip,t5,Q,8:30,D,9:00,0,L1\ntrip,t6,Q,8:40,D,9:10,0,L1\n";
+const SIX_TRIPS: &str = "\
+trip,t1,D,7:30,P,8:00,0,L1
+trip,t2,D,7:35,P,8:05,0,L1
+trip,t3,D,7:40,P,8:10,0,L1
+trip,t4,D,7:50,P,8:20,0,L1
+trip,t5,Q,8:30,D,9:00,0,L1
+trip,t6,Q,8:40,D,9:10,0,L1
+";
 
 const NETWORKS: &[Row] = &[
     Row {
@@ -45,11 +51,18 @@ fn tells_sizes_of_nets(rt: HostRuntime) -> Result<(), Fail> {
     come_out(&rt, rt.alloc(), &["network"], NETWORKS)
 }
 
-const ONE_VEHICLE_PLAN: &str =
-    "vehicle,1,L1,07:50,09:10,1080\nrun,1,t1,P,08:00,Q,08:30\nrun,1,t2,Q,08:30,P,09:00\n";
+const ONE_VEHICLE_PLAN: &str = "\
+vehicle,1,L1,07:50,09:10,1080
+run,1,t1,P,08:00,Q,08:30
+run,1,t2,Q,08:30,P,09:00
+";
 
-const TWO_VEHICLES_PLAN: &str =
-    "vehicle,1,L1,08:20,09:10,1050\nrun,1,t2,Q,08:30,P,09:00\nvehicle,2,L1,07:50,08:40,1050\nrun,2,t1,P,08:00,Q,08:30\n";
+const TWO_VEHICLES_PLAN: &str = "\
+vehicle,1,L1,08:20,09:10,1050
+run,1,t2,Q,08:30,P,09:00
+vehicle,2,L1,07:50,08:40,1050
+run,2,t1,P,08:00,Q,08:30
+";
 
 const OPEN: &str = "result,1,open\n";
 

@@ -6,7 +6,7 @@ use Rattle.std.specs.Str.Parse.{ParsesUnsigned, digits_value}
 use Rattle.std.proofs.lemmas.List.Elements.{All-get_or}
 use Rattle.std.proofs.lemmas.Str.Parse.{IsNumeralModel, numerals_by_value, parse_gives, tells_by_index}
 use Rattle.vs_reader.specs.Numbers.{AreDigits}
-use Rattle.vs_reader.proofs.declaring.NumberLemmas.{digits_short}
+use Rattle.vs_reader.proofs.CallerLemmas.{digits_short}
 use Rattle.vs_words.specs.Words.{Word}
 
 numerals : IsNumeralModel (λ ds. (i : ℕ) → i < length ds → IsInRange 48 57 (get_or ds i 0)) (digits_value 10)

@@ -4,7 +4,7 @@ use Rattle.vs_instance.specs.Instance.{IsInstance}
 use Rattle.vs_instance.specs.Problem.{Problem}
 use Rattle.vs_reader.specs.Names.{NameLists}
 use Rattle.vs_reader.specs.Rows.{Row}
-use Rattle.vs_reader.proofs.texts.TextLemmas.{one_reading, refused_none}
+use Rattle.vs_reader.proofs.CallerLemmas.{one_reading, refused_none}
 use Rattle.vs_document.specs.Alike.{AreAlike}
 use Rattle.vs_document.specs.DocumentRefusals.{AreRefused}
 use Rattle.vs_document.specs.DocumentText.{DocumentText}

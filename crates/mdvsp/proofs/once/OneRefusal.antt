@@ -16,9 +16,7 @@ use Rattle.vs_reader.specs.InstanceText.{Declared, nothing_yet, instance_records
 use Rattle.vs_reader.specs.Rules.{Rule, AreKept, BreaksFirst, rules, with_row}
 use Rattle.vs_reader.specs.Refusals.{ArePartsOf, BreaksRule, HasMisfit, IsRefusal, misfit_row}
 use Rattle.vs_reader.specs.Texts.{IsRefused}
-use Rattle.vs_reader.proofs.declaring.DeclaredLemmas.{IsSound-nothing, one_AddAll}
-use Rattle.vs_reader.proofs.declaring.RefusedLemmas.{AreAllNames-nothing, breaks_refutes}
-use Rattle.vs_reader.proofs.texts.TextLemmas.{one_rows}
+use Rattle.vs_reader.proofs.CallerLemmas.{AreAllNames-nothing, IsSound-nothing, breaks_refutes, one_AddAll, one_rows}
 
 -- rules that are kept don't break, and break at one
 kept_breaks : (rs : List Rule) (why : Why) → AreKept rs → BreaksFirst rs why → ⊥

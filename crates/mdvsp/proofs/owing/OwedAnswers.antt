@@ -16,7 +16,7 @@ use Rattle.mdvsp.specs.declared.status.Status.TheVariants as status
 use Rattle.vs_words.specs.declared.command.Command.{Command}
 use Rattle.vs_words.specs.declared.command.Effort.{Effort}
 use Rattle.vs_words.specs.declared.command.Command.TheVariants.{Check, Solve, Network}
-use Rattle.mdvsp.specs.Answered.{HasSizes, IsDocumentOf, IsNoCase, IsOwedFor, RefusesCase, case_error}
+use Rattle.mdvsp.specs.Answered.{HasSizes, IsDocumentOf, IsNoCase, IsOwedFor, RefusesCase, RefusesText, case_error}
 use Rattle.vs_document.specs.DocumentRefusals.{AreRefused}
 use Rattle.vs_document.specs.DocumentRows.{document_rows}
 use Rattle.vs_document.specs.declared.refused.DocWhy.{DocWhy}
@@ -50,14 +50,20 @@ refusal : (bytes : List ℕ) (refused : Refused) → IsRefused bytes refused
     → OwesRefusal bytes (refusal_row refused ∷ [])
 refusal bytes refused is = record { refused = refused; is_refused = is; rows_are = refl }
 
+-- such a row refuses the text
+pub refuses_text : (bytes : List ℕ) (refused : Refused) (r : Result Answer Memory) → IsRefused bytes refused
+    → IfOk r (TellsRow status.BadInput (refusal_row refused)) → IfOk r (RefusesText bytes)
+refuses_text bytes refused (Ok a) is says =
+    record { refused = refused; is_refused = is; status_is = says.0; text_is = says.1 }
+refuses_text bytes refused (Err m) is says = tt
+
 -- a text that is refused is owed its refusal
-pub solve_refusal_owed : (effort : Effort) (bytes : List ℕ) (refused : Refused) (r : Result Answer Memory)
-    → IsRefused bytes refused → IfOk r (TellsRow status.BadInput (refusal_row refused))
+pub solve_refusal_owed : (effort : Effort) (bytes : List ℕ) (r : Result Answer Memory) → IfOk r (RefusesText bytes)
     → IfOk r (IsOwedFor (Solve effort) bytes)
-solve_refusal_owed effort bytes refused (Ok a) is says =
-    owed_so (Solve effort) bytes a status.BadInput (refusal_row refused ∷ []) (inl (refusal bytes refused is)) says.0
-    says.1
-solve_refusal_owed effort bytes refused (Err m) is says = tt
+solve_refusal_owed effort bytes (Ok a) says =
+    owed_so (Solve effort) bytes a status.BadInput (refusal_row says.refused ∷ [])
+    (inl (refusal bytes says.refused says.is_refused)) says.status_is says.text_is
+solve_refusal_owed effort bytes (Err m) says = tt
 
 -- and so is a search of too many nodes
 pub too_large_owed : (effort : Effort) (bytes : List ℕ) (p : Problem) (names : NameLists) (r : Result Answer Memory)
@@ -68,22 +74,14 @@ too_large_owed effort bytes p names (Ok a) text none says =
     (inr (record { problem = p; names = names; text = text; too_large = none; rows_are = refl })) says.0 says.1
 too_large_owed effort bytes p names (Err m) text none says = tt
 
-pub network_refusal_owed : (bytes : List ℕ) (refused : Refused) (r : Result Answer Memory) → IsRefused bytes refused
-    → IfOk r (TellsRow status.BadInput (refusal_row refused)) → IfOk r (IsOwedFor Network bytes)
-network_refusal_owed bytes refused (Ok a) is says =
-    owed_so Network bytes a status.BadInput (refusal_row refused ∷ []) (refusal bytes refused is) says.0 says.1
-network_refusal_owed bytes refused (Err m) is says = tt
+pub network_refusal_owed : (bytes : List ℕ) (r : Result Answer Memory) → IfOk r (RefusesText bytes)
+    → IfOk r (IsOwedFor Network bytes)
+network_refusal_owed bytes (Ok a) says =
+    owed_so Network bytes a status.BadInput (refusal_row says.refused ∷ [])
+    (refusal bytes says.refused says.is_refused) says.status_is says.text_is
+network_refusal_owed bytes (Err m) says = tt
 
 -- and so is one that is no instance with a document behind it
-refused_case : (bytes : List ℕ) (refused : Refused) (a : Answer) → IsRefused bytes refused
-    → TellsRow status.BadInput (refusal_row refused) a → IsNoCase bytes a
-refused_case bytes refused a is says = record {
-  rows = refusal_row refused ∷ [];
-  owed = inl (refusal bytes refused is);
-  status_is = says.0;
-  text_is = says.1;
-}
-
 refused_document_case : (bytes : List ℕ) (p : Problem) (names : NameLists) (before : ℕ) (rest : List Row) (at : ℕ)
     (why : DocWhy) (a : Answer) → StandsFor bytes p names before rest → AreRefused p names before rest at why
     → TellsRow status.BadInput (document_refusal_row at why) a → IsNoCase bytes a
@@ -106,10 +104,15 @@ refused_document_case bytes p names before rest at why a stands refused says = r
   text_is = says.1;
 }
 
-pub refusal_case : (bytes : List ℕ) (refused : Refused) (r : Result Answer Memory) → IsRefused bytes refused
-    → IfOk r (TellsRow status.BadInput (refusal_row refused)) → RefusesCase bytes (case_error r)
-refusal_case bytes refused (Ok a) is says = refused_case bytes refused a is says
-refusal_case bytes refused (Err m) is says = tt
+pub refusal_case : (bytes : List ℕ) (r : Result Answer Memory) → IfOk r (RefusesText bytes)
+    → RefusesCase bytes (case_error r)
+refusal_case bytes (Ok a) says = record {
+  rows = refusal_row says.refused ∷ [];
+  owed = inl (refusal bytes says.refused says.is_refused);
+  status_is = says.status_is;
+  text_is = says.text_is;
+}
+refusal_case bytes (Err m) says = tt
 
 pub no_document_case : (bytes : List ℕ) (p : Problem) (names : NameLists) (before : ℕ) (rest : List Row) (at : ℕ)
     (why : DocWhy) (r : Result Answer Memory) → StandsFor bytes p names before rest

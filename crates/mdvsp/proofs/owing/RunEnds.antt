@@ -3,13 +3,17 @@ use Rattle.std.proofs.Common.{◌≡◌, ℕ, inl, inr, ⊎_elim, List, [], ◌�
 use Rattle.std.specs.Option.{option_map}
 use Rattle.vs_types.specs.declared.memory.Memory.{Memory}
 use Rattle.vs_io.specs.Bytes.{Takes, TakesAll, Appends, AppendsPrefix}
+use Rattle.vs_io.specs.declared.slurping.SlurpError.{SlurpError}
+use Rattle.vs_io.specs.declared.slurping.SlurpError.TheVariants.{ReadFault, TooLong, Memory as NoRoom}
 use Rattle.mdvsp.specs.declared.answer.Answer.{Answer}
 use Rattle.mdvsp.specs.declared.status.Status.{Status}
 use Rattle.mdvsp.specs.declared.status.Status.TheVariants.{Done, SaysNo, BadWords, BadInput, Infeasible, StillOpen}
 use Rattle.vs_words.specs.declared.command.Command.{Command}
+use Rattle.vs_words.specs.declared.command.Effort.{Effort}
 use Rattle.vs_words.specs.declared.command.Command.TheVariants.{Check, Solve, Network, Blocks, Make}
 use Rattle.mdvsp.specs.Answered.{IsOwedFor, IsSaid}
-use Rattle.mdvsp.specs.Outcome.{Run, Told, Answered, Ends, HasRead, IsOwed, IsTold, TookFew}
+use Rattle.mdvsp.specs.Laws.{IsDetermined}
+use Rattle.mdvsp.specs.Outcome.{Run, Told, Answered, CouldNotRead, Ends, HasRead, IsOwed, IsTold, TookFew, unread_status}
 use Rattle.mdvsp.specs.Owed.{Owes}
 use Rattle.vs_reader.specs.Rows.{Row, lines}
 use Rattle.vs_words.specs.Words.{AreBadAt, AskFor}
@@ -93,3 +97,26 @@ wrong_words_end run place (Ok a) said same bad says said_so =
     (λ s. subst (Ends run) (sym s.0)
     (s.2, inr (words_row place, told, subst (AppendsPrefix run.taken run.taken_after) says.1 s.1, same)))
     said_so
+
+-- the input couldn't be read
+unread_so : (run : Run) (command : Command) (error : SlurpError) → AskFor run.words command
+    → run.taken_after ≡ run.taken
+    → CouldNotRead command run.left run.left_after run.source_faults run.source_faults_after error
+    → Ends run (unread_status error)
+unread_so run command ReadFault asked same could = (could.0, same, could.1, (command, asked, could.2))
+unread_so run command TooLong asked same could = (could.0, same, (command, asked, could.1))
+unread_so run command NoRoom asked same could = (same, could)
+
+pub unread_ends : (run : Run) (command : Command) (error : SlurpError) (said : Status) → said ≡ unread_status error
+    → AskFor run.words command → run.taken_after ≡ run.taken
+    → CouldNotRead command run.left run.left_after run.source_faults run.source_faults_after error → Ends run said
+unread_ends run command error said is asked same could =
+    subst (Ends run) (sym is) (unread_so run command error asked same could)
+
+-- a command that isn't `solve` is owed one thing
+pub not_solve : (command : Command) → ((effort : Effort) → ¬ (command ≡ Solve effort)) → IsDetermined command
+not_solve Check other = tt
+not_solve (Solve effort) other = other effort refl
+not_solve Network other = tt
+not_solve Blocks other = tt
+not_solve (Make n) other = tt

@@ -1,17 +1,14 @@
 use Rattle.std.proofs.Common.{subst, sym}
-use Rattle.vs_reader.specs.ReadErrors.{RefusesAs}
-use Rattle.vs_reader.specs.Texts.{IsRefused}
-use Rattle.vs_reader.proofs.texts.TextLemmas.{stands_counts}
+use Rattle.vs_reader.proofs.CallerLemmas.{stands_counts}
 use Rattle.mdvsp.specs.Answered.{RefusesCase}
 use Rattle.mdvsp.proofs.owing.OwedAnswers.{refusal_case}
 use Rattle.mdvsp.proofs.case.read_instance.Goals as goal
 
-pub returns-in-Err-Refused-clause-refused : goal.returns-in-Err-Refused-clause-refused
-returns-in-Err-Refused-clause-refused c =
+pub returns-in-Err-clause-refused : goal.returns-in-Err-clause-refused
+returns-in-Err-clause-refused c =
     subst (RefusesCase c.args.bytes.now) (sym c.refusal.ensures)
-    (refusal_case c.args.bytes.now c.in-Err-Refused.refused c.refused.result
-    (subst (RefusesAs (IsRefused c.args.bytes.now)) c.in-Err-Refused.field-0-is c.in-Err-Refused.ensures.refused)
-    c.refused.ensures)
+    (refusal_case c.args.bytes.now c.no_instance.result
+    (c.no_instance.ensures c.args.bytes.now c.in-Err.ensures.refused))
 
 pub returns-in-Ok-clause-input : goal.returns-in-Ok-clause-input
 returns-in-Ok-clause-input c =

@@ -1,7 +1,7 @@
 use Rattle.std.proofs.Common.{ℕ, length, sym, subst}
 use Rattle.vs_instance.specs.Firsts.{first}
 use Rattle.vs_check.specs.Flaws.{IsFlawWithin, IsVerdictWithin, flaws_of}
-use Rattle.vs_reader.proofs.texts.TextLemmas.{stands_counts}
+use Rattle.vs_reader.proofs.CallerLemmas.{stands_counts}
 use Rattle.mdvsp.proofs.owing.OwedAnswers.{first_of_verdict, yes_owed, no_owed}
 use Rattle.mdvsp.proofs.checking.answer_check.Goals as goal
 

@@ -1,6 +1,6 @@
-use Rattle.std.proofs.Common.{ℕ, List, IfOk, subst}
+use Rattle.std.proofs.Common.{ℕ, List, IfOk, refl, subst}
 use Rattle.mdvsp.specs.Answered.{IsOwedFor}
-use Rattle.mdvsp.proofs.owing.RunEnds.{command_ends}
+use Rattle.mdvsp.proofs.owing.RunEnds.{command_ends, unread_ends}
 use Rattle.mdvsp.proofs.running.obey.Goals as goal
 
 pub returns-in-Ok-clause-ends : goal.returns-in-Ok-clause-ends
@@ -9,3 +9,7 @@ returns-in-Ok-clause-ends g c = λ words asked.
     (subst (λ (bytes : List ℕ). IfOk c.answer_to.result (IsOwedFor c.args.command bytes)) c.deref.ensures.value
     c.answer_to.ensures)
     c.say.ensures.said
+
+pub returns-in-Err-clause-ends : goal.returns-in-Err-clause-ends
+returns-in-Err-clause-ends g c = λ words asked.
+    unread_ends _ c.args.command c.in-Err.error c.unread.result c.unread.ensures asked refl c.in-Err.ensures.failed

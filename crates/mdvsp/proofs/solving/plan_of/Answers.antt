@@ -15,12 +15,12 @@ returns g c =
     let text = c.in_ok-text.ensures in
     record {
       document = text.document;
-      solves = search_answers c.args.input.now.instance c.args.budget c.args.workers t.opening t.steps text.document
+      solves = search_answers c.args.timetable.now.instance c.args.budget c.args.workers t.opening t.steps text.document
           known.opening
           known.history made.begins made.worked made.over text.of_state text.has_text;
       status_is = c.claim_status.ensures
           ∙ ap status_of (one_claim t.opening.problem (state t) c.report.result text.of_state.report c.report.ensures
           text.of_state.is_report ∙ sym text.of_state.claim);
       text_is = text.bytes_are
-          ∙ ap (λ (p : Problem). lines (document_rows p c.args.input.now.names text.document)) made.begins.problem;
+          ∙ ap (λ (p : Problem). lines (document_rows p c.args.timetable.now.names text.document)) made.begins.problem;
     }

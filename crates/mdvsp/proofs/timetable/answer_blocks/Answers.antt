@@ -1,4 +1,4 @@
-use Rattle.vs_reader.proofs.texts.TextLemmas.{stands_counts}
+use Rattle.vs_reader.proofs.CallerLemmas.{stands_counts}
 use Rattle.mdvsp.proofs.timetable.answer_blocks.Goals as goal
 
 pub answer_for-requires-clause-names : goal.answer_for-requires-clause-names

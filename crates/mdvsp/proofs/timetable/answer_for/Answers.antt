@@ -1,14 +1,10 @@
-use Rattle.std.proofs.Common.{◌≡◌, ◌∙◌, List, [], ◌∷◌, length, IfOk, ap, not, subst, sym}
+use Rattle.std.proofs.Common.{◌≡◌, ◌∙◌, List, IfOk, ap, not, subst, sym}
 use Rattle.vs_plan.specs.declared.block.Block.{Block}
 use Rattle.vs_plan.specs.Blocks.{blocks_of, pairs_of}
 use Rattle.vs_plan.specs.PlanFaults.{IsFault, IsFirstFault}
-use Rattle.vs_plan.specs.declared.plan_fault.PlanFault.{PlanFault}
-use Rattle.vs_check.specs.Flaws.{IsFlawWithin}
-use Rattle.vs_check.specs.declared.flaw.Flaw.TheVariants.{Plan}
 use Rattle.vs_reader.specs.Rows.{lines}
 use Rattle.mdvsp.specs.declared.answer.Answer.{Answer}
-use Rattle.mdvsp.specs.declared.status.Status.TheVariants.{Done, SaysNo}
-use Rattle.mdvsp.specs.FlawRows.{no_row}
+use Rattle.mdvsp.specs.declared.status.Status.TheVariants.{Done}
 use Rattle.mdvsp.specs.Timetable.{timetable}
 use Rattle.mdvsp.proofs.owing.BlocksOwed.{no_cost_owed, timetable_owed, no_plan_owed, fault_named}
 use Rattle.mdvsp.proofs.timetable.answer_for.Goals as goal
@@ -33,21 +29,18 @@ no-requires c =
     let case = c.args.case.now in
     let p = case.input.instance in
     let names = case.input.names in
-    let is_first = subst (IsFirstFault p (blocks_of case.document.plan)) c.in-Err-Fault.field-0-is
-    c.in-Err-Fault.ensures.fault in
-    subst (λ (f : PlanFault). IsFlawWithin (length names.layers) (length names.trips) (Plan f))
-    (sym c.in-Err-Fault.fault-is)
-    (fault_named p names case.document c.in-Err-Fault.fault c.requires.names
-    (c.is_none.ensures ∙ ap not c.if-is_none.false) is_first)
+    let is_first = subst (IsFirstFault p (blocks_of case.document.plan)) c.in-Fault.is
+    c.in-Err.ensures.fault in
+    fault_named p names case.document c.in-Fault.fault c.requires.names
+    (c.is_none.ensures ∙ ap not c.if-is_none.false) is_first
 
-pub returns-in-Err-Fault : goal.returns-in-Err-Fault
-returns-in-Err-Fault c = λ bytes text.
+pub returns-in-Fault : goal.returns-in-Fault
+returns-in-Fault c = λ bytes text.
     let case = c.args.case.now in
     let p = case.input.instance in
-    let is_first = subst (IsFirstFault p (blocks_of case.document.plan)) c.in-Err-Fault.field-0-is
-    c.in-Err-Fault.ensures.fault in
-    no_plan_owed bytes p case.input.names case.document text c.in-Err-Fault.fault c.no.result
+    let is_first = subst (IsFirstFault p (blocks_of case.document.plan)) c.in-Fault.is
+    c.in-Err.ensures.fault in
+    no_plan_owed bytes p case.input.names case.document text c.in-Fault.fault c.no.result
     (c.is_none.ensures ∙ ap not c.if-is_none.false)
-    (c.in-Err-Fault.ensures.refused (subst IsFault (sym c.in-Err-Fault.field-0-is) tt)) is_first
-    (subst (λ (f : PlanFault). IfOk c.no.result (λ (a : Answer). (a.status ≡ SaysNo)
-    × (a.text.items ≡ lines (no_row case.input.names (Plan f) ∷ [])))) c.in-Err-Fault.fault-is c.no.ensures)
+    (c.in-Err.ensures.refused (subst IsFault (sym c.in-Fault.is) tt)) is_first
+    c.no.ensures
