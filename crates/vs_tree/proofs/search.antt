@@ -12,3 +12,4 @@ pub mod Reporting
 pub mod Taking
 pub mod SplitLeaf
 pub mod TwoMore
+pub mod Finishing

@@ -13,4 +13,5 @@ pub mod Codes
 pub mod Search
 pub mod Takes
 pub mod Calls
+pub mod Finishes
 pub mod Entries

@@ -3,6 +3,7 @@
 
 mod calls;
 mod entry;
+mod finishing;
 mod free_leaves;
 mod laws;
 mod log;
@@ -12,6 +13,7 @@ mod step;
 mod tree;
 
 pub use calls::{Next, Report, Take};
+pub use finishing::{Finish, Parting};
 pub use laws::{
     entries_differ, histories_are_sound, leaves_bound_plans, reports_are_true, states_are_trees,
 };

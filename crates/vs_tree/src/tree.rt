@@ -1,26 +1,23 @@
 //! A search: its tree of cases, its history, and the calls of its workers.
 
 ghost use Rattle.std.specs.Prelude.{◌≡◌, ◌<◌, ◌≤◌, ◌∷◌, [], length, map, IfOk, IfSome, slice_index_or};
-ghost use Rattle.std.specs.Prelude.{true, ◌⊎◌, ◌^◌, ℕ, ◌++◌, ◌↔◌, IsTrue, count_by, option_copied, None};
+ghost use Rattle.std.specs.Prelude.{true, false, ◌⊎◌, ◌^◌, ℕ, ◌++◌, ◌↔◌, IsTrue, count_by, option_copied, None};
 ghost use Rattle.vs_tree.specs.History as full;
 ghost use Rattle.vs_tree.specs.History.{IsAmong, IsHeldBy, IsHistory, MayClose, MayCome, MaySplit, MayTake};
-ghost use Rattle.vs_tree.specs.History.{IsCheaper, incumbent, known, prices_at, sets_at, spot_at};
+ghost use Rattle.vs_tree.specs.History.{IsCheaper, incumbent, is_inner, known, prices_at, sets_at, spot_at};
 ghost use Rattle.vs_tree.specs.Calls.{GivesBack, HoldsSome, finishing, offering, with_step};
-ghost use Rattle.vs_instance.specs.Restriction.{IsRestriction, set_of};
 ghost use Rattle.vs_prices.specs.Bounds.{IsNoLess};
-ghost use Rattle.vs_prices.specs.Table.{Fits};
-ghost use Rattle.vs_prices.specs.Worth.{IsWorth};
-ghost use Rattle.vs_cases.specs.Tree.{right_of, with_set};
-ghost use Rattle.vs_types.specs.Parts.{IsProperPart};
+ghost use Rattle.vs_tree.specs.Finishes.{AreWorths, IsNextIn, IsParting, next_in};
 ghost use Rattle.vs_tree.specs.Report.{IsLeastOf, IsReport, bound_of};
 ghost use Rattle.vs_tree.specs.Takes.{AreBuffersKept, IsSized, IsTake, taking};
 ghost use Rattle.vs_tree.specs.Log.{plain_step};
-ghost use Rattle.vs_tree.specs.Prices.{no_prices, prices_of};
+ghost use Rattle.vs_tree.specs.Prices.{AreLawful, AreWorth, no_prices, prices_of};
 ghost use Rattle.vs_tree.specs.Search.{IsHand, hand_at, is_busy, state};
 ghost use Rattle.vs_tree.specs.Sound.{IsOpening, IsPlanOf};
 
 use crate::calls::{Hand, Next, Report, Take};
 use crate::entry::Entry;
+use crate::finishing::{Finish, Parting};
 use crate::free_leaves::FreeLeaves;
 use crate::log::{Log, Rooms};
 use crate::places::Places;
@@ -34,7 +31,7 @@ use vs_instance::{Instance, MAX_BUDGET, MAX_WORKERS};
 use vs_plan::CheckedPlan;
 use vs_prices::{Bound, Table, permitted_sets, worth};
 use vs_turn::Kept;
-use vs_types::{LayerSet, Memory, TripNo};
+use vs_types::{LayerSet, Memory};
 
 /// A search of the plans of an instance: a tree of cases that workers split and close, with one history.
 #[derive(Drop)]
@@ -292,24 +289,52 @@ impl Tree {
         ensures { self.new ≡ with_step self.old
             (finishing (state self.old) w leaf (prices_of table) next) }
     {
-        match next {
-            Next::Close => self.close(w, leaf, table),
-            Next::Split { trip, left } => self.split(w, leaf, table, trip, left),
+        let finish = self.reckon(leaf, &table, next);
+        self.finish_as(w, leaf, table, finish);
+    }
+
+    /// How a leaf is finished by a table.
+    fn reckon(&mut self, leaf: u32, table: &Table, next: Next) -> Finish
+        requires leaf { is_inner (spot_at (state self.old) leaf) ≡ false }
+        requires lawful { AreLawful self.old.opening.problem (prices_of table.now) }
+        requires next { IsNextIn self.old.opening.problem (sets_at (state self.old) leaf) next }
+        ensures search { self.new ≡ self.old }
+        ensures next { next_in result ≡ next }
+        ensures worths { AreWorths self.old.opening.problem (sets_at (state self.old) leaf)
+            (prices_of table.now) result }
+    {
+        let sets = self.sets.as_mut_slice();
+        self.places.sets(leaf, sets);
+        Finish::of(&self.instance, sets, table, next)
+    }
+
+    /// The same where it is known what the table is worth there, or in the two parts. Nothing is summed over all trips.
+    pub fn finish_as(&mut self, w: u32, leaf: u32, table: Table, finish: Finish)
+        requires may { MayCome self.old.opening (state self.old)
+            (finishing (state self.old) w leaf (prices_of table) (next_in finish)) }
+        requires worths { AreWorths self.old.opening.problem (sets_at (state self.old) leaf)
+            (prices_of table) finish }
+        ensures { self.new ≡ with_step self.old
+            (finishing (state self.old) w leaf (prices_of table) (next_in finish)) }
+    {
+        match finish {
+            Finish::Close { worth } => self.close(w, leaf, table, worth),
+            Finish::Split { parting } => self.split(w, leaf, table, parting),
         }
     }
 
-    /// Closes a leaf with a new table, within the budget.
-    fn close(&mut self, w: u32, leaf: u32, table: Table)
-        requires { MayClose self.old.opening (state self.old) w leaf
+    /// Closes a leaf with a new table, which is worth so much there, within the budget.
+    fn close(&mut self, w: u32, leaf: u32, table: Table, worth: Bound)
+        requires may { MayClose self.old.opening (state self.old) w leaf
             (length (state self.old).tables) (prices_of table) }
+        requires worth { AreWorth self.old.opening.problem (sets_at (state self.old) leaf)
+            (prices_of table) worth }
         ensures { self.new ≡ with_step self.old
             (full.Closed w leaf (length (state self.old).tables) (prices_of table)) }
     {
-        self.places.sets(leaf, &mut self.sets);
-        let least = worth(&self.instance, &self.sets, &table);
         let number = self.log.add_table(table);
         self.places.relabel(leaf, Spot::Closed { table: number });
-        self.worths[leaf as usize] = least;
+        self.worths[leaf as usize] = worth;
         self.hands[w as usize] = Hand::Idle;
         self.finished += 1;
         self.log.add(Step::Closed {
@@ -319,34 +344,35 @@ impl Tree {
         });
     }
 
-    /// Splits a leaf with a new table, within the budget.
-    fn split(&mut self, w: u32, leaf: u32, table: Table, trip: TripNo, left: LayerSet)
-        requires { MaySplit self.old.opening (state self.old) w leaf
-            (length (state self.old).tables) trip left (prices_of table) }
+    /// Splits a leaf with a new table into two parts, within the budget.
+    fn split(&mut self, w: u32, leaf: u32, table: Table, parting: Parting)
+        requires may { MaySplit self.old.opening (state self.old) w leaf
+            (length (state self.old).tables) parting.trip parting.left (prices_of table) }
+        requires parting { IsParting self.old.opening.problem (sets_at (state self.old) leaf)
+            (prices_of table) parting }
         ensures { self.new ≡ with_step self.old
-            (full.Split w leaf (length (state self.old).tables) trip left (prices_of table)) }
+            (full.Split w leaf (length (state self.old).tables) parting.trip parting.left (prices_of table)) }
     {
-        self.places.sets(leaf, &mut self.sets);
-        let parts = part_worths(&self.instance, &mut self.sets, &table, trip, left);
+        let Parting { trip, left, .. } = parting;
         let number = self.log.add_table(table);
-        let lower = self.places.split(leaf, trip, left, parts.right, number);
+        let lower = self.places.split(leaf, trip, left, parting.right, number);
         let upper = lower + 1;
         self.free.put(
             lower,
             Some(Entry {
-                worth: parts.lower,
+                worth: parting.lower,
                 leaf: lower,
             }),
         );
         self.free.put(
             upper,
             Some(Entry {
-                worth: parts.upper,
+                worth: parting.upper,
                 leaf: upper,
             }),
         );
-        self.worths[lower as usize] = parts.lower;
-        self.worths[upper as usize] = parts.upper;
+        self.worths[lower as usize] = parting.lower;
+        self.worths[upper as usize] = parting.upper;
         self.hands[w as usize] = Hand::Idle;
         self.finished += 1;
         self.log.add(Step::Split {
@@ -444,47 +470,6 @@ impl Tree {
         ensures history { IsHistory self.now.opening self.now.steps }
     {
         &self.instance
-    }
-}
-
-/// What a table is worth in the two parts of a leaf.
-#[derive(Clone, Copy)]
-struct PartWorths {
-    /// The trip's layers in the upper part.
-    right: LayerSet,
-    lower: Bound,
-    upper: Bound,
-}
-
-/// What a table is worth in the two parts of a leaf, of which one runs the trip in the layers on the left. The sets
-/// are those of the leaf, and in the end those of the upper part.
-fn part_worths(
-    instance: &Instance,
-    sets: &mut [LayerSet],
-    table: &Table,
-    trip: TripNo,
-    left: LayerSet,
-) -> PartWorths
-    requires fits { Fits instance.now table.now }
-    requires restriction { IsRestriction instance.now sets.old }
-    requires trip { trip.0 < length sets.old }
-    requires part { IsProperPart left (set_of sets.old trip.0) }
-    ensures right { result.right ≡ right_of sets.old trip left }
-    ensures lower { IsWorth instance.now (with_set sets.old trip left) table.now result.lower }
-    ensures upper { IsWorth instance.now (with_set sets.old trip (right_of sets.old trip left)) table.now
-        result.upper }
-    ensures size { length sets.new ≡ length sets.old }
-{
-    let i = trip.0 as usize;
-    let right = sets[i].minus(left);
-    sets[i] = left;
-    let lower = worth(instance, sets, table);
-    sets[i] = right;
-    let upper = worth(instance, sets, table);
-    PartWorths {
-        right,
-        lower,
-        upper,
     }
 }
 

@@ -1,71 +1,18 @@
 use Rattle.std.proofs.Common.{◌≡◌, ℕ, ◌+◌, List, [], ◌∷◌, ◌++◌, length, set, ap, sym, ◌∙◌, subst, arith, refl, length-set, slice_index_or}
-use Rattle.std.proofs.lemmas.List.{with_items_is}
-use Rattle.std.specs.Vec.{with_items}
-use Rattle.vs_types.specs.declared.layer_set.LayerSet.{LayerSet}
-use Rattle.vs_instance.specs.Restriction.{IsRestriction}
-use Rattle.vs_prices.specs.Worth.{IsWorth}
 use Rattle.vs_tree.specs.declared.calls.Hand.TheVariants.{Idle}
 use Rattle.vs_tree.specs.declared.step.Step.TheVariants.{Closed}
 use Rattle.vs_tree.specs.History as full
-use Rattle.vs_tree.specs.History.{FullStep, MayClose, is_inner, place_at, sets_at, spot_at, state_of}
+use Rattle.vs_tree.specs.History.{FullStep, MayClose, is_inner, sets_at, state_of}
 use Rattle.vs_tree.specs.Log.{Log, full_step}
 use Rattle.vs_tree.specs.Prices.{AreWorth, Prices, no_prices, prices_of}
 use Rattle.vs_tree.specs.Search.{IsSearch, Parts, Search, state}
 use Rattle.vs_tree.proofs.search.ClosedLeaf.{closed_search}
-use Rattle.vs_tree.proofs.search.Facts.{leaf_is, places_within, restriction-at, sets-are, tables_are, within_budget}
+use Rattle.vs_tree.proofs.search.Facts.{leaf_is, places_within, tables_are, within_budget}
 use Rattle.vs_tree.proofs.search.GivingBack.{worker_inside}
 use Rattle.vs_tree.proofs.search.Inside.{opening_of, parts_of}
 use Rattle.vs_tree.proofs.search.Released.{room_for_step, unfinished}
 use Rattle.vs_tree.proofs.sound.Closed.{last-prices}
 use Rattle.vs_tree.proofs.tree.Tree.close.Goals as goal
-
-pub sets-requires-clause-size : goal.sets-requires-clause-size
-sets-requires-clause-size c =
-    let i = c.self.inside in
-    let o = opening_of i in
-    let a = parts_of i in
-    let is = c.self.invariant in
-    let w = c.args.w in
-    let leaf = c.args.leaf in
-    let may = subst (λ (t : Search). MayClose t.opening (state t) w leaf (length (state t).tables)
-    (prices_of c.args.table))
-    (sym c.self.view_is) c.requires in
-    let leaf_inside = leaf_is o a is leaf (ap is_inner may.holds.1) in
-    let inside = worker_inside o a is w leaf may.holds in
-    let few = places_within o a is in
-    let each = restriction-at o a is leaf leaf_inside in
-    let size : length c.deref_mut.result.now ≡ length (place_at i.places.places leaf).sets =
-    omega (arith, c.deref_mut.ensures.len, i.sets.ok.0, is.parts.sets_size, each.each_trip) in
-    size
-
-pub worth-least-requires-clause-restriction : goal.worth-least-requires-clause-restriction
-worth-least-requires-clause-restriction c =
-    let i = c.self.inside in
-    let o = opening_of i in
-    let a = parts_of i in
-    let is = c.self.invariant in
-    let w = c.args.w in
-    let leaf = c.args.leaf in
-    let may = subst (λ (t : Search). MayClose t.opening (state t) w leaf (length (state t).tables)
-    (prices_of c.args.table))
-    (sym c.self.view_is) c.requires in
-    let leaf_inside = leaf_is o a is leaf (ap is_inner may.holds.1) in
-    let inside = worker_inside o a is w leaf may.holds in
-    let few = places_within o a is in
-    let each = restriction-at o a is leaf leaf_inside in
-    let size : length c.deref_mut.result.now ≡ length (place_at i.places.places leaf).sets =
-    omega (arith, c.deref_mut.ensures.len, i.sets.ok.0, is.parts.sets_size, each.each_trip) in
-    let written : c.deref.result.now ≡ (place_at i.places.places leaf).sets =
-    c.deref.ensures.value ∙ with_items_is i.sets c.sets.new.sets
-    (omega (
-      arith,
-      ap (λ (x : List LayerSet). length x) c.sets.ensures,
-      each.each_trip,
-      is.parts.sets_size,
-      i.sets.ok.0,
-    ))
-    ∙ c.sets.ensures in
-    subst (λ (x : List LayerSet). IsRestriction i.instance x) (sym written) each
 
 pub add_table-number-requires : goal.add_table-number-requires
 add_table-number-requires c =
@@ -77,7 +24,7 @@ add_table-number-requires c =
     let leaf = c.args.leaf in
     let may = subst (λ (t : Search). MayClose t.opening (state t) w leaf (length (state t).tables)
     (prices_of c.args.table))
-    (sym c.self.view_is) c.requires in
+    (sym c.self.view_is) c.requires.may in
     let leaf_inside = leaf_is o a is leaf (ap is_inner may.holds.1) in
     let inside = worker_inside o a is w leaf may.holds in
     let few = places_within o a is in
@@ -95,7 +42,7 @@ index_mut-requires c =
     let leaf = c.args.leaf in
     let may = subst (λ (t : Search). MayClose t.opening (state t) w leaf (length (state t).tables)
     (prices_of c.args.table))
-    (sym c.self.view_is) c.requires in
+    (sym c.self.view_is) c.requires.may in
     let leaf_inside = leaf_is o a is leaf (ap is_inner may.holds.1) in
     let inside = worker_inside o a is w leaf may.holds in
     let few = places_within o a is in
@@ -111,7 +58,7 @@ index_mut-requires-2 c =
     let leaf = c.args.leaf in
     let may = subst (λ (t : Search). MayClose t.opening (state t) w leaf (length (state t).tables)
     (prices_of c.args.table))
-    (sym c.self.view_is) c.requires in
+    (sym c.self.view_is) c.requires.may in
     let leaf_inside = leaf_is o a is leaf (ap is_inner may.holds.1) in
     let inside = worker_inside o a is w leaf may.holds in
     let few = places_within o a is in
@@ -127,7 +74,7 @@ overflow_add-self c =
     let leaf = c.args.leaf in
     let may = subst (λ (t : Search). MayClose t.opening (state t) w leaf (length (state t).tables)
     (prices_of c.args.table))
-    (sym c.self.view_is) c.requires in
+    (sym c.self.view_is) c.requires.may in
     let leaf_inside = leaf_is o a is leaf (ap is_inner may.holds.1) in
     let inside = worker_inside o a is w leaf may.holds in
     let few = places_within o a is in
@@ -144,7 +91,7 @@ add-requires-clause-room c =
     let leaf = c.args.leaf in
     let may = subst (λ (t : Search). MayClose t.opening (state t) w leaf (length (state t).tables)
     (prices_of c.args.table))
-    (sym c.self.view_is) c.requires in
+    (sym c.self.view_is) c.requires.may in
     let leaf_inside = leaf_is o a is leaf (ap is_inner may.holds.1) in
     let inside = worker_inside o a is w leaf may.holds in
     let few = places_within o a is in
@@ -163,23 +110,10 @@ invariant_of-self c =
     let leaf = c.args.leaf in
     let may = subst (λ (t : Search). MayClose t.opening (state t) w leaf (length (state t).tables)
     (prices_of c.args.table))
-    (sym c.self.view_is) c.requires in
+    (sym c.self.view_is) c.requires.may in
     let leaf_inside = leaf_is o a is leaf (ap is_inner may.holds.1) in
     let inside = worker_inside o a is w leaf may.holds in
     let few = places_within o a is in
-    let each = restriction-at o a is leaf leaf_inside in
-    let size : length c.deref_mut.result.now ≡ length (place_at i.places.places leaf).sets =
-    omega (arith, c.deref_mut.ensures.len, i.sets.ok.0, is.parts.sets_size, each.each_trip) in
-    let written : c.deref.result.now ≡ (place_at i.places.places leaf).sets =
-    c.deref.ensures.value ∙ with_items_is i.sets c.sets.new.sets
-    (omega (
-      arith,
-      ap (λ (x : List LayerSet). length x) c.sets.ensures,
-      each.each_trip,
-      is.parts.sets_size,
-      i.sets.ok.0,
-    ))
-    ∙ c.sets.ensures in
     let number = c.add_table-number.result in
     let prices = prices_of c.args.table in
     let new : Log = c.add_table-number.new.self in
@@ -196,35 +130,23 @@ invariant_of-self c =
     ap (λ (x : Log). x.steps) c.add.ensures
     ∙ ap (λ (x : FullStep). new.steps ++ x ∷ []) added
     ∙ ap (λ (x : Log). x.steps ++ full.Closed w leaf number prices ∷ []) c.add_table-number.ensures.log in
-    let worth : AreWorth o.problem (sets_at (state_of o a.log.steps) leaf) prices c.worth-least.result = record {
-      table = c.args.table;
-      listed = refl;
-      worth = subst (λ (x : List LayerSet). IsWorth i.instance x c.args.table c.worth-least.result)
-          (written ∙ sym (sets-are o a is leaf)) c.worth-least.ensures.worth;
-    } in
+    let worth =
+    subst (λ (t : Search). AreWorth t.opening.problem (sets_at (state t) leaf) prices c.args.worth) (sym c.self.view_is)
+    c.requires.worth in
     let b : Parts = record {
       places = c.relabel.new.self;
       log = c.add.new.self;
       hands = set i.hands.items w Idle;
       free = i.free;
-      worths = set i.worths.items leaf c.worth-least.result;
+      worths = set i.worths.items leaf c.args.worth;
       finished = i.finished + 1;
-      sets = (with_items i.sets c.sets.new.sets).items;
+      sets = i.sets.items;
     } in
     subst (λ (n : ℕ). IsSearch (record o { workers = n }) b) (sym (length-set i.hands.items w Idle))
-    (closed_search o a is w leaf number prices may_close c.worth-least.result worth b
+    (closed_search o a is w leaf number prices may_close c.args.worth worth b
     steps (ap (λ (x : Log). x.tables) c.add.ensures ∙ tables)
     (ap (λ (x : Log). x.plans) c.add.ensures ∙ ap (λ (x : Log). x.plans) c.add_table-number.ensures.log)
     (ap (λ (x : Log). x.step_room) c.add.ensures ∙ ap (λ (x : Log). x.step_room) c.add_table-number.ensures.log)
     (ap (λ (x : Log). x.table_room) c.add.ensures ∙ ap (λ (x : Log). x.table_room) c.add_table-number.ensures.log)
     (ap (λ (x : Log). x.plan_room) c.add.ensures ∙ ap (λ (x : Log). x.plan_room) c.add_table-number.ensures.log)
-    c.relabel.ensures.places c.relabel.ensures.room refl refl refl refl
-    (ap (λ (x : List LayerSet). length x) (with_items_is i.sets c.sets.new.sets
-    (omega (
-      arith,
-      ap (λ (x : List LayerSet). length x) c.sets.ensures,
-      each.each_trip,
-      is.parts.sets_size,
-      i.sets.ok.0,
-    )))
-    ∙ omega (arith, ap (λ (x : List LayerSet). length x) c.sets.ensures, each.each_trip, is.parts.sets_size)))
+    c.relabel.ensures.places c.relabel.ensures.room refl refl refl refl refl)

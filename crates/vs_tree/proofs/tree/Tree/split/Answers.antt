@@ -1,10 +1,6 @@
 use Rattle.std.proofs.Common.{◌≡◌, ◌≢◌, ℕ, ◌+◌, List, [], ◌∷◌, ◌++◌, length, set, ap, sym, ◌∙◌, subst, arith, refl, length-set, slice_index_or, Some}
-use Rattle.std.proofs.lemmas.List.{with_items_is}
-use Rattle.std.specs.Vec.{with_items}
 use Rattle.vs_types.specs.LayerSet.{members}
 use Rattle.vs_types.specs.declared.layer_set.LayerSet.{LayerSet}
-use Rattle.vs_instance.specs.Restriction.{IsRestriction, set_of}
-use Rattle.vs_prices.specs.Worth.{IsWorth}
 use Rattle.vs_tree.specs.declared.calls.Hand.TheVariants.{Idle}
 use Rattle.vs_tree.specs.declared.step.Step.TheVariants.{Split}
 use Rattle.vs_tree.specs.Calls.{with_step}
@@ -13,10 +9,10 @@ use Rattle.vs_tree.specs.Free.{Entries}
 use Rattle.vs_tree.specs.History as full
 use Rattle.vs_tree.specs.History.{FullStep, MaySplit, is_inner, place_at, sets_at, spot_at, state_of}
 use Rattle.vs_tree.specs.Log.{Log, full_step}
-use Rattle.vs_tree.specs.Prices.{AreWorth, Prices, no_prices, prices_of}
+use Rattle.vs_tree.specs.Finishes.{IsParting}
+use Rattle.vs_tree.specs.Prices.{Prices, no_prices, prices_of}
 use Rattle.vs_tree.specs.Search.{IsSearch, Parts, Search, state}
-use Rattle.vs_cases.specs.Tree.{right_of, with_set}
-use Rattle.vs_types.specs.Parts.{IsProperPart}
+use Rattle.vs_cases.specs.Tree.{right_of}
 use Rattle.vs_types.proofs.CallerLemmas.{some-layers}
 use Rattle.vs_tree.proofs.search.Facts.{leaf_is, restriction-at, sets-are, tables_are, within_budget}
 use Rattle.vs_tree.proofs.search.GivingBack.{worker_inside}
@@ -26,107 +22,6 @@ use Rattle.vs_tree.proofs.search.SplitLeaf.{split_search}
 use Rattle.vs_tree.proofs.sound.Closed.{last-prices}
 use Rattle.vs_tree.proofs.tree.Tree.split.Goals as goal
 
-pub sets-requires-clause-size : goal.sets-requires-clause-size
-sets-requires-clause-size c =
-    let i = c.self.inside in
-    let o = opening_of i in
-    let a = parts_of i in
-    let is = c.self.invariant in
-    let w = c.args.w in
-    let leaf = c.args.leaf in
-    let may = subst (λ (t : Search). MaySplit t.opening (state t) w leaf (length (state t).tables) c.args.trip
-    c.args.left
-    (prices_of c.args.table)) (sym c.self.view_is) c.requires in
-    let leaf_inside = leaf_is o a is leaf (ap is_inner may.holds.1) in
-    let each = restriction-at o a is leaf leaf_inside in
-    let size : length c.deref_mut.result.now ≡ length (place_at i.places.places leaf).sets =
-    omega (arith, c.deref_mut.ensures.len, i.sets.ok.0, is.parts.sets_size, each.each_trip) in
-    size
-
-pub part_worths-parts-requires-clause-restriction : goal.part_worths-parts-requires-clause-restriction
-part_worths-parts-requires-clause-restriction c =
-    let i = c.self.inside in
-    let o = opening_of i in
-    let a = parts_of i in
-    let is = c.self.invariant in
-    let w = c.args.w in
-    let leaf = c.args.leaf in
-    let may = subst (λ (t : Search). MaySplit t.opening (state t) w leaf (length (state t).tables) c.args.trip
-    c.args.left
-    (prices_of c.args.table)) (sym c.self.view_is) c.requires in
-    let leaf_inside = leaf_is o a is leaf (ap is_inner may.holds.1) in
-    let each = restriction-at o a is leaf leaf_inside in
-    let size : length c.deref_mut.result.now ≡ length (place_at i.places.places leaf).sets =
-    omega (arith, c.deref_mut.ensures.len, i.sets.ok.0, is.parts.sets_size, each.each_trip) in
-    let written : c.deref_mut-2.result.now ≡ (place_at i.places.places leaf).sets =
-    c.deref_mut-2.ensures.value ∙ with_items_is i.sets c.sets.new.sets
-    (omega (
-      arith,
-      ap (λ (x : List LayerSet). length x) c.sets.ensures,
-      each.each_trip,
-      is.parts.sets_size,
-      i.sets.ok.0,
-    ))
-    ∙ c.sets.ensures in
-    subst (λ (x : List LayerSet). IsRestriction i.instance x) (sym written) each
-
-pub part_worths-parts-requires-clause-trip : goal.part_worths-parts-requires-clause-trip
-part_worths-parts-requires-clause-trip c =
-    let i = c.self.inside in
-    let o = opening_of i in
-    let a = parts_of i in
-    let is = c.self.invariant in
-    let w = c.args.w in
-    let leaf = c.args.leaf in
-    let may = subst (λ (t : Search). MaySplit t.opening (state t) w leaf (length (state t).tables) c.args.trip
-    c.args.left
-    (prices_of c.args.table)) (sym c.self.view_is) c.requires in
-    let leaf_inside = leaf_is o a is leaf (ap is_inner may.holds.1) in
-    let each = restriction-at o a is leaf leaf_inside in
-    let size : length c.deref_mut.result.now ≡ length (place_at i.places.places leaf).sets =
-    omega (arith, c.deref_mut.ensures.len, i.sets.ok.0, is.parts.sets_size, each.each_trip) in
-    let written : c.deref_mut-2.result.now ≡ (place_at i.places.places leaf).sets =
-    c.deref_mut-2.ensures.value ∙ with_items_is i.sets c.sets.new.sets
-    (omega (
-      arith,
-      ap (λ (x : List LayerSet). length x) c.sets.ensures,
-      each.each_trip,
-      is.parts.sets_size,
-      i.sets.ok.0,
-    ))
-    ∙ c.sets.ensures in
-    let same = ap (λ (x : List LayerSet). length x) written in
-    omega (arith, same, each.each_trip, may.of_instance)
-
-pub part_worths-parts-requires-clause-part : goal.part_worths-parts-requires-clause-part
-part_worths-parts-requires-clause-part c =
-    let i = c.self.inside in
-    let o = opening_of i in
-    let a = parts_of i in
-    let is = c.self.invariant in
-    let w = c.args.w in
-    let leaf = c.args.leaf in
-    let may = subst (λ (t : Search). MaySplit t.opening (state t) w leaf (length (state t).tables) c.args.trip
-    c.args.left
-    (prices_of c.args.table)) (sym c.self.view_is) c.requires in
-    let leaf_inside = leaf_is o a is leaf (ap is_inner may.holds.1) in
-    let each = restriction-at o a is leaf leaf_inside in
-    let size : length c.deref_mut.result.now ≡ length (place_at i.places.places leaf).sets =
-    omega (arith, c.deref_mut.ensures.len, i.sets.ok.0, is.parts.sets_size, each.each_trip) in
-    let written : c.deref_mut-2.result.now ≡ (place_at i.places.places leaf).sets =
-    c.deref_mut-2.ensures.value ∙ with_items_is i.sets c.sets.new.sets
-    (omega (
-      arith,
-      ap (λ (x : List LayerSet). length x) c.sets.ensures,
-      each.each_trip,
-      is.parts.sets_size,
-      i.sets.ok.0,
-    ))
-    ∙ c.sets.ensures in
-    subst (λ (x : List LayerSet). IsProperPart c.args.left (set_of x c.args.trip.0))
-    (sets-are o a is leaf ∙ sym written)
-    may.part
-
 pub add_table-number-requires : goal.add_table-number-requires
 add_table-number-requires c =
     let i = c.self.inside in
@@ -135,9 +30,8 @@ add_table-number-requires c =
     let is = c.self.invariant in
     let w = c.args.w in
     let leaf = c.args.leaf in
-    let may = subst (λ (t : Search). MaySplit t.opening (state t) w leaf (length (state t).tables) c.args.trip
-    c.args.left
-    (prices_of c.args.table)) (sym c.self.view_is) c.requires in
+    let may = subst (λ (t : Search). MaySplit t.opening (state t) w leaf (length (state t).tables)
+    c.args.parting.trip c.args.parting.left (prices_of c.args.table)) (sym c.self.view_is) c.requires.may in
     let more = unfinished o a is w leaf may.holds in
     let are = tables_are o a is in
     omega (arith, are, more, is.parts.tables_room)
@@ -150,9 +44,8 @@ split-lower-requires-clause-trip c =
     let is = c.self.invariant in
     let w = c.args.w in
     let leaf = c.args.leaf in
-    let may = subst (λ (t : Search). MaySplit t.opening (state t) w leaf (length (state t).tables) c.args.trip
-    c.args.left
-    (prices_of c.args.table)) (sym c.self.view_is) c.requires in
+    let may = subst (λ (t : Search). MaySplit t.opening (state t) w leaf (length (state t).tables)
+    c.args.parting.trip c.args.parting.left (prices_of c.args.table)) (sym c.self.view_is) c.requires.may in
     let leaf_inside = leaf_is o a is leaf (ap is_inner may.holds.1) in
     let root = restriction-at o a is 0 (omega (arith, leaf_inside)) in
     omega (arith, root.each_trip, may.of_instance)
@@ -165,10 +58,9 @@ split-lower-requires-clause-left c =
     let is = c.self.invariant in
     let w = c.args.w in
     let leaf = c.args.leaf in
-    let may = subst (λ (t : Search). MaySplit t.opening (state t) w leaf (length (state t).tables) c.args.trip
-    c.args.left
-    (prices_of c.args.table)) (sym c.self.view_is) c.requires in
-    some-layers c.args.left may.part.some
+    let may = subst (λ (t : Search). MaySplit t.opening (state t) w leaf (length (state t).tables)
+    c.args.parting.trip c.args.parting.left (prices_of c.args.table)) (sym c.self.view_is) c.requires.may in
+    some-layers c.args.parting.left may.part.some
 
 pub split-lower-requires-clause-right : goal.split-lower-requires-clause-right
 split-lower-requires-clause-right c =
@@ -178,28 +70,12 @@ split-lower-requires-clause-right c =
     let is = c.self.invariant in
     let w = c.args.w in
     let leaf = c.args.leaf in
-    let may = subst (λ (t : Search). MaySplit t.opening (state t) w leaf (length (state t).tables) c.args.trip
-    c.args.left
-    (prices_of c.args.table)) (sym c.self.view_is) c.requires in
-    let leaf_inside = leaf_is o a is leaf (ap is_inner may.holds.1) in
-    let each = restriction-at o a is leaf leaf_inside in
-    let size : length c.deref_mut.result.now ≡ length (place_at i.places.places leaf).sets =
-    omega (arith, c.deref_mut.ensures.len, i.sets.ok.0, is.parts.sets_size, each.each_trip) in
-    let written : c.deref_mut-2.result.now ≡ (place_at i.places.places leaf).sets =
-    c.deref_mut-2.ensures.value ∙ with_items_is i.sets c.sets.new.sets
-    (omega (
-      arith,
-      ap (λ (x : List LayerSet). length x) c.sets.ensures,
-      each.each_trip,
-      is.parts.sets_size,
-      i.sets.ok.0,
-    ))
-    ∙ c.sets.ensures in
-    let right : right_of (sets_at (state_of o a.log.steps) leaf) c.args.trip c.args.left ≡
-    c.part_worths-parts.result.right =
-    ap (λ (x : List LayerSet). right_of x c.args.trip c.args.left) (sets-are o a is leaf ∙ sym written)
-    ∙ sym c.part_worths-parts.ensures.right in
-    some-layers c.part_worths-parts.result.right (subst (λ (x : LayerSet). members x ≢ []) right may.part.others)
+    let may = subst (λ (t : Search). MaySplit t.opening (state t) w leaf (length (state t).tables)
+    c.args.parting.trip c.args.parting.left (prices_of c.args.table)) (sym c.self.view_is) c.requires.may in
+    let parting =
+    subst (λ (t : Search). IsParting t.opening.problem (sets_at (state t) leaf) (prices_of c.args.table) c.args.parting)
+    (sym c.self.view_is) c.requires.parting in
+    some-layers c.args.parting.right (subst (λ (x : LayerSet). members x ≢ []) (sym parting.right) may.part.others)
 
 pub split-lower-requires-clause-room : goal.split-lower-requires-clause-room
 split-lower-requires-clause-room c =
@@ -209,9 +85,8 @@ split-lower-requires-clause-room c =
     let is = c.self.invariant in
     let w = c.args.w in
     let leaf = c.args.leaf in
-    let may = subst (λ (t : Search). MaySplit t.opening (state t) w leaf (length (state t).tables) c.args.trip
-    c.args.left
-    (prices_of c.args.table)) (sym c.self.view_is) c.requires in
+    let may = subst (λ (t : Search). MaySplit t.opening (state t) w leaf (length (state t).tables)
+    c.args.parting.trip c.args.parting.left (prices_of c.args.table)) (sym c.self.view_is) c.requires.may in
     let more = unfinished o a is w leaf may.holds in
     omega (arith, more, is.parts.few_places, is.parts.places_room)
 
@@ -223,9 +98,8 @@ overflow_add-upper c =
     let is = c.self.invariant in
     let w = c.args.w in
     let leaf = c.args.leaf in
-    let may = subst (λ (t : Search). MaySplit t.opening (state t) w leaf (length (state t).tables) c.args.trip
-    c.args.left
-    (prices_of c.args.table)) (sym c.self.view_is) c.requires in
+    let may = subst (λ (t : Search). MaySplit t.opening (state t) w leaf (length (state t).tables)
+    c.args.parting.trip c.args.parting.left (prices_of c.args.table)) (sym c.self.view_is) c.requires.may in
     let more = unfinished o a is w leaf may.holds in
     omega (arith, more, is.parts.few_places, c.split-lower.ensures.number, is.few_leaves)
 
@@ -237,9 +111,8 @@ put-requires c =
     let is = c.self.invariant in
     let w = c.args.w in
     let leaf = c.args.leaf in
-    let may = subst (λ (t : Search). MaySplit t.opening (state t) w leaf (length (state t).tables) c.args.trip
-    c.args.left
-    (prices_of c.args.table)) (sym c.self.view_is) c.requires in
+    let may = subst (λ (t : Search). MaySplit t.opening (state t) w leaf (length (state t).tables)
+    c.args.parting.trip c.args.parting.left (prices_of c.args.table)) (sym c.self.view_is) c.requires.may in
     let more = unfinished o a is w leaf may.holds in
     omega (arith, more, is.parts.few_places, c.split-lower.ensures.number, is.parts.free_size)
 
@@ -251,13 +124,12 @@ put-requires-2 c =
     let is = c.self.invariant in
     let w = c.args.w in
     let leaf = c.args.leaf in
-    let may = subst (λ (t : Search). MaySplit t.opening (state t) w leaf (length (state t).tables) c.args.trip
-    c.args.left
-    (prices_of c.args.table)) (sym c.self.view_is) c.requires in
+    let may = subst (λ (t : Search). MaySplit t.opening (state t) w leaf (length (state t).tables)
+    c.args.parting.trip c.args.parting.left (prices_of c.args.table)) (sym c.self.view_is) c.requires.may in
     let more = unfinished o a is w leaf may.holds in
     let same = ap (λ (x : Entries). length x) c.put.ensures in
     let kept = length-set i.free c.split-lower.result (Some (record
-    { worth = c.part_worths-parts.result.lower; leaf = c.split-lower.result })) in
+    { worth = c.args.parting.lower; leaf = c.split-lower.result })) in
     omega (arith, more, same, kept, is.parts.few_places, c.split-lower.ensures.number, is.parts.free_size)
 
 pub index_mut-requires : goal.index_mut-requires
@@ -268,9 +140,8 @@ index_mut-requires c =
     let is = c.self.invariant in
     let w = c.args.w in
     let leaf = c.args.leaf in
-    let may = subst (λ (t : Search). MaySplit t.opening (state t) w leaf (length (state t).tables) c.args.trip
-    c.args.left
-    (prices_of c.args.table)) (sym c.self.view_is) c.requires in
+    let may = subst (λ (t : Search). MaySplit t.opening (state t) w leaf (length (state t).tables)
+    c.args.parting.trip c.args.parting.left (prices_of c.args.table)) (sym c.self.view_is) c.requires.may in
     let more = unfinished o a is w leaf may.holds in
     omega (arith, more, is.parts.few_places, c.split-lower.ensures.number, is.parts.worths_size, i.worths.ok.0)
 
@@ -282,9 +153,8 @@ index_mut-requires-2 c =
     let is = c.self.invariant in
     let w = c.args.w in
     let leaf = c.args.leaf in
-    let may = subst (λ (t : Search). MaySplit t.opening (state t) w leaf (length (state t).tables) c.args.trip
-    c.args.left
-    (prices_of c.args.table)) (sym c.self.view_is) c.requires in
+    let may = subst (λ (t : Search). MaySplit t.opening (state t) w leaf (length (state t).tables)
+    c.args.parting.trip c.args.parting.left (prices_of c.args.table)) (sym c.self.view_is) c.requires.may in
     let more = unfinished o a is w leaf may.holds in
     omega (arith, more, is.parts.few_places, c.split-lower.ensures.number, is.parts.worths_size, i.worths.ok.0)
 
@@ -296,9 +166,8 @@ index_mut-requires-3 c =
     let is = c.self.invariant in
     let w = c.args.w in
     let leaf = c.args.leaf in
-    let may = subst (λ (t : Search). MaySplit t.opening (state t) w leaf (length (state t).tables) c.args.trip
-    c.args.left
-    (prices_of c.args.table)) (sym c.self.view_is) c.requires in
+    let may = subst (λ (t : Search). MaySplit t.opening (state t) w leaf (length (state t).tables)
+    c.args.parting.trip c.args.parting.left (prices_of c.args.table)) (sym c.self.view_is) c.requires.may in
     let inside = worker_inside o a is w leaf may.holds in
     omega (arith, inside, i.hands.ok.0)
 
@@ -310,9 +179,8 @@ overflow_add-self c =
     let is = c.self.invariant in
     let w = c.args.w in
     let leaf = c.args.leaf in
-    let may = subst (λ (t : Search). MaySplit t.opening (state t) w leaf (length (state t).tables) c.args.trip
-    c.args.left
-    (prices_of c.args.table)) (sym c.self.view_is) c.requires in
+    let may = subst (λ (t : Search). MaySplit t.opening (state t) w leaf (length (state t).tables)
+    c.args.parting.trip c.args.parting.left (prices_of c.args.table)) (sym c.self.view_is) c.requires.may in
     let all = within_budget o a is in
     omega (arith, all, is.few_leaves)
 
@@ -324,9 +192,8 @@ add-requires-clause-room c =
     let is = c.self.invariant in
     let w = c.args.w in
     let leaf = c.args.leaf in
-    let may = subst (λ (t : Search). MaySplit t.opening (state t) w leaf (length (state t).tables) c.args.trip
-    c.args.left
-    (prices_of c.args.table)) (sym c.self.view_is) c.requires in
+    let may = subst (λ (t : Search). MaySplit t.opening (state t) w leaf (length (state t).tables)
+    c.args.parting.trip c.args.parting.left (prices_of c.args.table)) (sym c.self.view_is) c.requires.may in
     let room = room_for_step o a is w leaf may.holds in
     let steps = ap (λ (x : Log). length x.steps) c.add_table-number.ensures.log in
     let same = ap (λ (x : Log). x.step_room) c.add_table-number.ensures.log in
@@ -340,27 +207,15 @@ invariant_of-self c =
     let is = c.self.invariant in
     let w = c.args.w in
     let leaf = c.args.leaf in
-    let may = subst (λ (t : Search). MaySplit t.opening (state t) w leaf (length (state t).tables) c.args.trip
-    c.args.left
-    (prices_of c.args.table)) (sym c.self.view_is) c.requires in
-    let leaf_inside = leaf_is o a is leaf (ap is_inner may.holds.1) in
-    let each = restriction-at o a is leaf leaf_inside in
-    let size : length c.deref_mut.result.now ≡ length (place_at i.places.places leaf).sets =
-    omega (arith, c.deref_mut.ensures.len, i.sets.ok.0, is.parts.sets_size, each.each_trip) in
-    let written : c.deref_mut-2.result.now ≡ (place_at i.places.places leaf).sets =
-    c.deref_mut-2.ensures.value ∙ with_items_is i.sets c.sets.new.sets
-    (omega (
-      arith,
-      ap (λ (x : List LayerSet). length x) c.sets.ensures,
-      each.each_trip,
-      is.parts.sets_size,
-      i.sets.ok.0,
-    ))
-    ∙ c.sets.ensures in
+    let may = subst (λ (t : Search). MaySplit t.opening (state t) w leaf (length (state t).tables)
+    c.args.parting.trip c.args.parting.left (prices_of c.args.table)) (sym c.self.view_is) c.requires.may in
+    let parting =
+    subst (λ (t : Search). IsParting t.opening.problem (sets_at (state t) leaf) (prices_of c.args.table) c.args.parting)
+    (sym c.self.view_is) c.requires.parting in
     let number = c.add_table-number.result in
     let prices = prices_of c.args.table in
-    let trip = c.args.trip in
-    let left = c.args.left in
+    let trip = c.args.parting.trip in
+    let left = c.args.parting.left in
     let new : Log = c.add_table-number.new.self in
     let named : number ≡ length (state_of o a.log.steps).tables =
     c.add_table-number.ensures.number ∙ ap (λ (x : List Prices). length x) (sym is.parts.tables) in
@@ -376,26 +231,9 @@ invariant_of-self c =
     ∙ ap (λ (x : Log). x.steps ++ full.Split w leaf number trip left prices ∷ []) c.add_table-number.ensures.log in
     let may_split : MaySplit o (state_of o a.log.steps) w leaf number trip left prices =
     subst (λ (n : ℕ). MaySplit o (state_of o a.log.steps) w leaf n trip left prices) (sym named) may in
-    let at_leaf : c.deref_mut-2.result.now ≡ sets_at (state_of o a.log.steps) leaf = written ∙ sym
-    (sets-are o a is leaf) in
-    let two = c.part_worths-parts.result in
-    let on_left : AreWorth o.problem (with_set (sets_at (state_of o a.log.steps) leaf) trip left) prices
-    two.lower = record {
-      table = c.args.table;
-      listed = refl;
-      worth = subst (λ (x : List LayerSet). IsWorth i.instance (with_set x trip left) c.args.table two.lower) at_leaf
-          c.part_worths-parts.ensures.lower;
-    } in
-    let on_right : AreWorth o.problem (with_set (sets_at (state_of o a.log.steps) leaf) trip
-    (right_of (sets_at (state_of o a.log.steps) leaf) trip left)) prices two.upper = record {
-      table = c.args.table;
-      listed = refl;
-      worth = subst (λ (x : List LayerSet). IsWorth i.instance (with_set x trip (right_of x trip left))
-          c.args.table two.upper)
-          at_leaf c.part_worths-parts.ensures.upper;
-    } in
+    let two = c.args.parting in
     let right : two.right ≡ right_of (place_at i.places.places leaf).sets trip left =
-    c.part_worths-parts.ensures.right ∙ ap (λ (x : List LayerSet). right_of x trip left) written in
+    parting.right ∙ ap (λ (x : List LayerSet). right_of x trip left) (sets-are o a is leaf) in
     let first = c.split-lower.result in
     let first_is : first ≡ length i.places.places = c.split-lower.ensures.number in
     let b : Parts = record {
@@ -405,10 +243,10 @@ invariant_of-self c =
       free = c.put-2.new.self;
       worths = set (set i.worths.items first two.lower) (first + 1) two.upper;
       finished = i.finished + 1;
-      sets = (with_items (with_items i.sets c.sets.new.sets) c.part_worths-parts.new.sets).items;
+      sets = i.sets.items;
     } in
     subst (λ (n : ℕ). IsSearch (record o { workers = n }) b) (sym (length-set i.hands.items w Idle))
-    (split_search o a is w leaf number trip left prices may_split two.lower two.upper on_left on_right b
+    (split_search o a is w leaf number trip left prices may_split two.lower two.upper parting.lower parting.upper b
     steps (ap (λ (x : Log). x.tables) c.add.ensures ∙ tables)
     (ap (λ (x : Log). x.plans) c.add.ensures ∙ ap (λ (x : Log). x.plans) c.add_table-number.ensures.log)
     (ap (λ (x : Log). x.step_room) c.add.ensures ∙ ap (λ (x : Log). x.step_room) c.add_table-number.ensures.log)
@@ -421,24 +259,7 @@ invariant_of-self c =
     ∙ ap (λ (x : Entries). set x (first + 1) (Some (record { worth = two.upper; leaf = first + 1 }))) c.put.ensures
     ∙ ap (λ (m : ℕ). set (set i.free m (Some (record { worth = two.lower; leaf = m }))) (m + 1)
     (Some (record { worth = two.upper; leaf = m + 1 }))) first_is)
-    (ap (λ (m : ℕ). set (set i.worths.items m two.lower) (m + 1) two.upper) first_is) refl
-    (ap (λ (x : List LayerSet). length x) (with_items_is (with_items i.sets c.sets.new.sets)
-    c.part_worths-parts.new.sets
-    (omega (
-      arith,
-      c.part_worths-parts.ensures.size,
-      ap (λ (x : List LayerSet). length x) written,
-      each.each_trip,
-      is.parts.sets_size,
-      i.sets.ok.0,
-    )))
-    ∙ omega (
-      arith,
-      c.part_worths-parts.ensures.size,
-      ap (λ (x : List LayerSet). length x) written,
-      each.each_trip,
-      is.parts.sets_size,
-    )))
+    (ap (λ (m : ℕ). set (set i.worths.items m two.lower) (m + 1) two.upper) first_is) refl refl)
 
 pub returns : goal.returns
 returns c =
@@ -448,13 +269,12 @@ returns c =
     let is = c.self.invariant in
     let w = c.args.w in
     let leaf = c.args.leaf in
-    let may = subst (λ (t : Search). MaySplit t.opening (state t) w leaf (length (state t).tables) c.args.trip
-    c.args.left
-    (prices_of c.args.table)) (sym c.self.view_is) c.requires in
+    let may = subst (λ (t : Search). MaySplit t.opening (state t) w leaf (length (state t).tables)
+    c.args.parting.trip c.args.parting.left (prices_of c.args.table)) (sym c.self.view_is) c.requires.may in
     let number = c.add_table-number.result in
     let prices = prices_of c.args.table in
-    let trip = c.args.trip in
-    let left = c.args.left in
+    let trip = c.args.parting.trip in
+    let left = c.args.parting.left in
     let new : Log = c.add_table-number.new.self in
     let named : number ≡ length (state_of o a.log.steps).tables =
     c.add_table-number.ensures.number ∙ ap (λ (x : List Prices). length x) (sym is.parts.tables) in

@@ -5,7 +5,7 @@ use Rattle.vs_instance.specs.Restriction.{IsRestriction}
 use Rattle.vs_prices.specs.Worth.{IsWorth}
 use Rattle.vs_cases.specs.Tree.{right_of, with_set}
 use Rattle.vs_cases.proofs.CallerLemmas.{right-restricts}
-use Rattle.vs_tree.proofs.tree.part_worths.Goals as goal
+use Rattle.vs_tree.proofs.finishing.parted.Goals as goal
 
 pub worth-upper-requires-clause-restriction : goal.worth-upper-requires-clause-restriction
 worth-upper-requires-clause-restriction c =
