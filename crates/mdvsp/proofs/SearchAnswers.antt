@@ -12,7 +12,7 @@ use Rattle.vs_tree.specs.declared.calls.Report.{Report}
 use Rattle.vs_tree.specs.Sound.{IsOpening}
 use Rattle.vs_tree.specs.Takes.{IsOver}
 use Rattle.vs_node.specs.WorkedHistory.{AreWorked}
-use Rattle.vs_node.proofs.WorkedSearches.{worked_searches_reach_the_start}
+use Rattle.vs_node.proofs.CallerLemmas.{worked_searches_reach_the_start}
 use Rattle.vs_document.specs.DocumentText.{HasText}
 use Rattle.vs_cert.specs.StateDocument.{IsDocumentOf}
 use Rattle.vs_document.specs.declared.document.Document.{Document}

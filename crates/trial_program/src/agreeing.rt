@@ -8,7 +8,7 @@ use trial_fixtures::{input_of, instance_of};
 use vs_circ::Work;
 use vs_instance::{Instance, MAX_TRIPS};
 use vs_match::layer_nets;
-use vs_multi::{few_rounds, rounds, start};
+use vs_multi::{Case, few_rounds, rounds, start};
 use vs_penalty::agree;
 use vs_plan::greedy;
 use vs_prices::{Table, permitted_sets, worth};
@@ -71,15 +71,13 @@ fn later_rounds_are_worth_more(rt: HostRuntime) -> Result<(), Fail> {
     let mut work = Work::new(alloc, &nets)?;
     let mut multipliers = vec![in alloc; 0; instance.trips() as usize]?;
     start(&instance, &mut multipliers);
-    let first = few_rounds(
+    let case = Case {
         alloc,
-        &instance,
-        &nets,
-        &sets,
-        1,
-        &mut multipliers,
-        &mut work,
-    )?;
+        instance: &instance,
+        nets: &nets,
+        sets: &sets,
+    };
+    let first = few_rounds(&case, 1, &mut multipliers, &mut work)?;
     start(&instance, &mut multipliers);
     let best = rounds(alloc, &instance, &nets, &sets, &mut multipliers, &mut work)?;
     assert!(rt; !first.worth.is_no_less(best.worth));

@@ -16,7 +16,10 @@ use Rattle.vs_tree.specs.declared.calls.Next.TheVariants.{Close, Split}
 use Rattle.vs_node.specs.NextSteps.{IsOpen}
 use Rattle.vs_node.specs.WorkedStep.{IsWorked}
 use Rattle.vs_node.specs.declared.outcome.Outcome.{Outcome}
-use Rattle.vs_node.specs.declared.task.Task.{Task}
+use Rattle.vs_node.specs.declared.outcome.Task.{Task}
+use Rattle.vs_tree.specs.Finishes.{AreWorths, next_in}
+use Rattle.vs_tree.specs.Prices.{prices_of}
+use Rattle.vs_crew.specs.declared.finding.Finding.{Finding}
 
 -- a leaf is closed where its table leaves no room for a plan that costs less than the known cost and than the plan,
 -- and else split by a trip of its sets
@@ -40,3 +43,9 @@ pub record IsLawfulTask (p : Problem) (task : Task) : Type 0 where
   pub fits : Fits p task.table
   pub holds : HoldingTable p task.table
   pub root : task.root ≡ true → task.sets.items ≡ permitted_sets p
+
+-- what it found, and how the leaf is finished by that
+pub record IsFinding (p : Problem) (task : Task) (finding : Finding) : Type 0 where
+  pub found : IsFound p task finding.outcome
+  pub next : next_in finding.finish ≡ finding.outcome.next
+  pub worths : AreWorths p task.sets.items (prices_of finding.outcome.table) finding.finish

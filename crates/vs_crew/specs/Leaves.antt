@@ -8,9 +8,9 @@ use Rattle.vs_tree.specs.Search.{Search, state}
 use Rattle.vs_tree.specs.Takes.{IsOver}
 use Rattle.vs_tree.specs.declared.calls.Take.{Take}
 use Rattle.vs_tree.specs.declared.calls.Take.TheVariants.{Node, Wait, Done, Spent}
-use Rattle.vs_node.specs.declared.outcome.Outcome.{Outcome}
-use Rattle.vs_node.specs.declared.task.Task.{Task}
-use Rattle.vs_crew.specs.Found.{IsFound, IsLawfulTask}
+use Rattle.vs_node.specs.declared.outcome.Task.{Task}
+use Rattle.vs_crew.specs.declared.finding.Finding.{Finding}
+use Rattle.vs_crew.specs.Found.{IsFinding, IsLawfulTask}
 use Rattle.vs_crew.specs.Sharing.{IsIdle, Says}
 
 -- the task is the leaf's
@@ -29,10 +29,10 @@ pub record HoldsLeaf (worker leaf : ℕ) (task : Task) (o : Opening) (s : State)
   pub lawful : IsLawfulTask o.problem task
 
 -- the worker holds this leaf, and this is what the work on it found
-pub record HasFound (worker leaf : ℕ) (outcome : Outcome) (o : Opening) (s : State) : Type 0 where
+pub record HasFound (worker leaf : ℕ) (finding : Finding) (o : Opening) (s : State) : Type 0 where
   pub task : Task
   pub has : HoldsLeaf worker leaf task o s
-  pub found : IsFound o.problem task outcome
+  pub found : IsFinding o.problem task finding
 
 -- what a worker knows once it was told this
 abbrev pub IsTold : ℕ → Task → Take → Says

@@ -1,6 +1,8 @@
+//! How a worker that waits is told that the search has changed.
 use std::sync::{Condvar, Mutex, Wait};
 
-/// How often a shared search was changed so that a worker may find a leaf again. A worker that waits for a change sleeps.
+/// How often a shared search was changed so that a worker may find a leaf again. A worker that waits for a change
+/// sleeps.
 #[derive(Drop)]
 pub(crate) struct Changes {
     count: Mutex<u64>,

@@ -1,3 +1,4 @@
+//! A crew of workers: how they are enlisted, seated, let work together, and joined.
 ghost use Rattle.std.specs.Prelude.{◌≡◌, ◌<◌, [], length, IfErr, IfOk, Some};
 ghost use Rattle.std.specs.Thread.{IsSync};
 ghost use Rattle.vs_match.specs.LayerNets.{AreLayerNets};
@@ -9,9 +10,8 @@ ghost use Rattle.vs_crew.specs.Sharing.{KnowsEnds, NoneIsHeld};
 ghost use Rattle.vs_crew.specs.Workers.{AreDone, AreEnlisted, AreSeated, IsDone, IsEnlisted, IsFirstSeat, IsFresh, IsReady, IsSite};
 
 use crate::changes::Changes;
-use crate::gate::Gate;
 use crate::shared_tree::SharedTree;
-use crate::site::Site;
+use crate::site::{Gate, Site};
 use crate::worker::{Worker, take_part};
 use std::alloc::Global;
 use std::snapshot::Snapshot;
@@ -27,9 +27,9 @@ use vs_turn::{Seat, Turn};
 use vs_types::Memory;
 
 /// Has so many workers take the leaves of a search and work on them, each in a thread of its own where one can be made,
-/// until no leaf leaves room for a plan cheaper than the cheapest so far, or the budget is spent. A worker that finds no
-/// memory gives its leaf back and takes no more; where no other is left, the search comes back as it has become. Before
-/// each leaf is worked on, the worker passes the gate.
+/// until no leaf leaves room for a plan cheaper than the cheapest so far, or the budget is spent. A worker that finds
+/// no memory gives its leaf back and takes no more; where no other is left, the search comes back as it has become.
+/// Before each leaf is worked on, the worker passes the gate.
 pub fn run<R: Threads + Wait + Sync, G: Gate + Sync>(
     rt: &R,
     alloc: Global,
@@ -67,7 +67,8 @@ pub fn run<R: Threads + Wait + Sync, G: Gate + Sync>(
         gate,
     };
     give_seats(&site, seat, &mut crew);
-    work_together(rt, alloc, &site, &mut crew);
+    let together = crew.as_mut_slice();
+    work_together(rt, alloc, &site, together);
     let (seat, over) = joined(&site, crew);
     drop(site);
     let tree = turn.close(seat).into_tree();

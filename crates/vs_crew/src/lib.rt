@@ -4,14 +4,10 @@
 mod changes;
 mod crew;
 mod finding;
-mod gate;
 mod shared_tree;
 mod site;
 mod turns;
 mod worker;
 
 pub use crew::run;
-pub use gate::{Gate, NoGate};
-
-#[cfg(test)]
-mod tests;
+pub use site::{Gate, NoGate};

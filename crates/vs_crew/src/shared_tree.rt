@@ -1,3 +1,4 @@
+//! The search that workers share, and what each may do to it in its turn.
 ghost use Rattle.std.specs.Prelude.{◌≡◌, length};
 ghost use Rattle.vs_tree.specs.History.{IsHistory};
 ghost use Rattle.vs_tree.specs.Search.{state};
@@ -10,8 +11,9 @@ ghost use Rattle.vs_crew.specs.Crew.{AreWorkedAfter};
 ghost use Rattle.vs_crew.specs.Leaves.{HasFound, HasOffered, HoldsLeaf, IsTold};
 ghost use Rattle.vs_crew.specs.Sharing.{GoesOnBy, HasLeft, HeldWhenLeft, IsHolding, IsIdle};
 
+use crate::finding::Finding;
 use std::marker::Model;
-use vs_node::{Outcome, Task};
+use vs_node::Task;
 use vs_plan::CheckedPlan;
 use vs_tree::{Take, Tree};
 use vs_turn::Kept;
@@ -65,6 +67,7 @@ impl SharedTree {
         ensures history { IsHistory result.opening result.steps }
     {
         let SharedTree { before: _, tree } = self;
+        // for the proof: what holds of every search.
         let _instance = tree.instance();
         tree
     }
@@ -79,6 +82,7 @@ impl SharedTree {
         ensures sets { length task.new.sets.items ≡ length task.old.sets.items }
         ensures table { IsSized self.old.search.opening.problem task.new.table }
     {
+        // for the proof: what holds of every search.
         let _instance = self.tree.instance();
         match self.tree.take(w, &mut task.sets, &mut task.table) {
             Take::Node { leaf, known } => {
@@ -91,14 +95,16 @@ impl SharedTree {
     }
 
     /// Offers the plan that the work on a worker's leaf found, if any, and finishes the leaf.
-    pub(crate) fn finish(&mut self, w: u32, leaf: u32, outcome: Outcome)
-        requires found { HeldWhenLeft w (HasFound w leaf outcome) self.old.search }
+    pub(crate) fn finish(&mut self, w: u32, leaf: u32, finding: Finding)
+        requires found { HeldWhenLeft w (HasFound w leaf finding) self.old.search }
         ensures steps { GoesOnBy w self.old self.new }
         ensures idle { IsIdle w self.new.search.opening (state self.new.search) }
     {
+        // for the proof: what holds of every search.
         let _instance = self.tree.instance();
+        let Finding { outcome, finish } = finding;
         offer_found(&mut self.tree, w, outcome.plan);
-        self.tree.finish(w, leaf, outcome.table, outcome.next);
+        self.tree.finish_as(w, leaf, outcome.table, finish);
     }
 
     /// Gives back the leaf that a worker holds, which then takes no more.
@@ -107,6 +113,7 @@ impl SharedTree {
         ensures steps { GoesOnBy w self.old self.new }
         ensures left { HasLeft w self.new.search.opening (state self.new.search) }
     {
+        // for the proof: what holds of every search.
         let _instance = self.tree.instance();
         self.tree.give_back(w);
     }

@@ -5,11 +5,11 @@ ghost use Rattle.vs_tree.specs.Takes.{IsSized};
 ghost use Rattle.vs_crew.specs.Leaves.{HasFound, IsTold};
 ghost use Rattle.vs_crew.specs.Sharing.{HasLeft, IsHolding, IsIdle, Knows};
 
-use crate::gate::Gate;
+use crate::finding::Finding;
 use crate::shared_tree::SharedTree;
-use crate::site::Site;
+use crate::site::{Gate, Site};
 use std::sync::Wait;
-use vs_node::{Outcome, Task};
+use vs_node::Task;
 use vs_tree::Take;
 use vs_turn::Seat;
 
@@ -40,13 +40,13 @@ pub(crate) fn hand_in<R: Wait, G: Gate>(
     seat: Seat,
     w: u32,
     leaf: u32,
-    outcome: Outcome,
+    finding: Finding,
 ) -> Seat
-    requires found { Knows site.now.turn.now.name site.now.start.now.value w (HasFound w leaf outcome) seat }
+    requires found { Knows site.now.turn.now.name site.now.start.now.value w (HasFound w leaf finding) seat }
     ensures idle { Knows site.now.turn.now.name site.now.start.now.value w (IsIdle w) result }
 {
     let mut held = site.turn.hold(rt, seat);
-    held.value().finish(w, leaf, outcome);
+    held.value().finish(w, leaf, finding);
     let seat = held.release();
     site.changes.tell(rt);
     seat

@@ -1,11 +1,11 @@
+//! One worker: it takes leaves one after another and works on them.
 ghost use Rattle.std.specs.Prelude.{◌≡◌};
 ghost use Rattle.vs_crew.specs.Leaves.{HoldsLeaf};
 ghost use Rattle.vs_crew.specs.Sharing.{IsEnd, IsIdle, Knows};
 ghost use Rattle.vs_crew.specs.Workers.{HasRoom, IsAfter, IsDone, IsReady, IsSite};
 
 use crate::finding::found;
-use crate::gate::Gate;
-use crate::site::Site;
+use crate::site::{Gate, Site};
 use crate::turns::{ask, give_up, hand_in};
 use std::alloc::Global;
 use std::sync::Wait;
@@ -138,7 +138,7 @@ fn work_on<R: Wait, G: Gate>(
     let number = worker.number;
     let task = &mut worker.task;
     match found(alloc, site.instance, site.nets, task, &mut worker.scratch) {
-        Ok(outcome) => (hand_in(rt, site, seat, number, leaf, outcome), After::Idle),
+        Ok(finding) => (hand_in(rt, site, seat, number, leaf, finding), After::Idle),
         Err(Memory) => (give_up(rt, site, seat, number), After::Left),
     }
 }

@@ -1,10 +1,14 @@
 -- The better of two tables.
-use Rattle.std.proofs.Common.{List, sym, subst, inl, inr, ℤ}
+use Rattle.std.proofs.Common.{List, sym, subst, arith, inl, inr, ℤ}
+use Rattle.std.proofs.lemmas.Int.{ints}
 use Rattle.vs_types.specs.declared.layer_set.LayerSet.{LayerSet}
 use Rattle.vs_instance.specs.Problem.{Problem}
 use Rattle.vs_prices.specs.declared.bound.Bound.{Bound}
+use Rattle.vs_prices.specs.declared.bound.Bound.TheVariants.{AtLeast, NoPlan}
 use Rattle.vs_prices.specs.declared.table.Table.{Table}
-use Rattle.vs_prices.specs.Bounds.{ReachesLagrangian}
+use Rattle.vs_prices.specs.Bounds.{IsNoLess, IsWorthNoLess, ReachesLagrangian}
+use Rattle.vs_prices.specs.Table.{Fits, HoldingTable}
+use Rattle.vs_prices.proofs.CallerLemmas.{worth_once}
 use Rattle.vs_prices.specs.Worth.{IsWorth}
 use Rattle.vs_multi.specs.Raising.{IsCostTable}
 use Rattle.vs_multi.specs.Rounds.{IsBetter}
@@ -17,14 +21,15 @@ module _ (p : Problem) (sets : List LayerSet) (multipliers : List ℤ) where
     pub worth_is : IsWorth p sets table worth
     pub lagrangian : ReachesLagrangian p sets multipliers table
 
-  module _ (best table new_best new_table : Table) (greatest new_greatest : Bound) where
+  module _ (best table new_best new_table : Table) (greatest worth new_greatest : Bound)
+      (is_worth : IsWorth p sets table worth) where
     -- the better one is as good
     pub better_good : IsGood best greatest → IsCostTable p table
-        → IsBetter p sets best greatest table new_best new_greatest new_table → IsGood new_best new_greatest
-    better_good good other (worth, is_worth, inl (no_less, worth_is, best_is, table_is)) =
+        → IsBetter best greatest table worth new_best new_greatest new_table → IsGood new_best new_greatest
+    better_good good other (inl (no_less, worth_is, best_is, table_is)) =
         subst (λ (t : Table). IsGood t new_greatest) (sym best_is)
         (subst (λ (b : Bound). IsGood best b) (sym worth_is) good)
-    better_good good other (worth, is_worth, inr (less, worth_is, best_is, table_is)) =
+    better_good good other (inr (less, worth_is, best_is, table_is)) =
         let now : IsGood table worth = record {
           lawful = other;
           worth_is = is_worth;
@@ -36,8 +41,54 @@ module _ (p : Problem) (sets : List LayerSet) (multipliers : List ℤ) where
 
     -- the other one is lawful
     pub better_other : IsCostTable p best → IsCostTable p table
-        → IsBetter p sets best greatest table new_best new_greatest new_table → IsCostTable p new_table
-    better_other good other (worth, is_worth, inl (no_less, worth_is, best_is, table_is)) =
-        subst (IsCostTable p) (sym table_is) other
-    better_other good other (worth, is_worth, inr (less, worth_is, best_is, table_is)) =
-        subst (IsCostTable p) (sym table_is) good
+        → IsBetter best greatest table worth new_best new_greatest new_table → IsCostTable p new_table
+    better_other good other (inl (no_less, worth_is, best_is, table_is)) = subst (IsCostTable p) (sym table_is) other
+    better_other good other (inr (less, worth_is, best_is, table_is)) = subst (IsCostTable p) (sym table_is) good
+
+no_less-itself : (a : Bound) → IsNoLess a a
+no_less-itself NoPlan = tt
+no_less-itself (AtLeast n) = omega (arith, ints)
+
+-- a table with its worth, which fits and holds
+pub record IsLawful (p : Problem) (sets : List LayerSet) (table : Table) (worth : Bound) : Type 0 where
+  pub fits : Fits p table
+  pub holds : HoldingTable p table
+  pub is_worth : IsWorth p sets table worth
+
+-- and which is worth no less than two others
+pub record IsBetterOf (p : Problem) (sets : List LayerSet) (one other table : Table) (worth : Bound) : Type 0 where
+  pub lawful : IsLawful p sets table worth
+  pub no_less : IsWorthNoLess p sets table one
+  pub no_less_other : IsWorthNoLess p sets table other
+
+module _ (p : Problem) (sets : List LayerSet) where
+  no_less-by : (one other : Table) (a b : Bound) → IsWorth p sets one a → IsWorth p sets other b → IsNoLess a b
+      → IsWorthNoLess p sets one other
+  no_less-by one other a b is_a is_b more worth least is_worth is_least =
+      subst (λ (c : Bound). IsNoLess c least) (worth_once p sets one a worth is_a is_worth)
+      (subst (λ (c : Bound). IsNoLess a c) (worth_once p sets other b least is_b is_least) more)
+
+  -- the better of two lawful tables is the better of both
+  pub better_of : (best table new_best new_table : Table) (greatest worth new_greatest : Bound)
+      → IsLawful p sets best greatest → IsLawful p sets table worth
+      → IsBetter best greatest table worth new_best new_greatest new_table
+      → IsBetterOf p sets best table new_best new_greatest
+  better_of best table new_best new_table greatest worth new_greatest of_best of_table
+      (inl (more, worth_is, best_is, _)) =
+      let now : IsBetterOf p sets best table best greatest = record {
+        lawful = of_best;
+        no_less = no_less-by best best greatest greatest of_best.is_worth of_best.is_worth (no_less-itself greatest);
+        no_less_other = no_less-by best table greatest worth of_best.is_worth of_table.is_worth more;
+      } in
+      subst (λ (t : Table). IsBetterOf p sets best table t new_greatest) (sym best_is)
+      (subst (λ (b : Bound). IsBetterOf p sets best table best b) (sym worth_is) now)
+  better_of best table new_best new_table greatest worth new_greatest of_best of_table
+      (inr (less, worth_is, best_is, _)) =
+      let now : IsBetterOf p sets best table table worth = record {
+        lawful = of_table;
+        no_less = no_less-by table best worth greatest of_table.is_worth of_best.is_worth
+            (else_no_less greatest worth less);
+        no_less_other = no_less-by table table worth worth of_table.is_worth of_table.is_worth (no_less-itself worth);
+      } in
+      subst (λ (t : Table). IsBetterOf p sets best table t new_greatest) (sym best_is)
+      (subst (λ (b : Bound). IsBetterOf p sets best table table b) (sym worth_is) now)

@@ -16,7 +16,7 @@ use Rattle.vs_prices.specs.declared.table.Table.{Table}
 use Rattle.vs_prices.specs.Bounds.{IsNoLess, ReachesLagrangian, ReachesValue}
 use Rattle.vs_prices.specs.Table.{prices_in}
 use Rattle.vs_prices.specs.Worth.{IsRoundedUp, IsWorth, least, table_value}
-use Rattle.vs_prices.proofs.Worths.{worth_once}
+use Rattle.vs_prices.proofs.CallerLemmas.{worth_once}
 
 else_below : (m n : ℤ) → ¬ (m ≤ℤ n) → n ≤ℤ m
 else_below m n never = grind (arith, ints)

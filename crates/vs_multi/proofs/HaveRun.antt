@@ -14,9 +14,8 @@ use Rattle.vs_circ.specs.declared.circ.Circ.{Circ}
 use Rattle.vs_circ.specs.Circulations.{RunTrip}
 use Rattle.vs_multi.specs.declared.round.Round.{Round}
 use Rattle.vs_multi.specs.Exchanges.{HasPrices}
-use Rattle.vs_multi.specs.Multipliers.{AreMultipliers}
 use Rattle.vs_multi.specs.Offers.{IsLeastAt}
-use Rattle.vs_multi.specs.Rounds.{AreCovers, IsCountBelow, IsCounted, IsLastRound, IsRunIn, RunsTrip}
+use Rattle.vs_multi.specs.Rounds.{AreCovers, IsCountBelow, IsCounted, IsRound, IsRunIn, RunsTrip}
 use Rattle.vs_multi.proofs.Counts.{count_le, count_same}
 
 -- the layers below n have run with these circulations
@@ -159,11 +158,9 @@ module _ (p : Problem) (nets : List LayerGraph) (sets : List LayerSet) (multipli
       ]
 
   -- once all layers have run, it is a round
-  pub all_run : (round : Round) → AreMultipliers p multipliers → HaveRun p nets sets multipliers (length p.layers) round
-      → IsLastRound p nets sets round.covers.items
-  all_run round within have = record {
-    multipliers = multipliers;
-    within = within;
+  pub all_run : (round : Round) → HaveRun p nets sets multipliers (length p.layers) round
+      → IsRound p nets sets multipliers round.covers.items
+  all_run round have = record {
     circs = have.circs;
     round = record { each_layer = have.each; least = λ l. found l (cases_lt l.0 (length p.layers)) };
     covers = have.covers;

@@ -9,3 +9,5 @@ pub mod Counts
 pub mod HaveRun
 pub mod Better
 pub mod Nets
+pub mod Leading
+pub mod CallerLemmas

@@ -16,9 +16,9 @@ use Rattle.vs_instance.specs.BlockPieces.{cost_of}
 use Rattle.vs_instance.specs.Lagrangian.{HasOwnBlock, IsStart}
 use Rattle.vs_instance.proofs.CallerLemmas.{blocks_cost_their_pieces}
 use Rattle.std.proofs.lemmas.List.Elements.{All-cons, All-nil}
-use Rattle.vs_connect.specs.Cost.{IsCost}
+use Rattle.vs_connect.specs.Cost.{IsCost, lesser_of}
 use Rattle.vs_connect.proofs.CallerLemmas.{pieces_exist}
-use Rattle.vs_multi.specs.Multipliers.{IsOwnCost, IsCheapestAlone, IsLeastOwnCost, IsMultiplier, MayCostAlone, lesser_of}
+use Rattle.vs_multi.specs.Multipliers.{IsOwnCost, IsCheapestAlone, IsLeastOwnCost, IsMultiplier, MayCostAlone}
 
 -- a cost that is looked up is that of a piece that there is
 pub piece_found : (cost : ℤ) (piece : Option ℕ) → Some cost ≡ option_map pos piece

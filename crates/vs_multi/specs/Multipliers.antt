@@ -9,6 +9,7 @@ use Rattle.vs_instance.specs.Blocks.{block_cost}
 use Rattle.vs_instance.specs.Lagrangian.{HasOwnBlock, IsStart, multiplier_of}
 use Rattle.vs_prices.specs.declared.table.Table.{Table}
 use Rattle.vs_prices.specs.Worth.{least_price}
+use Rattle.vs_multi.specs.declared.starting.TheConstants.{MAX_OWN_COST}
 use Rattle.vs_instance.specs.declared.limits.TheConstants.{MAX_MULTIPLIER}
 
 -- what the block of trip i alone costs in layer l, None where there is no such block
@@ -28,13 +29,7 @@ IsLeastOwnCost p n i (Some cost) = (l : LayerNo) × IsOwnCost p l i (Some cost) 
 
 -- no block of one trip costs more
 abbrev pub MayCostAlone : ℤ → Type 0
-MayCostAlone cost = (pos 0 ≤ℤ cost) × (cost ≤ℤ pos 60000000000)
-
--- the lesser of two numbers, where there are both, else the one that there is
-abbrev pub lesser_of : Option ℤ → Option ℤ → Option ℤ
-lesser_of None b = b
-lesser_of (Some a) None = Some a
-lesser_of (Some a) (Some b) = Some (int_min a b)
+MayCostAlone cost = (pos 0 ≤ℤ cost) × (cost ≤ℤ MAX_OWN_COST)
 
 -- not below 0 or beyond the limit
 abbrev pub IsMultiplier : ℤ → Type 0

@@ -1,21 +1,28 @@
--- One round: a least circulation in every layer, at one list of multipliers.
+-- Rounds, one after the other: in each a least circulation in every layer at the multipliers as they are, which then
+-- move.
 use Rattle.std.specs.Prelude.{◌≡◌, ℕ, zero, suc, ◌+◌, ◌<◌, ◌⊎◌, List, length, false, IfSome, IsSomeAnd, slice_get, slice_index, ℤ}
 use Rattle.vs_types.specs.declared.layer_set.LayerSet.{LayerSet}
 use Rattle.vs_types.specs.declared.numbers.LayerNo.{LayerNo}
 use Rattle.vs_instance.specs.Problem.{Problem}
+use Rattle.vs_instance.specs.Restriction.{IsRestriction}
 use Rattle.vs_match.specs.LayerGraph.{LayerGraph}
-use Rattle.vs_match.specs.LayerNets.{net_at}
+use Rattle.vs_match.specs.LayerNets.{AreLayerNets, net_at}
 use Rattle.vs_circ.specs.declared.circ.Circ.{Circ}
 use Rattle.vs_circ.specs.Circulations.{RunTrip}
 use Rattle.vs_prices.specs.declared.bound.Bound.{Bound}
 use Rattle.vs_prices.specs.declared.table.Table.{Table}
 use Rattle.vs_prices.specs.Bounds.{IsNoLess}
 use Rattle.vs_prices.specs.Table.{Fits, HoldingTable}
-use Rattle.vs_prices.specs.Worth.{IsWorth}
 use Rattle.vs_multi.specs.declared.round.Round.{Round}
 use Rattle.vs_multi.specs.Exchanges.{AgreeBut, HasPrices}
-use Rattle.vs_multi.specs.Multipliers.{AreMultipliers}
+use Rattle.vs_multi.specs.declared.steps.Steps.{Steps}
 use Rattle.vs_multi.specs.Offers.{IsLeastAt}
+use Rattle.vs_multi.specs.Steps.{AreMoved, IsGreatestStep, rounds_in, step_in}
+
+-- a case: a net for each layer of the instance, and layers in which each trip may be run
+pub record IsCase (p : Problem) (graphs : List LayerGraph) (sets : List LayerSet) : Type 0 where
+  pub nets : AreLayerNets p graphs
+  pub restriction : IsRestriction p sets
 
 -- for each layer, in order, a least circulation of the trips whose sets have it
 pub record AreOfRound (p : Problem) (nets : List LayerGraph) (sets : List LayerSet) (multipliers : List ℤ)
@@ -38,13 +45,32 @@ pub record AreCovers (p : Problem) (nets : List LayerGraph) (circs : List Circ) 
   pub each_trip : length covers ≡ length p.trips
   pub count : (i : ℕ) → i < length p.trips → IsCountBelow (RunsTrip nets circs i) m (slice_index covers i)
 
--- the counts are those of a round: for each trip, how many layers run it
-pub record IsLastRound (p : Problem) (nets : List LayerGraph) (sets : List LayerSet) (counts : List ℕ) : Type 0 where
-  pub multipliers : List ℤ
-  pub within : AreMultipliers p multipliers
+-- a round at these multipliers: least circulations, and for each trip how many layers run it
+pub record IsRound (p : Problem) (nets : List LayerGraph) (sets : List LayerSet) (multipliers : List ℤ)
+    (counts : List ℕ) : Type 0 where
   pub circs : List Circ
   pub round : AreOfRound p nets sets multipliers circs
   pub covers : AreCovers p nets circs (length p.layers) counts
+
+-- so many rounds, counted from 0, lead from the first multipliers to the last: after each round every multiplier moves
+-- by the step of that round, up once, and down once for each layer that runs its trip
+abbrev pub LeadTo : Problem → List LayerGraph → List LayerSet → Steps → ℕ → ℕ → List ℤ → List ℤ → Type 0
+LeadTo p nets sets steps most zero first last = last ≡ first
+LeadTo p nets sets steps most (suc n) first last =
+    (before : List ℤ) × (counts : List ℕ) × LeadTo p nets sets steps most n first before
+    × IsRound p nets sets before counts × AreMoved (step_in steps most n) counts before last
+
+-- the counts are those of the last of the rounds that begin with these multipliers: for each trip, how many layers run
+-- it
+pub record IsLastRound (p : Problem) (nets : List LayerGraph) (sets : List LayerSet) (steps : Steps) (first : List ℤ)
+    (counts : List ℕ) : Type 0 where
+  pub most : ℕ
+  pub greatest : IsGreatestStep p most
+  pub before : ℕ
+  pub all : before + 1 ≡ rounds_in steps
+  pub multipliers : List ℤ
+  pub led : LeadTo p nets sets steps most before first multipliers
+  pub round : IsRound p nets sets multipliers counts
 
 -- a trip's count is one more exactly where it is run
 abbrev pub IsCounted : LayerGraph → List ℕ → ℕ → ℕ → ℕ → Type 0
@@ -64,12 +90,11 @@ pub record IsRunIn (p : Problem) (net : LayerGraph) (sets : List LayerSet) (mult
   pub others : AgreeBut p l.0 old.table new.table
   pub counted : AreCounted net c.flow.units.items old.covers.items new.covers.items
 
--- the better of two tables first, the first one where both are worth as much
-abbrev pub IsBetter : Problem → List LayerSet → Table → Bound → Table → Table → Bound → Table → Type 0
-IsBetter p sets best greatest table new_best new_greatest new_table =
-    (worth : Bound) × IsWorth p sets table worth
-    × ((IsNoLess greatest worth × (new_greatest ≡ greatest) × (new_best ≡ best) × (new_table ≡ table))
-    ⊎ (¬ (IsNoLess greatest worth) × (new_greatest ≡ worth) × (new_best ≡ table) × (new_table ≡ best)))
+-- of two tables of these worths the better one first, the first one where both are worth as much
+abbrev pub IsBetter : Table → Bound → Table → Bound → Table → Bound → Table → Type 0
+IsBetter best greatest table worth new_best new_greatest new_table =
+    (IsNoLess greatest worth × (new_greatest ≡ greatest) × (new_best ≡ best) × (new_table ≡ table))
+    ⊎ (¬ (IsNoLess greatest worth) × (new_greatest ≡ worth) × (new_best ≡ table) × (new_table ≡ best))
 
 -- what a round is made in: a table that holds, and an entry for each trip
 pub record IsRoundFor (p : Problem) (round : Round) : Type 0 where

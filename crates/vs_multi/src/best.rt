@@ -1,4 +1,5 @@
-ghost use Rattle.std.specs.Prelude.{◌≡◌, ◌<◌, ◌≤◌, ◌≤ℤ◌, pos, false, IfOk};
+//! The best table of rounds, by which layers are paid ever better for the trips that they run.
+ghost use Rattle.std.specs.Prelude.{◌≡◌, ◌<◌, ◌≤◌, ◌≤ℤ◌, pos, IfOk};
 ghost use Rattle.vs_instance.specs.declared.limits.TheConstants.{MAX_MULTIPLIER};
 ghost use Rattle.vs_instance.specs.Restriction.{IsRestriction};
 ghost use Rattle.vs_match.specs.LayerNets.{AreLayerNets};
@@ -6,22 +7,26 @@ ghost use Rattle.vs_prices.specs.Bounds.{ReachesLagrangian};
 ghost use Rattle.vs_prices.specs.Table.{Fits, HoldingTable};
 ghost use Rattle.vs_prices.specs.Worth.{IsWorth};
 ghost use Rattle.vs_multi.specs.Multipliers.{AreMultipliers};
-ghost use Rattle.vs_multi.specs.Rounds.{IsBetter, IsLastRound};
-ghost use Rattle.vs_multi.specs.Steps.{HasRounds};
+ghost use Rattle.vs_multi.specs.Rounds.{IsBetter, IsCase, IsLastRound};
+ghost use Rattle.vs_multi.specs.Steps.{HasRounds, IsGreatestStep};
+ghost use Rattle.vs_multi.specs.declared.best.TheConstants.{NEAR_ROUNDS};
+ghost use Rattle.vs_multi.specs.declared.steps.Steps.TheVariants.{Halving, Near};
+ghost use Rattle.vs_multi.specs.declared.steps.TheConstants.{ROUNDS};
 
-use crate::round::Round;
+use crate::round::{Case, Round};
 use crate::starting::start;
-use crate::steps::{Steps, mean, move_all};
+use crate::steps::{Steps, mean};
 use std::alloc::Global;
 use std::mem::swap;
 use vs_circ::Work;
 use vs_instance::Instance;
 use vs_match::LayerNet;
-use vs_prices::{Bound, Table, worth};
+use vs_prices::{Bound, Table};
 use vs_types::{LayerSet, Memory};
 
-/// How many rounds a leaf other than the root has.
-const NEAR_ROUNDS: u32 = 10;
+/// How many rounds a leaf other than the root has: few, since its parent's table knows the multipliers already, and
+/// each round costs a circulation in every layer.
+pub const NEAR_ROUNDS: u32 = 10;
 
 /// What rounds found.
 #[derive(Drop)]
@@ -36,7 +41,8 @@ pub struct Best {
 
 /// The greatest step, in 1/1000 of a cost unit: the mean of the multipliers to begin with, rounded down.
 pub fn greatest_step(alloc: Global, instance: &Instance) -> Result<u64, Memory>
-    ensures { IfOk result (λ most. pos most ≤ℤ MAX_MULTIPLIER) }
+    ensures mean { IfOk result (IsGreatestStep instance.now) }
+    ensures few { IfOk result (λ most. pos most ≤ℤ MAX_MULTIPLIER) }
 {
     let mut multipliers = vec![in alloc; 0; instance.trips() as usize]?;
     start(instance, &mut multipliers);
@@ -44,19 +50,9 @@ pub fn greatest_step(alloc: Global, instance: &Instance) -> Result<u64, Memory>
 }
 
 /// Exchanges the best table and another one where that is worth more. Gives what the best is worth then.
-fn keep_better(
-    instance: &Instance,
-    sets: &[LayerSet],
-    best: &mut Table,
-    greatest: Bound,
-    table: &mut Table,
-) -> Bound
-    requires restriction { IsRestriction instance.now sets.now }
-    requires fits { Fits instance.now table.old }
-    requires worth { IsWorth instance.now sets.now best.old greatest }
-    ensures { IsBetter instance.now sets.now best.old greatest table.old best.new result table.new }
+pub fn keep_better(best: &mut Table, greatest: Bound, table: &mut Table, worth: Bound) -> Bound
+    ensures { IsBetter best.old greatest table.old worth best.new result table.new }
 {
-    let worth = worth(instance, sets, table);
     if greatest.is_no_less(worth) {
         return greatest;
     }
@@ -66,37 +62,33 @@ fn keep_better(
 
 /// The best table of rounds of these steps. The multipliers move on.
 fn best_of(
-    alloc: Global,
-    instance: &Instance,
-    nets: &[LayerNet],
-    sets: &[LayerSet],
+    case: &Case<'_>,
     steps: Steps,
     multipliers: &mut [i64],
     work: &mut Work,
 ) -> Result<Best, Memory>
-    requires nets { AreLayerNets instance.now nets.now }
-    requires restriction { IsRestriction instance.now sets.now }
+    requires case { IsCase case.now.instance.now case.now.nets.now case.now.sets.now }
     requires steps { HasRounds steps }
-    requires multipliers { AreMultipliers instance.now multipliers.old }
-    ensures fits { IfOk result (λ best. Fits instance.now best.table) }
-    ensures holds { IfOk result (λ best. HoldingTable instance.now best.table) }
-    ensures worth { IfOk result (λ best. IsWorth instance.now sets.now best.table best.worth) }
+    requires multipliers { AreMultipliers case.now.instance.now multipliers.old }
+    ensures fits { IfOk result (λ best. Fits case.now.instance.now best.table) }
+    ensures holds { IfOk result (λ best. HoldingTable case.now.instance.now best.table) }
+    ensures worth { IfOk result (λ best.
+        IsWorth case.now.instance.now case.now.sets.now best.table best.worth) }
     ensures lagrangian { IfOk result (λ best.
-        ReachesLagrangian instance.now sets.now multipliers.old best.table) }
-    ensures covers { IfOk result (λ best. IsLastRound instance.now nets.now sets.now best.covers.items) }
-    ensures within { AreMultipliers instance.now multipliers.new }
+        ReachesLagrangian case.now.instance.now case.now.sets.now multipliers.old best.table) }
+    ensures covers { IfOk result (λ best. IsLastRound case.now.instance.now case.now.nets.now
+        case.now.sets.now steps multipliers.old best.covers.items) }
+    ensures within { AreMultipliers case.now.instance.now multipliers.new }
 {
-    let most = greatest_step(alloc, instance)?;
-    let mut round = Round::new(alloc, instance)?;
-    let mut table = Table::zero(alloc, instance)?;
-    round.run(alloc, instance, nets, sets, multipliers, work)?;
-    move_all(steps.step(most, 0), &round.covers, multipliers);
+    let most = greatest_step(case.alloc, case.instance)?;
+    let mut round = Round::new(case.alloc, case.instance)?;
+    let mut table = Table::zero(case.alloc, case.instance)?;
+    let first = round.run_on(case, steps.step(most, 0), multipliers, work)?;
     swap(&mut table, &mut round.table);
-    let mut greatest = worth(instance, sets, &table);
+    let mut greatest = first;
     for r in 1..steps.rounds() {
-        round.run(alloc, instance, nets, sets, multipliers, work)?;
-        move_all(steps.step(most, r), &round.covers, multipliers);
-        greatest = keep_better(instance, sets, &mut table, greatest, &mut round.table);
+        let worth = round.run_on(case, steps.step(most, r), multipliers, work)?;
+        greatest = keep_better(&mut table, greatest, &mut round.table, worth);
     }
     Ok(Best {
         table,
@@ -126,67 +118,61 @@ pub fn rounds(
     ensures worth { IfOk result (λ best. IsWorth instance.now sets.now best.table best.worth) }
     ensures lagrangian { IfOk result (λ best.
         ReachesLagrangian instance.now sets.now multipliers.old best.table) }
-    ensures covers { IfOk result (λ best. IsLastRound instance.now nets.now sets.now best.covers.items) }
+    ensures covers { IfOk result (λ best.
+        IsLastRound instance.now nets.now sets.now Halving multipliers.old best.covers.items) }
     ensures within { AreMultipliers instance.now multipliers.new }
 {
-    best_of(
+    let case = Case {
         alloc,
         instance,
         nets,
         sets,
-        Steps::Halving,
-        multipliers,
-        work,
-    )
+    };
+    best_of(&case, Steps::Halving, multipliers, work)
 }
 
 /// The same by ten rounds of small steps, which go on from what the multipliers know: in round r, counted from 0, a
 /// 400th of the mean, times 10 and divided by 10 + r.
 pub fn near_rounds(
-    alloc: Global,
-    instance: &Instance,
-    nets: &[LayerNet],
-    sets: &[LayerSet],
+    case: &Case<'_>,
     multipliers: &mut [i64],
     work: &mut Work,
 ) -> Result<Best, Memory>
-    requires nets { AreLayerNets instance.now nets.now }
-    requires restriction { IsRestriction instance.now sets.now }
-    requires multipliers { AreMultipliers instance.now multipliers.old }
-    ensures fits { IfOk result (λ best. Fits instance.now best.table) }
-    ensures holds { IfOk result (λ best. HoldingTable instance.now best.table) }
-    ensures worth { IfOk result (λ best. IsWorth instance.now sets.now best.table best.worth) }
+    requires case { IsCase case.now.instance.now case.now.nets.now case.now.sets.now }
+    requires multipliers { AreMultipliers case.now.instance.now multipliers.old }
+    ensures fits { IfOk result (λ best. Fits case.now.instance.now best.table) }
+    ensures holds { IfOk result (λ best. HoldingTable case.now.instance.now best.table) }
+    ensures worth { IfOk result (λ best.
+        IsWorth case.now.instance.now case.now.sets.now best.table best.worth) }
     ensures lagrangian { IfOk result (λ best.
-        ReachesLagrangian instance.now sets.now multipliers.old best.table) }
-    ensures covers { IfOk result (λ best. IsLastRound instance.now nets.now sets.now best.covers.items) }
-    ensures within { AreMultipliers instance.now multipliers.new }
+        ReachesLagrangian case.now.instance.now case.now.sets.now multipliers.old best.table) }
+    ensures covers { IfOk result (λ best. IsLastRound case.now.instance.now case.now.nets.now
+        case.now.sets.now (Near NEAR_ROUNDS) multipliers.old best.covers.items) }
+    ensures within { AreMultipliers case.now.instance.now multipliers.new }
 {
-    few_rounds(alloc, instance, nets, sets, NEAR_ROUNDS, multipliers, work)
+    few_rounds(case, NEAR_ROUNDS, multipliers, work)
 }
 
 /// The same by so many rounds of such steps.
 pub fn few_rounds(
-    alloc: Global,
-    instance: &Instance,
-    nets: &[LayerNet],
-    sets: &[LayerSet],
+    case: &Case<'_>,
     rounds: u32,
     multipliers: &mut [i64],
     work: &mut Work,
 ) -> Result<Best, Memory>
-    requires nets { AreLayerNets instance.now nets.now }
-    requires restriction { IsRestriction instance.now sets.now }
+    requires case { IsCase case.now.instance.now case.now.nets.now case.now.sets.now }
     requires some { 0 < rounds }
-    requires few { rounds ≤ 30 }
-    requires multipliers { AreMultipliers instance.now multipliers.old }
-    ensures fits { IfOk result (λ best. Fits instance.now best.table) }
-    ensures holds { IfOk result (λ best. HoldingTable instance.now best.table) }
-    ensures worth { IfOk result (λ best. IsWorth instance.now sets.now best.table best.worth) }
+    requires few { rounds ≤ ROUNDS }
+    requires multipliers { AreMultipliers case.now.instance.now multipliers.old }
+    ensures fits { IfOk result (λ best. Fits case.now.instance.now best.table) }
+    ensures holds { IfOk result (λ best. HoldingTable case.now.instance.now best.table) }
+    ensures worth { IfOk result (λ best.
+        IsWorth case.now.instance.now case.now.sets.now best.table best.worth) }
     ensures lagrangian { IfOk result (λ best.
-        ReachesLagrangian instance.now sets.now multipliers.old best.table) }
-    ensures covers { IfOk result (λ best. IsLastRound instance.now nets.now sets.now best.covers.items) }
-    ensures within { AreMultipliers instance.now multipliers.new }
+        ReachesLagrangian case.now.instance.now case.now.sets.now multipliers.old best.table) }
+    ensures covers { IfOk result (λ best. IsLastRound case.now.instance.now case.now.nets.now
+        case.now.sets.now (Near rounds) multipliers.old best.covers.items) }
+    ensures within { AreMultipliers case.now.instance.now multipliers.new }
 {
-    let steps = Steps::Near { rounds };
-    best_of(alloc, instance, nets, sets, steps, multipliers, work)
+    best_of(case, Steps::Near { rounds }, multipliers, work)
 }

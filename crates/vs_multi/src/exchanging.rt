@@ -1,3 +1,4 @@
+//! The prices of one layer exchanged with those that a table has for it.
 ghost use Rattle.std.specs.Prelude.{◌≡◌, ◌+◌, ◌*◌, ◌<◌, ◌≤◌, false, length};
 ghost use Rattle.vs_circ.specs.LayerPrices.{AreHolding};
 ghost use Rattle.vs_prices.specs.Table.{Fits, HoldingTable};

@@ -4,7 +4,6 @@
 
 mod best;
 mod exchanging;
-mod least_prices;
 mod offering;
 mod raising;
 mod round;
@@ -12,12 +11,9 @@ mod running;
 mod starting;
 mod steps;
 
-pub use best::{Best, few_rounds, greatest_step, near_rounds, rounds};
-pub use least_prices::of_table;
+pub use best::{Best, NEAR_ROUNDS, few_rounds, greatest_step, keep_better, near_rounds, rounds};
 pub use raising::raise;
-pub use starting::start;
-pub use steps::moved;
-pub use vs_circ::MAX_MULTIPLIER;
-
-#[cfg(test)]
-mod tests;
+pub use round::Case;
+pub use starting::{of_table, start};
+pub use steps::{Steps, moved};
+pub use vs_instance::MAX_MULTIPLIER;

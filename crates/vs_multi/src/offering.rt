@@ -1,22 +1,24 @@
+//! What a layer is offered for each trip, and the least circulation that it finds by that.
 ghost use Rattle.std.specs.Prelude.{◌≡◌, ◌<◌, ℕ, IfOk, length};
 ghost use Rattle.vs_types.specs.LayerSet.{Has};
-ghost use Rattle.vs_instance.specs.Instance.{IsInstance};
+ghost use Rattle.vs_types.specs.declared.numbers.TheConstants.{MAX_LAYERS};
 ghost use Rattle.vs_instance.specs.Restriction.{IsRestriction};
 ghost use Rattle.vs_match.specs.LawfulNets.{IsLawful};
 ghost use Rattle.vs_prices.specs.Table.{Fits};
 ghost use Rattle.vs_multi.specs.Multipliers.{AreMultipliers, IsMultiplier};
+ghost use Rattle.vs_multi.specs.Rounds.{IsCase};
 ghost use Rattle.vs_multi.specs.Offers.{AreLeastElsewhere, AreOffersTo, IsLeastAt, IsLeastElsewhere, IsOfferFor};
 
-use std::alloc::Global;
-use vs_circ::{Circ, MAX_MULTIPLIER, Work, relaxed};
-use vs_instance::Instance;
+use crate::round::Case;
+use vs_circ::{Circ, Work, relaxed};
+use vs_instance::{Instance, MAX_MULTIPLIER};
 use vs_match::LayerNet;
 use vs_prices::{Table, least_price};
 use vs_types::{LayerNo, LayerSet, Memory, TripNo};
 
 /// What a layer is offered a trip of this set for, which is its multiplier where the set has the layer.
 fn offer_for(set: LayerSet, multiplier: i64, l: LayerNo) -> Option<i64>
-    requires { l.0 < 16 }
+    requires { l.0 < MAX_LAYERS }
     ensures { IsOfferFor set multiplier l.0 result }
 {
     if set.has(l) { Some(multiplier) } else { None }
@@ -45,24 +47,22 @@ fn offer(
 
 /// A least circulation of layer l's net, which is offered the trips whose sets have the layer, each for its multiplier.
 pub(crate) fn circulation(
-    alloc: Global,
-    instance: &Instance,
+    case: &Case<'_>,
     net: &LayerNet,
-    sets: &[LayerSet],
     multipliers: &[i64],
     l: LayerNo,
     offers: &mut [Option<i64>],
     work: &mut Work,
 ) -> Result<Circ, Memory>
-    requires instance { IsInstance instance.now }
-    requires lawful { IsLawful instance.now l.0 net.now }
-    requires restriction { IsRestriction instance.now sets.now }
-    requires multipliers { AreMultipliers instance.now multipliers.now }
-    requires each_trip { length offers.old ≡ length instance.now.trips }
-    ensures { IfOk result (IsLeastAt instance.now net.now sets.now multipliers.now l) }
+    requires case { IsCase case.now.instance.now case.now.nets.now case.now.sets.now }
+    requires lawful { IsLawful case.now.instance.now l.0 net.now }
+    requires multipliers { AreMultipliers case.now.instance.now multipliers.now }
+    requires each_trip { length offers.old ≡ length case.now.instance.now.trips }
+    ensures { IfOk result
+        (IsLeastAt case.now.instance.now net.now case.now.sets.now multipliers.now l) }
 {
-    offer(instance, sets, multipliers, l, offers);
-    relaxed(alloc, net, offers, work)
+    offer(case.instance, case.sets, multipliers, l, offers);
+    relaxed(case.alloc, net, offers, work)
 }
 
 /// The least that a trip pays in the layers of its set but for layer l, within the limits of multipliers.

@@ -1,22 +1,35 @@
-ghost use Rattle.std.specs.Prelude.{◌≡◌, ◌<◌, ◌≤◌, ℕ, IfOk, OnOk, length, slice_index};
+//! A case of a search, and what one round after the other finds in it.
+ghost use Rattle.std.specs.Prelude.{◌≡◌, ◌<◌, ◌≤◌, ◌≤ℤ◌, ℕ, pos, IfOk, OnOk, length, slice_index};
 ghost use Rattle.vs_circ.specs.declared.circ.Circ.{Circ};
-ghost use Rattle.vs_instance.specs.Instance.{IsInstance};
-ghost use Rattle.vs_instance.specs.Restriction.{IsRestriction};
+ghost use Rattle.vs_types.specs.declared.numbers.TheConstants.{MAX_LAYERS};
+ghost use Rattle.vs_instance.specs.declared.limits.TheConstants.{MAX_MULTIPLIER};
 ghost use Rattle.vs_match.specs.LawfulNets.{IsLawful};
-ghost use Rattle.vs_match.specs.LayerNets.{AreLayerNets};
 ghost use Rattle.vs_prices.specs.Bounds.{ReachesLagrangian};
+ghost use Rattle.vs_prices.specs.Worth.{IsWorth};
 ghost use Rattle.vs_multi.specs.Multipliers.{AreMultipliers};
-ghost use Rattle.vs_multi.specs.Rounds.{IsLastRound, IsRoundFor, IsRunIn};
+ghost use Rattle.vs_multi.specs.Rounds.{IsCase, IsRound, IsRoundFor, IsRunIn};
+ghost use Rattle.vs_multi.specs.Steps.{AreMoved};
 
 use crate::exchanging::exchange;
 use crate::offering::circulation;
 use crate::running::{clear, count_runs};
+use crate::steps::move_all;
 use std::alloc::Global;
 use vs_circ::Work;
 use vs_instance::Instance;
 use vs_match::LayerNet;
-use vs_prices::Table;
+use vs_prices::{Bound, Table, worth};
 use vs_types::{LayerNo, LayerSet, Memory};
+
+/// One case of a search: the instance, a net for each of its layers, and the layers in which each trip may be run; and
+/// where the memory comes from that what is found is written into.
+#[derive(Clone, Copy)]
+pub struct Case<'a> {
+    pub alloc: Global,
+    pub instance: &'a Instance,
+    pub nets: &'a [LayerNet],
+    pub sets: &'a [LayerSet],
+}
 
 /// What one round after the other is made in.
 #[derive(Drop)]
@@ -45,65 +58,74 @@ impl Round {
     /// Finds a least circulation of layer l, takes its prices into the table, and counts the trips that it runs.
     fn run_layer(
         &mut self,
-        alloc: Global,
-        instance: &Instance,
+        case: &Case<'_>,
         net: &LayerNet,
-        sets: &[LayerSet],
         multipliers: &[i64],
         l: LayerNo,
         work: &mut Work,
     ) -> Result<(), Memory>
-        requires instance { IsInstance instance.now }
-        requires lawful { IsLawful instance.now l.0 net.now }
-        requires restriction { IsRestriction instance.now sets.now }
-        requires multipliers { AreMultipliers instance.now multipliers.now }
-        requires round { IsRoundFor instance.now self.old }
+        requires case { IsCase case.now.instance.now case.now.nets.now case.now.sets.now }
+        requires lawful { IsLawful case.now.instance.now l.0 net.now }
+        requires multipliers { AreMultipliers case.now.instance.now multipliers.now }
+        requires round { IsRoundFor case.now.instance.now self.old }
         requires few { (i : ℕ) → slice_index self.old.covers.items i ≤ l.0 }
-        ensures ran { OnOk result ((c : Circ)
-            × IsRunIn instance.now net.now sets.now multipliers.now l self.old self.new c) }
-        ensures round { IsRoundFor instance.now self.new }
+        ensures ran { OnOk result ((c : Circ) × IsRunIn case.now.instance.now net.now case.now.sets.now
+            multipliers.now l self.old self.new c) }
+        ensures round { IsRoundFor case.now.instance.now self.new }
     {
-        let found = circulation(
-            alloc,
-            instance,
-            net,
-            sets,
-            multipliers,
-            l,
-            &mut self.offers,
-            work,
-        );
+        let found = circulation(case, net, multipliers, l, &mut self.offers, work);
         let mut circ = found?;
-        count_runs(net, &circ.flow.units, &mut self.covers);
-        exchange(instance, &mut self.table, l, &mut circ.prices);
+        let covers = self.covers.as_mut_slice();
+        count_runs(net, &circ.flow.units, covers);
+        exchange(case.instance, &mut self.table, l, &mut circ.prices);
         Ok(())
     }
 
     /// Finds a least circulation in every layer, at these multipliers.
-    pub(crate) fn run(
-        &mut self,
-        alloc: Global,
-        instance: &Instance,
-        nets: &[LayerNet],
-        sets: &[LayerSet],
-        multipliers: &[i64],
-        work: &mut Work,
-    ) -> Result<(), Memory>
-        requires nets { AreLayerNets instance.now nets.now }
-        requires restriction { IsRestriction instance.now sets.now }
-        requires multipliers { AreMultipliers instance.now multipliers.now }
-        requires round { IsRoundFor instance.now self.old }
+    fn run(&mut self, case: &Case<'_>, multipliers: &[i64], work: &mut Work) -> Result<(), Memory>
+        requires case { IsCase case.now.instance.now case.now.nets.now case.now.sets.now }
+        requires multipliers { AreMultipliers case.now.instance.now multipliers.now }
+        requires round { IsRoundFor case.now.instance.now self.old }
         ensures lagrangian { OnOk result
-            (ReachesLagrangian instance.now sets.now multipliers.now self.new.table) }
-        ensures last { OnOk result (IsLastRound instance.now nets.now sets.now self.new.covers.items) }
-        ensures round { IsRoundFor instance.now self.new }
-        ensures few { OnOk result ((i : ℕ) → slice_index self.new.covers.items i ≤ 16) }
+            (ReachesLagrangian case.now.instance.now case.now.sets.now multipliers.now self.new.table) }
+        ensures ran { OnOk result (IsRound case.now.instance.now case.now.nets.now case.now.sets.now
+            multipliers.now self.new.covers.items) }
+        ensures round { IsRoundFor case.now.instance.now self.new }
+        ensures few { OnOk result ((i : ℕ) → slice_index self.new.covers.items i ≤ MAX_LAYERS) }
     {
         clear(&mut self.covers);
-        for l in 0..instance.layers() {
-            let net = &nets[l as usize];
-            self.run_layer(alloc, instance, net, sets, multipliers, LayerNo(l), work)?;
+        for l in 0..case.instance.layers() {
+            let net = &case.nets[l as usize];
+            self.run_layer(case, net, multipliers, LayerNo(l), work)?;
         }
         Ok(())
+    }
+
+    /// A round at these multipliers, each of which then moves by the step. Gives what the round's table is worth.
+    pub(crate) fn run_on(
+        &mut self,
+        case: &Case<'_>,
+        step: u64,
+        multipliers: &mut [i64],
+        work: &mut Work,
+    ) -> Result<Bound, Memory>
+        requires case { IsCase case.now.instance.now case.now.nets.now case.now.sets.now }
+        requires step { pos step ≤ℤ MAX_MULTIPLIER }
+        requires multipliers { AreMultipliers case.now.instance.now multipliers.old }
+        requires round { IsRoundFor case.now.instance.now self.old }
+        ensures worth { IfOk result (IsWorth case.now.instance.now case.now.sets.now self.new.table) }
+        ensures lagrangian { OnOk result
+            (ReachesLagrangian case.now.instance.now case.now.sets.now multipliers.old self.new.table) }
+        ensures ran { OnOk result (IsRound case.now.instance.now case.now.nets.now case.now.sets.now
+            multipliers.old self.new.covers.items) }
+        ensures moved { OnOk result
+            (AreMoved step self.new.covers.items multipliers.old multipliers.new) }
+        ensures within { AreMultipliers case.now.instance.now multipliers.new }
+        ensures round { IsRoundFor case.now.instance.now self.new }
+    {
+        self.run(case, multipliers, work)?;
+        let covers = self.covers.as_slice();
+        move_all(step, covers, multipliers);
+        Ok(worth(case.instance, case.sets, &self.table))
     }
 }

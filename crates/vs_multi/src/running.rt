@@ -1,7 +1,10 @@
+//! How many layers run each trip.
 ghost use Rattle.std.specs.Prelude.{◌≡◌, ◌<◌, ◌≤◌, ◌↔◌, ℕ, IsTrue, length, slice_index};
 ghost use Rattle.vs_circ.specs.Circulations.{RunTrip};
 ghost use Rattle.vs_layer.specs.Circulation.{IsCirculation};
 ghost use Rattle.vs_instance.specs.Problem.{Problem};
+ghost use Rattle.vs_types.specs.declared.numbers.TheConstants.{MAX_LAYERS};
+ghost use Rattle.vs_instance.specs.declared.limits.TheConstants.{MAX_TRIPS};
 ghost use Rattle.vs_match.specs.LawfulNets.{IsLawful};
 ghost use Rattle.vs_multi.specs.Rounds.{AreCounted};
 
@@ -24,8 +27,8 @@ fn runs(net: &LayerNet, units: &[u32], i: TripNo) -> bool
 pub(crate) fn count_runs(net: &LayerNet, units: &[u32], covers: &mut [u32])
     requires of_layer { (p : Problem) × (l : ℕ) × IsLawful p l net.now }
     requires units { IsCirculation net.now.graph units.now }
-    requires few_trips { length covers.old ≤ 2000 }
-    requires few { (i : ℕ) → slice_index covers.old i ≤ 16 }
+    requires few_trips { length covers.old ≤ MAX_TRIPS }
+    requires few { (i : ℕ) → slice_index covers.old i ≤ MAX_LAYERS }
     ensures { AreCounted net.now units.now covers.old covers.new }
 {
     for i in 0..covers.len() {

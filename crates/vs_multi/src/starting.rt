@@ -1,10 +1,16 @@
+//! The multipliers to begin with: what a block of each trip alone costs, or what a table of prices stands for.
 ghost use Rattle.std.specs.Prelude.{◌≡◌, ◌<◌, IfSome, length, pos, ◌≤ℤ◌};
-ghost use Rattle.vs_multi.specs.Multipliers.{AreMultipliers, AreStarts, IsLeastOwnCost, IsOwnCost, MayCostAlone};
-ghost use Rattle.vs_multi.specs.Multipliers.{lesser_of};
+ghost use Rattle.vs_instance.specs.Restriction.{IsRestriction};
+ghost use Rattle.vs_prices.specs.Table.{Fits};
+ghost use Rattle.vs_multi.specs.Multipliers.{AreMultipliers, AreOfTable, AreStarts, IsLeastOwnCost, IsOwnCost, MayCostAlone};
 
-use vs_connect::{in_cost, out_cost, trip_cost};
-use vs_instance::Instance;
-use vs_types::{LayerNo, SCALE, TripNo};
+use vs_connect::{MAX_PIECE, in_cost, lesser, out_cost, trip_cost};
+use vs_instance::{Instance, MAX_MULTIPLIER};
+use vs_prices::{Table, least_price};
+use vs_types::{LayerNo, LayerSet, SCALE, TripNo};
+
+/// What a block of one trip costs at most, in cost units: a pull-out, the trip and a pull-in.
+const MAX_OWN_COST: i64 = 3 * MAX_PIECE;
 
 /// What a block of trip i alone costs in layer l, in cost units. None exactly where there is none.
 fn own_cost(instance: &Instance, l: LayerNo, i: TripNo) -> Option<i64>
@@ -20,17 +26,6 @@ fn own_cost(instance: &Instance, l: LayerNo, i: TripNo) -> Option<i64>
     let out = out_cost(instance, l, i)?;
     let back = in_cost(instance, l, i)?;
     Some(out + trip_cost(instance, l, i) + back)
-}
-
-/// The lesser of two costs, where there are both, else the one that there is.
-fn lesser(least: Option<i64>, cost: Option<i64>) -> Option<i64>
-    ensures { result ≡ lesser_of least cost }
-{
-    match (least, cost) {
-        (None, cost) => cost,
-        (least, None) => least,
-        (Some(least), Some(cost)) => Some(least.min(cost)),
-    }
 }
 
 /// The least cost of a block of trip i alone, in cost units. None exactly where there is none.
@@ -57,5 +52,19 @@ pub fn start(instance: &Instance, multipliers: &mut [i64])
     for i in 0..instance.trips() {
         let least = least_own_cost(instance, TripNo(i)).unwrap_or(0);
         multipliers[i as usize] = SCALE * least;
+    }
+}
+
+/// The multipliers that a table stands for: each becomes what its trip pays in the cheapest layer of its set, or the
+/// limit that this is beyond.
+pub fn of_table(instance: &Instance, sets: &[LayerSet], table: &Table, multipliers: &mut [i64])
+    requires fits { Fits instance.now table.now }
+    requires restriction { IsRestriction instance.now sets.now }
+    requires each_trip { length multipliers.old ≡ length instance.now.trips }
+    ensures { AreOfTable instance.now sets.now table.now multipliers.new }
+{
+    for i in 0..instance.trips() {
+        let pays = least_price(instance, sets[i as usize], table, TripNo(i));
+        multipliers[i as usize] = pays.max(0).min(MAX_MULTIPLIER);
     }
 }

@@ -1,13 +1,14 @@
-ghost use Rattle.std.specs.Prelude.{◌≡◌, ◌≢◌, ◌<◌, ℕ, [], length, IfOk, pos, neg_ℤ, ◌≤ℤ◌};
+//! In which layer each trip pays least, by a table of prices.
+ghost use Rattle.std.specs.Prelude.{◌≢◌, ◌<◌, ℕ, [], length, IfOk};
 ghost use Rattle.vs_types.specs.LayerSet.{Has, members};
+ghost use Rattle.vs_types.specs.declared.numbers.TheConstants.{MAX_LAYERS};
 ghost use Rattle.vs_instance.specs.Restriction.{IsRestriction};
 ghost use Rattle.vs_prices.specs.Table.{Fits};
-ghost use Rattle.vs_prices.specs.Worth.{trip_price};
 ghost use Rattle.vs_node.specs.ChosenLayers.{AreChosen, AreSingle, IsCheapest};
 
 use std::alloc::Global;
 use vs_instance::{Instance, MAX_LAYERS};
-use vs_prices::{Table, least_price};
+use vs_prices::{Table, trip_price};
 use vs_types::{LayerNo, LayerSet, Memory, TripNo};
 
 /// Each trip's set with the layer alone in which the trip pays least, the one with the lowest number on a tie.
@@ -38,15 +39,15 @@ fn cheapest_layer(instance: &Instance, set: LayerSet, table: &Table, i: TripNo) 
     requires set { (l : ℕ) → Has set l → l < length instance.now.layers }
     requires some { members set ≢ [] }
     ensures cheapest { IsCheapest instance.now set table.now i.0 result.0 }
-    ensures layer { result.0 < 16 }
+    ensures layer { result.0 < MAX_LAYERS }
 {
     prove!(instance.layers() <= MAX_LAYERS);
     let mut cheapest = set.lowest().unwrap();
-    let mut least = price_in(instance, cheapest, table, i);
+    let mut least = trip_price(instance, table, cheapest, i);
     for k in cheapest.0 + 1..instance.layers() {
         let l = LayerNo(k);
         if set.has(l) {
-            let price = price_in(instance, l, table, i);
+            let price = trip_price(instance, table, l, i);
             if price < least {
                 cheapest = l;
                 least = price;
@@ -54,17 +55,4 @@ fn cheapest_layer(instance: &Instance, set: LayerSet, table: &Table, i: TripNo) 
         }
     }
     cheapest
-}
-
-/// What a trip pays in a layer, in 1/1000 of a cost unit.
-fn price_in(instance: &Instance, l: LayerNo, table: &Table, i: TripNo) -> i64
-    requires fits { Fits instance.now table.now }
-    requires trip { i.0 < length instance.now.trips }
-    requires layer { l.0 < length instance.now.layers }
-    ensures value { result ≡ trip_price instance.now table.now i.0 l.0 }
-    ensures low { neg_ℤ (pos 3000000000000000000) ≤ℤ result }
-    ensures high { result ≤ℤ pos 3000000000000000000 }
-{
-    prove!(instance.layers() <= MAX_LAYERS);
-    least_price(instance, LayerSet::only(l), table, i)
 }

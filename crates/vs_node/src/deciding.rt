@@ -1,35 +1,33 @@
-ghost use Rattle.std.specs.Prelude.{◌≡◌, ℕ, ◌<◌, length};
-ghost use Rattle.vs_instance.specs.Restriction.{IsRestriction};
-ghost use Rattle.vs_prices.specs.Table.{Fits};
-ghost use Rattle.vs_node.specs.NextSteps.{IsNextBy, cost_of};
+//! Whether a leaf is closed or split.
+ghost use Rattle.std.specs.Prelude.{◌≡◌, ℕ, ◌<◌, ◌≤◌, length};
+ghost use Rattle.vs_instance.specs.declared.limits.TheConstants.{MAX_TRIPS};
+ghost use Rattle.vs_node.specs.NextSteps.{IsNextBy};
 ghost use Rattle.vs_node.specs.SplitRule.{HasChoice};
 
 use crate::splitting::{lowest_alone, split_trip};
-use vs_instance::{Instance, MAX_TRIPS};
-use vs_plan::CheckedPlan;
-use vs_prices::{Table, worth};
+use vs_plan::{CheckedPlan, cost_of};
+use vs_prices::Bound;
 use vs_tree::Next;
 use vs_types::LayerSet;
 
-/// What becomes of a leaf with this table, whose trips are run by so many layers in the last round: it is closed where
-/// the table leaves no room for a plan that costs less than the known cost and than the plan, and else split.
+/// What becomes of a leaf whose table is worth so much, and whose trips are run by so many layers in the last round: it
+/// is closed where the table leaves no room for a plan that costs less than the known cost and than the plan, and else
+/// split.
 pub(crate) fn next_of(
-    instance: &Instance,
     sets: &[LayerSet],
-    table: &Table,
+    worth: Bound,
     known: Option<i64>,
     plan: &Option<CheckedPlan>,
     covers: &[u32],
 ) -> Next
-    requires fits { Fits instance.now table.now }
-    requires restriction { IsRestriction instance.now sets.now }
-    requires covers { length covers.now ≡ length instance.now.trips }
+    requires few { length sets.now ≤ MAX_TRIPS }
+    requires covers { length covers.now ≡ length sets.now }
     requires choice { (i : ℕ) × (i < length sets.now) × HasChoice sets.now i }
-    ensures { IsNextBy instance.now sets.now covers.now table.now known plan.now result }
+    ensures { IsNextBy sets.now covers.now worth known plan.now result }
 {
-    prove!(instance.trips() <= MAX_TRIPS);
-    let worth = worth(instance, sets, table);
-    if !worth.is_below(known) || !worth.is_below(cost_of(plan)) {
+    let is_wanted = worth.is_below(known);
+    let is_cheaper = worth.is_below(cost_of(plan));
+    if !is_wanted || !is_cheaper {
         return Next::Close;
     }
     match split_trip(sets, covers) {
@@ -39,11 +37,4 @@ pub(crate) fn next_of(
         },
         None => unreachable!(),
     }
-}
-
-/// What a plan costs, where there is one.
-fn cost_of(plan: &Option<CheckedPlan>) -> Option<i64>
-    ensures { result ≡ cost_of plan.now }
-{
-    plan.as_ref().map(|plan| plan.cost())
 }

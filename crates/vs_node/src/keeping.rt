@@ -1,42 +1,43 @@
+//! The better of a leaf's own table and a found one.
 ghost use Rattle.std.specs.Prelude.{◌≡◌, IfOk};
-ghost use Rattle.vs_instance.specs.Restriction.{IsRestriction};
 ghost use Rattle.vs_prices.specs.Bounds.{IsWorthNoLess};
 ghost use Rattle.vs_prices.specs.Table.{Fits, HoldingTable};
 ghost use Rattle.vs_prices.specs.Worth.{IsWorth};
+ghost use Rattle.vs_multi.specs.Rounds.{IsCase};
 ghost use Rattle.vs_node.specs.SameTables.{AreSame};
 
 use std::alloc::Global;
-use vs_instance::Instance;
+use vs_multi::{Case, keep_better};
 use vs_prices::{Bound, Table, worth};
-use vs_types::{LayerSet, Memory};
+use vs_types::Memory;
 
-/// The better of a leaf's own table and a found one, which is worth so much; the found one where both are worth as
-/// much.
+/// The better of a leaf's own table and a found one, which is worth so much, with its worth; the found one where both
+/// are worth as much.
 pub(crate) fn better(
-    alloc: Global,
-    instance: &Instance,
-    sets: &[LayerSet],
+    case: &Case<'_>,
     own: &Table,
     found: Table,
     found_worth: Bound,
-) -> Result<Table, Memory>
-    requires restriction { IsRestriction instance.now sets.now }
-    requires own_fits { Fits instance.now own.now }
-    requires own_holds { HoldingTable instance.now own.now }
-    requires found_fits { Fits instance.now found }
-    requires found_holds { HoldingTable instance.now found }
-    requires found_worth { IsWorth instance.now sets.now found found_worth }
-    ensures fits { IfOk result (Fits instance.now) }
-    ensures holds { IfOk result (HoldingTable instance.now) }
-    ensures no_less { IfOk result (λ kept. IsWorthNoLess instance.now sets.now kept own.now) }
-    ensures no_less_found { IfOk result (λ kept. IsWorthNoLess instance.now sets.now kept found) }
+) -> Result<(Table, Bound), Memory>
+    requires case { IsCase case.now.instance.now case.now.nets.now case.now.sets.now }
+    requires own_fits { Fits case.now.instance.now own.now }
+    requires own_holds { HoldingTable case.now.instance.now own.now }
+    requires found_fits { Fits case.now.instance.now found }
+    requires found_holds { HoldingTable case.now.instance.now found }
+    requires found_worth { IsWorth case.now.instance.now case.now.sets.now found found_worth }
+    ensures fits { IfOk result (λ kept. Fits case.now.instance.now kept.0) }
+    ensures holds { IfOk result (λ kept. HoldingTable case.now.instance.now kept.0) }
+    ensures worth { IfOk result (λ kept. IsWorth case.now.instance.now case.now.sets.now kept.0 kept.1) }
+    ensures no_less { IfOk result (λ kept.
+        IsWorthNoLess case.now.instance.now case.now.sets.now kept.0 own.now) }
+    ensures no_less_found { IfOk result (λ kept.
+        IsWorthNoLess case.now.instance.now case.now.sets.now kept.0 found) }
 {
-    let own_worth = worth(instance, sets, own);
-    if found_worth.is_no_less(own_worth) {
-        return Ok(found);
-    }
-    let kept = copy_of(alloc, own)?;
-    Ok(kept)
+    let mut kept = found;
+    let mut other = copy_of(case.alloc, own)?;
+    let own_worth = worth(case.instance, case.sets, own);
+    let greatest = keep_better(&mut kept, found_worth, &mut other, own_worth);
+    Ok((kept, greatest))
 }
 
 /// A table with the same prices.

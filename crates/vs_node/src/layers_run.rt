@@ -1,3 +1,4 @@
+//! What the first layers run of trips that have one layer each.
 ghost use Rattle.std.specs.Prelude.{◌≡◌, ◌+◌, ◌<◌, List, length, IfOk, OnOk};
 ghost use Rattle.vs_types.specs.declared.layer_set.LayerSet.{LayerSet};
 ghost use Rattle.vs_instance.specs.Restriction.{IsRestriction};

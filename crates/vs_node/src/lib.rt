@@ -5,7 +5,6 @@
 mod choosing;
 mod deciding;
 mod keeping;
-mod laws;
 mod layers_run;
 mod outcome;
 mod pushing;
@@ -13,14 +12,8 @@ mod ray_table;
 mod searching;
 mod settling;
 mod splitting;
-mod task;
 mod working;
 
-pub use laws::worked_searches_reach_the_start;
-pub use outcome::Outcome;
+pub use outcome::{Outcome, Task};
 pub use settling::{Settled, settle};
-pub use task::Task;
-pub use working::work;
-
-#[cfg(test)]
-mod tests;
+pub use working::{work, worked_searches_reach_the_start};

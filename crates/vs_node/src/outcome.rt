@@ -1,29 +1,44 @@
+//! A leaf to work on, and what the work on it comes to.
 ghost use Rattle.std.specs.Prelude.{◌≡◌, ℕ, ◌<◌, IfOk, length};
 ghost use Rattle.vs_instance.specs.Restriction.{IsRestriction};
 ghost use Rattle.vs_match.specs.LayerNets.{AreLayerNets};
+ghost use Rattle.vs_multi.specs.Rounds.{IsCase};
 ghost use Rattle.vs_prices.specs.Bounds.{IsWorthNoLess};
 ghost use Rattle.vs_prices.specs.Table.{Fits, HoldingTable};
 ghost use Rattle.vs_prices.specs.Worth.{IsWorth};
 ghost use Rattle.vs_prices.specs.declared.bound.Bound.{Bound};
 ghost use Rattle.vs_tree.specs.declared.calls.Next.TheVariants.{Close};
 ghost use Rattle.vs_node.specs.ChosenLayers.{AreSingle};
-ghost use Rattle.vs_node.specs.NextSteps.{IsOpen};
-ghost use Rattle.vs_node.specs.Outcomes.{HasPlan, IsNextAfter};
+ghost use Rattle.vs_node.specs.NextSteps.{IsNextBy, IsOpen};
+ghost use Rattle.vs_node.specs.Outcomes.{HasPlan};
 ghost use Rattle.vs_node.specs.SplitRule.{HasChoice};
 ghost use Rattle.vs_node.specs.WorkedStep.{IsWorked};
 
 use crate::choosing::chosen_layers;
 use crate::deciding::next_of;
 use crate::settling::settle;
-use crate::task::Task;
 use std::alloc::Global;
 use vs_circ::Work;
-use vs_instance::Instance;
+use vs_instance::{Instance, MAX_TRIPS};
 use vs_match::LayerNet;
+use vs_multi::Case;
 use vs_plan::CheckedPlan;
-use vs_prices::Table;
+use vs_prices::{Bound, Table};
 use vs_tree::Next;
-use vs_types::Memory;
+use vs_types::{LayerSet, Memory};
+
+/// A leaf to work on.
+#[derive(Drop)]
+pub struct Task {
+    /// In which layers each trip may be run.
+    pub sets: Vec<LayerSet>,
+    /// The table that the leaf has.
+    pub table: Table,
+    /// What the cheapest plan costs that is known, in cost units.
+    pub known: Option<i64>,
+    /// Whether it is the root of the search, which nothing is known of yet.
+    pub root: bool,
+}
 
 /// What the work on a leaf found.
 #[derive(Drop)]
@@ -70,38 +85,31 @@ pub(crate) fn alone(
     })
 }
 
-/// What comes of a leaf with this table, some trip of which may be run in two layers or more, and whose trips are run
-/// by so many layers in the last round.
+/// What comes of a leaf with this table, which is worth so much, some trip of which may be run in two layers or more,
+/// and whose trips are run by so many layers in the last round.
 pub(crate) fn outcome_of(
-    alloc: Global,
-    instance: &Instance,
-    nets: &[LayerNet],
-    task: &Task,
+    case: &Case<'_>,
+    known: Option<i64>,
     table: Table,
+    worth: Bound,
     covers: &[u32],
     work: &mut Work,
 ) -> Result<Outcome, Memory>
-    requires nets { AreLayerNets instance.now nets.now }
-    requires restriction { IsRestriction instance.now task.now.sets.items }
-    requires fits { Fits instance.now table }
-    requires covers { length covers.now ≡ length instance.now.trips }
-    requires choice { (i : ℕ) × (i < length task.now.sets.items) × HasChoice task.now.sets.items i }
+    requires case { IsCase case.now.instance.now case.now.nets.now case.now.sets.now }
+    requires fits { Fits case.now.instance.now table }
+    requires covers { length covers.now ≡ length case.now.instance.now.trips }
+    requires choice { (i : ℕ) × (i < length case.now.sets.now) × HasChoice case.now.sets.now i }
     ensures table { IfOk result (λ outcome. outcome.table ≡ table) }
     ensures plan { IfOk result (λ outcome.
-        HasPlan instance.now task.now.sets.items table outcome.plan) }
+        HasPlan case.now.instance.now case.now.sets.now table outcome.plan) }
     ensures next { IfOk result (λ outcome.
-        IsNextAfter instance.now task.now covers.now table outcome.plan outcome.next) }
+        IsNextBy case.now.sets.now covers.now worth known outcome.plan outcome.next) }
 {
-    let chosen = chosen_layers(alloc, instance, &task.sets, &table)?;
-    let settled = settle(alloc, instance, nets, &chosen, work)?;
-    let next = next_of(
-        instance,
-        &task.sets,
-        &table,
-        task.known,
-        &settled.plan,
-        covers,
-    );
+    prove!(case.instance.trips() <= MAX_TRIPS);
+    let chosen = chosen_layers(case.alloc, case.instance, case.sets, &table)?;
+    let layers = chosen.as_slice();
+    let settled = settle(case.alloc, case.instance, case.nets, layers, work)?;
+    let next = next_of(case.sets, worth, known, &settled.plan, covers);
     Ok(Outcome {
         table,
         plan: settled.plan,

@@ -1,3 +1,4 @@
+//! The prices of a layer put behind those of the layers before it.
 ghost use Rattle.std.specs.Prelude.{◌≡◌, [], IfOk, OnOk};
 ghost use Rattle.vs_node.specs.LayersDone.{AreNoPrices, AreSized, StandBehind};
 

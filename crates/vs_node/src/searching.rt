@@ -1,22 +1,23 @@
-ghost use Rattle.std.specs.Prelude.{◌≡◌, ℕ, ◌<◌, IfOk, length};
+//! The search of prices for a leaf some trip of which may be run in two layers or more.
+ghost use Rattle.std.specs.Prelude.{◌≡◌, ℕ, ◌<◌, Bool, IfOk, length};
 ghost use Rattle.vs_instance.specs.Restriction.{IsRestriction};
 ghost use Rattle.vs_match.specs.LayerNets.{AreLayerNets};
+ghost use Rattle.vs_multi.specs.Rounds.{IsCase};
 ghost use Rattle.vs_prices.specs.Bounds.{IsWorthNoLess};
 ghost use Rattle.vs_prices.specs.Table.{Fits, HoldingTable};
 ghost use Rattle.vs_prices.specs.Worth.{IsWorth};
-ghost use Rattle.vs_multi.specs.Rounds.{IsLastRound};
-ghost use Rattle.vs_node.specs.Outcomes.{HasPlan, IsFollowedBy};
+ghost use Rattle.vs_node.specs.Outcomes.{HasPlan, IsFollowedBy, IsLeafsLastRound};
 ghost use Rattle.vs_node.specs.SplitRule.{HasChoice};
 ghost use Rattle.vs_node.specs.WorkedStep.{IsWorked};
 
 use crate::keeping::better;
-use crate::outcome::{Outcome, outcome_of};
-use crate::task::Task;
+use crate::outcome::{Outcome, Task, outcome_of};
 use std::alloc::Global;
 use vs_circ::Work;
 use vs_instance::Instance;
 use vs_match::LayerNet;
-use vs_multi::{Best, near_rounds, of_table, raise, rounds, start};
+use vs_multi::{Best, Case, near_rounds, of_table, raise, rounds, start};
+use vs_prices::Table;
 use vs_types::Memory;
 
 /// What comes of a leaf some trip of which may be run in two layers or more: the better of its own table and the best
@@ -44,50 +45,50 @@ pub(crate) fn search(
     ensures next { IfOk result (λ outcome.
         IsFollowedBy instance.now nets.now task.now outcome) }
 {
-    let mut multipliers = vec![in alloc; 0; instance.trips() as usize]?;
-    let best = best_round(alloc, instance, nets, task, &mut multipliers, work)?;
-    let mut table = better(
+    let sets = task.sets.as_slice();
+    let case = Case {
         alloc,
         instance,
-        &task.sets,
-        &task.table,
-        best.table,
-        best.worth,
-    )?;
-    raise(alloc, instance, nets, &task.sets, &mut table, work)?;
-    let outcome = outcome_of(alloc, instance, nets, task, table, &best.covers, work)?;
+        nets,
+        sets,
+    };
+    let best = best_round(&case, task.root, &task.table, work)?;
+    let (mut table, worth) = better(&case, &task.table, best.table, best.worth)?;
+    let raised = raise(&case, &mut table, worth, work)?;
+    let covers = best.covers.as_slice();
+    let outcome = outcome_of(&case, task.known, table, raised, covers, work)?;
     Ok(outcome)
 }
 
 /// The best of the rounds for a leaf: from the starting multipliers at the root, and else from those that the leaf's
-/// table stands for. The multipliers are written over.
-fn best_round(
-    alloc: Global,
-    instance: &Instance,
-    nets: &[LayerNet],
-    task: &Task,
-    multipliers: &mut [i64],
-    work: &mut Work,
-) -> Result<Best, Memory>
-    requires nets { AreLayerNets instance.now nets.now }
-    requires restriction { IsRestriction instance.now task.now.sets.items }
-    requires fits { Fits instance.now task.now.table }
-    requires each_trip { length multipliers.old ≡ length instance.now.trips }
-    ensures fits { IfOk result (λ best. Fits instance.now best.table) }
-    ensures holds { IfOk result (λ best. HoldingTable instance.now best.table) }
+/// table stands for.
+fn best_round(case: &Case<'_>, root: bool, own: &Table, work: &mut Work) -> Result<Best, Memory>
+    requires case { IsCase case.now.instance.now case.now.nets.now case.now.sets.now }
+    requires fits { Fits case.now.instance.now own.now }
+    ensures fits { IfOk result (λ best. Fits case.now.instance.now best.table) }
+    ensures holds { IfOk result (λ best. HoldingTable case.now.instance.now best.table) }
     ensures worth { IfOk result (λ best.
-        IsWorth instance.now task.now.sets.items best.table best.worth) }
+        IsWorth case.now.instance.now case.now.sets.now best.table best.worth) }
     ensures worked { IfOk result (λ best.
-        IsWorked instance.now task.now.root task.now.sets.items task.now.table best.table) }
-    ensures covers { IfOk result (λ best.
-        IsLastRound instance.now nets.now task.now.sets.items best.covers.items) }
+        IsWorked case.now.instance.now root case.now.sets.now own.now best.table) }
+    ensures covers { IfOk result (λ best. IsLeafsLastRound case.now.instance.now case.now.nets.now root
+        case.now.sets.now own.now best.covers.items) }
 {
-    if task.root {
-        start(instance, multipliers);
-        let best = rounds(alloc, instance, nets, &task.sets, multipliers, work)?;
+    let mut room = vec![in case.alloc; 0; case.instance.trips() as usize]?;
+    let multipliers = room.as_mut_slice();
+    if root {
+        start(case.instance, multipliers);
+        let best = rounds(
+            case.alloc,
+            case.instance,
+            case.nets,
+            case.sets,
+            multipliers,
+            work,
+        )?;
         return Ok(best);
     }
-    of_table(instance, &task.sets, &task.table, multipliers);
-    let near = near_rounds(alloc, instance, nets, &task.sets, multipliers, work)?;
+    of_table(case.instance, case.sets, own, multipliers);
+    let near = near_rounds(case, multipliers, work)?;
     Ok(near)
 }

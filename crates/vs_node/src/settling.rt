@@ -1,10 +1,9 @@
+//! What is known of the plans in which each trip is run in the one layer of its set.
 ghost use Rattle.std.specs.Prelude.{◌≡◌, ◌<◌, length, IfOk};
-ghost use Rattle.vs_instance.specs.Plan.{IsPlan};
 ghost use Rattle.vs_instance.specs.Restriction.{IsRestriction};
+ghost use Rattle.vs_types.specs.declared.numbers.TheConstants.{MAX_LAYERS};
 ghost use Rattle.vs_match.specs.LawfulNets.{IsLawful};
 ghost use Rattle.vs_match.specs.LayerNets.{AreLayerNets};
-ghost use Rattle.vs_plan.specs.Blocks.{pairs_of};
-ghost use Rattle.vs_plan.specs.CheckedPlan.{IsChecked};
 ghost use Rattle.vs_prices.specs.Table.{Fits, HoldingTable};
 ghost use Rattle.vs_circ.specs.Circulations.{IsFixed};
 ghost use Rattle.vs_node.specs.ChosenLayers.{AreSingle};
@@ -15,9 +14,9 @@ use crate::layers_run::LayersRun;
 use crate::ray_table::ray_table;
 use std::alloc::Global;
 use vs_circ::{FixedFlow, Work, fixed};
-use vs_instance::{Instance, MAX_LAYERS, MAX_TRIPS};
+use vs_instance::{Instance, MAX_LAYERS};
 use vs_match::LayerNet;
-use vs_plan::{Block, CheckedPlan, Plan, PlanError, check_plan};
+use vs_plan::{CheckedPlan, Plan};
 use vs_prices::Table;
 use vs_types::{LayerNo, LayerSet, Memory};
 
@@ -65,7 +64,7 @@ pub fn settle(
             }
         }
     }
-    let plan = checked(alloc, instance, run.blocks)?;
+    let plan = CheckedPlan::of(instance, Plan { blocks: run.blocks });
     Ok(Settled {
         table: run.table,
         plan: Some(plan),
@@ -96,27 +95,10 @@ fn fixed_in(
 /// Marks the trips that have the layer in their sets.
 fn mark(sets: &[LayerSet], l: LayerNo, must: &mut [bool])
     requires size { length must.old ≡ length sets.now }
-    requires layer { l.0 < 16 }
+    requires layer { l.0 < MAX_LAYERS }
     ensures { must.new ≡ must_in sets.now l.0 }
 {
     for i in 0..must.len() {
         must[i] = sets[i].has(l);
-    }
-}
-
-/// A plan of these blocks, which are one.
-fn checked(alloc: Global, instance: &Instance, blocks: Vec<Block>) -> Result<CheckedPlan, Memory>
-    requires { IsPlan instance.now (pairs_of blocks.items) }
-    ensures problem { IfOk result (λ plan. plan.problem ≡ instance.now) }
-    ensures blocks { IfOk result (λ plan. plan.blocks ≡ pairs_of blocks.items) }
-    ensures checked { IfOk result IsChecked }
-{
-    prove!(instance.trips() <= MAX_TRIPS);
-    match check_plan(alloc, instance, Plan { blocks }) {
-        Ok(plan) => Ok(plan),
-        Err((_plan, error)) => match error {
-            PlanError::Memory => Err(Memory),
-            PlanError::Fault(_fault) => unreachable!(),
-        },
     }
 }

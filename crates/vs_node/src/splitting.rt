@@ -1,3 +1,4 @@
+//! By which trip a leaf is split, and how.
 ghost use Rattle.std.specs.Prelude.{◌≤◌, ◌≡◌, ℕ, ◌<◌, length, MatchOption, OnSome};
 ghost use Rattle.vs_instance.specs.declared.limits.TheConstants.{MAX_TRIPS};
 ghost use Rattle.vs_types.specs.LayerSet.{members};

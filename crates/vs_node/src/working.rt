@@ -1,3 +1,4 @@
+//! The work on a leaf, and what it has done for every search.
 ghost use Rattle.std.specs.Prelude.{◌≡◌, true, IfOk};
 ghost use Rattle.vs_instance.specs.Restriction.{IsRestriction};
 ghost use Rattle.vs_match.specs.LayerNets.{AreLayerNets};
@@ -5,13 +6,13 @@ ghost use Rattle.vs_prices.specs.Bounds.{IsWorthNoLess};
 ghost use Rattle.vs_prices.specs.Table.{Fits, HoldingTable};
 ghost use Rattle.vs_tree.specs.declared.calls.Next.TheVariants.{Close};
 ghost use Rattle.vs_node.specs.ChosenLayers.{AreSingle};
+ghost use Rattle.vs_node.specs.Laws.{WorkedSearchesReachTheStart};
 ghost use Rattle.vs_node.specs.Outcomes.{HasPlan, IsFollowedBy};
 ghost use Rattle.vs_node.specs.WorkedStep.{IsWorked, ReachesStart};
 
-use crate::outcome::{Outcome, alone};
+use crate::outcome::{Outcome, Task, alone};
 use crate::searching::search;
 use crate::splitting::first_with_choice;
-use crate::task::Task;
 use std::alloc::Global;
 use vs_circ::Work;
 use vs_instance::{Instance, MAX_TRIPS};
@@ -20,8 +21,8 @@ use vs_types::Memory;
 
 /// Works on a leaf. Finds a table that within the leaf's sets is worth no less than the leaf's own, and no less than
 /// the Lagrangian value at the multipliers that the leaf begins with; and a least plan of the layers in which the trips
-/// pay least by the table. Closes the leaf where the table leaves no room for a plan that costs less than that one and than
-/// the known cost, and else says how it is split. A leaf whose trips have one layer each is closed.
+/// pay least by the table. Closes the leaf where the table leaves no room for a plan that costs less than that one and
+/// than the known cost, and else says how it is split. A leaf whose trips have one layer each is closed.
 pub fn work(
     alloc: Global,
     instance: &Instance,
@@ -59,3 +60,9 @@ pub fn work(
         }
     }
 }
+
+/// Where each leaf that was split or closed was worked on, and one was, every leaf is worth no less than the value at
+/// the starting multipliers: the work at the root reaches it, and no later table is worth less.
+pub fn worked_searches_reach_the_start()
+    ensures { WorkedSearchesReachTheStart }
+{}

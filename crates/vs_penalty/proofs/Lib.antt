@@ -1,3 +1,2 @@
 pub mod FewLayers
-pub mod NetOfLayer
 pub mod GivenLayers

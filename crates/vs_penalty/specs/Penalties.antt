@@ -1,7 +1,8 @@
 -- What layers are offered for trips while they come to agree on which of them runs which.
-use Rattle.std.specs.Prelude.{◌≡◌, ◌≢◌, ◌⊎◌, ◌↔◌, ℕ, ◌<◌, ◌/◌, List, length, Option, Some, None, IsSomeAnd, MatchOption, ℤ, pos, ◌+ℤ◌, ◌-ℤ◌, ◌≤ℤ◌}
+use Rattle.std.specs.Prelude.{◌≡◌, ◌≢◌, ◌⊎◌, ◌↔◌, ℕ, ◌<◌, ◌/◌, List, length, Option, MatchOption, ℤ, pos, ◌+ℤ◌, ◌-ℤ◌}
 use Rattle.vs_types.specs.LayerSet.{Has, members}
 use Rattle.vs_types.specs.declared.layer_set.LayerSet.{LayerSet}
+use Rattle.vs_types.specs.declared.numbers.TheConstants.{MAX_LAYERS}
 use Rattle.vs_circ.specs.Offers.{offer_of}
 use Rattle.vs_instance.specs.Lagrangian.{multiplier_of}
 use Rattle.vs_instance.specs.Problem.{Problem}
@@ -58,7 +59,7 @@ pub record IsGiven (p : Problem) (i : ℕ) (runs set : LayerSet) : Type 0 where
   pub layer : ℕ
   pub lowest : IsLowestRun (trip_of p i).layers runs layer
   pub permitted : Permitted p layer i
-  pub few : layer < 16
+  pub few : layer < MAX_LAYERS
   pub alone : (l : ℕ) → Has set l ↔ (l ≡ layer)
 
 -- a set for each trip, with one layer
@@ -69,14 +70,3 @@ pub record AreGiven (p : Problem) (runs chosen : List LayerSet) : Type 0 where
 -- a checked plan of the instance
 abbrev pub IsPlanOf : Problem → Checked → Type 0
 IsPlanOf p plan = (plan.problem ≡ p) × IsChecked plan
-
--- a plan that costs no more than the other one, where that is there
-abbrev pub IsNoDearer : Option Checked → Option Checked → Type 0
-IsNoDearer plan None = Unit {0}
-IsNoDearer plan (Some other) = IsSomeAnd plan (λ p. p.cost ≤ℤ other.cost)
-
--- the cheaper of two plans, or of two that may be none
-pub record IsCheaperOf (plan first second : Option Checked) : Type 0 where
-  pub one_of : (plan ≡ first) ⊎ (plan ≡ second)
-  pub than_first : IsNoDearer plan first
-  pub than_second : IsNoDearer plan second

@@ -1,31 +1,35 @@
+//! The layers brought to agree, and what their multipliers show in the end.
 ghost use Rattle.std.specs.Prelude.{◌≡◌, IfOk, IfSome};
-ghost use Rattle.vs_instance.specs.Restriction.{IsRestriction, permitted_sets};
+ghost use Rattle.vs_instance.specs.Restriction.{permitted_sets};
 ghost use Rattle.vs_multi.specs.Multipliers.{AreMultipliers};
+ghost use Rattle.vs_multi.specs.Rounds.{IsCase};
 ghost use Rattle.vs_match.specs.LayerNets.{AreLayerNets};
-ghost use Rattle.vs_plan.specs.CheckedPlan.{IsChecked};
 ghost use Rattle.vs_prices.specs.Bounds.{IsWorthNoLess};
 ghost use Rattle.vs_prices.specs.Table.{Fits, HoldingTable};
-ghost use Rattle.vs_prices.specs.Worth.{IsWorth};
 ghost use Rattle.vs_penalty.specs.Penalties.{IsPlanOf};
 
 use crate::penalties::Penalties;
 use std::alloc::Global;
+use std::mem::swap;
 use vs_circ::Work;
 use vs_instance::{Instance, MAX_LAYERS, MAX_TRIPS};
 use vs_match::LayerNet;
-use vs_multi::{Best, few_rounds, raise};
+use vs_multi::{Case, few_rounds, keep_better, raise};
 use vs_plan::CheckedPlan;
 use vs_prices::{Table, permitted_sets, worth};
-use vs_types::{LayerSet, Memory, TripNo};
+use vs_types::{Memory, TripNo};
 
-/// How many offers of trips to layers the passes make together, where that lies between the two limits.
+/// How many offers of trips to layers the passes make together, where that lies between the two limits: a pass takes
+/// the longer the more it offers, and so all passes take about as long for every instance.
 const OFFERS: u32 = 1_600_000;
 
+/// How many passes there are at least: with fewer, the layers of a large instance would hardly begin to agree.
 const LEAST_PASSES: u32 = 400;
 
+/// How many passes there are at most: the layers of a small instance agree long before.
 const MOST_PASSES: u32 = 4_000;
 
-/// How many rounds follow the passes.
+/// How many rounds follow the passes: few, since these left the multipliers near where they settle.
 const ROUNDS: u32 = 20;
 
 /// Brings the layers to agree on which of them runs which trip, and gives the cheapest plan that was found on the way,
@@ -49,36 +53,41 @@ pub fn agree(
     if !has_choice(instance) {
         return Ok(None);
     }
-    let sets = permitted_sets(alloc, instance)?;
-    let mut penalties = Penalties::new(alloc, instance, &sets, table)?;
-    let plan = penalties.seek(alloc, instance, nets, passes(instance), work)?;
-    let multipliers = &mut penalties.multipliers;
-    improve(alloc, instance, nets, &sets, multipliers, table, work)?;
+    let permitted = permitted_sets(alloc, instance)?;
+    let sets = permitted.as_slice();
+    let case = Case {
+        alloc,
+        instance,
+        nets,
+        sets,
+    };
+    let mut penalties = Penalties::new(alloc, instance, sets, table)?;
+    let plan = penalties.seek(&case, passes(instance), work)?;
+    improve(&case, &mut penalties.multipliers, table, work)?;
     Ok(plan)
 }
 
 /// Makes the table what rounds from these multipliers and further sweeps show, where that is worth more.
 fn improve(
-    alloc: Global,
-    instance: &Instance,
-    nets: &[LayerNet],
-    sets: &[LayerSet],
+    case: &Case<'_>,
     multipliers: &mut [i64],
     table: &mut Table,
     work: &mut Work,
 ) -> Result<(), Memory>
-    requires nets { AreLayerNets instance.now nets.now }
-    requires restriction { IsRestriction instance.now sets.now }
-    requires multipliers { AreMultipliers instance.now multipliers.old }
-    requires fits { Fits instance.now table.old }
-    requires holds { HoldingTable instance.now table.old }
-    ensures fits { Fits instance.now table.new }
-    ensures holds { HoldingTable instance.now table.new }
-    ensures worth { IsWorthNoLess instance.now sets.now table.new table.old }
+    requires case { IsCase case.now.instance.now case.now.nets.now case.now.sets.now }
+    requires multipliers { AreMultipliers case.now.instance.now multipliers.old }
+    requires fits { Fits case.now.instance.now table.old }
+    requires holds { HoldingTable case.now.instance.now table.old }
+    ensures fits { Fits case.now.instance.now table.new }
+    ensures holds { HoldingTable case.now.instance.now table.new }
+    ensures worth { IsWorthNoLess case.now.instance.now case.now.sets.now table.new table.old }
 {
-    let best = few_rounds(alloc, instance, nets, sets, ROUNDS, multipliers, work)?;
-    keep_better(instance, sets, table, best);
-    raise(alloc, instance, nets, sets, table, work)
+    let mut best = few_rounds(case, ROUNDS, multipliers, work)?;
+    let own_worth = worth(case.instance, case.sets, table);
+    let greatest = keep_better(&mut best.table, best.worth, table, own_worth);
+    swap(table, &mut best.table);
+    raise(case, table, greatest, work)?;
+    Ok(())
 }
 
 /// Whether two layers may run some trip.
@@ -100,22 +109,4 @@ fn passes(instance: &Instance) -> u32 {
         .unwrap_or(0)
         .max(LEAST_PASSES)
         .min(MOST_PASSES)
-}
-
-/// Takes the table that was found in place of the one that there is, where it is worth more.
-fn keep_better(instance: &Instance, sets: &[LayerSet], table: &mut Table, found: Best)
-    requires restriction { IsRestriction instance.now sets.now }
-    requires fits { Fits instance.now table.old }
-    requires holds { HoldingTable instance.now table.old }
-    requires found_fits { Fits instance.now found.table }
-    requires found_holds { HoldingTable instance.now found.table }
-    requires found_worth { IsWorth instance.now sets.now found.table found.worth }
-    ensures fits { Fits instance.now table.new }
-    ensures holds { HoldingTable instance.now table.new }
-    ensures worth { IsWorthNoLess instance.now sets.now table.new table.old }
-{
-    let least = worth(instance, sets, table);
-    if found.worth.is_no_less(least) {
-        *table = found.table;
-    }
 }

@@ -1,9 +1,10 @@
-ghost use Rattle.vs_penalty.specs.Penalties.{AreGiven, IsCheaperOf, IsLowestRun};
+//! Which layer each trip is given to, by the layers that run it.
 ghost use Rattle.std.specs.Prelude.{◌≡◌, ◌≢◌, ◌<◌, [], length};
 ghost use Rattle.vs_types.specs.LayerSet.{Has, members};
+ghost use Rattle.vs_types.specs.declared.numbers.TheConstants.{MAX_LAYERS};
+ghost use Rattle.vs_penalty.specs.Penalties.{AreGiven, IsLowestRun};
 
 use vs_instance::Instance;
-use vs_plan::CheckedPlan;
 use vs_types::{LayerNo, LayerSet, TripNo};
 
 /// The lowest of the layers that run a trip, where that may run it, else the lowest that may.
@@ -11,7 +12,7 @@ fn lowest_layer(permitted: LayerSet, runs: LayerSet) -> LayerNo
     requires { members permitted ≢ [] }
     ensures lowest { IsLowestRun permitted runs result.0 }
     ensures permitted { Has permitted result.0 }
-    ensures layer { result.0 < 16 }
+    ensures layer { result.0 < MAX_LAYERS }
 {
     match runs.lowest() {
         Some(l) if permitted.has(l) => l,
@@ -29,25 +30,5 @@ pub(crate) fn lowest_layers(instance: &Instance, runs: &[LayerSet], chosen: &mut
         let permitted = instance.trip(TripNo(i)).layers;
         let l = lowest_layer(permitted, runs[i as usize]);
         chosen[i as usize] = LayerSet::only(l);
-    }
-}
-
-/// The cheaper of two plans, where there are both, else the one that there is.
-pub(crate) fn cheaper(
-    first: Option<CheckedPlan>,
-    second: Option<CheckedPlan>,
-) -> Option<CheckedPlan>
-    ensures { IsCheaperOf result first second }
-{
-    match (first, second) {
-        (None, second) => second,
-        (first, None) => first,
-        (Some(first), Some(second)) => {
-            if second.cost() < first.cost() {
-                Some(second)
-            } else {
-                Some(first)
-            }
-        }
     }
 }

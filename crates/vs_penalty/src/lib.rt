@@ -1,5 +1,5 @@
-//! Plans on which the layers agree: each layer is paid a little more for a trip that no other one runs and a little less
-//! for one that another does, until every trip is run by one.
+//! Plans on which the layers agree: each layer is paid a little more for a trip that no other one runs and a little
+//! less for one that another does, until every trip is run by one.
 #![tactic(auto)]
 
 mod agreeing;
@@ -9,6 +9,3 @@ mod rate;
 mod tally;
 
 pub use agreeing::agree;
-
-#[cfg(test)]
-mod tests;

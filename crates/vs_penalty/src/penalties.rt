@@ -1,29 +1,31 @@
-ghost use Rattle.std.specs.Prelude.{◌≡◌, ◌<◌, ◌≤◌, IfOk, IfSome, MatchOption, length};
+//! What layers are offered for trips while they come to agree, pass by pass.
+ghost use Rattle.std.specs.Prelude.{◌≡◌, ◌<◌, ◌≤ℤ◌, pos, IfOk, IfSome, MatchOption, length};
 ghost use Rattle.vs_types.specs.LayerSet.{Has};
 ghost use Rattle.vs_instance.specs.Restriction.{IsRestriction};
 ghost use Rattle.vs_prices.specs.Table.{Fits};
 ghost use Rattle.vs_circ.specs.Offers.{AreOffers};
-ghost use Rattle.vs_match.specs.LayerNets.{AreLayerNets};
+ghost use Rattle.vs_multi.specs.Rounds.{IsCase};
 ghost use Rattle.vs_multi.specs.Multipliers.{AreMultipliers, AreWithin, IsMultiplier};
 ghost use Rattle.vs_penalty.specs.Moves.{AreMoved};
 ghost use Rattle.vs_penalty.specs.Noted.{AreNoted, IsNoted};
 ghost use Rattle.vs_penalty.specs.Penalties.{AreBids, ArePenalties, IsBid, IsBidBeside, IsPlanOf};
-ghost use Rattle.vs_penalty.specs.declared.rate.TheConstants.{MAX_RATE};
+ghost use Rattle.vs_types.specs.declared.numbers.TheConstants.{MAX_LAYERS};
+ghost use Rattle.vs_instance.specs.declared.limits.TheConstants.{MAX_MULTIPLIER};
 
-use crate::choosing::{cheaper, lowest_layers};
+use crate::choosing::lowest_layers;
 use crate::rate::Rate;
 use crate::tally::Tally;
 use std::alloc::Global;
-use vs_circ::{MAX_MULTIPLIER, Work, runs};
-use vs_instance::{Instance, MAX_TRIPS};
-use vs_match::LayerNet;
-use vs_multi::{greatest_step, moved, of_table};
+use vs_circ::{Work, runs};
+use vs_instance::{Instance, MAX_MULTIPLIER, MAX_TRIPS};
+use vs_multi::{Case, greatest_step, moved, of_table};
 use vs_node::settle;
-use vs_plan::CheckedPlan;
+use vs_plan::{CheckedPlan, cheaper};
 use vs_prices::Table;
 use vs_types::{LayerNo, LayerSet, Memory, TripNo};
 
-/// A plan is tried where no more than one trip in so many is run by several layers.
+/// A plan is tried where no more than one trip in so many is run by several layers: where more are, giving each to one
+/// of them leaves the vehicles of the others to run empty, and the plan is dear.
 const FEW: u32 = 8;
 
 /// What the layers are offered for each trip while they come to agree on which of them runs which: by the method of
@@ -63,25 +65,23 @@ impl Penalties {
     /// The cheapest of the plans that so many passes come to, if any.
     pub fn seek(
         &mut self,
-        alloc: Global,
-        instance: &Instance,
-        nets: &[LayerNet],
+        case: &Case<'_>,
         passes: u32,
         work: &mut Work,
     ) -> Result<Option<CheckedPlan>, Memory>
-        requires nets { AreLayerNets instance.now nets.now }
-        requires penalties { ArePenalties instance.now self.old }
-        ensures penalties { ArePenalties instance.now self.new }
-        ensures plan { IfOk result (λ plan. IfSome plan (IsPlanOf instance.now)) }
+        requires case { IsCase case.now.instance.now case.now.nets.now case.now.sets.now }
+        requires penalties { ArePenalties case.now.instance.now self.old }
+        ensures penalties { ArePenalties case.now.instance.now self.new }
+        ensures plan { IfOk result (λ plan. IfSome plan (IsPlanOf case.now.instance.now)) }
     {
-        let trips = instance.trips() as usize;
-        let mut offers = vec![in alloc; None; trips]?;
-        let mut marks = vec![in alloc; false; trips]?;
-        let mut chosen = vec![in alloc; LayerSet(0); trips]?;
+        let trips = case.instance.trips() as usize;
+        let mut offers = vec![in case.alloc; None; trips]?;
+        let mut marks = vec![in case.alloc; false; trips]?;
+        let mut chosen = vec![in case.alloc; LayerSet(0); trips]?;
         let mut best = None;
         for _ in 0..passes {
-            self.pass(alloc, instance, nets, work, &mut offers, &mut marks)?;
-            let plan = self.draw(alloc, instance, nets, work, &mut chosen)?;
+            self.pass(case, work, &mut offers, &mut marks)?;
+            let plan = self.draw(case, work, &mut chosen)?;
             best = cheaper(best, plan);
         }
         Ok(best)
@@ -91,18 +91,17 @@ impl Penalties {
     /// trips are left out, and falls where a plan is tried. The last is space for the layer of each trip.
     fn draw(
         &mut self,
-        alloc: Global,
-        instance: &Instance,
-        nets: &[LayerNet],
+        case: &Case<'_>,
         work: &mut Work,
         chosen: &mut [LayerSet],
     ) -> Result<Option<CheckedPlan>, Memory>
-        requires nets { AreLayerNets instance.now nets.now }
-        requires penalties { ArePenalties instance.now self.old }
-        requires chosen { length chosen.old ≡ length instance.now.trips }
-        ensures penalties { ArePenalties instance.now self.new }
-        ensures plan { IfOk result (λ plan. IfSome plan (IsPlanOf instance.now)) }
+        requires case { IsCase case.now.instance.now case.now.nets.now case.now.sets.now }
+        requires penalties { ArePenalties case.now.instance.now self.old }
+        requires chosen { length chosen.old ≡ length case.now.instance.now.trips }
+        ensures penalties { ArePenalties case.now.instance.now self.new }
+        ensures plan { IfOk result (λ plan. IfSome plan (IsPlanOf case.now.instance.now)) }
     {
+        let instance = case.instance;
         prove!(instance.trips() <= MAX_TRIPS);
         let tally = Tally::of(&self.runs);
         if tally.none > 0 {
@@ -114,7 +113,7 @@ impl Penalties {
         }
         self.rate.ease();
         lowest_layers(instance, &self.runs, chosen);
-        let settled = settle(alloc, instance, nets, chosen, work)?;
+        let settled = settle(case.alloc, instance, case.nets, chosen, work)?;
         Ok(settled.plan)
     }
 
@@ -122,19 +121,18 @@ impl Penalties {
     /// last two are space for what a layer is offered for each trip, and for whether it runs it.
     pub fn pass(
         &mut self,
-        alloc: Global,
-        instance: &Instance,
-        nets: &[LayerNet],
+        case: &Case<'_>,
         work: &mut Work,
         offers: &mut [Option<i64>],
         marks: &mut [bool],
     ) -> Result<(), Memory>
-        requires nets { AreLayerNets instance.now nets.now }
-        requires penalties { ArePenalties instance.now self.old }
-        requires offers { length offers.old ≡ length instance.now.trips }
-        requires marks { length marks.old ≡ length instance.now.trips }
-        ensures penalties { ArePenalties instance.now self.new }
+        requires case { IsCase case.now.instance.now case.now.nets.now case.now.sets.now }
+        requires penalties { ArePenalties case.now.instance.now self.old }
+        requires offers { length offers.old ≡ length case.now.instance.now.trips }
+        requires marks { length marks.old ≡ length case.now.instance.now.trips }
+        ensures penalties { ArePenalties case.now.instance.now self.new }
     {
+        let instance = case.instance;
         for l in 0..instance.layers() {
             offer_all(
                 instance,
@@ -144,7 +142,7 @@ impl Penalties {
                 self.rate.now,
                 offers,
             );
-            runs(alloc, &nets[l as usize], offers, work, marks)?;
+            runs(case.alloc, &case.nets[l as usize], offers, work, marks)?;
             note(instance, LayerNo(l), marks, &mut self.runs);
         }
         move_all(&mut self.multipliers, &self.runs, self.rate.now);
@@ -156,7 +154,7 @@ impl Penalties {
 /// less.
 fn offer(multiplier: i64, rate: u64, others: LayerSet) -> i64
     requires multiplier { IsMultiplier multiplier }
-    requires rate { rate ≤ MAX_RATE }
+    requires rate { pos rate ≤ℤ MAX_MULTIPLIER }
     ensures bid { IsBidBeside multiplier rate others result }
     ensures within { IsMultiplier result }
 {
@@ -171,9 +169,9 @@ fn offer(multiplier: i64, rate: u64, others: LayerSet) -> i64
 
 /// What a layer is offered for a trip that these layers run now. None where it isn't among those that may run it.
 fn bid(permitted: LayerSet, l: LayerNo, multiplier: i64, rate: u64, runs: LayerSet) -> Option<i64>
-    requires layer { l.0 < 16 }
+    requires layer { l.0 < MAX_LAYERS }
     requires multiplier { IsMultiplier multiplier }
-    requires rate { rate ≤ MAX_RATE }
+    requires rate { pos rate ≤ℤ MAX_MULTIPLIER }
     ensures { MatchOption result (¬ (Has permitted l.0)) (IsBid permitted l.0 multiplier rate runs) }
 {
     if permitted.has(l) {
@@ -195,7 +193,7 @@ fn offer_all(
     requires layer { l.0 < length instance.now.layers }
     requires multipliers { AreMultipliers instance.now multipliers.now }
     requires runs { length runs.now ≡ length instance.now.trips }
-    requires rate { rate ≤ MAX_RATE }
+    requires rate { pos rate ≤ℤ MAX_MULTIPLIER }
     requires offers { length offers.old ≡ length instance.now.trips }
     ensures offers { AreOffers instance.now l.0 offers.new }
     ensures bids { AreBids instance.now l.0 multipliers.now rate runs.now offers.new }
@@ -210,7 +208,7 @@ fn offer_all(
 
 /// The layers that run a trip, once it is known whether this one does.
 fn noted(layers: LayerSet, l: LayerNo, mark: bool) -> LayerSet
-    requires { l.0 < 16 }
+    requires { l.0 < MAX_LAYERS }
     ensures { IsNoted l.0 mark layers result }
 {
     let others = layers.without(l);
@@ -234,7 +232,7 @@ fn note(instance: &Instance, l: LayerNo, marks: &[bool], runs: &mut [LayerSet])
 fn move_all(multipliers: &mut [i64], runs: &[LayerSet], rate: u64)
     requires multipliers { AreWithin multipliers.old }
     requires runs { length runs.now ≡ length multipliers.old }
-    requires rate { rate ≤ MAX_RATE }
+    requires rate { pos rate ≤ℤ MAX_MULTIPLIER }
     ensures within { AreWithin multipliers.new }
     ensures each { length multipliers.new ≡ length multipliers.old }
     ensures moved { AreMoved rate runs.now multipliers.old multipliers.new }

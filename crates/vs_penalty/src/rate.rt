@@ -1,9 +1,7 @@
-ghost use Rattle.vs_penalty.specs.declared.rate.TheConstants.{MAX_RATE};
-ghost use Rattle.std.specs.Prelude.{◌≡◌, ◌≢◌, ◌/◌, ◌<◌, ◌≤◌};
+//! By how much layers are offered more or less than a multiplier.
+ghost use Rattle.std.specs.Prelude.{◌≡◌, ◌≢◌, ◌/◌, ◌<◌, ◌≤◌, ◌≤ℤ◌, pos};
+ghost use Rattle.vs_instance.specs.declared.limits.TheConstants.{MAX_MULTIPLIER};
 ghost use Rattle.vs_penalty.specs.Rates.{raised};
-
-/// The greatest rate, in 1/1000 of a cost unit: what a trip is paid for at most.
-pub(crate) const MAX_RATE: u64 = 100_000_000_000_000;
 
 /// By how much less a trip is worth to a layer that another one runs than one that none does, in 1/1000 of a cost
 /// unit. It rises while trips are left out, and falls once all are run.
@@ -12,15 +10,15 @@ pub(crate) struct Rate {
     pub now: u64,
     pub least: u64,
     most: u64,
-    ghost within: { now ≤ MAX_RATE },
-    ghost least_within: { least ≤ MAX_RATE },
-    ghost most_within: { most ≤ MAX_RATE },
+    ghost within: { pos now ≤ℤ MAX_MULTIPLIER },
+    ghost least_within: { pos least ≤ℤ MAX_MULTIPLIER },
+    ghost most_within: { pos most ≤ℤ MAX_MULTIPLIER },
 }
 
 impl Rate {
     /// A rate that begins with a hundredth of the greatest one.
     pub fn new(most: u64) -> Rate
-        requires { most ≤ MAX_RATE }
+        requires { pos most ≤ℤ MAX_MULTIPLIER }
         ensures now { result.now ≡ most / 100 }
         ensures least { result.least ≡ most / 100 }
         ensures most { result.most ≡ most }

@@ -1,3 +1,4 @@
+//! How many trips the layers agree on.
 ghost use Rattle.std.specs.Prelude.{◌≡◌, ◌≤◌, length};
 ghost use Rattle.vs_penalty.specs.Tallies.{many_in, none_in};
 ghost use Rattle.vs_instance.specs.declared.limits.TheConstants.{MAX_TRIPS};

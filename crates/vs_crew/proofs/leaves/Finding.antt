@@ -4,20 +4,22 @@ use Rattle.std.specs.Prelude.{IfSome}
 use Rattle.std.proofs.lemmas.Int.{ints, clamps}
 use Rattle.vs_types.specs.declared.layer_set.LayerSet.{LayerSet}
 use Rattle.vs_instance.specs.Problem.{Problem}
-use Rattle.vs_plan.specs.CheckedPlan.{Checked}
+use Rattle.vs_plan.specs.CheckedPlan.{Checked, cost_of}
 use Rattle.vs_match.specs.LayerGraph.{LayerGraph}
-use Rattle.vs_multi.specs.Multipliers.{lesser_of}
+use Rattle.vs_connect.specs.Cost.{lesser_of}
 use Rattle.vs_penalty.specs.Penalties.{IsPlanOf as IsAgreed}
 use Rattle.vs_prices.specs.Bounds.{IsBelow}
 use Rattle.vs_prices.specs.declared.bound.Bound.{Bound}
 use Rattle.vs_prices.specs.declared.bound.Bound.TheVariants.{AtLeast, NoPlan}
 use Rattle.vs_prices.specs.declared.table.Table.{Table}
+use Rattle.vs_instance.specs.Restriction.{IsRestriction}
+use Rattle.vs_tree.specs.Finishes.{IsNextIn}
 use Rattle.vs_tree.specs.Sound.{IsPlanOf}
 use Rattle.vs_tree.specs.declared.calls.Next.{Next}
 use Rattle.vs_tree.specs.declared.calls.Next.TheVariants.{Close, Split}
 use Rattle.vs_node.specs.LeastPlans.{IsBestWithin}
-use Rattle.vs_node.specs.NextSteps.{cost_of}
 use Rattle.vs_node.specs.Outcomes.{HasNext, HasPlan}
+use Rattle.vs_node.specs.declared.outcome.Task.{Task}
 use Rattle.vs_node.specs.SplitRule.{IsSplitTrip}
 use Rattle.vs_node.specs.WorkedStep.{IsWorked}
 use Rattle.vs_crew.specs.Found.{IsLawfulNext}
@@ -53,15 +55,23 @@ split-inside sets covers i (inl lowest) = lowest.inside
 split-inside sets covers i (inr lowest) = lowest.1.inside
 
 -- where the known cost was the lesser of a cost and of that of a first plan, the cheaper plan leaves as little room
-pub next-lesser : (p : Problem) (nets : List LayerGraph) (sets : List LayerSet) (known : Option ℤ) (table : Table)
-    (first plan best : Option Checked) (next : Next)
-    → HasNext p nets sets (lesser_of known (cost_of first)) table plan next
-    → cost_of best ≡ lesser_of (cost_of first) (cost_of plan) → IsLawfulNext p sets known table best next
-next-lesser p nets sets known table first plan best Close has cost = λ worth is room.
+pub next-lesser : (p : Problem) (nets : List LayerGraph) (task : Task) (known : Option ℤ) (table : Table)
+    (first plan best : Option Checked) (next : Next) → HasNext p nets task table plan next
+    → task.known ≡ lesser_of known (cost_of first) → cost_of best ≡ lesser_of (cost_of first) (cost_of plan)
+    → IsLawfulNext p task.sets.items known table best next
+next-lesser p nets task known table first plan best Close has lesser cost = λ worth is room.
     let both = below-both worth (cost_of first) (cost_of plan) (subst (IsBelow worth) cost room.1) in
-    has worth is (below-lesser worth known (cost_of first) room.0 both.0, both.1)
-next-lesser p nets sets known table first plan best (Split trip left) has cost =
-    (split-inside sets has.1.0 trip.0 has.1.2.by_rule, has.1.2.part)
+    has worth is
+    (subst (IsBelow worth) (sym lesser) (below-lesser worth known (cost_of first) room.0 both.0), both.1)
+next-lesser p nets task known table first plan best (Split trip left) has lesser cost =
+    (split-inside task.sets.items has.1.0 trip.0 has.1.2.by_rule, has.1.2.part)
+
+-- a lawful split is one by a trip of the instance
+pub next-in : (p : Problem) (sets : List LayerSet) (known : Option ℤ) (table : Table) (plan : Option Checked)
+    → IsRestriction p sets → (next : Next) → IsLawfulNext p sets known table plan next → IsNextIn p sets next
+next-in p sets known table plan restriction Close lawful = tt
+next-in p sets known table plan restriction (Split trip left) lawful =
+    (subst (λ (n : ℕ). trip.0 < n) restriction.each_trip lawful.0, lawful.1)
 
 -- one of two plans of the instance
 pub plan-either : (p : Problem) (first plan best : Option Checked) → IfSome first (IsPlanOf p)

@@ -1,18 +1,21 @@
 -- A leaf that a worker finishes, after others went on with the search.
 use Rattle.std.proofs.Common.{◌≡◌, ◌==◌, ℕ, ◌<◌, List, [], ◌∷◌, ◌++◌, get_or, sym, ap, ◌∙◌, subst, append_assoc}
+use Rattle.vs_types.specs.declared.layer_set.LayerSet.{LayerSet}
 use Rattle.vs_instance.specs.Restriction.{IsRestriction}
 use Rattle.vs_prices.specs.Bounds.{IsBelow}
 use Rattle.vs_prices.specs.declared.bound.Bound.{Bound}
 use Rattle.vs_tree.specs.Calls.{HoldsSome, finishing, with_step}
 use Rattle.vs_tree.specs.History.{FullStep, Opening, Place, State, IsAmong, IsHeldBy, IsHistory, MayCome, after, first_state, is_inner, known, place_at, prices_at, sets_at, spot_at, state_after, state_of, table_of}
 use Rattle.vs_tree.specs.Prices.{Prices, no_prices, prices_of}
+use Rattle.vs_tree.specs.Finishes.{AreWorths}
 use Rattle.vs_tree.specs.Search.{Search, state}
 use Rattle.vs_tree.specs.Sound.{IsOpening, IsSound}
+use Rattle.vs_tree.specs.declared.finishing.Finish.{Finish}
 use Rattle.vs_tree.specs.declared.spot.Spot.{Spot}
 use Rattle.vs_tree.proofs.CallerLemmas.{state-last, histories_are_sound, prices-kept}
 use Rattle.vs_node.specs.WorkedHistory.{AreWorkedFrom}
 use Rattle.vs_node.specs.declared.outcome.Outcome.{Outcome}
-use Rattle.vs_node.specs.declared.task.Task.{Task}
+use Rattle.vs_node.specs.declared.outcome.Task.{Task}
 use Rattle.vs_crew.specs.Found.{IsFound}
 use Rattle.vs_crew.specs.Leaves.{HasOffered, HoldsLeaf}
 use Rattle.vs_crew.specs.Sharing.{AreBy, AreByOthers, HeldWhenLeft, IsHolding, IsIdle}
@@ -130,6 +133,14 @@ module _ (old new : Search) (w leaf : ℕ) (task : Task) (outcome : Outcome) (op
 
   found_then : IsFound new.opening.problem task outcome
   found_then = subst (λ (o : Opening). IsFound o.problem task outcome) (sym after_offer.opening) found
+
+  -- what the new prices are worth there is still so
+  pub worths_still : (finish : Finish) → AreWorths old.opening.problem task.sets.items (prices_of outcome.table) finish
+      → AreWorths new.opening.problem (sets_at n leaf) (prices_of outcome.table) finish
+  worths_still finish are =
+      subst (λ (o : Opening). AreWorths o.problem (sets_at n leaf) (prices_of outcome.table) finish)
+      (sym after_offer.opening)
+      (subst (λ (x : List LayerSet). AreWorths old.opening.problem x (prices_of outcome.table) finish) sets are)
 
   -- the leaf may be finished
   pub may_come : MayCome new.opening n step

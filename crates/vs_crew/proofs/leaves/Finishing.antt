@@ -16,7 +16,7 @@ use Rattle.vs_node.specs.NextSteps.{IsOpen}
 use Rattle.vs_node.specs.WorkedHistory.{AreWorkedPrices}
 use Rattle.vs_node.specs.WorkedStep.{IsWorked}
 use Rattle.vs_node.specs.declared.outcome.Outcome.{Outcome}
-use Rattle.vs_node.specs.declared.task.Task.{Task}
+use Rattle.vs_node.specs.declared.outcome.Task.{Task}
 use Rattle.vs_crew.specs.Found.{IsFound, IsLawfulNext}
 use Rattle.vs_crew.proofs.leaves.WorkedSteps.{worked-along}
 

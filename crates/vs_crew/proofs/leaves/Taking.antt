@@ -16,7 +16,7 @@ use Rattle.vs_tree.specs.declared.calls.Take.TheVariants.{Node, Wait, Done, Spen
 use Rattle.vs_tree.specs.declared.spot.Spot.{Spot}
 use Rattle.vs_tree.specs.declared.spot.Spot.TheVariants.{Held}
 use Rattle.vs_tree.proofs.CallerLemmas.{lawful_fits, leaf_within, state-last, among-filter, histories_are_sound, sets-kept, spot-here}
-use Rattle.vs_node.specs.declared.task.Task.{Task}
+use Rattle.vs_node.specs.declared.outcome.Task.{Task}
 use Rattle.vs_crew.specs.Found.{IsLawfulTask}
 use Rattle.vs_crew.specs.Leaves.{HoldsLeaf, IsTold}
 use Rattle.vs_crew.specs.Sharing.{IsIdle}

@@ -27,23 +27,25 @@ give_seats-requires-clause-fresh g c =
 pub work_together-requires-clause-seated : goal.work_together-requires-clause-seated
 work_together-requires-clause-seated g c κs within =
     let written = with_items_is c.in-Ok.crew c.give_seats.new.crew (c.give_seats.auto.crew ∙ c.deref_mut.ensures.len) in
-    subst (AreSeated c.in-Ok-new.made.0.name c.of-start.result.value) (sym (c.deref_mut-2.ensures.value ∙ written))
+    subst (AreSeated c.in-Ok-new.made.0.name c.of-start.result.value)
+    (sym (c.as_mut_slice-together.ensures.value ∙ written))
     c.give_seats.ensures.each
 
 pub joined-seat-requires-clause-done : goal.joined-seat-requires-clause-done
 joined-seat-requires-clause-done g c =
     let second = with_items_is (with_items c.in-Ok.crew c.give_seats.new.crew) c.work_together.new.crew
-    (c.work_together.auto.crew ∙ c.deref_mut-2.ensures.len) in
+    (c.work_together.auto.crew ∙ c.as_mut_slice-together.ensures.len) in
     subst (AreDone c.in-Ok-new.made.0.name c.of-start.result.value) (sym second) c.work_together.ensures.done
 
 pub returns-then-over-clause-goes_on : goal.returns-then-over-clause-goes_on
 returns-then-over-clause-goes_on g c =
     let written = with_items_is c.in-Ok.crew c.give_seats.new.crew (c.give_seats.auto.crew ∙ c.deref_mut.ensures.len) in
     let second = with_items_is (with_items c.in-Ok.crew c.give_seats.new.crew) c.work_together.new.crew
-    (c.work_together.auto.crew ∙ c.deref_mut-2.ensures.len) in
+    (c.work_together.auto.crew ∙ c.as_mut_slice-together.ensures.len) in
     let count =
     ap (λ (l : List Worker). length l) second
-    ∙ (c.work_together.ensures.count ∙ (ap (λ (l : List Worker). length l) (c.deref_mut-2.ensures.value ∙ written)
+    ∙ (c.work_together.ensures.count ∙ (ap (λ (l : List Worker). length l)
+    (c.as_mut_slice-together.ensures.value ∙ written)
     ∙ (c.give_seats.ensures.count ∙ (ap (λ (l : List Worker). length l) c.deref_mut.ensures.value
     ∙ c.in-Ok.ensures.count)))) in
     let start = c.of-start.result.value in
@@ -59,10 +61,11 @@ pub returns-then-over-clause-over : goal.returns-then-over-clause-over
 returns-then-over-clause-over g c =
     let written = with_items_is c.in-Ok.crew c.give_seats.new.crew (c.give_seats.auto.crew ∙ c.deref_mut.ensures.len) in
     let second = with_items_is (with_items c.in-Ok.crew c.give_seats.new.crew) c.work_together.new.crew
-    (c.work_together.auto.crew ∙ c.deref_mut-2.ensures.len) in
+    (c.work_together.auto.crew ∙ c.as_mut_slice-together.ensures.len) in
     let count =
     ap (λ (l : List Worker). length l) second
-    ∙ (c.work_together.ensures.count ∙ (ap (λ (l : List Worker). length l) (c.deref_mut-2.ensures.value ∙ written)
+    ∙ (c.work_together.ensures.count ∙ (ap (λ (l : List Worker). length l)
+    (c.as_mut_slice-together.ensures.value ∙ written)
     ∙ (c.give_seats.ensures.count ∙ (ap (λ (l : List Worker). length l) c.deref_mut.ensures.value
     ∙ c.in-Ok.ensures.count)))) in
     let start = c.of-start.result.value in
@@ -76,10 +79,11 @@ pub returns-clause-memory : goal.returns-clause-memory
 returns-clause-memory g c =
     let written = with_items_is c.in-Ok.crew c.give_seats.new.crew (c.give_seats.auto.crew ∙ c.deref_mut.ensures.len) in
     let second = with_items_is (with_items c.in-Ok.crew c.give_seats.new.crew) c.work_together.new.crew
-    (c.work_together.auto.crew ∙ c.deref_mut-2.ensures.len) in
+    (c.work_together.auto.crew ∙ c.as_mut_slice-together.ensures.len) in
     let count =
     ap (λ (l : List Worker). length l) second
-    ∙ (c.work_together.ensures.count ∙ (ap (λ (l : List Worker). length l) (c.deref_mut-2.ensures.value ∙ written)
+    ∙ (c.work_together.ensures.count ∙ (ap (λ (l : List Worker). length l)
+    (c.as_mut_slice-together.ensures.value ∙ written)
     ∙ (c.give_seats.ensures.count ∙ (ap (λ (l : List Worker). length l) c.deref_mut.ensures.value
     ∙ c.in-Ok.ensures.count)))) in
     let start = c.of-start.result.value in

@@ -8,7 +8,7 @@ finish-requires g c =
     let held = c.hold-held.ensures in
     record {
       found = turn_left c.args.site.now.turn.now.name c.args.site.now.start.now.value c.args.w
-          (HasFound c.args.w c.args.leaf c.args.outcome)
+          (HasFound c.args.w c.args.leaf c.args.finding)
           c.args.seat c.hold-held.result.seat c.hold-held.result.found c.hold-held.result.value c.value.result.now
           c.requires.found held.seat held.opening held.begins held.unmade held.found c.value.ensures.value;
     }
@@ -17,7 +17,7 @@ pub release-seat-requires-clause-entries : goal.release-seat-requires-clause-ent
 release-seat-requires-clause-entries g c =
     let held = c.hold-held.ensures in
     turn_entries c.args.site.now.turn.now.name c.args.site.now.start.now.value c.args.w
-    (HasFound c.args.w c.args.leaf c.args.outcome)
+    (HasFound c.args.w c.args.leaf c.args.finding)
     c.args.seat c.hold-held.result.seat c.hold-held.result.found c.hold-held.result.value c.value.result.now
     c.requires.found held.seat held.opening held.begins held.unmade held.found c.value.ensures.value
     c.finish.new.self c.finish.ensures.steps
@@ -27,7 +27,7 @@ returns g c =
     let held = c.hold-held.ensures in
     record {
       idle = turn_knows c.args.site.now.turn.now.name c.args.site.now.start.now.value c.args.w
-          (HasFound c.args.w c.args.leaf c.args.outcome)
+          (HasFound c.args.w c.args.leaf c.args.finding)
           c.args.seat c.hold-held.result.seat c.hold-held.result.found c.hold-held.result.value c.value.result.now
           c.requires.found held.seat held.opening held.begins held.unmade held.found c.value.ensures.value
           c.finish.new.self c.finish.ensures.steps (IsIdle c.args.w) c.release-seat.result

@@ -3,17 +3,17 @@ use Rattle.vs_multi.proofs.BoundOrder.{worth_along}
 use Rattle.vs_multi.proofs.Exchanged.{fleet_back, from_back, into_back}
 use Rattle.vs_multi.proofs.raising.take_better.Goals as goal
 
-pub returns-clause-worth : goal.returns-clause-worth
-returns-clause-worth c =
+pub returns-else-gains-clause-worth : goal.returns-else-gains-clause-worth
+returns-else-gains-clause-worth c =
     let p = c.args.instance.now in
     let l = c.args.l.0 in
     let prices = c.args.prices.now in
     let taken = c.exchange.new.prices in
     let old = c.args.table.now in
     let mid = c.exchange.new.table in
-    let new = c.exchange-2.new.table in
+    let new = c.exchange-else-gains.new.table in
     let there = c.exchange.ensures in
-    let back = c.exchange-2.ensures.exchanged in
+    let back = c.exchange-else-gains.ensures.exchanged in
     worth_along p c.args.sets.now old new
     (into_back p l c.requires.layer prices taken old mid new c.requires.prices c.requires.table.fits there.exchanged
     there.before back)

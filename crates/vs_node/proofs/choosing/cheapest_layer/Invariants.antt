@@ -1,4 +1,4 @@
-use Rattle.vs_node.proofs.Cheapest.{IsSoFar}
+use Rattle.vs_node.proofs.sets.Cheapest.{IsSoFar}
 use Rattle.vs_node.proofs.choosing.cheapest_layer.Given as goal
 
 abbrev pub invariant-loop-k : goal.invariant-loop-k

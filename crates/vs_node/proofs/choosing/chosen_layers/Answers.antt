@@ -5,7 +5,7 @@ use Rattle.vs_types.specs.LayerSet.{Has, members}
 use Rattle.vs_types.specs.declared.layer_set.LayerSet.{LayerSet}
 use Rattle.vs_instance.specs.Restriction.{set_of}
 use Rattle.vs_node.specs.ChosenLayers.{AreChosen, IsCheapest}
-use Rattle.vs_node.proofs.Cheapest.{cheapest_once, chosen-restricts, chosen-single}
+use Rattle.vs_node.proofs.sets.Cheapest.{cheapest_once, chosen-restricts, chosen-single}
 use Rattle.vs_types.proofs.CallerLemmas.{members-some}
 use Rattle.vs_node.proofs.choosing.chosen_layers.Goals as goal
 

@@ -1,7 +1,7 @@
 use Rattle.std.proofs.Common.{List, subst}
 use Rattle.vs_types.specs.declared.layer_set.LayerSet.{LayerSet}
 use Rattle.vs_node.specs.LeastPlans.{ShowsPlan}
-use Rattle.vs_node.proofs.SettledPlans.{shown-best, shown-closed, shown-no_less, shown-worked, single_chosen}
+use Rattle.vs_node.proofs.plans.SettledPlans.{shown-best, shown-closed, shown-no_less, shown-worked, single_chosen}
 use Rattle.vs_node.proofs.outcome.alone.Goals as goal
 
 -- the settled table shows the settled plan

@@ -1,8 +1,11 @@
 use Rattle.std.proofs.Common.{◌≡◌, ◌≢◌, ℕ, length, arith, sym, ap, subst}
+use Rattle.vs_instance.specs.Problem.{Problem}
+use Rattle.vs_prices.specs.declared.table.Table.{Table}
+use Rattle.vs_circ.specs.declared.circ.LayerPrices.{LayerPrices}
 use Rattle.vs_node.specs.LayersDone.{AreSized}
-use Rattle.vs_node.proofs.Done.{all_layers-fit}
-use Rattle.vs_node.proofs.RayTables.{IsRayOfFirst, ray_holds, ray_of_more, ray_of_none, ray_worth}
-use Rattle.vs_node.proofs.TablePrices.{of_first-none}
+use Rattle.vs_node.proofs.plans.Done.{all_layers-fit}
+use Rattle.vs_node.proofs.tables.RayTables.{IsRayOfFirst, ray_holds, ray_of_more, ray_of_none, ray_worth}
+use Rattle.vs_node.proofs.tables.TablePrices.{of_first-none}
 use Rattle.vs_node.proofs.ray_table.ray_table.Goals as goal
 use Rattle.vs_node.proofs.ray_table.ray_table.Goals.{then-l-short, else-l-short}
 
@@ -51,23 +54,26 @@ loop-l-preserved c =
           c.loop-l.invariant.table sized c.in_ok-push_prices.ensures here elsewhere;
     }
 
-all : (c : goal.After-drop-zeros-3) → IsRayOfFirst c.args.instance.now c.args.short.0 c.args.prices.now c.loop-l.zeros
-    (length c.args.instance.now.layers) c.loop-l.table
-all c =
-    let is : c.loop-l.l ≡ length c.args.instance.now.layers =
-    omega (arith, c.layers-l-end.ensures.count, c.loop-l-test.false, c.loop-l.auto.l-end) in
-    subst (λ (n : ℕ). IsRayOfFirst c.args.instance.now c.args.short.0 c.args.prices.now c.loop-l.zeros n c.loop-l.table)
-    is c.loop-l.invariant.table
+-- at the end of all layers the ray is whole
+whole : (p : Problem) (short n : ℕ) (prices zeros : LayerPrices) (table : Table) → n ≡ length p.layers
+    → IsRayOfFirst p short prices zeros n table → IsRayOfFirst p short prices zeros (length p.layers) table
+whole p short n prices zeros table is ray = subst (λ (m : ℕ). IsRayOfFirst p short prices zeros m table) is ray
 
 pub returns-clause-fits : goal.returns-clause-fits
-returns-clause-fits c = all_layers-fit c.args.instance.now c.loop-l.table (all c).first
+returns-clause-fits c = all_layers-fit c.args.instance.now c.loop-l.table (whole c.args.instance.now c.args.short.0 c.loop-l.l c.args.prices.now c.loop-l.zeros
+    c.loop-l.table (omega (arith, c.layers-l-end.ensures.count, c.loop-l-test.false, c.loop-l.auto.l-end))
+    c.loop-l.invariant.table).first
 
 pub returns-clause-holds : goal.returns-clause-holds
 returns-clause-holds c =
     ray_holds c.args.instance.now c.args.short.0 c.args.prices.now c.loop-l.zeros c.loop-l.table
-    c.loop-l.invariant.zeros (all c) c.requires.holding.holds
+    c.loop-l.invariant.zeros (whole c.args.instance.now c.args.short.0 c.loop-l.l c.args.prices.now c.loop-l.zeros
+    c.loop-l.table (omega (arith, c.layers-l-end.ensures.count, c.loop-l-test.false, c.loop-l.auto.l-end))
+    c.loop-l.invariant.table) c.requires.holding.holds
 
 pub returns-clause-worth : goal.returns-clause-worth
 returns-clause-worth c =
     ray_worth c.args.instance.now c.args.short.0 c.args.prices.now c.loop-l.zeros c.loop-l.table
-    c.loop-l.invariant.zeros (all c) c.requires.layer c.layers-l-end.ensures.instance
+    c.loop-l.invariant.zeros (whole c.args.instance.now c.args.short.0 c.loop-l.l c.args.prices.now c.loop-l.zeros
+    c.loop-l.table (omega (arith, c.layers-l-end.ensures.count, c.loop-l-test.false, c.loop-l.auto.l-end))
+    c.loop-l.invariant.table) c.requires.layer c.layers-l-end.ensures.instance

@@ -1,5 +1,5 @@
 use Rattle.vs_node.specs.LayersDone.{AreNoPrices, AreSized}
-use Rattle.vs_node.proofs.RayTables.{IsRayOfFirst}
+use Rattle.vs_node.proofs.tables.RayTables.{IsRayOfFirst}
 use Rattle.vs_node.proofs.ray_table.ray_table.Given as goal
 
 abbrev pub invariant-loop-l : goal.invariant-loop-l

@@ -2,7 +2,7 @@ use Rattle.std.proofs.Common.{Bool, List, sym, subst}
 use Rattle.std.proofs.lemmas.Result.{IfOk-weaker}
 use Rattle.vs_circ.specs.Circulations.{IsFixed}
 use Rattle.vs_circ.specs.Offers.{AreMust}
-use Rattle.vs_node.proofs.OneLayer.{are_must}
+use Rattle.vs_node.proofs.sets.OneLayer.{are_must}
 use Rattle.vs_node.proofs.settling.fixed_in.Goals as goal
 
 pub fixed-requires : goal.fixed-requires

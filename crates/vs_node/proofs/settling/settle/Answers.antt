@@ -1,11 +1,16 @@
-use Rattle.std.proofs.Common.{◌≡◌, ℕ, Bool, length, arith, subst}
+use Rattle.std.proofs.Common.{◌≡◌, ℕ, Bool, List, length, arith, subst}
 use Rattle.std.proofs.lemmas.List.{length-append, length-drop, length-take}
+use Rattle.vs_types.specs.declared.layer_set.LayerSet.{LayerSet}
+use Rattle.vs_instance.specs.Plan.{LayerBlock}
+use Rattle.vs_instance.specs.Problem.{Problem}
 use Rattle.vs_plan.specs.Blocks.{pairs_of}
+use Rattle.vs_prices.specs.declared.table.Table.{Table}
 use Rattle.vs_circ.specs.Circulations.{IsFixed}
 use Rattle.vs_node.specs.LayersDone.{AreDone, must_in}
-use Rattle.vs_node.proofs.FixedLayers.{lawful_read, layer_run}
-use Rattle.vs_node.proofs.Done.{all_layers-fit, done_shows}
-use Rattle.vs_node.proofs.LayerBlocks.{all_layers-plan}
+use Rattle.vs_multi.proofs.CallerLemmas.{lawful_read}
+use Rattle.vs_node.proofs.plans.FixedLayers.{layer_run}
+use Rattle.vs_node.proofs.plans.Done.{all_layers-fit, done_shows}
+use Rattle.vs_node.proofs.plans.LayerBlocks.{all_layers-plan}
 use Rattle.vs_node.proofs.settling.settle.Goals as goal
 
 pub fixed_in-requires-clause-lawful : goal.fixed_in-requires-clause-lawful
@@ -63,35 +68,40 @@ loop-l-preserved c =
           c.loop-l.invariant.done;
     }
 
-pub checked-requires : goal.checked-requires
-checked-requires c =
+-- at the end of all layers all are done
+done_all : (p : Problem) (sets : List LayerSet) (n : ℕ) (table : Table) (blocks : List LayerBlock) → n ≡ length p.layers
+    → AreDone p sets n table blocks → AreDone p sets (length p.layers) table blocks
+done_all p sets n table blocks all done = subst (λ (m : ℕ). AreDone p sets m table blocks) all done
+
+pub of-plan-requires : goal.of-plan-requires
+of-plan-requires c =
     let p = c.args.instance.now in
     let sets = c.args.sets.now in
     let blocks = pairs_of c.loop-l.run.blocks.items in
-    let all : c.loop-l.l ≡ length p.layers =
-    omega (arith, c.layers-l-end.ensures.count, c.loop-l-test.false, c.loop-l.auto.l-end) in
-    let done = subst (λ (n : ℕ). AreDone p sets n c.loop-l.run.table blocks) all c.loop-l.invariant.done in
+    let done = done_all p sets c.loop-l.l c.loop-l.run.table blocks
+    (omega (arith, c.layers-l-end.ensures.count, c.loop-l-test.false, c.loop-l.auto.l-end)) c.loop-l.invariant.done in
     all_layers-plan p sets blocks c.layers-l-end.ensures.instance c.requires.restriction c.requires.single done.run
 
--- all layers are done
-done_all : (c : goal.After-drop-must-2) → AreDone c.args.instance.now c.args.sets.now
-    (length c.args.instance.now.layers) c.loop-l.run.table (pairs_of c.loop-l.run.blocks.items)
-done_all c =
-    let all : c.loop-l.l ≡ length c.args.instance.now.layers =
-    omega (arith, c.layers-l-end.ensures.count, c.loop-l-test.false, c.loop-l.auto.l-end) in
-    subst (λ (n : ℕ). AreDone c.args.instance.now c.args.sets.now n c.loop-l.run.table
-    (pairs_of c.loop-l.run.blocks.items))
-    all c.loop-l.invariant.done
-
 pub returns-clause-fits : goal.returns-clause-fits
-returns-clause-fits c = all_layers-fit c.args.instance.now c.loop-l.run.table (done_all c).prices
+returns-clause-fits c =
+    all_layers-fit c.args.instance.now c.loop-l.run.table
+    (done_all c.args.instance.now c.args.sets.now c.loop-l.l c.loop-l.run.table (pairs_of c.loop-l.run.blocks.items)
+    (omega (arith, c.layers-l-end.ensures.count, c.loop-l-test.false, c.loop-l.auto.l-end))
+    c.loop-l.invariant.done).prices
 
 pub returns-clause-holds : goal.returns-clause-holds
-returns-clause-holds c = (done_all c).holds
+returns-clause-holds c =
+    (done_all c.args.instance.now c.args.sets.now c.loop-l.l c.loop-l.run.table (pairs_of c.loop-l.run.blocks.items)
+    (omega (arith, c.layers-l-end.ensures.count, c.loop-l-test.false, c.loop-l.auto.l-end))
+    c.loop-l.invariant.done).holds
 
 pub returns-clause-shows : goal.returns-clause-shows
 returns-clause-shows c =
-    let plan = c.in_ok-plan.ensures in
-    done_shows c.args.instance.now c.args.sets.now c.loop-l.run.table (pairs_of c.loop-l.run.blocks.items)
-    c.layers-l-end.ensures.instance c.requires.restriction c.requires.single (done_all c) c.in_ok-plan.plan plan.problem
-    plan.blocks plan.checked
+    let p = c.args.instance.now in
+    let sets = c.args.sets.now in
+    let blocks = pairs_of c.loop-l.run.blocks.items in
+    let plan = c.of-plan.ensures in
+    let done = done_all p sets c.loop-l.l c.loop-l.run.table blocks
+    (omega (arith, c.layers-l-end.ensures.count, c.loop-l-test.false, c.loop-l.auto.l-end)) c.loop-l.invariant.done in
+    done_shows p sets c.loop-l.run.table blocks c.layers-l-end.ensures.instance c.requires.restriction
+    c.requires.single done c.of-plan.result plan.problem plan.blocks plan.checked

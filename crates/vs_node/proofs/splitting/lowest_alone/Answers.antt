@@ -1,6 +1,6 @@
 use Rattle.std.proofs.Common.{rules}
 use Rattle.vs_node.specs.SplitRule.{IsLowestAlone}
-use Rattle.vs_node.proofs.SetMembers.{lowest_alone-part}
+use Rattle.vs_node.proofs.sets.SetMembers.{lowest_alone-part}
 use Rattle.vs_node.proofs.splitting.lowest_alone.Goals as goal
 
 pub returns-clause-part : goal.returns-clause-part

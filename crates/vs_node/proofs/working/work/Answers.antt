@@ -2,8 +2,8 @@ use Rattle.std.proofs.Common.{Bool, List, length, subst}
 use Rattle.vs_types.specs.declared.layer_set.LayerSet.{LayerSet}
 use Rattle.vs_node.specs.SplitRule.{HasChoice, HoldsOfNone, IsLowest}
 use Rattle.vs_node.specs.WorkedStep.{IsWorked}
-use Rattle.vs_node.proofs.Begun.{worked-start}
-use Rattle.vs_node.proofs.OneLayer.{choice_of_some, no_choice}
+use Rattle.vs_node.proofs.searches.Begun.{worked-start}
+use Rattle.vs_node.proofs.sets.OneLayer.{choice_of_some, no_choice}
 use Rattle.vs_node.proofs.working.work.Goals as goal
 
 pub alone-requires-clause-single : goal.alone-requires-clause-single

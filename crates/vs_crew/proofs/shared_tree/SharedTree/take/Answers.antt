@@ -4,7 +4,7 @@ use Rattle.vs_instance.specs.Problem.{Problem}
 use Rattle.vs_tree.specs.Search.{Search, state}
 use Rattle.vs_tree.specs.Takes.{IsSized, IsTake, taking}
 use Rattle.vs_tree.specs.declared.calls.Take.{Take}
-use Rattle.vs_node.specs.declared.task.Task.{Task}
+use Rattle.vs_node.specs.declared.outcome.Task.{Task}
 use Rattle.vs_crew.specs.Leaves.{IsTold}
 use Rattle.vs_crew.specs.Sharing.{GoesOnBy, HeldWhenLeft, IsIdle, Shared}
 use Rattle.vs_crew.proofs.leaves.Finished.{still_idle}

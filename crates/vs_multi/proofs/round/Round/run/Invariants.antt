@@ -5,6 +5,6 @@ use Rattle.vs_multi.proofs.round.Round.run.Given as goal
 -- the layers below this one have run
 abbrev pub invariant-loop-l : goal.invariant-loop-l
 invariant-loop-l l = record {
-  round : IsRoundFor l.instance l.self;
-  run : HaveRun l.instance l.nets l.sets l.multipliers l.l l.self;
+  round : IsRoundFor l.case.instance.now l.self;
+  run : HaveRun l.case.instance.now l.case.nets.now l.case.sets.now l.multipliers l.l l.self;
 }

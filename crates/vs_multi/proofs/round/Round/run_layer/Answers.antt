@@ -10,9 +10,9 @@ returns-clause-ran c =
     let new = c.count_runs.new.covers in
     let units = c.in_ok-circ.circ.flow.units.items in
     let by_slices = c.count_runs.ensures in
-    let by_units = subst (λ (xs : List ℕ). AreCounted net xs c.deref_mut-2.result.now new) c.deref.ensures.value
+    let by_units = subst (λ (xs : List ℕ). AreCounted net xs c.as_mut_slice-covers.result.now new) c.deref.ensures.value
     by_slices in
-    let counted = subst (λ (xs : List ℕ). AreCounted net units xs new) c.deref_mut-2.ensures.value by_units in
+    let counted = subst (λ (xs : List ℕ). AreCounted net units xs new) c.as_mut_slice-covers.ensures.value by_units in
     let kept = with_items_is old new (counted.each_trip ∙ sym old.ok.0) in (
       c.in_ok-circ.circ,
       record {

@@ -3,7 +3,7 @@ use Rattle.std.proofs.lemmas.List.{map-append}
 use Rattle.vs_instance.specs.Plan.{LayerBlock}
 use Rattle.vs_plan.specs.Blocks.{pair_of, pairs_of}
 use Rattle.vs_node.specs.LayersDone.{AreDone}
-use Rattle.vs_node.proofs.Done.{one_more_done}
+use Rattle.vs_node.proofs.plans.Done.{one_more_done}
 use Rattle.vs_node.proofs.layers_run.LayersRun.add.Goals as goal
 
 pub returns : goal.returns

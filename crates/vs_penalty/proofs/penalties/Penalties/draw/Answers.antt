@@ -9,5 +9,6 @@ settle-requires-clause-single c = given-single _ _ _ c.lowest_layers.ensures
 
 pub returns-clause-plan : goal.returns-clause-plan
 returns-clause-plan c =
-    shown_plan c.args.instance.now c.lowest_layers.new.chosen c.in_ok-settled.settled.table c.in_ok-settled.settled.plan
+    shown_plan c.args.case.now.instance.now c.lowest_layers.new.chosen c.in_ok-settled.settled.table
+    c.in_ok-settled.settled.plan
     c.in_ok-settled.ensures.shows
