@@ -1,6 +1,6 @@
 //! Runs that take a while: large timetables, many workers, and two workers that meet.
 
-use crate::runs::{audited, ran};
+use crate::runs::{audit, ran};
 use mdvsp::{Status, make_text};
 use std::alloc::Global;
 use std::process::Abort;
@@ -22,7 +22,7 @@ fn is_planned<R: Abort + Threads + Wait + Sync>(
     nodes: &str,
 ) -> Result<(), Fail> {
     let words = ["solve", "--workers", workers, "--nodes", nodes];
-    let told = audited(rt, alloc, &words, instance, instance, &NoGate)?;
+    let told = audit(rt, alloc, &words, instance, instance, &NoGate)?;
     assert!(rt; told.status == Status::Done || told.status == Status::StillOpen);
     assert_eq!(rt; told.verdict, Status::Done, "{workers}");
     Ok(())
@@ -88,7 +88,7 @@ fn two_workers_meet(rt: HostRuntime) -> Result<(), Fail> {
     };
     let words = ["solve", "--workers", "2", "--nodes", "127"];
     let input = joined(rt.alloc(), &HALVES)?;
-    let told = audited(&rt, rt.alloc(), &words, &input, &input, &meeting)?;
+    let told = audit(&rt, rt.alloc(), &words, &input, &input, &meeting)?;
     assert_eq!(rt; told.status, Status::Infeasible);
     assert_eq!(rt; told.verdict, Status::Done);
     assert!(rt; meeting.met.load(Ordering::SeqCst));
@@ -129,7 +129,7 @@ fn largest_is_planned<R: Abort + Threads + Wait + Sync>(
     words: &[&str],
 ) -> Result<(), Fail> {
     let text = largest(alloc)?;
-    let told = audited(rt, alloc, words, &text, &text, &NoGate)?;
+    let told = audit(rt, alloc, words, &text, &text, &NoGate)?;
     assert_eq!(rt; told.status, Status::Done);
     assert!(rt;
         told.document

@@ -1,6 +1,6 @@
 //! `solve`, and `check` on what it writes.
 
-use crate::runs::audited;
+use crate::runs::audit;
 use mdvsp::Status;
 use std::alloc::Global;
 use std::process::Abort;
@@ -199,7 +199,7 @@ fn is_planned<R: Abort + Threads + Wait + Sync>(
     let input = joined(alloc, row.input)?;
     let records = joined(alloc, row.records)?;
     let head = joined(alloc, row.head)?;
-    let told = audited(rt, alloc, &words, &input, &records, &NoGate)?;
+    let told = audit(rt, alloc, &words, &input, &records, &NoGate)?;
     assert_eq!(rt; told.status, row.status, "{}, {workers}", row.case);
     assert!(rt; told.document.starts_with(&head), "{}, {workers}", row.case);
     assert_eq!(rt; told.verdict, Status::Done, "{}, {workers}", row.case);

@@ -107,7 +107,7 @@ pub struct Audited {
 }
 
 /// Plans with these words what is read, and judges the document that this writes behind the records of the instance.
-pub fn audited<R: Threads + Wait + Sync, G: Gate + Sync>(
+pub fn audit<R: Threads + Wait + Sync, G: Gate + Sync>(
     rt: &R,
     alloc: Global,
     words: &[&str],
