@@ -26,6 +26,7 @@ use Rattle.vs_check.specs.declared.flaw.Flaw.TheVariants.{Plan, CostDiffers, Tab
 use Rattle.vs_document.specs.Shapes.{preorder}
 use Rattle.vs_check.specs.declared.verdict.Verdict.{Verdict}
 use Rattle.vs_check.specs.declared.verdict.Verdict.TheVariants.{Yes, No}
+use Rattle.vs_types.specs.Parts.{is_proper_part}
 use Rattle.vs_cases.specs.Claims.{claim_found}
 use Rattle.vs_cases.specs.Tree.{Tree, Leaf, Split, right_of, with_set}
 use Rattle.vs_check.specs.Trees.{trees_of}

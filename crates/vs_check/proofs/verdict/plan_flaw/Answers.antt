@@ -22,8 +22,8 @@ returns-then-found-cost c =
     (ap (plan_flaws p blocks) c.in-Some.is
     ∙ right_cost p blocks c.in-Some.cost c.in-Ok.ensures.plan.0 (sym same ∙ c.in-Ok.ensures.plan.1)))
 
-pub returns-in-Ok : goal.returns-in-Ok
-returns-in-Ok c =
+pub returns-else-found-cost : goal.returns-else-found-cost
+returns-else-found-cost c =
     let p = c.args.instance.now in
     let blocks = blocks_of c.args.document.now.plan in
     let cost_fits : FitsSigned w64 c.in-Some.cost = search rules in

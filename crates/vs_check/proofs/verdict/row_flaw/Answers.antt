@@ -8,8 +8,8 @@ use Rattle.vs_check.specs.declared.flaw.Flaw.TheVariants.{BadSplit}
 use Rattle.vs_check.proofs.RowFlaws.{bad_split, good_split}
 use Rattle.vs_check.proofs.verdict.row_flaw.Goals as goal
 
-pub returns-in_ok-enter_left : goal.returns-in_ok-enter_left
-returns-in_ok-enter_left c =
+pub returns-then-is_proper_part : goal.returns-then-is_proper_part
+returns-then-is_proper_part c =
     let p = c.args.instance.now in
     let d = c.args.document.now in
     let old = c.args.walk.now in
@@ -20,10 +20,10 @@ returns-in_ok-enter_left c =
     ap (λ (s : LayerSet). is_proper_part left s) (sym c.layers.ensures) ∙ sym c.is_proper_part.ensures.value
     ∙ c.if-is_proper_part.true in
     subst (λ (row : Shape). GoesOver p d c.args.position row old new None) (sym c.in-Split.is)
-    (good_split p d c.args.position trip left old new good c.in_ok-enter_left.ensures)
+    (good_split p d c.args.position trip left old new good c.in_ok-enter_left-in-Split.ensures)
 
-pub returns-in-Split : goal.returns-in-Split
-returns-in-Split c =
+pub returns-else-is_proper_part : goal.returns-else-is_proper_part
+returns-else-is_proper_part c =
     let p = c.args.instance.now in
     let d = c.args.document.now in
     let walk = c.args.walk.now in
