@@ -3,6 +3,7 @@ use Rattle.std.proofs.Common.{ℕ, List, [], ◌∷◌, ◌++◌, take, refl, sy
 use Rattle.vs_reader.specs.Rows.{Row, lines}
 use Rattle.vs_reader.specs.Texts.{HasRows, EndsInLine}
 use Rattle.vs_document.proofs.CallerLemmas.{read_back}
+use Rattle.vs_document.specs.ReadingBack.{ReadsAs}
 use Rattle.vs_words.specs.declared.command.Effort.{Effort}
 use Rattle.mdvsp.specs.declared.status.Status.{Status}
 use Rattle.mdvsp.specs.Owed.{OwesDocument, OwesYes, yes_row}
@@ -32,3 +33,14 @@ solved_holds effort bytes read answer rows owed has ends =
       proves = owed.proves;
       rows_are = refl;
     })
+
+-- and they read as the instance with its names, and behind its records as the document
+pub solved_reads : (effort : Effort) (bytes read : List ℕ) (answer : Status) (rows : List Row)
+    (owed : OwesDocument effort bytes answer rows) → HasRows read (take owed.text.before owed.text.instance.rows)
+    → EndsInLine read
+    → ReadsAs (read ++ lines rows) owed.problem owed.names owed.text.before owed.document
+solved_reads effort bytes read answer rows owed has ends =
+    subst (λ (others : List Row). ReadsAs (read ++ lines others) owed.problem owed.names owed.text.before owed.document)
+    (sym owed.rows_are)
+    (read_back bytes read owed.problem owed.names owed.text.before owed.text.rest owed.document owed.text.instance has
+    ends owed.solves.has_text)

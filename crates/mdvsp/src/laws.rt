@@ -10,15 +10,17 @@ ghost use Rattle.mdvsp.specs.declared.status.Status.{Status};
 ghost use Rattle.mdvsp.specs.declared.status.Status.TheVariants as status;
 ghost use Rattle.mdvsp.specs.Laws.{IsDetermined, IsDoneWhereShown, MayBothBe, NeverDisagree, NeverPasses};
 ghost use Rattle.mdvsp.specs.Owed.{CheckOwes, Owes, OwesDocument, yes_row};
+ghost use Rattle.vs_document.specs.ReadingBack.{ReadsAs};
 ghost use Rattle.vs_reader.specs.Rows.{Row, lines};
 
 /// What `solve` has to write for an instance is true: behind the instance's records, the last of which is
-/// ended by a line end, `check` has to answer `yes`.
+/// ended by a line end, `check` has to answer `yes`. And both together read as the instance and the document that is owed.
 pub fn solved_documents_hold()
     ensures { (effort : Effort) (bytes read : List ℕ) (answer : Status) (rows : List Row)
         (owed : OwesDocument effort bytes answer rows)
         → HasRows read (take owed.text.before owed.text.instance.rows) → EndsInLine read
-        → CheckOwes (read ++ lines rows) status.Done (yes_row owed.document ∷ []) }
+        → CheckOwes (read ++ lines rows) status.Done (yes_row owed.document ∷ [])
+        × ReadsAs (read ++ lines rows) owed.problem owed.names owed.text.before owed.document }
 {}
 
 /// What a command other than `solve` is owed for the bytes that it read is one thing: one status, and one
