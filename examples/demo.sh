@@ -1,16 +1,16 @@
 #!/usr/bin/env bash
-# Plans examples/morning_peak.csv, tells how far the plan can be from the best one, and has it audited. Where bin/mdvsp is
+# Plans examples/first_hour.csv, tells how far the plan can be from the best one, and has it audited. Where bin/mdvsp is
 # built, that program runs. Else the sources are compiled without any proof and run with checks, which takes minutes.
 set -u
 cd "$(dirname "$0")/.." || exit 1
-timetable=examples/morning_peak.csv
+timetable=examples/first_hour.csv
 work=$(mktemp -d)
 trap 'rm -rf "$work"' EXIT
 
 if [ -x bin/mdvsp ]; then
   run() { bin/mdvsp "$@"; }
 else
-  echo "bin/mdvsp isn't built, so this compiles the sources as they are, unproved, and runs them with checks: two minutes or so."
+  echo "bin/mdvsp isn't built, so this compiles the sources as they are, unproved, and runs them with checks: a minute and a half or so."
   echo "\`make\` proves the program and builds bin/mdvsp."
   run() { (cd crates/mdvsp_main && rt try --steps 1 --seconds 1800 -- "$@" 2> "$work/log"); }
 fi
