@@ -5,7 +5,6 @@ ghost use Rattle.std.specs.String.{string_bytes};
 ghost use Rattle.vs_reader.specs.Names.{IsName, Names as Numbered};
 ghost use Rattle.vs_reader.specs.NameRules.{AreNames};
 
-use indexmap::IndexSet;
 use std::alloc::Global;
 use std::collections::BTreeMap;
 use std::marker::Model;
@@ -16,7 +15,7 @@ use vs_types::Memory;
 /// choose such as a hash takes for one another, but none that are slow to find in order.
 #[derive(Drop)]
 pub struct NameList {
-    names: IndexSet<String>,
+    names: Vec<String>,
     numbers: BTreeMap<String, u32>,
 }
 
@@ -28,10 +27,10 @@ impl Model for NameList {
 
     ghost Value = { List Field };
 
-    ghost view = { λ a. map string_bytes a.names.keys };
+    ghost view = { λ a. map string_bytes a.names.items };
 
-    ghost invariant = { λ a. AreNames (map string_bytes a.names.keys)
-        × AreNumbers (map string_bytes a.names.keys) a.numbers };
+    ghost invariant = { λ a. AreNames (map string_bytes a.names.items)
+        × AreNumbers (map string_bytes a.names.items) a.numbers };
 }
 
 impl NameList {
@@ -40,7 +39,7 @@ impl NameList {
         ensures { result ≡ [] }
     {
         NameList {
-            names: IndexSet::new(alloc),
+            names: Vec::new(alloc),
             numbers: BTreeMap::new(alloc),
         }
     }
@@ -101,7 +100,7 @@ impl NameList {
         let key = text(alloc, name)?;
         self.names.reserve(1)?;
         self.numbers.insert(key, number)?;
-        self.names.insert_full(added)?;
+        self.names.push(added)?;
         Ok(())
     }
 }

@@ -172,11 +172,10 @@ fn read_rest(alloc: Global, records: &mut TextRecords, any: bool) -> Result<Rows
     ensures few_rows { IfOk result (λ rest. length rest < 2 ^ 32) }
     ensures few_fields { IfOk result (λ rest. length (all_fields rest) < 2 ^ 32) }
 {
-    let mut rest = RowBuilder::new(alloc);
     if !any {
-        return Ok(rest.into_rows());
+        return Ok(RowBuilder::new(alloc).into_rows());
     }
-    rest.push(&records.current)?;
+    let mut rest = RowBuilder::of(alloc, &records.current)?;
     for _count in 1..u32::MAX {
         if !records.next()? {
             return Ok(rest.into_rows());

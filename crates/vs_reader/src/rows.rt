@@ -1,6 +1,6 @@
 //! Rows of fields that are kept, and how they are put together.
 
-ghost use Rattle.std.specs.Prelude.{◌≡◌, ◌+◌, ◌<◌, ◌≤◌, ◌^◌, [], ◌∷◌, ◌++◌, length, take, slice_index_or, OnOk};
+ghost use Rattle.std.specs.Prelude.{◌≡◌, ◌+◌, ◌<◌, ◌≤◌, ◌^◌, [], ◌∷◌, ◌++◌, length, take, slice_index_or, IfOk, OnOk};
 ghost use Rattle.csv.specs.Records.{fields_of};
 ghost use Rattle.vs_reader.specs.RowEnds.{end_of, row_weight};
 
@@ -53,9 +53,12 @@ impl Rows {
         requires field { k < length (slice_index_or self.now row []) }
         ensures { result.now ≡ slice_index_or (slice_index_or self.now row []) k [] }
     {
-        let place = start_of(&self.row_ends, row) + k;
-        let start = start_of(&self.field_ends, place);
-        &self.bytes[start..self.field_ends[place] as usize]
+        let row_ends: &[u32] = &self.row_ends;
+        let place = start_of(row_ends, row) + k;
+        let field_ends: &[u32] = &self.field_ends;
+        let start = start_of(field_ends, place);
+        let bytes: &[u8] = &self.bytes;
+        &bytes[start..self.field_ends[place] as usize]
     }
 }
 
@@ -90,6 +93,18 @@ impl RowBuilder {
             field_ends: Vec::new(alloc),
             row_ends: Vec::new(alloc),
         }
+    }
+
+    /// One record as the only row.
+    pub fn of(alloc: Global, row: &ByteRecord) -> Result<RowBuilder, Memory>
+        requires { row_weight (fields_of row.now) < 2 ^ 32 }
+        ensures rows { IfOk result (λ rows. built rows ≡ fields_of row.now ∷ []) }
+        ensures whole { IfOk result (λ rows. IsWhole rows) }
+        ensures size { IfOk result (λ rows. size_of rows ≡ row_weight (fields_of row.now)) }
+    {
+        let mut rows = RowBuilder::new(alloc);
+        rows.push(row)?;
+        Ok(rows)
     }
 
     /// Adds a record as the last row.

@@ -1,9 +1,8 @@
 -- The layers that fields name, each once.
 use Rattle.std.proofs.Common.{◌≡◌, ℕ, ◌+◌, ◌-◌, ◌<◌, ◌≤◌, ◌⊎◌, ◌↔◌, inl, inr, List, [], ◌∷◌, ◌++◌, length, get_or, take, drop, Contains, sym, ap, ◌∙◌, subst, arith}
 use Rattle.std.proofs.lemmas.List.{get_or_default, length-drop, get_or-drop, take_more, take-append-drop, drop_more}
-use Rattle.std.proofs.lemmas.List.Elements.{All-push, All-nil, Contains-append_left, Contains-push, Contains-push_cases}
+use Rattle.std.proofs.lemmas.List.Elements.{All-push, Contains-append_left, Contains-push, Contains-push_cases}
 use Rattle.std.proofs.lemmas.List.Quantifiers.{all_pairs_push}
-use Rattle.std.proofs.lemmas.Nat.Bits.{bit_at-zero}
 use Rattle.std.proofs.lemmas.Option.{same_Some}
 use Rattle.vs_types.specs.LayerSet.{Has}
 use Rattle.vs_types.specs.declared.layer_set.LayerSet.{LayerSet}
@@ -14,14 +13,6 @@ use Rattle.vs_reader.specs.declared.refused.Why.{Why}
 use Rattle.vs_reader.specs.Rules.{Rule, IsNoneOf, AreKept, BreaksFirst, known_name, layer_names}
 use Rattle.vs_reader.proofs.declaring.RuleLemmas.{AreKept-append, BreaksFirst-skip, BreaksFirst-stop, layer_names-append}
 use Rattle.vs_reader.proofs.naming.NameLemmas.{Contains-Names}
-
--- no fields
-pub NameLayers-nil : (names : List Field) → NameLayers names [] (record { 0 = 0 })
-NameLayers-nil names = record {
-  once = λ i j d before within. absurd (omega arith);
-  each = All-nil (λ f. Contains names f);
-  members = λ l. ((λ has. absurd (omega (arith, bit_at-zero l, has))), (λ w. absurd (omega (arith, w.1.1))));
-}
 
 -- one more field
 pub NameLayers-push : (names fields : List Field) (f : Field) (set more : LayerSet) (l : ℕ)

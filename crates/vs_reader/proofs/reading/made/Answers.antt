@@ -1,4 +1,4 @@
-use Rattle.std.proofs.Common.{refl, ◌∙◌}
+use Rattle.std.proofs.Common.{refl, ◌∙◌, rules}
 use Rattle.vs_reader.specs.Drafts.{declared_of}
 use Rattle.vs_reader.proofs.declaring.DeclaredParts.{are_parts}
 use Rattle.vs_reader.proofs.reading.made.Goals as goal
@@ -27,7 +27,7 @@ returns-in-Err-Misfit-clause-refused c = λ records all numbers. record {
   };
   parts_are = record { stops = c.stops.ensures.count; deadheads = refl; layers = refl; trips = refl };
   misfit = c.in-Err-Misfit.misfit;
-  first = rw c.in-Err-Misfit.field-0-is at c.in-Err-Misfit.ensures.misfit;
+  first = search rules;
   why_is = refl;
   row_is = c.from.ensures ∙ c.of_misfit.ensures records numbers;
 }

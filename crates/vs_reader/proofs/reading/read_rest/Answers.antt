@@ -38,8 +38,8 @@ returns-then-not-branch-clause-few_fields c =
       ap (λ (rs : List Row). length (all_fields rs)) c.into_rows-then-not-branch.ensures,
     )
 
-pub push-requires-in-loop-count-clause-room : goal.push-requires-in-loop-count-clause-room
-push-requires-in-loop-count-clause-room c =
+pub push-requires-clause-room : goal.push-requires-clause-room
+push-requires-clause-room c =
     let start : IsOpen c.args.records.now = c.requires c.if-not-any.false in
     let at = c.loop-count.invariant.rows (fields_of c.args.records.now.current ∷ start.rows)
     (start.rows, refl, start.left) in
@@ -57,7 +57,7 @@ push-requires-in-loop-count-clause-room c =
 pub loop-count-preserved : goal.loop-count-preserved
 loop-count-preserved c =
     let row = fields_of c.next.new.self.current in
-    let more = c.in_ok-push-2.ensures.rows in
+    let more = c.in_ok-push.ensures.rows in
     let start : IsOpen c.args.records.now = c.requires c.if-not-any.false in
     let at = c.loop-count.invariant.rows (fields_of c.args.records.now.current ∷ start.rows)
     (start.rows, refl, start.left) in
@@ -73,10 +73,10 @@ loop-count-preserved c =
         ap weight_of more,
         weight_of-push (built c.loop-count.rest) row,
       );
-      whole = c.in_ok-push-2.ensures.whole;
+      whole = c.in_ok-push.ensures.whole;
       size = omega (
         arith,
-        c.in_ok-push-2.ensures.size,
+        c.in_ok-push.ensures.size,
         c.loop-count.invariant.size,
         ap weight_of more,
         weight_of-push (built c.loop-count.rest) row,

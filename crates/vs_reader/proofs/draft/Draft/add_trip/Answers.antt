@@ -21,6 +21,6 @@ returns c =
           room = trip_room c.args.self.now.names row kept;
           added = search rules;
         },
-        record { deadheads = refl; layers = refl; trips = c.in_ok-push-2.ensures.items },
+        record { deadheads = refl; layers = refl; trips = search rules },
       ),
     )

@@ -1,18 +1,16 @@
-use Rattle.std.proofs.Common.{arith, refl, ◌≡◌, ℕ, ◌+◌, ◌<◌, ◌++◌, [], ◌∷◌, List, length, map, sym, ap, ◌∙◌, subst, Contains, Some}
+use Rattle.std.proofs.Common.{arith, ◌≡◌, ℕ, ◌+◌, ◌<◌, ◌++◌, [], ◌∷◌, List, length, map, sym, ap, ◌∙◌, subst, Contains, Some}
 use Rattle.std.specs.BTreeMap.{UpdatesBy}
 use Rattle.std.specs.Cmp.Lexicographic.{slice_cmp}
 use Rattle.std.specs.Ordering.{nat_cmp}
-use Rattle.std.specs.String.{string_bytes, string_cmp, string_eq}
-use Rattle.indexmap.specs.IndexSet.{insert_key}
+use Rattle.std.specs.String.{string_bytes, string_cmp}
 use Rattle.std.proofs.lemmas.List.{map_push, length-map}
 use Rattle.vs_reader.specs.Rows.{Field}
-use Rattle.vs_reader.proofs.naming.NameLemmas.{insert_key-new}
 use Rattle.vs_reader.proofs.naming.NumberedNames.{AreNumbers-push, AreNames-push}
 use Rattle.vs_reader.proofs.name_list.NameList.add.Goals as goal
 
 pub invariant_of-self-2 : goal.invariant_of-self-2
 invariant_of-self-2 c =
-    let old = c.self.inside.names.keys in
+    let old = c.self.inside.names.items in
     let names : List Field = map string_bytes old in
     let number : c.len-number.result ≡ length names =
     omega (arith, c.len-number.ensures, length-map old string_bytes) in
@@ -30,12 +28,8 @@ invariant_of-self-2 c =
     (λ k. slice_cmp nat_cmp bs (string_bytes k)) c.self.inside.numbers c.insert.new.self
     (Some c.len-number.result)) c.in_ok-key.ensures
     c.in_ok-insert.ensures.updates) in
-    let absent : ¬ (Contains names (string_bytes c.in_ok-added.added)) =
-    λ among. new (subst (λ (f : Field). Contains names f) c.in_ok-added.ensures among) in
-    let items : c.insert_full.new.self.keys ≡ old ++ c.in_ok-added.added ∷ [] =
-    c.in_ok-insert_full.ensures.keys
-    ∙ ap (λ ks. insert_key string_eq ks c.in_ok-added.added) c.reserve.ensures.keys
-    ∙ insert_key-new string_bytes string_eq (λ _ _. refl) old c.in_ok-added.added absent in
+    let items : c.push.new.self.items ≡ old ++ c.in_ok-added.added ∷ [] =
+    c.in_ok-push.ensures.items ∙ ap (λ ts. ts ++ c.in_ok-added.added ∷ []) c.reserve.ensures.items in
     rw (items, map_push string_bytes old c.in_ok-added.added, c.in_ok-added.ensures) (
       AreNames-push names c.args.name.now c.self.invariant.0 c.requires.name new room,
       AreNumbers-push names c.args.name.now c.self.inside.numbers c.insert.new.self c.self.invariant.1 new updates,
@@ -43,15 +37,9 @@ invariant_of-self-2 c =
 
 pub returns : goal.returns
 returns c =
-    let old = c.self.inside.names.keys in
+    let old = c.self.inside.names.items in
     let names : List Field = map string_bytes old in
-    let new : ¬ (Contains names c.args.name.now) =
-    λ among. c.requires.new (subst (λ (ns : List Field). Contains ns c.args.name.now) c.self.view_is among) in
-    let absent : ¬ (Contains names (string_bytes c.in_ok-added.added)) =
-    λ among. new (subst (λ (f : Field). Contains names f) c.in_ok-added.ensures among) in
-    let items : c.insert_full.new.self.keys ≡ old ++ c.in_ok-added.added ∷ [] =
-    c.in_ok-insert_full.ensures.keys
-    ∙ ap (λ ks. insert_key string_eq ks c.in_ok-added.added) c.reserve.ensures.keys
-    ∙ insert_key-new string_bytes string_eq (λ _ _. refl) old c.in_ok-added.added absent in
+    let items : c.push.new.self.items ≡ old ++ c.in_ok-added.added ∷ [] =
+    c.in_ok-push.ensures.items ∙ ap (λ ts. ts ++ c.in_ok-added.added ∷ []) c.reserve.ensures.items in
     ap (map string_bytes) items ∙ map_push string_bytes old c.in_ok-added.added
     ∙ ap (λ f. names ++ f ∷ []) c.in_ok-added.ensures ∙ ap (λ ns. ns ++ c.args.name.now ∷ []) c.self.view_is

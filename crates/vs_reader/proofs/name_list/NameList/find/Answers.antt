@@ -14,7 +14,7 @@ returns-clause-found c =
     subst (λ (ns : List Field). MatchOption c.copied.result (¬ (Contains ns c.args.name.now))
     (λ k. Names ns c.args.name.now k)) c.self.view_is
     (found_number
-    (map string_bytes c.self.inside.names.keys) c.self.inside.numbers c.self.invariant.1 c.args.name.now
+    (map string_bytes c.self.inside.names.items) c.self.inside.numbers c.self.invariant.1 c.args.name.now
     c.copied.result is)
 
 pub returns-clause-within : goal.returns-clause-within

@@ -11,18 +11,18 @@ use Rattle.vs_reader.proofs.name_list.NameList.get.Goals as goal
 
 pub returns-clause-name : goal.returns-clause-name
 returns-clause-name c =
-    let within : c.args.number < length c.self.inside.names.keys =
+    let within : c.args.number < length c.self.inside.names.items =
     omega (
       arith,
       ap (λ (ns : List Field). length ns) c.self.view_is,
-      length-map c.self.inside.names.keys (λ (t : String Global). string_bytes t),
+      length-map c.self.inside.names.items (λ (t : String Global). string_bytes t),
       c.requires,
     ) in
     c.as_str.ensures.value
     ∙ ap (λ (t : String Global). string_bytes t)
     (c.index-as_slice-number.is
-    ∙ ap (λ ks. get_or ks c.args.number c.index-as_slice-number.result) c.as_slice.ensures.keys)
-    ∙ sym (get_or-map string_bytes c.self.inside.names.keys c.args.number c.index-as_slice-number.result [] within)
+    ∙ ap (λ ks. get_or ks c.args.number c.index-as_slice-number.result) c.as_slice.ensures.value)
+    ∙ sym (get_or-map string_bytes c.self.inside.names.items c.args.number c.index-as_slice-number.result [] within)
     ∙ ap (λ (ns : List Field). get_or ns c.args.number []) c.self.view_is
 
 pub returns-clause-only : goal.returns-clause-only
