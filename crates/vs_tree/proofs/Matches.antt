@@ -1,9 +1,8 @@
 -- What a match at an inner place of a tournament changes, and who wins at its root.
-use Rattle.std.proofs.Common.{◌≡◌, ◌≢◌, ◌⊎◌, ℕ, zero, suc, ◌+◌, ◌-◌, ◌*◌, ◌/◌, ◌<◌, ◌≤◌, length, set, drop, replicate, refl, sym, ◌∙◌, ap, subst, arith, inl, inr, Option, Some, None, ℤ, ◌≤ℤ◌, ◌<ℤ◌, Bool, true, false}
-use Rattle.std.specs.Prelude.{int_lt}
+use Rattle.std.proofs.Common.{◌≡◌, ◌≢◌, ℕ, zero, suc, ◌+◌, ◌-◌, ◌*◌, ◌/◌, ◌<◌, ◌≤◌, length, set, drop, refl, sym, ◌∙◌, ap, subst, arith, inl, inr, Option, Some, None}
 use Rattle.std.proofs.lemmas.Bool.{cases_eq, cases_lt}
 use Rattle.std.proofs.lemmas.Int.{ints}
-use Rattle.std.proofs.lemmas.List.{get_or-set_same, get_or-set_other, get_or-drop, get_or_past, get_or-replicate, length-replicate}
+use Rattle.std.proofs.lemmas.List.{get_or-set_same, get_or-set_other, get_or-drop, get_or_past}
 use Rattle.vs_prices.specs.Bounds.{IsNoLess}
 use Rattle.vs_prices.specs.declared.bound.Bound.{Bound}
 use Rattle.vs_prices.specs.declared.bound.Bound.TheVariants.{AtLeast, NoPlan}
@@ -19,20 +18,6 @@ no_less-trans NoPlan b c ab bc = tt
 no_less-trans (AtLeast n) NoPlan c ab bc = absurd ab
 no_less-trans (AtLeast n) (AtLeast m) NoPlan ab bc = absurd bc
 no_less-trans (AtLeast n) (AtLeast m) (AtLeast k) ab bc = omega (arith, ints, ab, bc)
-
--- of two numbers the first is at most the second, or the second is less
-at_most_or_less : (x y : ℤ) → (x ≤ℤ y) ⊎ (y <ℤ x)
-at_most_or_less x y = by_test (int_lt y x) refl
-  where
-    less : int_lt y x ≡ true → y <ℤ x
-    less is = grind (arith, ints)
-
-    at_most : int_lt y x ≡ false → x ≤ℤ y
-    at_most is = grind (arith, ints)
-
-    by_test : (b : Bool) → int_lt y x ≡ b → (x ≤ℤ y) ⊎ (y <ℤ x)
-    by_test true is = inr (less is)
-    by_test false is = inl (at_most is)
 
 not_after-refl : (a : Option Entry) → IsNotAfter a a
 not_after-refl None = tt

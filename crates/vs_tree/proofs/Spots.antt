@@ -7,7 +7,7 @@ use Rattle.vs_tree.specs.declared.spot.Spot.{Spot}
 use Rattle.vs_types.specs.declared.layer_set.LayerSet.{LayerSet}
 use Rattle.vs_types.specs.declared.numbers.TripNo.{TripNo}
 use Rattle.vs_tree.specs.declared.spot.Spot.TheVariants.{Inner, Free}
-use Rattle.vs_tree.specs.Cuts.{part_at, split_at}
+use Rattle.vs_tree.specs.Cuts.{part_at, split_at, with_lower}
 use Rattle.vs_cases.specs.Tree.{with_set}
 use Rattle.vs_tree.specs.History.{Place, count_spots, is_inner, no_place, place_at, with_spot}
 
@@ -86,31 +86,27 @@ module _ (places : List Place) (left right : Place) where
       let second = sum_by-cons f right [] in
       omega (arith, both, first, second)
 
--- where a spot becomes an inner one and then its two parts come, it is split
-pub split-steps : (places relabelled first second : List Place) (k : ℕ) (trip : TripNo) (left right : LayerSet)
-    (table : ℕ) → k < length places
-    → relabelled ≡ with_spot places k (Inner trip left (length places) (length places + 1))
-    → first ≡ relabelled ++ part_at relabelled k trip left table ∷ []
+-- where a spot becomes an inner one, and first the lower and then the upper of its parts comes, it is split
+pub split-steps : (places first second : List Place) (k : ℕ) (trip : TripNo) (left right : LayerSet) (table : ℕ)
+    → k < length places → first ≡ with_lower places k trip left table
     → second ≡ first ++ part_at first k trip right table ∷ []
     → second ≡ split_at places k trip left right table
-split-steps places relabelled first second k trip left right table within inner lower upper =
+split-steps places first second k trip left right table within lower upper =
     let spot : Spot = Inner trip left (length places) (length places + 1) in
+    let inner : List Place = with_spot places k spot in
     let on_left : Place = part_at places k trip left table in
     let on_right : Place = part_at places k trip right table in
-    let size = ap (λ (x : List Place). length x) inner in
     let same = length-with_spot places k spot in
-    let sets_then : (place_at relabelled k).sets ≡ (place_at places k).sets =
-    ap (λ (x : List Place). (place_at x k).sets) inner ∙ with_spot-sets places k spot k in
-    let sets_next : (place_at first k).sets ≡ (place_at relabelled k).sets =
+    let sets_then : (place_at inner k).sets ≡ (place_at places k).sets = with_spot-sets places k spot k in
+    let sets_next : (place_at first k).sets ≡ (place_at inner k).sets =
     ap (λ (x : List Place). (place_at x k).sets) lower
-    ∙ ap (λ (q : Place). q.sets) (get_or_append_left relabelled (part_at relabelled k trip left table ∷ []) no_place k
-    (omega (arith, size, same, within))) in
+    ∙ ap (λ (q : Place). q.sets) (get_or_append_left inner (part_at inner k trip left table ∷ []) no_place k
+    (omega (arith, same, within))) in
     let part : List LayerSet → LayerSet → Place = λ x layers. record
     { spot = Free table; sets = with_set x trip layers } in
-    let is_left : part_at relabelled k trip left table ≡ on_left = ap (λ (x : List LayerSet). part x left) sets_then in
+    let is_left : part_at inner k trip left table ≡ on_left = ap (λ (x : List LayerSet). part x left) sets_then in
     let is_right : part_at first k trip right table ≡ on_right =
     ap (λ (x : List LayerSet). part x right) (sets_next ∙ sets_then) in
     upper ∙ ap (λ (q : Place). first ++ q ∷ []) is_right ∙ ap (λ (x : List Place). x ++ on_right ∷ []) lower
-    ∙ append_assoc relabelled (part_at relabelled k trip left table ∷ []) (on_right ∷ [])
-    ∙ ap (λ (q : Place). relabelled ++ q ∷ on_right ∷ []) is_left
-    ∙ ap (λ (x : List Place). x ++ on_left ∷ on_right ∷ []) inner
+    ∙ append_assoc inner (part_at inner k trip left table ∷ []) (on_right ∷ [])
+    ∙ ap (λ (q : Place). inner ++ q ∷ on_right ∷ []) is_left

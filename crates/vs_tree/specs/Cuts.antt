@@ -69,6 +69,12 @@ abbrev pub part_at : List Place → ℕ → TripNo → LayerSet → ℕ → Plac
 part_at places k trip layers table =
     record { spot = Free table; sets = with_set (place_at places k).sets trip layers }
 
+-- spot k became an inner one, above the next two spots, of which the lower came
+abbrev pub with_lower : List Place → ℕ → TripNo → LayerSet → ℕ → List Place
+with_lower places k trip left table =
+    let split = with_spot places k (Inner trip left (length places) (length places + 1)) in
+    split ++ part_at split k trip left table ∷ []
+
 -- spot k was split, and its two parts came as the next spots
 abbrev pub split_at : List Place → ℕ → TripNo → LayerSet → LayerSet → ℕ → List Place
 split_at places k trip left right table =

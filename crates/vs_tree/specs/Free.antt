@@ -1,6 +1,7 @@
 -- The free leaves of a tree in the order in which they are taken.
-use Rattle.std.specs.Prelude.{◌≡◌, ◌⊎◌, ℕ, ◌+◌, ◌*◌, ◌<◌, ◌≤◌, List, length, slice_index_or, Option, Some, None}
+use Rattle.std.specs.Prelude.{◌≡◌, ◌⊎◌, ℕ, ◌+◌, ◌*◌, ◌<◌, ◌≤◌, List, length, set, slice_index_or, Option, Some, None}
 use Rattle.vs_prices.specs.Bounds.{IsNoLess}
+use Rattle.vs_prices.specs.declared.bound.Bound.{Bound}
 use Rattle.vs_tree.specs.declared.entry.Entry.{Entry}
 
 -- of each spot its entry, none where it isn't a free leaf
@@ -9,6 +10,12 @@ Entries = List (Option Entry)
 
 abbrev pub entry_at : Entries → ℕ → Option Entry
 entry_at entries v = slice_index_or entries v None
+
+-- spot `lower` and the next are free leaves of these worths
+abbrev pub with_parts : Entries → ℕ → Bound → Bound → Entries
+with_parts entries lower lower_worth upper_worth =
+    set (set entries lower (Some (record { worth = lower_worth; leaf = lower }))) (lower + 1)
+    (Some (record { worth = upper_worth; leaf = lower + 1 }))
 
 -- no leaf is free
 abbrev pub IsEmpty : Entries → Type 0

@@ -37,8 +37,8 @@ pub struct Parting {
 }
 
 impl Finish {
-    /// How a leaf with these layers is finished by a table that fits: one sum over all trips where it is closed, and two
-    /// where it is split. The layers are in the end those of the upper part.
+    /// How a leaf with these layers is finished by a table that fits: one sum over all trips where it is closed, and
+    /// two where it is split. The layers are in the end those of the upper part.
     pub fn of(instance: &Instance, sets: &mut [LayerSet], table: &Table, next: Next) -> Finish
         requires fits { Fits instance.now table.now }
         requires restriction { IsRestriction instance.now sets.old }

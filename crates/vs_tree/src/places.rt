@@ -3,7 +3,7 @@
 ghost use Rattle.std.specs.Prelude.{◌≡◌, ◌≢◌, ℕ, ◌+◌, ◌<◌, ◌≤◌, ◌++◌, ◌∷◌, [], length, IfOk, All, slice_index_or};
 ghost use Rattle.vs_instance.specs.Restriction.{permitted_sets, set_of};
 ghost use Rattle.vs_tree.specs.History.{place_at, with_spot};
-ghost use Rattle.vs_tree.specs.Cuts.{AreCuts, AreLaid, laid, part_at, sets_of, split_at};
+ghost use Rattle.vs_tree.specs.Cuts.{AreCuts, AreLaid, laid, part_at, sets_of, split_at, with_lower};
 ghost use Rattle.vs_cases.specs.Tree.{with_set};
 ghost use Rattle.vs_tree.specs.declared.spot.Spot.TheVariants.{Free};
 
@@ -130,6 +130,21 @@ impl Places {
         ensures places { self.new.places ≡ split_at self.old.places k trip left right table }
         ensures room { self.new.room ≡ self.old.room }
     {
+        let lower = self.add_lower(k, trip, left, table);
+        self.add(k, trip, right, table);
+        lower
+    }
+
+    /// Makes a spot an inner one, above two that come next, and adds the lower of them. Tells its number.
+    fn add_lower(&mut self, k: u32, trip: TripNo, left: LayerSet, table: u32) -> u32
+        requires spot { k < length self.old.places }
+        requires trip { trip.0 < length (place_at self.old.places 0).sets }
+        requires left { left.0 ≢ 0 }
+        requires room { length self.old.places + 2 ≤ self.old.room }
+        ensures number { result ≡ length self.old.places }
+        ensures places { self.new.places ≡ with_lower self.old.places k trip left table }
+        ensures room { self.new.room ≡ self.old.room }
+    {
         let lower = self.spots.len() as u32;
         self.relabel(
             k,
@@ -141,7 +156,6 @@ impl Places {
             },
         );
         self.add(k, trip, left, table);
-        self.add(k, trip, right, table);
         lower
     }
 

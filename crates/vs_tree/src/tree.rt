@@ -1,10 +1,11 @@
 //! A search: its tree of cases, its history, and the calls of its workers.
 
 ghost use Rattle.std.specs.Prelude.{◌≡◌, ◌<◌, ◌≤◌, ◌∷◌, [], length, map, IfOk, IfSome, slice_index_or};
-ghost use Rattle.std.specs.Prelude.{true, false, ◌⊎◌, ◌^◌, ℕ, ◌++◌, ◌↔◌, IsTrue, count_by, option_copied, None};
+ghost use Rattle.std.specs.Prelude.{true, false, ◌⊎◌, ◌^◌, ℕ, ◌++◌, ◌↔◌, IsTrue, ◌+◌, count_by, option_copied, None};
 ghost use Rattle.vs_tree.specs.History as full;
 ghost use Rattle.vs_tree.specs.History.{IsAmong, IsHeldBy, IsHistory, MayClose, MayCome, MaySplit, MayTake};
 ghost use Rattle.vs_tree.specs.History.{IsCheaper, incumbent, is_inner, known, prices_at, sets_at, spot_at};
+ghost use Rattle.vs_tree.specs.Free.{with_parts};
 ghost use Rattle.vs_tree.specs.Calls.{GivesBack, HoldsSome, finishing, offering, with_step};
 ghost use Rattle.vs_prices.specs.Bounds.{IsNoLess};
 ghost use Rattle.vs_tree.specs.Finishes.{AreWorths, IsNextIn, IsParting, next_in};
@@ -334,7 +335,8 @@ impl Tree {
     {
         let number = self.log.add_table(table);
         self.places.relabel(leaf, Spot::Closed { table: number });
-        self.worths[leaf as usize] = worth;
+        let worth_there = &mut self.worths[leaf as usize];
+        *worth_there = worth;
         self.hands[w as usize] = Hand::Idle;
         self.finished += 1;
         self.log.add(Step::Closed {
@@ -356,23 +358,11 @@ impl Tree {
         let Parting { trip, left, .. } = parting;
         let number = self.log.add_table(table);
         let lower = self.places.split(leaf, trip, left, parting.right, number);
-        let upper = lower + 1;
-        self.free.put(
-            lower,
-            Some(Entry {
-                worth: parting.lower,
-                leaf: lower,
-            }),
-        );
-        self.free.put(
-            upper,
-            Some(Entry {
-                worth: parting.upper,
-                leaf: upper,
-            }),
-        );
-        self.worths[lower as usize] = parting.lower;
-        self.worths[upper as usize] = parting.upper;
+        free_parts(&mut self.free, lower, parting);
+        let lower_worth = &mut self.worths[lower as usize];
+        *lower_worth = parting.lower;
+        let upper_worth = &mut self.worths[lower as usize + 1];
+        *upper_worth = parting.upper;
         self.hands[w as usize] = Hand::Idle;
         self.finished += 1;
         self.log.add(Step::Split {
@@ -531,6 +521,29 @@ fn leaf_in_hand(hands: &[Hand], w: u32) -> u32
         Hand::Has { leaf, .. } => leaf,
         _ => unreachable!(),
     }
+}
+
+/// The two parts of a leaf, of which the lower has this number and the upper the next, are free from now on.
+fn free_parts(free: &mut FreeLeaves, lower: u32, parting: Parting)
+    requires inside { lower + 1 < length free.old }
+    requires few { lower + 1 < 2 ^ 32 }
+    ensures { free.new ≡ with_parts free.old lower parting.lower parting.upper }
+{
+    let upper = lower + 1;
+    free.put(
+        lower,
+        Some(Entry {
+            worth: parting.lower,
+            leaf: lower,
+        }),
+    );
+    free.put(
+        upper,
+        Some(Entry {
+            worth: parting.upper,
+            leaf: upper,
+        }),
+    );
 }
 
 /// How many workers have a leaf.

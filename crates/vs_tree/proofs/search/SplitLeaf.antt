@@ -12,7 +12,7 @@ use Rattle.vs_tree.specs.declared.calls.Hand.TheVariants.{Idle, Has}
 use Rattle.vs_tree.specs.declared.spot.Spot.{Spot}
 use Rattle.vs_tree.specs.declared.spot.Spot.TheVariants.{Inner, Free, Held}
 use Rattle.vs_tree.specs.Cuts.{part_at, split_at}
-use Rattle.vs_tree.specs.Free.{Entries, entry_at}
+use Rattle.vs_tree.specs.Free.{Entries, entry_at, with_parts}
 use Rattle.vs_tree.specs.History.{FullStep, Split, Opening, Place, State, IsHeldBy, IsHistory, IsLeaf, IsLeafWorth, MaySplit, after, first_state, is_held, is_inner, no_place, place_at, prices_at, sets_at, spot_at, state_of, table_of}
 use Rattle.vs_tree.specs.Prices.{AreWorth, Prices, no_prices}
 use Rattle.vs_tree.specs.Search.{ArePartsOf, IsHandOf, IsSearch, Parts, free_entry, hand_at, is_busy, is_gone, offers_left, steps_left, worth_at}
@@ -45,9 +45,7 @@ module _ (o : Opening) (a : Parts) (is : IsSearch o a) (worker leaf number : ℕ
     (places : b.places.places
     ≡ split_at a.places.places leaf trip left (right_of (place_at a.places.places leaf).sets trip left) number)
     (room : b.places.room ≡ a.places.room) (hands : b.hands ≡ set a.hands worker Idle)
-    (frees : b.free ≡ set (set a.free (length a.places.places)
-    (Some (record { worth = lower_worth; leaf = length a.places.places }))) (length a.places.places + 1)
-    (Some (record { worth = upper_worth; leaf = length a.places.places + 1 })))
+    (frees : b.free ≡ with_parts a.free (length a.places.places) lower_worth upper_worth)
     (worths : b.worths
     ≡ set (set a.worths (length a.places.places) lower_worth) (length a.places.places + 1) upper_worth)
     (finished : b.finished ≡ a.finished + 1) (sets : length b.sets ≡ length a.sets) where

@@ -1,7 +1,4 @@
-use Rattle.std.proofs.Common.{◌≡◌, ◌<◌, List, length, ap, sym, ◌∙◌, arith}
-use Rattle.vs_types.specs.declared.layer_set.LayerSet.{LayerSet}
-use Rattle.vs_instance.specs.Restriction.{set_of}
-use Rattle.vs_tree.specs.Cuts.{laid}
+use Rattle.std.proofs.Common.{◌<◌, length, arith}
 use Rattle.vs_tree.proofs.PlacesSeen.{seen-laid, seen-sets_size, seen-size}
 use Rattle.vs_tree.proofs.places.Places.sets.Goals as goal
 

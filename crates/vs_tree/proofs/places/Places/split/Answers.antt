@@ -1,38 +1,7 @@
-use Rattle.std.proofs.Common.{◌≡◌, ℕ, ◌+◌, ap, ◌∙◌, length, arith}
-use Rattle.vs_tree.specs.declared.spot.Spot.TheVariants.{Inner}
-use Rattle.vs_tree.specs.History.{with_spot}
-use Rattle.vs_tree.proofs.PlacesSeen.{seen-room, seen-size}
 use Rattle.vs_tree.proofs.Spots.{split-steps}
 use Rattle.vs_tree.proofs.places.Places.split.Goals as goal
 
-pub overflow_cast-lower : goal.overflow_cast-lower
-overflow_cast-lower c =
-    let i = c.self.inside in
-    let room = seen-room i.permitted.items i.spots i.cuts i.room c.args.self.now c.self.invariant c.self.view_is in
-    let size = seen-size i.permitted.items i.spots i.cuts i.room c.args.self.now c.self.invariant c.self.view_is in
-    omega (arith, room, size, c.requires.room, c.len-lower.ensures, i.spots.ok.0, c.self.ranges.0)
-
-pub overflow_add-lower : goal.overflow_add-lower
-overflow_add-lower c =
-    let i = c.self.inside in
-    let room = seen-room i.permitted.items i.spots i.cuts i.room c.args.self.now c.self.invariant c.self.view_is in
-    let size = seen-size i.permitted.items i.spots i.cuts i.room c.args.self.now c.self.invariant c.self.view_is in
-    omega (arith, room, size, c.requires.room, c.len-lower.ensures, i.spots.ok.0, c.self.ranges.0)
-
-pub returns-clause-number : goal.returns-clause-number
-returns-clause-number c =
-    let i = c.self.inside in
-    let size = seen-size i.permitted.items i.spots i.cuts i.room c.args.self.now c.self.invariant c.self.view_is in
-    omega (arith, size, c.len-lower.ensures, i.spots.ok.0)
-
 pub returns-clause-places : goal.returns-clause-places
 returns-clause-places c =
-    let i = c.self.inside in
-    let size = seen-size i.permitted.items i.spots i.cuts i.room c.args.self.now c.self.invariant c.self.view_is in
-    let places = c.args.self.now.places in
-    let number : c.len-lower.result ≡ length places = omega (arith, size, c.len-lower.ensures, i.spots.ok.0) in
-    split-steps places c.relabel.new.self.places c.add.new.self.places c.add-2.new.self.places c.args.k c.args.trip
-    c.args.left c.args.right c.args.table c.requires.spot
-    (c.relabel.ensures.places
-    ∙ ap (λ (m : ℕ). with_spot places c.args.k (Inner c.args.trip c.args.left m (m + 1))) number)
-    c.add.ensures.places c.add-2.ensures.places
+    split-steps c.args.self.now.places c.add_lower-lower.new.self.places c.add.new.self.places c.args.k c.args.trip
+    c.args.left c.args.right c.args.table c.requires.spot c.add_lower-lower.ensures.places c.add.ensures.places

@@ -9,93 +9,47 @@ use Rattle.vs_tree.specs.Search.{IsSearch, Parts, Search, state}
 use Rattle.vs_tree.proofs.search.ClosedLeaf.{closed_search}
 use Rattle.vs_tree.proofs.search.Facts.{leaf_is, places_within, tables_are, within_budget}
 use Rattle.vs_tree.proofs.search.GivingBack.{worker_inside}
-use Rattle.vs_tree.proofs.search.Inside.{opening_of, parts_of}
+use Rattle.vs_tree.proofs.search.Inside.{may_close, opening_of, parts_of}
 use Rattle.vs_tree.proofs.search.Released.{room_for_step, unfinished}
 use Rattle.vs_tree.proofs.sound.Closed.{last-prices}
 use Rattle.vs_tree.proofs.tree.Tree.close.Goals as goal
 
 pub add_table-number-requires : goal.add_table-number-requires
 add_table-number-requires c =
-    let i = c.self.inside in
-    let o = opening_of i in
-    let a = parts_of i in
     let is = c.self.invariant in
-    let w = c.args.w in
-    let leaf = c.args.leaf in
-    let may = subst (λ (t : Search). MayClose t.opening (state t) w leaf (length (state t).tables)
-    (prices_of c.args.table))
-    (sym c.self.view_is) c.requires.may in
-    let leaf_inside = leaf_is o a is leaf (ap is_inner may.holds.1) in
-    let inside = worker_inside o a is w leaf may.holds in
-    let few = places_within o a is in
-    let are = tables_are o a is in
-    let more = unfinished o a is w leaf may.holds in
+    let may = may_close c.self.inside _ c.self.view_is c.args.w c.args.leaf _ c.requires.may in
+    let are = tables_are _ _ is in
+    let more = unfinished _ _ is c.args.w c.args.leaf may.holds in
     omega (arith, are, more, is.parts.tables_room)
+
+pub index_mut-worth_there-requires : goal.index_mut-worth_there-requires
+index_mut-worth_there-requires c =
+    let i = c.self.inside in
+    let is = c.self.invariant in
+    let may = may_close i _ c.self.view_is c.args.w c.args.leaf _ c.requires.may in
+    let leaf_inside = leaf_is _ _ is c.args.leaf (ap is_inner may.holds.1) in
+    let few = places_within _ _ is in
+    omega (arith, leaf_inside, few, is.parts.worths_size, i.worths.ok.0)
 
 pub index_mut-requires : goal.index_mut-requires
 index_mut-requires c =
     let i = c.self.inside in
-    let o = opening_of i in
-    let a = parts_of i in
     let is = c.self.invariant in
-    let w = c.args.w in
-    let leaf = c.args.leaf in
-    let may = subst (λ (t : Search). MayClose t.opening (state t) w leaf (length (state t).tables)
-    (prices_of c.args.table))
-    (sym c.self.view_is) c.requires.may in
-    let leaf_inside = leaf_is o a is leaf (ap is_inner may.holds.1) in
-    let inside = worker_inside o a is w leaf may.holds in
-    let few = places_within o a is in
-    omega (arith, leaf_inside, few, is.parts.worths_size, i.worths.ok.0)
-
-pub index_mut-requires-2 : goal.index_mut-requires-2
-index_mut-requires-2 c =
-    let i = c.self.inside in
-    let o = opening_of i in
-    let a = parts_of i in
-    let is = c.self.invariant in
-    let w = c.args.w in
-    let leaf = c.args.leaf in
-    let may = subst (λ (t : Search). MayClose t.opening (state t) w leaf (length (state t).tables)
-    (prices_of c.args.table))
-    (sym c.self.view_is) c.requires.may in
-    let leaf_inside = leaf_is o a is leaf (ap is_inner may.holds.1) in
-    let inside = worker_inside o a is w leaf may.holds in
-    let few = places_within o a is in
+    let may = may_close i _ c.self.view_is c.args.w c.args.leaf _ c.requires.may in
+    let inside = worker_inside _ _ is c.args.w c.args.leaf may.holds in
     omega (arith, inside, i.hands.ok.0)
 
 pub overflow_add-self : goal.overflow_add-self
 overflow_add-self c =
-    let i = c.self.inside in
-    let o = opening_of i in
-    let a = parts_of i in
     let is = c.self.invariant in
-    let w = c.args.w in
-    let leaf = c.args.leaf in
-    let may = subst (λ (t : Search). MayClose t.opening (state t) w leaf (length (state t).tables)
-    (prices_of c.args.table))
-    (sym c.self.view_is) c.requires.may in
-    let leaf_inside = leaf_is o a is leaf (ap is_inner may.holds.1) in
-    let inside = worker_inside o a is w leaf may.holds in
-    let few = places_within o a is in
-    let all = within_budget o a is in
+    let all = within_budget _ _ is in
     omega (arith, all, is.few_leaves)
 
 pub add-requires-clause-room : goal.add-requires-clause-room
 add-requires-clause-room c =
-    let i = c.self.inside in
-    let o = opening_of i in
-    let a = parts_of i in
     let is = c.self.invariant in
-    let w = c.args.w in
-    let leaf = c.args.leaf in
-    let may = subst (λ (t : Search). MayClose t.opening (state t) w leaf (length (state t).tables)
-    (prices_of c.args.table))
-    (sym c.self.view_is) c.requires.may in
-    let leaf_inside = leaf_is o a is leaf (ap is_inner may.holds.1) in
-    let inside = worker_inside o a is w leaf may.holds in
-    let few = places_within o a is in
-    let room = room_for_step o a is w leaf may.holds in
+    let may = may_close c.self.inside _ c.self.view_is c.args.w c.args.leaf _ c.requires.may in
+    let room = room_for_step _ _ is c.args.w c.args.leaf may.holds in
     let steps = ap (λ (x : Log). length x.steps) c.add_table-number.ensures.log in
     let same = ap (λ (x : Log). x.step_room) c.add_table-number.ensures.log in
     omega (arith, room, steps, same)
@@ -108,12 +62,7 @@ invariant_of-self c =
     let is = c.self.invariant in
     let w = c.args.w in
     let leaf = c.args.leaf in
-    let may = subst (λ (t : Search). MayClose t.opening (state t) w leaf (length (state t).tables)
-    (prices_of c.args.table))
-    (sym c.self.view_is) c.requires.may in
-    let leaf_inside = leaf_is o a is leaf (ap is_inner may.holds.1) in
-    let inside = worker_inside o a is w leaf may.holds in
-    let few = places_within o a is in
+    let may = may_close i _ c.self.view_is w leaf _ c.requires.may in
     let number = c.add_table-number.result in
     let prices = prices_of c.args.table in
     let new : Log = c.add_table-number.new.self in

@@ -4,9 +4,9 @@ use Rattle.std.specs.Vec.{with_items}
 use Rattle.vs_types.specs.declared.layer_set.LayerSet.{LayerSet}
 use Rattle.vs_instance.specs.Restriction.{IsRestriction}
 use Rattle.vs_tree.specs.Finishes.{AreWorths, IsNextIn}
-use Rattle.vs_tree.specs.History.{is_inner, place_at, sets_at, spot_at, state_of}
+use Rattle.vs_tree.specs.History.{is_inner, place_at, sets_at, spot_at}
 use Rattle.vs_tree.specs.Prices.{AreLawful, prices_of}
-use Rattle.vs_tree.specs.Search.{IsSearch, Search, state}
+use Rattle.vs_tree.specs.Search.{Search, state}
 use Rattle.vs_tree.proofs.LawfulPrices.{lawful_fits}
 use Rattle.vs_tree.proofs.search.Facts.{leaf_is, restriction-at, sets-are}
 use Rattle.vs_tree.proofs.search.Finishing.{other_room}

@@ -1,22 +1,21 @@
-use Rattle.std.proofs.Common.{◌≡◌, ◌≢◌, ℕ, ◌+◌, List, [], ◌∷◌, ◌++◌, length, set, ap, sym, ◌∙◌, subst, arith, refl, length-set, slice_index_or, Some}
+use Rattle.std.proofs.Common.{◌≡◌, ◌≢◌, ℕ, ◌+◌, List, [], ◌∷◌, ◌++◌, length, set, ap, sym, ◌∙◌, subst, arith, refl, length-set, slice_index_or}
 use Rattle.vs_types.specs.LayerSet.{members}
 use Rattle.vs_types.specs.declared.layer_set.LayerSet.{LayerSet}
 use Rattle.vs_tree.specs.declared.calls.Hand.TheVariants.{Idle}
 use Rattle.vs_tree.specs.declared.step.Step.TheVariants.{Split}
 use Rattle.vs_tree.specs.Calls.{with_step}
 use Rattle.vs_tree.specs.Cuts.{split_at}
-use Rattle.vs_tree.specs.Free.{Entries}
+use Rattle.vs_tree.specs.Free.{with_parts}
 use Rattle.vs_tree.specs.History as full
 use Rattle.vs_tree.specs.History.{FullStep, MaySplit, is_inner, place_at, sets_at, spot_at, state_of}
 use Rattle.vs_tree.specs.Log.{Log, full_step}
-use Rattle.vs_tree.specs.Finishes.{IsParting}
 use Rattle.vs_tree.specs.Prices.{Prices, no_prices, prices_of}
 use Rattle.vs_tree.specs.Search.{IsSearch, Parts, Search, state}
 use Rattle.vs_cases.specs.Tree.{right_of}
 use Rattle.vs_types.proofs.CallerLemmas.{some-layers}
 use Rattle.vs_tree.proofs.search.Facts.{leaf_is, restriction-at, sets-are, tables_are, within_budget}
 use Rattle.vs_tree.proofs.search.GivingBack.{worker_inside}
-use Rattle.vs_tree.proofs.search.Inside.{opening_of, parts_of}
+use Rattle.vs_tree.proofs.search.Inside.{may_split, opening_of, parting_inside, parts_of}
 use Rattle.vs_tree.proofs.search.Released.{room_for_step, unfinished}
 use Rattle.vs_tree.proofs.search.SplitLeaf.{split_search}
 use Rattle.vs_tree.proofs.sound.Closed.{last-prices}
@@ -25,176 +24,105 @@ use Rattle.vs_tree.proofs.tree.Tree.split.Goals as goal
 pub add_table-number-requires : goal.add_table-number-requires
 add_table-number-requires c =
     let i = c.self.inside in
-    let o = opening_of i in
-    let a = parts_of i in
     let is = c.self.invariant in
-    let w = c.args.w in
-    let leaf = c.args.leaf in
-    let may = subst (λ (t : Search). MaySplit t.opening (state t) w leaf (length (state t).tables)
-    c.args.parting.trip c.args.parting.left (prices_of c.args.table)) (sym c.self.view_is) c.requires.may in
-    let more = unfinished o a is w leaf may.holds in
-    let are = tables_are o a is in
+    let may = may_split i _ c.self.view_is c.args.w c.args.leaf _ c.args.parting.trip c.args.parting.left
+    c.requires.may in
+    let more = unfinished _ _ is c.args.w c.args.leaf may.holds in
+    let are = tables_are _ _ is in
     omega (arith, are, more, is.parts.tables_room)
 
 pub split-lower-requires-clause-trip : goal.split-lower-requires-clause-trip
 split-lower-requires-clause-trip c =
     let i = c.self.inside in
-    let o = opening_of i in
-    let a = parts_of i in
     let is = c.self.invariant in
-    let w = c.args.w in
-    let leaf = c.args.leaf in
-    let may = subst (λ (t : Search). MaySplit t.opening (state t) w leaf (length (state t).tables)
-    c.args.parting.trip c.args.parting.left (prices_of c.args.table)) (sym c.self.view_is) c.requires.may in
-    let leaf_inside = leaf_is o a is leaf (ap is_inner may.holds.1) in
-    let root = restriction-at o a is 0 (omega (arith, leaf_inside)) in
+    let may = may_split i _ c.self.view_is c.args.w c.args.leaf _ c.args.parting.trip c.args.parting.left
+    c.requires.may in
+    let leaf_inside = leaf_is _ _ is c.args.leaf (ap is_inner may.holds.1) in
+    let root = restriction-at _ _ is 0 (omega (arith, leaf_inside)) in
     omega (arith, root.each_trip, may.of_instance)
 
 pub split-lower-requires-clause-left : goal.split-lower-requires-clause-left
 split-lower-requires-clause-left c =
     let i = c.self.inside in
-    let o = opening_of i in
-    let a = parts_of i in
-    let is = c.self.invariant in
-    let w = c.args.w in
-    let leaf = c.args.leaf in
-    let may = subst (λ (t : Search). MaySplit t.opening (state t) w leaf (length (state t).tables)
-    c.args.parting.trip c.args.parting.left (prices_of c.args.table)) (sym c.self.view_is) c.requires.may in
+    let may = may_split i _ c.self.view_is c.args.w c.args.leaf _ c.args.parting.trip c.args.parting.left
+    c.requires.may in
     some-layers c.args.parting.left may.part.some
 
 pub split-lower-requires-clause-right : goal.split-lower-requires-clause-right
 split-lower-requires-clause-right c =
     let i = c.self.inside in
-    let o = opening_of i in
-    let a = parts_of i in
-    let is = c.self.invariant in
-    let w = c.args.w in
-    let leaf = c.args.leaf in
-    let may = subst (λ (t : Search). MaySplit t.opening (state t) w leaf (length (state t).tables)
-    c.args.parting.trip c.args.parting.left (prices_of c.args.table)) (sym c.self.view_is) c.requires.may in
-    let parting =
-    subst (λ (t : Search). IsParting t.opening.problem (sets_at (state t) leaf) (prices_of c.args.table) c.args.parting)
-    (sym c.self.view_is) c.requires.parting in
+    let may = may_split i _ c.self.view_is c.args.w c.args.leaf _ c.args.parting.trip c.args.parting.left
+    c.requires.may in
+    let parting = parting_inside i _ c.self.view_is c.args.leaf _ c.args.parting c.requires.parting in
     some-layers c.args.parting.right (subst (λ (x : LayerSet). members x ≢ []) (sym parting.right) may.part.others)
 
 pub split-lower-requires-clause-room : goal.split-lower-requires-clause-room
 split-lower-requires-clause-room c =
     let i = c.self.inside in
-    let o = opening_of i in
-    let a = parts_of i in
     let is = c.self.invariant in
-    let w = c.args.w in
-    let leaf = c.args.leaf in
-    let may = subst (λ (t : Search). MaySplit t.opening (state t) w leaf (length (state t).tables)
-    c.args.parting.trip c.args.parting.left (prices_of c.args.table)) (sym c.self.view_is) c.requires.may in
-    let more = unfinished o a is w leaf may.holds in
+    let may = may_split i _ c.self.view_is c.args.w c.args.leaf _ c.args.parting.trip c.args.parting.left
+    c.requires.may in
+    let more = unfinished _ _ is c.args.w c.args.leaf may.holds in
     omega (arith, more, is.parts.few_places, is.parts.places_room)
 
-pub overflow_add-upper : goal.overflow_add-upper
-overflow_add-upper c =
+pub free_parts-requires-clause-inside : goal.free_parts-requires-clause-inside
+free_parts-requires-clause-inside c =
     let i = c.self.inside in
-    let o = opening_of i in
-    let a = parts_of i in
     let is = c.self.invariant in
-    let w = c.args.w in
-    let leaf = c.args.leaf in
-    let may = subst (λ (t : Search). MaySplit t.opening (state t) w leaf (length (state t).tables)
-    c.args.parting.trip c.args.parting.left (prices_of c.args.table)) (sym c.self.view_is) c.requires.may in
-    let more = unfinished o a is w leaf may.holds in
-    omega (arith, more, is.parts.few_places, c.split-lower.ensures.number, is.few_leaves)
-
-pub put-requires : goal.put-requires
-put-requires c =
-    let i = c.self.inside in
-    let o = opening_of i in
-    let a = parts_of i in
-    let is = c.self.invariant in
-    let w = c.args.w in
-    let leaf = c.args.leaf in
-    let may = subst (λ (t : Search). MaySplit t.opening (state t) w leaf (length (state t).tables)
-    c.args.parting.trip c.args.parting.left (prices_of c.args.table)) (sym c.self.view_is) c.requires.may in
-    let more = unfinished o a is w leaf may.holds in
+    let may = may_split i _ c.self.view_is c.args.w c.args.leaf _ c.args.parting.trip c.args.parting.left
+    c.requires.may in
+    let more = unfinished _ _ is c.args.w c.args.leaf may.holds in
     omega (arith, more, is.parts.few_places, c.split-lower.ensures.number, is.parts.free_size)
 
-pub put-requires-2 : goal.put-requires-2
-put-requires-2 c =
+pub free_parts-requires-clause-few : goal.free_parts-requires-clause-few
+free_parts-requires-clause-few c =
     let i = c.self.inside in
-    let o = opening_of i in
-    let a = parts_of i in
     let is = c.self.invariant in
-    let w = c.args.w in
-    let leaf = c.args.leaf in
-    let may = subst (λ (t : Search). MaySplit t.opening (state t) w leaf (length (state t).tables)
-    c.args.parting.trip c.args.parting.left (prices_of c.args.table)) (sym c.self.view_is) c.requires.may in
-    let more = unfinished o a is w leaf may.holds in
-    let same = ap (λ (x : Entries). length x) c.put.ensures in
-    let kept = length-set i.free c.split-lower.result (Some (record
-    { worth = c.args.parting.lower; leaf = c.split-lower.result })) in
-    omega (arith, more, same, kept, is.parts.few_places, c.split-lower.ensures.number, is.parts.free_size)
+    let may = may_split i _ c.self.view_is c.args.w c.args.leaf _ c.args.parting.trip c.args.parting.left
+    c.requires.may in
+    let more = unfinished _ _ is c.args.w c.args.leaf may.holds in
+    omega (arith, more, is.parts.few_places, c.split-lower.ensures.number, is.few_leaves)
+
+pub index_mut-lower_worth-requires : goal.index_mut-lower_worth-requires
+index_mut-lower_worth-requires c =
+    let i = c.self.inside in
+    let is = c.self.invariant in
+    let may = may_split i _ c.self.view_is c.args.w c.args.leaf _ c.args.parting.trip c.args.parting.left
+    c.requires.may in
+    let more = unfinished _ _ is c.args.w c.args.leaf may.holds in
+    omega (arith, more, is.parts.few_places, c.split-lower.ensures.number, is.parts.worths_size, i.worths.ok.0)
+
+pub index_mut-upper_worth-requires : goal.index_mut-upper_worth-requires
+index_mut-upper_worth-requires c =
+    let i = c.self.inside in
+    let is = c.self.invariant in
+    let may = may_split i _ c.self.view_is c.args.w c.args.leaf _ c.args.parting.trip c.args.parting.left
+    c.requires.may in
+    let more = unfinished _ _ is c.args.w c.args.leaf may.holds in
+    omega (arith, more, is.parts.few_places, c.split-lower.ensures.number, is.parts.worths_size, i.worths.ok.0)
 
 pub index_mut-requires : goal.index_mut-requires
 index_mut-requires c =
     let i = c.self.inside in
-    let o = opening_of i in
-    let a = parts_of i in
     let is = c.self.invariant in
-    let w = c.args.w in
-    let leaf = c.args.leaf in
-    let may = subst (λ (t : Search). MaySplit t.opening (state t) w leaf (length (state t).tables)
-    c.args.parting.trip c.args.parting.left (prices_of c.args.table)) (sym c.self.view_is) c.requires.may in
-    let more = unfinished o a is w leaf may.holds in
-    omega (arith, more, is.parts.few_places, c.split-lower.ensures.number, is.parts.worths_size, i.worths.ok.0)
-
-pub index_mut-requires-2 : goal.index_mut-requires-2
-index_mut-requires-2 c =
-    let i = c.self.inside in
-    let o = opening_of i in
-    let a = parts_of i in
-    let is = c.self.invariant in
-    let w = c.args.w in
-    let leaf = c.args.leaf in
-    let may = subst (λ (t : Search). MaySplit t.opening (state t) w leaf (length (state t).tables)
-    c.args.parting.trip c.args.parting.left (prices_of c.args.table)) (sym c.self.view_is) c.requires.may in
-    let more = unfinished o a is w leaf may.holds in
-    omega (arith, more, is.parts.few_places, c.split-lower.ensures.number, is.parts.worths_size, i.worths.ok.0)
-
-pub index_mut-requires-3 : goal.index_mut-requires-3
-index_mut-requires-3 c =
-    let i = c.self.inside in
-    let o = opening_of i in
-    let a = parts_of i in
-    let is = c.self.invariant in
-    let w = c.args.w in
-    let leaf = c.args.leaf in
-    let may = subst (λ (t : Search). MaySplit t.opening (state t) w leaf (length (state t).tables)
-    c.args.parting.trip c.args.parting.left (prices_of c.args.table)) (sym c.self.view_is) c.requires.may in
-    let inside = worker_inside o a is w leaf may.holds in
+    let may = may_split i _ c.self.view_is c.args.w c.args.leaf _ c.args.parting.trip c.args.parting.left
+    c.requires.may in
+    let inside = worker_inside _ _ is c.args.w c.args.leaf may.holds in
     omega (arith, inside, i.hands.ok.0)
 
 pub overflow_add-self : goal.overflow_add-self
 overflow_add-self c =
-    let i = c.self.inside in
-    let o = opening_of i in
-    let a = parts_of i in
     let is = c.self.invariant in
-    let w = c.args.w in
-    let leaf = c.args.leaf in
-    let may = subst (λ (t : Search). MaySplit t.opening (state t) w leaf (length (state t).tables)
-    c.args.parting.trip c.args.parting.left (prices_of c.args.table)) (sym c.self.view_is) c.requires.may in
-    let all = within_budget o a is in
+    let all = within_budget _ _ is in
     omega (arith, all, is.few_leaves)
 
 pub add-requires-clause-room : goal.add-requires-clause-room
 add-requires-clause-room c =
     let i = c.self.inside in
-    let o = opening_of i in
-    let a = parts_of i in
     let is = c.self.invariant in
-    let w = c.args.w in
-    let leaf = c.args.leaf in
-    let may = subst (λ (t : Search). MaySplit t.opening (state t) w leaf (length (state t).tables)
-    c.args.parting.trip c.args.parting.left (prices_of c.args.table)) (sym c.self.view_is) c.requires.may in
-    let room = room_for_step o a is w leaf may.holds in
+    let may = may_split i _ c.self.view_is c.args.w c.args.leaf _ c.args.parting.trip c.args.parting.left
+    c.requires.may in
+    let room = room_for_step _ _ is c.args.w c.args.leaf may.holds in
     let steps = ap (λ (x : Log). length x.steps) c.add_table-number.ensures.log in
     let same = ap (λ (x : Log). x.step_room) c.add_table-number.ensures.log in
     omega (arith, room, steps, same)
@@ -207,11 +135,8 @@ invariant_of-self c =
     let is = c.self.invariant in
     let w = c.args.w in
     let leaf = c.args.leaf in
-    let may = subst (λ (t : Search). MaySplit t.opening (state t) w leaf (length (state t).tables)
-    c.args.parting.trip c.args.parting.left (prices_of c.args.table)) (sym c.self.view_is) c.requires.may in
-    let parting =
-    subst (λ (t : Search). IsParting t.opening.problem (sets_at (state t) leaf) (prices_of c.args.table) c.args.parting)
-    (sym c.self.view_is) c.requires.parting in
+    let may = may_split i _ c.self.view_is w leaf _ c.args.parting.trip c.args.parting.left c.requires.may in
+    let parting = parting_inside i _ c.self.view_is leaf _ c.args.parting c.requires.parting in
     let number = c.add_table-number.result in
     let prices = prices_of c.args.table in
     let trip = c.args.parting.trip in
@@ -240,7 +165,7 @@ invariant_of-self c =
       places = c.split-lower.new.self;
       log = c.add.new.self;
       hands = set i.hands.items w Idle;
-      free = c.put-2.new.self;
+      free = c.free_parts.new.free;
       worths = set (set i.worths.items first two.lower) (first + 1) two.upper;
       finished = i.finished + 1;
       sets = i.sets.items;
@@ -255,11 +180,9 @@ invariant_of-self c =
     (c.split-lower.ensures.places
     ∙ ap (λ (x : LayerSet). split_at i.places.places leaf trip left x number) right)
     c.split-lower.ensures.room refl
-    (c.put-2.ensures
-    ∙ ap (λ (x : Entries). set x (first + 1) (Some (record { worth = two.upper; leaf = first + 1 }))) c.put.ensures
-    ∙ ap (λ (m : ℕ). set (set i.free m (Some (record { worth = two.lower; leaf = m }))) (m + 1)
-    (Some (record { worth = two.upper; leaf = m + 1 }))) first_is)
-    (ap (λ (m : ℕ). set (set i.worths.items m two.lower) (m + 1) two.upper) first_is) refl refl)
+    (c.free_parts.ensures ∙ ap (λ (m : ℕ). with_parts i.free m two.lower two.upper) first_is)
+    (ap (λ (m : ℕ). set (set i.worths.items m two.lower) (m + 1) two.upper) first_is)
+    refl refl)
 
 pub returns : goal.returns
 returns c =
@@ -269,8 +192,7 @@ returns c =
     let is = c.self.invariant in
     let w = c.args.w in
     let leaf = c.args.leaf in
-    let may = subst (λ (t : Search). MaySplit t.opening (state t) w leaf (length (state t).tables)
-    c.args.parting.trip c.args.parting.left (prices_of c.args.table)) (sym c.self.view_is) c.requires.may in
+    let may = may_split i _ c.self.view_is w leaf _ c.args.parting.trip c.args.parting.left c.requires.may in
     let number = c.add_table-number.result in
     let prices = prices_of c.args.table in
     let trip = c.args.parting.trip in
