@@ -46,12 +46,13 @@ pub record IsLeastCirculation (p : Problem) (l : LayerNo) (n : LayerGraph) (offe
   pub holding : AreHolding p l.0 false c.prices
   pub shows : shown_of_offers p l.0 offers c.prices ≡ c.value
 
--- exactly the trips marked true run in one such circulation
+-- exactly the trips marked true run in one such circulation, which costs this
 pub record RunLeast (p : Problem) (l : LayerNo) (n : LayerGraph) (offers : List (Option ℤ)) (marked : List Bool)
-    : Type 0 where
+    (cost : ℤ) : Type 0 where
   pub units : List ℕ
   pub value : ℤ
   pub least : IsLeastFlow p l n offers units value
+  pub cost_is : cost ≡ flow_cost n.graph units
   pub runs : (i : ℕ) → (slice_index_or marked i false ≡ true) ↔ RunTrip n units i
 
 -- the blocks run exactly the trips that have to run

@@ -96,7 +96,7 @@ fn run_too(alloc: Global, net: &LayerNet, must: &[bool], flow: &Flow) -> Result<
 }
 
 /// What a flow costs, in 1/1000 of a cost unit.
-fn cost_of(net: &LayerNet, flow: &Flow) -> i128
+pub(crate) fn cost_of(net: &LayerNet, flow: &Flow) -> i128
     requires arcs { HasSmallArcs net.now }
     requires units { length flow.now.units.items ≡ length net.now.graph.arcs }
     ensures { result ≡ flow_cost net.now.graph flow.now.units.items }

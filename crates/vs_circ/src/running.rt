@@ -6,11 +6,13 @@ ghost use Rattle.vs_instance.specs.Problem.{Problem};
 ghost use Rattle.vs_instance.specs.Instance.{IsInstance};
 ghost use Rattle.vs_instance.specs.declared.limits.TheConstants.{MAX_TRIPS};
 ghost use Rattle.vs_match.specs.LawfulNets.{IsLawful};
-ghost use Rattle.vs_path.specs.declared.residual.TheConstants.{MAX_SEARCH_NODES};
+ghost use Rattle.vs_path.specs.declared.residual.TheConstants.{MAX_SEARCH_NODES, MAX_SEARCH_PRICE};
+ghost use Rattle.vs_path.specs.Residual.{AllWithin};
 ghost use Rattle.vs_circ.specs.Circulations.{RunLeast, RunTrip};
 ghost use Rattle.vs_circ.specs.Offers.{AreOffers};
 ghost use Rattle.vs_circ.specs.Works.{IsKeptFor};
 
+use crate::fixing::cost_of;
 use crate::gaps::bring_near;
 use crate::settling::settle;
 use crate::work::{Kept, Work};
@@ -23,42 +25,55 @@ use vs_types::{Memory, TripNo};
 const MAX_KEPT_PRICE: i64 = 500_000_000_000_000_000;
 
 /// Marks the trips that a least circulation of offered trips runs, as `relaxed` finds one, without
-/// prices that show that it is. Every entry is set.
+/// prices that show that it is. Every entry is set. Gives what that circulation costs, in 1/1000 of a cost unit, with
+/// no multipliers taken off.
 pub fn runs(
     alloc: Global,
     net: &LayerNet,
     offers: &[Option<i64>],
     work: &mut Work,
     answer: &mut [bool],
-) -> Result<(), Memory>
+) -> Result<i128, Memory>
     requires of_layer { (p : Problem) × (l : LayerNo) × IsInstance p × IsLawful p l.0 net.now
         × AreOffers p l.0 offers.now }
     requires each_trip { length answer.old ≡ length offers.now }
-    ensures least { IfOk result (λ done. (p : Problem) (l : LayerNo) → IsInstance p
+    ensures least { IfOk result (λ cost. (p : Problem) (l : LayerNo) → IsInstance p
         → IsLawful p l.0 net.now → AreOffers p l.0 offers.now
-        → RunLeast p l net.now offers.now answer.new) }
+        → RunLeast p l net.now offers.now answer.new cost) }
 {
     let place = work.place_of(alloc, net.net())?;
-    run_from(net, offers, &mut work.kept[place], answer);
-    Ok(())
+    Ok(run_from(net, offers, &mut work.kept[place], answer))
 }
 
-/// Marks the trips of a least circulation, from what is kept for the net.
-fn run_from(net: &LayerNet, offers: &[Option<i64>], kept: &mut Kept, answer: &mut [bool])
+/// Marks the trips of a least circulation, from what is kept for the net. Gives what it costs.
+fn run_from(net: &LayerNet, offers: &[Option<i64>], kept: &mut Kept, answer: &mut [bool]) -> i128
     requires of_layer { (p : Problem) × (l : LayerNo) × IsInstance p × IsLawful p l.0 net.now
         × AreOffers p l.0 offers.now }
     requires nodes { net.now.graph.nodes ≤ MAX_SEARCH_NODES }
     requires kept { IsKeptFor net.now.graph kept.old }
     requires each_trip { length answer.old ≡ length offers.now }
     ensures least { (p : Problem) (l : LayerNo) → IsInstance p → IsLawful p l.0 net.now
-        → AreOffers p l.0 offers.now → RunLeast p l net.now offers.now answer.new }
+        → AreOffers p l.0 offers.now → RunLeast p l net.now offers.now answer.new result }
 {
     kept.recall(net, offers);
     settle(net, offers, &mut kept.search, &mut kept.shipment);
     mark(net, &kept.shipment.flow.units, answer);
-    if !are_kept_prices(&kept.shipment.prices) {
-        let space = &mut kept.space;
-        bring_near(&mut kept.shipment.prices, &mut space.turned, &mut space.low);
+    let cost = cost_of(net, &kept.shipment.flow);
+    let space = &mut kept.space;
+    bring_back(&mut kept.shipment.prices, &mut space.turned, &mut space.low);
+    cost
+}
+
+/// Brings prices near where they have drifted. The other two slices, with as many numbers, are space to work in.
+fn bring_back(prices: &mut [i64], ascending: &mut [i64], levels: &mut [i64])
+    requires some { 0 < length prices.old }
+    requires few { length prices.old ≤ MAX_SEARCH_NODES }
+    requires within { AllWithin MAX_SEARCH_PRICE prices.old }
+    requires ascending { length ascending.old ≡ length prices.old }
+    requires levels { length levels.old ≡ length prices.old }
+{
+    if !are_kept_prices(prices) {
+        bring_near(prices, ascending, levels);
     }
 }
 

@@ -1,5 +1,5 @@
 -- The units of a settled shipment are a least circulation, whatever prices are made of it.
-use Rattle.std.proofs.Common.{◌≡◌, ℕ, ◌<◌, ◌^◌, false, true, ◌↔◌, Bool, List, length, get_or, sym, subst, inl, inr, arith, Option, None, ℤ, ◌-ℤ◌}
+use Rattle.std.proofs.Common.{◌≡◌, ◌∙◌, ℕ, ◌<◌, ◌^◌, false, true, ◌↔◌, Bool, List, length, get_or, ap, sym, subst, inl, inr, arith, Option, None, ℤ, ◌-ℤ◌}
 use Rattle.std.specs.Prelude.{IsSome}
 use Rattle.std.proofs.lemmas.Bool.{cases_lt}
 use Rattle.std.proofs.lemmas.List.{get_or_past}
@@ -42,12 +42,13 @@ module _ (p : Problem) (is : IsInstance p) (l : LayerNo) (n : LayerGraph) (lawfu
       (of_nodes-hold p l.0 n lawful false prices size moves s.prices few_trips)
       (of_nodes-pay p l.0 n lawful false prices size moves s.prices few_trips)
 
-  -- where exactly the trips are marked that they run, these run in a least circulation
-  pub marked-least : (units : List ℕ) (marked : List Bool) → units ≡ s.flow.units.items
+  -- where exactly the trips are marked that they run, these run in a least circulation, which costs what they do
+  pub marked-least : (units : List ℕ) (marked : List Bool) (cost : ℤ) → units ≡ s.flow.units.items
       → length marked ≡ length offers
       → ((i : ℕ) → i < length marked → (get_or marked i false ≡ true) ↔ RunTrip n units i)
-      → RunLeast p l n offers marked
-  marked-least units marked same size each =
+      → cost ≡ flow_cost n.graph s.flow.units.items
+      → RunLeast p l n offers marked cost
+  marked-least units marked cost same size each costs =
       let Least : List ℕ → Type 0 = λ us.
       IsLeastFlow p l n offers us (flow_cost n.graph us -ℤ paid_by_units (multipliers_of offers) n.kinds us) in
       let least = subst Least (sym same) settled-least in
@@ -55,6 +56,7 @@ module _ (p : Problem) (is : IsInstance p) (l : LayerNo) (n : LayerGraph) (lawfu
         units = units;
         value = flow_cost n.graph units -ℤ paid_by_units (multipliers_of offers) n.kinds units;
         least = least;
+        cost_is = costs ∙ ap (flow_cost n.graph) (sym same);
         runs = λ i. (
           λ run.
               elim (cases_lt i (length marked)) [

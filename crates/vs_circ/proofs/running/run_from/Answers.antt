@@ -1,4 +1,6 @@
-use Rattle.std.proofs.Common.{arith}
+use Rattle.std.proofs.Common.{◌≡◌, ◌∙◌, ℤ, to_z, of_z, rules, arith}
+use Rattle.std.specs.Int.{w128}
+use Rattle.std.proofs.lemmas.Int.{to_z-of_z}
 use Rattle.vs_circ.proofs.shipping.Running.{marked-least}
 use Rattle.vs_circ.proofs.shipping.SmallArcs.{small_arcs}
 use Rattle.vs_circ.proofs.running.run_from.Goals as goal
@@ -7,18 +9,18 @@ pub recall-requires-clause-arcs : goal.recall-requires-clause-arcs
 recall-requires-clause-arcs c =
     let layer = c.requires.of_layer in small_arcs layer.0 layer.2 layer.1.0 c.args.net.now layer.3
 
-pub returns-then-not-are_kept_prices : goal.returns-then-not-are_kept_prices
-returns-then-not-are_kept_prices c = record {
-  least = λ p l is lawful are.
-      marked-least p is l c.args.net.now lawful c.args.offers.now are c.settle.new.shipment
-      c.settle.ensures.settled c.deref.result.now c.mark.new.answer c.deref.ensures.value
-      (omega (arith, c.requires.each_trip)) (λ i below. c.mark.ensures i (omega arith));
-}
+pub cost_of-cost-requires-clause-arcs : goal.cost_of-cost-requires-clause-arcs
+cost_of-cost-requires-clause-arcs c =
+    let layer = c.requires.of_layer in small_arcs layer.0 layer.2 layer.1.0 c.args.net.now layer.3
 
-pub returns-else-not-are_kept_prices : goal.returns-else-not-are_kept_prices
-returns-else-not-are_kept_prices c = record {
-  least = λ p l is lawful are.
-      marked-least p is l c.args.net.now lawful c.args.offers.now are c.settle.new.shipment
-      c.settle.ensures.settled c.deref.result.now c.mark.new.answer c.deref.ensures.value
-      (omega (arith, c.requires.each_trip)) (λ i below. c.mark.ensures i (omega arith));
-}
+pub returns : goal.returns
+returns c =
+    let cost = c.cost_of-cost.result in
+    let word : to_z w128 (of_z w128 cost) ≡ cost = to_z-of_z w128 cost (search (rules, c.cost_of-cost.type_inv)) in
+    record {
+      least = λ p l is lawful are.
+          marked-least p is l c.args.net.now lawful c.args.offers.now are c.settle.new.shipment
+          c.settle.ensures.settled c.deref.result.now c.mark.new.answer (to_z w128 (of_z w128 cost))
+          c.deref.ensures.value (omega (arith, c.requires.each_trip)) (λ i below. c.mark.ensures i (omega arith))
+          (word ∙ c.cost_of-cost.ensures);
+    }
