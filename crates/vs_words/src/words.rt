@@ -127,11 +127,13 @@ fn solve_of(words: &[String]) -> Result<Command, BadWord>
     requires { IsWordAt (words_of words.now) 0 (codes "solve") }
     ensures { Answers (words_of words.now) result }
 {
+    let workers_first = is_word(words, 1, "--workers");
+    let nodes_first = is_word(words, 1, "--nodes");
     if words.len() == 1 {
         Ok(Command::Solve(DEFAULT_EFFORT))
-    } else if is_word(words, 1, "--workers") {
+    } else if workers_first {
         options_of(words, Setting::Workers)
-    } else if is_word(words, 1, "--nodes") {
+    } else if nodes_first {
         options_of(words, Setting::Nodes)
     } else {
         Err(BadWord(2))
@@ -189,7 +191,7 @@ fn make_of(words: &[String]) -> Result<Command, BadWord>
     match number_up_to(count.as_str(), MAX_TRIPS) {
         None => Err(BadWord(2)),
         Some(n) if words.len() == 2 => Ok(Command::Make(n)),
-        Some(_) => Err(BadWord(3)),
+        _ => Err(BadWord(3)),
     }
 }
 

@@ -113,10 +113,10 @@ pub fn block(alloc: Global, input: &Input, row: usize) -> Result<Option<Block>, 
     let Some(layer) = layer_named(&input.names, input.rest.field(row, 1), LayerNo(0)) else {
         return Ok(None);
     };
-    let Some(trips) = trips(alloc, input, row)? else {
-        return Ok(None);
-    };
-    Ok(Some(Block { layer, trips }))
+    match trips(alloc, input, row)? {
+        Some(trips) => Ok(Some(Block { layer, trips })),
+        None => Ok(None),
+    }
 }
 
 /// The trips that the fields of a row name from the third on. None where one of them names none.

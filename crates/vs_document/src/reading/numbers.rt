@@ -43,6 +43,7 @@ pub fn signed(field: &[u8]) -> Option<i128>
 {
     match field {
         [b'-', digits @ ..] => match natural(digits) {
+            None => None,
             Some(n) if n > 0 => Some(-(n as i128)),
             _ => None,
         },
@@ -57,8 +58,9 @@ pub fn between(field: &[u8], low: i128, high: i128) -> Option<i128>
     ensures found { IfSome result (λ z. (field.now ≡ signed_decimal z) × IsBetween low high z) }
     ensures none { IfNone result ((z : ℤ) → IsBetween low high z → ¬ (field.now ≡ signed_decimal z)) }
 {
-    match signed(field) {
-        Some(z) if low <= z && z <= high => Some(z),
-        _ => None,
+    let z = signed(field)?;
+    if z < low || z > high {
+        return None;
     }
+    Some(z)
 }

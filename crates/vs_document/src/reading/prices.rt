@@ -1,6 +1,6 @@
 //! The reading of the prices of a table.
 
-ghost use Rattle.std.specs.Prelude.{◌≤◌, ◌<◌, ℕ, List, ◌∷◌, length, IfOk, IfErr, SomeIff};
+ghost use Rattle.std.specs.Prelude.{◌≡◌, ◌≤◌, ◌<◌, ℕ, List, ◌∷◌, length, IfOk, IfErr, MatchOption, SomeIff};
 ghost use Rattle.vs_prices.specs.Table.{IsPrice};
 ghost use Rattle.vs_document.specs.Places.{InTable, PriceOf, Trip, Vehicle};
 ghost use Rattle.vs_document.specs.Reading.{IsInput, IsRefusedAt, IsRefusedInLayer, IsRefusedInTrips};
@@ -115,10 +115,19 @@ fn read_price(
     if layer.0 != l.0 || trip.0 != i.0 {
         return Err(refusal(input, row, DocWhy::OutOfOrder));
     }
-    let (Some(into), Some(from)) = (in_range(into), in_range(from)) else {
+    let Some((into, from)) = both_in_range(into, from) else {
         return Err(refusal(input, row, DocWhy::PriceRange));
     };
     Ok((into, from))
+}
+
+/// The numbers as prices. None where one of them is less or greater than any.
+fn both_in_range(into: i128, from: i128) -> Option<(i64, i64)>
+    ensures { MatchOption result
+        (¬ (IsPrice into × IsPrice from))
+        (λ prices. (IsPrice into × IsPrice from) × (prices.0 ≡ into) × (prices.1 ≡ from)) }
+{
+    Some((in_range(into)?, in_range(from)?))
 }
 
 /// The number as a price. None where it is less or greater than any.

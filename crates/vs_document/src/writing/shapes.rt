@@ -1,8 +1,9 @@
 //! The rows of splits and leaves.
 
 ghost use Rattle.std.specs.Prelude.{◌≡◌, ℕ, ◌+◌, ◌<◌, ◌∷◌, [], ◌++◌, length, map, All, codes, decimal, OnOk};
-ghost use Rattle.vs_types.specs.LayerSet.{Has};
-ghost use Rattle.vs_reader.specs.Rows.{line};
+ghost use Rattle.vs_types.specs.LayerSet.{Has, members};
+ghost use Rattle.vs_reader.specs.Rows.{line, more_fields};
+ghost use Rattle.vs_reader.specs.Names.{name_of};
 ghost use Rattle.vs_document.specs.DocumentRows.{HasForm, SplitRow, shape_row};
 ghost use Rattle.vs_document.specs.Writing.{AddsRow, AddsRows};
 
@@ -41,12 +42,22 @@ fn write_split(text: &mut Text, names: &Names, trip: TripNo, left: LayerSet) -> 
 {
     text.begin_row("split")?;
     text.field(names.trip(trip))?;
+    write_layer_names(text, names, left)?;
+    text.end_row()
+}
+
+/// Writes the names of the layers of a set as further fields of a row, in number order.
+fn write_layer_names(text: &mut Text, names: &Names, layers: LayerSet) -> Result<(), Memory>
+    requires { (l : ℕ) → Has layers l → l < length names.now.layers }
+    ensures { OnOk result (text.new
+        ≡ text.old ++ more_fields (map (name_of names.now.layers) (members layers))) }
+{
     for l in 0..MAX_LAYERS {
-        if left.has(LayerNo(l)) {
+        if layers.has(LayerNo(l)) {
             text.field(names.layer(LayerNo(l)))?;
         }
     }
-    text.end_row()
+    Ok(())
 }
 
 /// Writes a leaf: the number of its table, counted from 1.

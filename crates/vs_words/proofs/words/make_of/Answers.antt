@@ -21,8 +21,8 @@ returns-in-None c =
     (subst (λ (x : Word). IsNumberUpTo MAX_TRIPS x n) (sym second.word_is ∙ read.word_is ∙ sym
     c.as_str.ensures.value) is))
 
-pub returns-in-Some-2 : goal.returns-in-Some-2
-returns-in-Some-2 c =
+pub returns-in_default-number_up_to : goal.returns-in_default-number_up_to
+returns-in_default-number_up_to c =
     let found = c.in-Some.ensures.lookup in
     let read = word_read c.args.words.now 1 c.in-Some.count.now (ltb-true _ _ (sym found.0)) found.1 in
     make_bad_third _ _ c.in-Some-number_up_to.n c.requires read

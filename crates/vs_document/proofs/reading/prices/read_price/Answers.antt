@@ -4,7 +4,7 @@ use Rattle.vs_document.specs.Reading.{IsRefusedAt}
 use Rattle.vs_document.proofs.words.ErrorsPass.{err_passes}
 use Rattle.vs_document.proofs.parts.PriceRows.{price_of_another, price_range, price_read}
 use Rattle.vs_document.proofs.reading.prices.read_price.Goals as goal
-use Rattle.vs_document.proofs.reading.prices.read_price.Goals.{then-layer-l-via-then-layer-l, then-layer-l-via-else-layer-l+then-trip-i, in_default-2-via-in-Some+in_default, in_default-2-via-in_default}
+use Rattle.vs_document.proofs.reading.prices.read_price.Goals.{then-layer-l-via-then-layer-l, then-layer-l-via-else-layer-l+then-trip-i}
 
 pub returns-in_err-layer-clause-refused : goal.returns-in_err-layer-clause-refused
 returns-in_err-layer-clause-refused c =
@@ -24,21 +24,18 @@ returns-then-layer-l-clause-refused c =
       | then-layer-l-via-else-layer-l+then-trip-i w ↦ inr w.if-trip-i.true
     ]))
 
-pub returns-in_default-2-clause-refused : goal.returns-in_default-2-clause-refused
-returns-in_default-2-clause-refused c =
+pub returns-in_default-both_in_range-clause-refused : goal.returns-in_default-both_in_range-clause-refused
+returns-in_default-both_in_range-clause-refused c =
     let says = rw c.in-Price.is at c.in_ok-layer.ensures.says in
-    rw c.refusal-in_default-2.ensures
+    rw c.refusal-in_default-both_in_range.ensures
     (price_range c.args.input.now c.args.row c.args.l.0 c.in_ok-layer.ensures.within c.args.i.0
     c.in-Price.layer.0 c.in-Price.trip.0 c.in-Price.into c.in-Price.from says c.if-layer-l.false c.if-trip-i.false
-    (λ both. elim c.in_default-2.branch [
-      | in_default-2-via-in-Some+in_default w ↦ w.in_default-2.ensures' both.1
-      | in_default-2-via-in_default w ↦ let none = rw w.in_default-2.is-0 at c.in_range.ensures in none both.0
-    ]))
+    c.in_default-both_in_range.ensures)
 
 pub returns-clause-found : goal.returns-clause-found
 returns-clause-found c =
     let says = rw c.in-Price.is at c.in_ok-layer.ensures.says in
+    let both = c.in-Some.ensures in
     price_read c.args.input.now c.args.row c.args.l.0 c.in_ok-layer.ensures.within c.args.i.0
     c.in-Price.layer.0 c.in-Price.trip.0 c.in-Price.into c.in-Price.from says c.if-layer-l.false c.if-trip-i.false
-    c.in-Some-Some.into c.in-Some-Some.from c.in-Some-Some.ensures.1
-    c.in-Some-Some.ensures'.1 c.in-Some-Some.ensures.0 c.in-Some-Some.ensures'.0
+    c.in-Some.into c.in-Some.from both.1 both.2 both.0.0 both.0.1

@@ -1,59 +1,24 @@
-use Rattle.std.proofs.Common.{◌≡◌, ℕ, Bool, cond, eqb, List, [], ◌∷◌, ◌++◌, refl, sym, ap, ◌∙◌}
-use Rattle.std.specs.Prelude.{codes, map, flat_map, filter}
-use Rattle.std.specs.List.{range_with_len}
-use Rattle.std.specs.Int.{bit_at}
-use Rattle.std.proofs.lemmas.Bool.{eq-eqb, ne_eqb, false≢true}
-use Rattle.std.proofs.lemmas.List.{append_assoc, append-nil}
+use Rattle.std.proofs.Common.{◌≡◌, ℕ, ◌∷◌, ◌++◌, ap, ◌∙◌}
+use Rattle.std.specs.Prelude.{codes, map}
+use Rattle.std.proofs.lemmas.List.{append_assoc}
 use Rattle.std.proofs.lemmas.Result.{IfOk-equal}
-use Rattle.vs_types.specs.LayerSet.{members, layer_numbers}
-use Rattle.vs_reader.specs.Rows.{Field}
+use Rattle.vs_types.specs.LayerSet.{members}
+use Rattle.vs_reader.specs.Rows.{Field, more_fields}
 use Rattle.vs_reader.specs.Names.{name_of}
-use Rattle.vs_reader.specs.Rows.{more_fields}
-use Rattle.vs_document.proofs.written.WrittenRows.{more_fields-map, flat_map-filter, numbered_more, numbered_all, ended_row}
+use Rattle.vs_document.proofs.written.WrittenRows.{ended_row}
 use Rattle.vs_document.proofs.writing.shapes.write_split.Goals as goal
-use Rattle.vs_document.proofs.writing.shapes.write_split.Goals.{then-has+in_ok-field-2, else-has}
-
-numbers_are : layer_numbers ≡ range_with_len 0 16
-unfolding layer_numbers
-numbers_are = refl
-
-pub loop-l-preserved : goal.loop-l-preserved
-loop-l-preserved c =
-    let names = c.args.names.now in let bits = c.args.left.0 in let k = c.loop-l.l in let text = c.loop-l.text in
-    let written : ℕ → List ℕ = λ l. cond (eqb (bit_at bits l) 1) (44 ∷ name_of names.layers l) [] in
-    let after : c.if-has.text ≡ text ++ written k =
-    elim c.if-has.branch [
-      | then-has+in_ok-field-2 w ↦
-          w.text-is ∙ w.in_ok-field-2.ensures ∙ ap (λ f. text ++ (44 ∷ f)) w.layer.ensures.name
-          ∙ sym (ap (λ t. text ++ cond t (44 ∷ name_of names.layers k) [])
-          (eq-eqb (bit_at bits k) 1 (c.has.ensures.0 w.if-has.true)))
-      | else-has w ↦
-          let other : bit_at bits k ≡ 1 → ⊥ = λ has. false≢true (sym w.if-has.false ∙ c.has.ensures.1 has) in
-          w.text-is
-          ∙ sym (ap (λ t. text ++ cond t (44 ∷ name_of names.layers k) []) (ne_eqb (bit_at bits k) 1 other)
-          ∙ append-nil text)
-    ] in
-    numbered_more written c.field.new.self text c.if-has.text 16 k c.loop-l-test.true c.loop-l.invariant after
 
 pub returns : goal.returns
 returns c =
     let names = c.args.names.now in let left = c.args.left in
     let begun = c.begin_row.new.self in let trip = name_of names.trips c.args.trip.0 in
     let name : ℕ → Field = name_of names.layers in
-    let bytes : ℕ → List ℕ = λ l. 44 ∷ name l in
-    let has : ℕ → Bool = λ l. eqb (bit_at left.0 l) 1 in
-    let all =
-    numbered_all
-    (λ l. cond (has l) (bytes l) []) c.field.new.self c.loop-l.text 16 c.loop-l.l c.loop-l-test.false
-    c.loop-l.invariant in
-    let in_set : flat_map (λ l. cond (has l) (bytes l) []) (range_with_len 0 16) ≡ flat_map bytes (members left) =
-    flat_map-filter has bytes (range_with_len 0 16) ∙ ap (λ ls. flat_map bytes (filter has ls)) (sym numbers_are) in
+    let layers = map name (members left) in
+    let now = c.write_layer_names.new.text in
     let first : c.field.new.self ≡ begun ++ (44 ∷ trip) =
     c.in_ok-field.ensures ∙ ap (λ f. begun ++ (44 ∷ f)) c.trip.ensures.name in
-    let goes : c.loop-l.text ≡ begun ++ more_fields (trip ∷ map name (members left)) =
-    all ∙ ap (λ rest. c.field.new.self ++ rest) in_set ∙ ap (λ text. text ++ flat_map bytes (members left)) first
-    ∙ append_assoc begun (44 ∷ trip) (flat_map bytes (members left))
-    ∙ ap (λ rest. begun ++ ((44 ∷ trip) ++ rest)) (sym (more_fields-map name (members left))) in
+    let goes : now ≡ begun ++ more_fields (trip ∷ layers) =
+    c.in_ok-write_layer_names.ensures ∙ ap (λ text. text ++ more_fields layers) first
+    ∙ append_assoc begun (44 ∷ trip) (more_fields layers) in
     IfOk-equal c.end_row.result _ _ _ c.end_row.ensures
-    (ended_row c.args.text.now begun c.loop-l.text (codes "split")
-    (trip ∷ map name (members left)) c.in_ok-begin_row.ensures goes)
+    (ended_row c.args.text.now begun now (codes "split") (trip ∷ layers) c.in_ok-begin_row.ensures goes)
