@@ -5,6 +5,8 @@ use Rattle.vs_instance.specs.Problem.{Problem}
 use Rattle.vs_plan.specs.CheckedPlan.{Checked}
 use Rattle.vs_prices.specs.declared.table.Table.{Table}
 use Rattle.vs_prices.specs.declared.bound.Bound.{Bound}
+use Rattle.vs_prices.specs.Bounds.{IsWorthNoLess}
+use Rattle.vs_prices.specs.Table.{Fits, HoldingTable}
 use Rattle.vs_prices.specs.Worth.{IsWorth}
 use Rattle.vs_match.specs.LayerGraph.{LayerGraph}
 use Rattle.vs_tree.specs.declared.calls.Next.{Next}
@@ -14,7 +16,7 @@ use Rattle.vs_node.specs.declared.outcome.Task.{Task}
 use Rattle.vs_node.specs.ChosenLayers.{AreChosen}
 use Rattle.vs_node.specs.LeastPlans.{IsBestWithin}
 use Rattle.vs_node.specs.NextSteps.{IsOpen, IsSplit}
-use Rattle.vs_node.specs.WorkedStep.{AreBegunWith}
+use Rattle.vs_node.specs.WorkedStep.{AreBegunWith, IsWorked}
 use Rattle.vs_multi.specs.Rounds.{IsLastRound}
 use Rattle.vs_multi.specs.declared.best.TheConstants.{NEAR_ROUNDS}
 use Rattle.vs_multi.specs.declared.steps.Steps.{Steps}
@@ -50,3 +52,12 @@ HasNext p nets task table plan (Split trip left) =
 -- what becomes of the leaf, by what is known and by what the work on it found
 abbrev pub IsFollowedBy : Problem → List LayerGraph → Task → Outcome → Type 0
 IsFollowedBy p nets task outcome = HasNext p nets task outcome.table outcome.plan outcome.next
+
+-- what the work on a leaf comes to: a lawful table that is worth no less there than the leaf's own, and no less than
+-- the Lagrangian value at the multipliers that the leaf begins with; and a least plan of the layers that it chooses
+pub record IsOutcome (p : Problem) (task : Task) (outcome : Outcome) : Type 0 where
+  pub fits : Fits p outcome.table
+  pub holds : HoldingTable p outcome.table
+  pub no_less : IsWorthNoLess p task.sets.items outcome.table task.table
+  pub worked : IsWorked p task.root task.sets.items task.table outcome.table
+  pub plan : HasPlan p task.sets.items outcome.table outcome.plan

@@ -1,12 +1,8 @@
 -- Histories of a search in which each leaf that was split or closed was worked on.
-use Rattle.std.specs.Prelude.{◌≡◌, ℕ, ◌==◌, ◌≤◌, List, [], ◌∷◌, ℤ}
-use Rattle.vs_instance.specs.Lagrangian.{IsStartingValue}
-use Rattle.vs_prices.specs.Bounds.{ReachesValue}
-use Rattle.vs_prices.specs.declared.bound.Bound.{Bound}
+use Rattle.std.specs.Prelude.{◌≡◌, ℕ, ◌==◌, List, [], ◌∷◌}
 use Rattle.vs_prices.specs.declared.table.Table.{Table}
-use Rattle.vs_tree.specs.History.{FullStep, Opening, State, Took, Split, Closed, Offered, GaveBack, IsHistory, IsLeaf, IsLeafWorth, after, first_state, prices_at, sets_at, state_of}
+use Rattle.vs_tree.specs.History.{FullStep, Opening, State, Took, Split, Closed, Offered, GaveBack, after, first_state, prices_at, sets_at}
 use Rattle.vs_tree.specs.Prices.{Prices, prices_of}
-use Rattle.vs_tree.specs.Sound.{IsOpening}
 use Rattle.vs_node.specs.WorkedStep.{IsWorked}
 
 -- these prices are the work on a leaf: within its layers they are worth no less than the Lagrangian value at the

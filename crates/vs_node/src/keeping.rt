@@ -7,7 +7,7 @@ ghost use Rattle.vs_multi.specs.Rounds.{IsCase};
 ghost use Rattle.vs_node.specs.SameTables.{AreSame};
 
 use std::alloc::Global;
-use vs_multi::{Case, keep_better};
+use vs_multi::Case;
 use vs_prices::{Bound, Table, worth};
 use vs_types::Memory;
 
@@ -33,11 +33,12 @@ pub(crate) fn better(
     ensures no_less_found { IfOk result (λ kept.
         IsWorthNoLess case.now.instance.now case.now.sets.now kept.0 found) }
 {
-    let mut kept = found;
-    let mut other = copy_of(case.alloc, own)?;
     let own_worth = worth(case.instance, case.sets, own);
-    let greatest = keep_better(&mut kept, found_worth, &mut other, own_worth);
-    Ok((kept, greatest))
+    if found_worth.is_no_less(own_worth) {
+        return Ok((found, found_worth));
+    }
+    let copy = copy_of(case.alloc, own)?;
+    Ok((copy, own_worth))
 }
 
 /// A table with the same prices.

@@ -3,16 +3,14 @@ ghost use Rattle.std.specs.Prelude.{◌≡◌, ℕ, ◌<◌, IfOk, length};
 ghost use Rattle.vs_instance.specs.Restriction.{IsRestriction};
 ghost use Rattle.vs_match.specs.LayerNets.{AreLayerNets};
 ghost use Rattle.vs_multi.specs.Rounds.{IsCase};
-ghost use Rattle.vs_prices.specs.Bounds.{IsWorthNoLess};
 ghost use Rattle.vs_prices.specs.Table.{Fits, HoldingTable};
 ghost use Rattle.vs_prices.specs.Worth.{IsWorth};
 ghost use Rattle.vs_prices.specs.declared.bound.Bound.{Bound};
 ghost use Rattle.vs_tree.specs.declared.calls.Next.TheVariants.{Close};
 ghost use Rattle.vs_node.specs.ChosenLayers.{AreSingle};
 ghost use Rattle.vs_node.specs.NextSteps.{IsNextBy, IsOpen};
-ghost use Rattle.vs_node.specs.Outcomes.{HasPlan};
+ghost use Rattle.vs_node.specs.Outcomes.{HasPlan, IsOutcome};
 ghost use Rattle.vs_node.specs.SplitRule.{HasChoice};
-ghost use Rattle.vs_node.specs.WorkedStep.{IsWorked};
 
 use crate::choosing::chosen_layers;
 use crate::deciding::next_of;
@@ -64,14 +62,7 @@ pub(crate) fn alone(
     requires fits { Fits instance.now task.now.table }
     requires holds { HoldingTable instance.now task.now.table }
     requires single { AreSingle task.now.sets.items }
-    ensures fits { IfOk result (λ outcome. Fits instance.now outcome.table) }
-    ensures holds { IfOk result (λ outcome. HoldingTable instance.now outcome.table) }
-    ensures no_less { IfOk result (λ outcome.
-        IsWorthNoLess instance.now task.now.sets.items outcome.table task.now.table) }
-    ensures worked { IfOk result (λ outcome.
-        IsWorked instance.now task.now.root task.now.sets.items task.now.table outcome.table) }
-    ensures plan { IfOk result (λ outcome.
-        HasPlan instance.now task.now.sets.items outcome.table outcome.plan) }
+    ensures found { IfOk result (IsOutcome instance.now task.now) }
     ensures full { IfOk result (λ outcome. (worth : Bound)
         → IsWorth instance.now task.now.sets.items outcome.table worth
         → ¬ (IsOpen worth task.now.known outcome.plan)) }

@@ -3,10 +3,9 @@ ghost use Rattle.std.specs.Prelude.{◌≡◌, ℕ, ◌<◌, Bool, IfOk, length}
 ghost use Rattle.vs_instance.specs.Restriction.{IsRestriction};
 ghost use Rattle.vs_match.specs.LayerNets.{AreLayerNets};
 ghost use Rattle.vs_multi.specs.Rounds.{IsCase};
-ghost use Rattle.vs_prices.specs.Bounds.{IsWorthNoLess};
 ghost use Rattle.vs_prices.specs.Table.{Fits, HoldingTable};
 ghost use Rattle.vs_prices.specs.Worth.{IsWorth};
-ghost use Rattle.vs_node.specs.Outcomes.{HasPlan, IsFollowedBy, IsLeafsLastRound};
+ghost use Rattle.vs_node.specs.Outcomes.{IsFollowedBy, IsLeafsLastRound, IsOutcome};
 ghost use Rattle.vs_node.specs.SplitRule.{HasChoice};
 ghost use Rattle.vs_node.specs.WorkedStep.{IsWorked};
 
@@ -34,14 +33,7 @@ pub(crate) fn search(
     requires fits { Fits instance.now task.now.table }
     requires holds { HoldingTable instance.now task.now.table }
     requires choice { (i : ℕ) × (i < length task.now.sets.items) × HasChoice task.now.sets.items i }
-    ensures fits { IfOk result (λ outcome. Fits instance.now outcome.table) }
-    ensures holds { IfOk result (λ outcome. HoldingTable instance.now outcome.table) }
-    ensures no_less { IfOk result (λ outcome.
-        IsWorthNoLess instance.now task.now.sets.items outcome.table task.now.table) }
-    ensures worked { IfOk result (λ outcome.
-        IsWorked instance.now task.now.root task.now.sets.items task.now.table outcome.table) }
-    ensures plan { IfOk result (λ outcome.
-        HasPlan instance.now task.now.sets.items outcome.table outcome.plan) }
+    ensures found { IfOk result (IsOutcome instance.now task.now) }
     ensures next { IfOk result (λ outcome.
         IsFollowedBy instance.now nets.now task.now outcome) }
 {

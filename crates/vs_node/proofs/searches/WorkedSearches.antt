@@ -1,5 +1,5 @@
 -- Once a leaf was worked on, every leaf reaches the value at the starting multipliers.
-use Rattle.std.proofs.Common.{◌≡◌, ◌≢◌, ◌⊎◌, ℕ, zero, suc, ◌+◌, ◌==◌, ◌<◌, ◌≤◌, Bool, true, false, List, [], ◌∷◌, ◌++◌, length, get_or, refl, sym, ap, ◌∙◌, subst, arith, inl, inr, append-nil, ℤ, pos}
+use Rattle.std.proofs.Common.{◌≡◌, ◌≢◌, ℕ, zero, suc, ◌+◌, ◌<◌, ◌≤◌, Bool, true, false, List, [], ◌∷◌, length, get_or, refl, sym, ap, ◌∙◌, subst, arith, inl, inr, ℤ}
 use Rattle.std.proofs.lemmas.Bool.{cases_eq, eq-eqb}
 use Rattle.vs_types.specs.LayerSet.{Has}
 use Rattle.vs_types.specs.declared.layer_set.LayerSet.{LayerSet}
@@ -7,7 +7,7 @@ use Rattle.vs_types.specs.declared.numbers.TripNo.{TripNo}
 use Rattle.vs_instance.specs.Lagrangian.{IsLagrangianValue, IsStartingValue}
 use Rattle.vs_instance.specs.Problem.{Problem}
 use Rattle.vs_instance.specs.Restriction.{IsRestriction, permitted_sets, set_of}
-use Rattle.vs_prices.specs.Bounds.{IsNoLess, ReachesValue}
+use Rattle.vs_prices.specs.Bounds.{ReachesValue}
 use Rattle.vs_prices.specs.Worth.{IsWorth, worth_of}
 use Rattle.vs_prices.specs.declared.bound.Bound.{Bound}
 use Rattle.vs_prices.specs.declared.table.Table.{Table}
@@ -17,9 +17,8 @@ use Rattle.vs_tree.specs.declared.spot.Spot.TheVariants.{Inner, Free, Held, Clos
 use Rattle.vs_tree.specs.Prices.{AreLawful, AreWorth, Prices, no_prices, prices_of}
 use Rattle.vs_tree.specs.Sound.{IsOpening, IsSound}
 use Rattle.vs_cases.specs.Tree.{right_of, with_set}
-use Rattle.vs_types.specs.Parts.{IsProperPart}
-use Rattle.vs_tree.specs.History.{FullStep, Opening, Place, State, Took, Split, Closed, Offered, GaveBack, IsLeaf, IsLeafWorth, MayCome, MayFollow, MayGive, MaySplit, after, first_state, is_inner, left_part, no_place, place_at, prices_at, right_part, sets_at, spot_at, state_after, table_of, with_spot}
-use Rattle.vs_tree.proofs.CallerLemmas.{lawful_worth, leaf_within, last-prices, Where, split, other, lower, upper, nowhere, where_is, split-here, split-lower, split-nowhere, split-other, split-upper, first_sound, step_sound, leaves-kept, prices-kept, same-worth, sets-kept, spot-here, spot-there}
+use Rattle.vs_tree.specs.History.{FullStep, Opening, Place, State, Took, Split, Closed, Offered, GaveBack, IsLeaf, IsLeafWorth, MayCome, MayFollow, MayGive, MaySplit, after, first_state, is_inner, left_part, place_at, prices_at, right_part, sets_at, spot_at, state_after, table_of, with_spot}
+use Rattle.vs_tree.proofs.CallerLemmas.{lawful_worth, leaf_within, last-prices, split, other, lower, upper, nowhere, where_is, split-here, split-lower, split-nowhere, split-other, split-upper, first_sound, step_sound, leaves-kept, prices-kept, same-worth, sets-kept, spot-here, spot-there}
 use Rattle.vs_cases.proofs.CallerLemmas.{left-restricts, right-restricts, set_of-other, set_of-same}
 use Rattle.vs_types.proofs.CallerLemmas.{rest-within}
 use Rattle.vs_node.specs.Laws.{WorkedSearchesReachTheStart}

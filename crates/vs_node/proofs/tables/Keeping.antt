@@ -1,13 +1,13 @@
 -- The better of a leaf's own table and a found one.
-use Rattle.std.proofs.Common.{◌≡◌, Bool, List, length, sym, ap, ◌∙◌, subst, ℤ}
+use Rattle.std.proofs.Common.{Bool, List, length, refl, sym, ap, ◌∙◌, subst, inl, inr, ℤ}
 use Rattle.std.specs.List.{All}
 use Rattle.vs_types.specs.declared.layer_set.LayerSet.{LayerSet}
 use Rattle.vs_instance.specs.Problem.{Problem}
 use Rattle.vs_instance.specs.HoldingTable.{HoldsInLayer, price_of}
 use Rattle.vs_prices.specs.declared.bound.Bound.{Bound}
 use Rattle.vs_prices.specs.declared.table.Table.{Table}
-use Rattle.vs_prices.specs.Table.{Fits, HoldingTable, IsPrice, prices_in}
-use Rattle.vs_multi.specs.Rounds.{IsBetter}
+use Rattle.vs_prices.specs.Bounds.{IsNoLess}
+use Rattle.vs_prices.specs.Table.{IsPrice, prices_in}
 use Rattle.vs_multi.proofs.CallerLemmas.{IsBetterOf, IsLawful, better_of, worth_along}
 use Rattle.vs_node.specs.SameTables.{AreSame}
 
@@ -30,15 +30,21 @@ module _ (p : Problem) (sets : List LayerSet) (table copy : Table) (same : AreSa
     is_worth = worth_along p sets table copy same.into same.from same.fleet same.ray worth lawful.is_worth;
   }
 
-module _ (p : Problem) (sets : List LayerSet) (own found copy : Table) (own_worth found_worth : Bound)
-    (of_own : IsLawful p sets own own_worth) (of_found : IsLawful p sets found found_worth)
-    (same : AreSame own copy) where
-  -- the better of the found table and of a copy of the own one
-  pub kept_better : (kept other : Table) (greatest : Bound)
-      → IsBetter found found_worth copy own_worth kept greatest other → IsBetterOf p sets found own kept greatest
-  kept_better kept other greatest better =
+module _ (p : Problem) (sets : List LayerSet) (own found : Table) (own_worth found_worth : Bound)
+    (of_own : IsLawful p sets own own_worth) (of_found : IsLawful p sets found found_worth) where
+  -- the found table is the better one where it is worth no less
+  pub found_better : IsNoLess found_worth own_worth → IsBetterOf p sets found own found found_worth
+  found_better more =
+      better_of p sets found own found own found_worth own_worth found_worth of_found of_own
+      (inl (more, refl, refl, refl))
+
+  -- and else a copy of the own one
+  pub copy_better : (copy : Table) → AreSame own copy → ¬ (IsNoLess found_worth own_worth)
+      → IsBetterOf p sets found own copy own_worth
+  copy_better copy same less =
       let of_copy = same-lawful p sets own copy same own_worth of_own in
-      let is = better_of p sets found copy kept other found_worth own_worth greatest of_found of_copy better in
+      let is = better_of p sets found copy copy found found_worth own_worth own_worth of_found of_copy
+      (inr (less, refl, refl, refl)) in
       record {
         lawful = is.lawful;
         no_less = is.no_less;

@@ -12,29 +12,29 @@ shows c =
     subst (λ (sets : List LayerSet). ShowsPlan c.args.instance.now sets c.in_ok-settled.settled.table
     c.in_ok-settled.settled.plan) c.deref.ensures.value c.in_ok-settled.ensures.shows
 
-pub returns-clause-no_less : goal.returns-clause-no_less
-returns-clause-no_less c =
-    shown-no_less c.args.instance.now c.args.task.now.sets.items c.in_ok-settled.settled.table
-    c.requires.nets.instance c.requires.restriction c.in_ok-settled.ensures.fits c.in_ok-settled.ensures.holds
-    c.in_ok-settled.settled.plan (shows c) c.args.task.now.table c.requires.fits c.requires.holds
-
-pub returns-clause-worked : goal.returns-clause-worked
-returns-clause-worked c =
-    shown-worked c.args.instance.now c.args.task.now.sets.items c.in_ok-settled.settled.table
-    c.requires.nets.instance c.requires.restriction c.in_ok-settled.ensures.fits c.in_ok-settled.ensures.holds
-    c.in_ok-settled.settled.plan (shows c) c.args.task.now.root c.args.task.now.table
-
-pub returns-clause-plan : goal.returns-clause-plan
-returns-clause-plan c =
+pub returns-clause-found : goal.returns-clause-found
+returns-clause-found c =
     let p = c.args.instance.now in
-    let sets = c.args.task.now.sets.items in
+    let task = c.args.task.now in
+    let sets = task.sets.items in
     let table = c.in_ok-settled.settled.table in
+    let plan = c.in_ok-settled.settled.plan in
+    let fits = c.in_ok-settled.ensures.fits in
+    let holds = c.in_ok-settled.ensures.holds in
+    let instance = c.requires.nets.instance in
+    let restriction = c.requires.restriction in
     record {
-      chosen = sets;
-      are_chosen = single_chosen p sets table c.requires.restriction c.requires.single;
-      best =
-          shown-best p sets table c.requires.nets.instance c.requires.restriction c.in_ok-settled.ensures.fits
-          c.in_ok-settled.ensures.holds c.in_ok-settled.settled.plan (shows c);
+      fits = fits;
+      holds = holds;
+      no_less =
+          shown-no_less p sets table instance restriction fits holds plan (shows c) task.table c.requires.fits
+          c.requires.holds;
+      worked = shown-worked p sets table instance restriction fits holds plan (shows c) task.root task.table;
+      plan = record {
+        chosen = sets;
+        are_chosen = single_chosen p sets table restriction c.requires.single;
+        best = shown-best p sets table instance restriction fits holds plan (shows c);
+      };
     }
 
 pub returns-clause-full : goal.returns-clause-full

@@ -60,7 +60,9 @@ whole : (p : Problem) (short n : ℕ) (prices zeros : LayerPrices) (table : Tabl
 whole p short n prices zeros table is ray = subst (λ (m : ℕ). IsRayOfFirst p short prices zeros m table) is ray
 
 pub returns-clause-fits : goal.returns-clause-fits
-returns-clause-fits c = all_layers-fit c.args.instance.now c.loop-l.table (whole c.args.instance.now c.args.short.0 c.loop-l.l c.args.prices.now c.loop-l.zeros
+returns-clause-fits c =
+    all_layers-fit c.args.instance.now c.loop-l.table
+    (whole c.args.instance.now c.args.short.0 c.loop-l.l c.args.prices.now c.loop-l.zeros
     c.loop-l.table (omega (arith, c.layers-l-end.ensures.count, c.loop-l-test.false, c.loop-l.auto.l-end))
     c.loop-l.invariant.table).first
 

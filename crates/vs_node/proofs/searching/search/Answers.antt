@@ -2,38 +2,41 @@ use Rattle.std.proofs.Common.{ℕ, List, sym, subst}
 use Rattle.vs_types.specs.declared.layer_set.LayerSet.{LayerSet}
 use Rattle.vs_prices.specs.declared.table.Table.{Table}
 use Rattle.vs_prices.specs.Bounds.{IsWorthNoLess}
+use Rattle.vs_prices.specs.Table.{Fits, HoldingTable}
 use Rattle.vs_prices.specs.Worth.{IsWorth}
 use Rattle.vs_node.specs.NextSteps.{IsNextBy}
-use Rattle.vs_node.specs.Outcomes.{HasNext, IsLeafsLastRound}
+use Rattle.vs_node.specs.Outcomes.{HasNext, HasPlan, IsLeafsLastRound}
 use Rattle.vs_node.specs.WorkedStep.{IsWorked}
 use Rattle.vs_node.proofs.tables.Comparing.{lagrangian-kept, worth_no_less-trans}
 use Rattle.vs_node.proofs.searches.Nexts.{next_of_round}
 use Rattle.vs_node.proofs.searching.search.Goals as goal
 
-pub returns-clause-no_less : goal.returns-clause-no_less
-returns-clause-no_less c =
-    let p = c.args.instance.now in
-    let own = c.args.task.now.table in
-    let sets = c.as_slice-sets.result.now in
-    let more = worth_no_less-trans p sets c.raise.new.table c.in_ok-table.table own
-    c.in_ok-raised.ensures.no_less
-    c.in_ok-table.ensures.no_less in
-    subst (λ (s : List LayerSet). IsWorthNoLess p s c.in_ok-outcome.outcome.table own) c.as_slice-sets.ensures.value
-    (subst (λ (t : Table). IsWorthNoLess p sets t own) (sym c.in_ok-outcome.ensures.table) more)
-
-pub returns-clause-worked : goal.returns-clause-worked
-returns-clause-worked c =
+pub returns-clause-found : goal.returns-clause-found
+returns-clause-found c =
     let p = c.args.instance.now in
     let task = c.args.task.now in
+    let outcome = c.in_ok-outcome.outcome in
     let sets = c.as_slice-sets.result.now in
+    let sets_are = c.as_slice-sets.ensures.value in
+    let table_is = sym c.in_ok-outcome.ensures.table in
+    let raised = c.in_ok-raised.ensures.no_less in
     let found = c.in_ok-best.best.table in
-    let more = worth_no_less-trans p sets c.raise.new.table c.in_ok-table.table found
-    c.in_ok-raised.ensures.no_less c.in_ok-table.ensures.no_less_found in
-    subst (λ (s : List LayerSet). IsWorked p task.root s task.table c.in_ok-outcome.outcome.table)
-    c.as_slice-sets.ensures.value
-    (subst (IsWorked p task.root sets task.table) (sym c.in_ok-outcome.ensures.table)
-    (λ multipliers begun. lagrangian-kept p sets c.raise.new.table found multipliers more
-    (c.in_ok-best.ensures.worked multipliers begun)))
+    let more = worth_no_less-trans p sets c.raise.new.table c.in_ok-table.table task.table raised
+    c.in_ok-table.ensures.no_less in
+    let more_found = worth_no_less-trans p sets c.raise.new.table c.in_ok-table.table found raised
+    c.in_ok-table.ensures.no_less_found in
+    record {
+      fits = subst (Fits p) table_is c.in_ok-raised.ensures.fits;
+      holds = subst (HoldingTable p) table_is c.in_ok-raised.ensures.holds;
+      no_less = subst (λ (s : List LayerSet). IsWorthNoLess p s outcome.table task.table) sets_are
+          (subst (λ (t : Table). IsWorthNoLess p sets t task.table) table_is more);
+      worked = subst (λ (s : List LayerSet). IsWorked p task.root s task.table outcome.table) sets_are
+          (subst (IsWorked p task.root sets task.table) table_is
+          (λ multipliers begun. lagrangian-kept p sets c.raise.new.table found multipliers more_found
+          (c.in_ok-best.ensures.worked multipliers begun)));
+      plan = subst (λ (s : List LayerSet). HasPlan p s outcome.table outcome.plan) sets_are
+          (subst (λ (t : Table). HasPlan p sets t outcome.plan) table_is c.in_ok-outcome.ensures.plan);
+    }
 
 pub returns-clause-next : goal.returns-clause-next
 returns-clause-next c =

@@ -18,7 +18,7 @@ returns-in_ok-closed-in-None-clause-start c root =
     let old = c.args.task.now.table in
     let new = c.in_ok-closed-in-None.closed.table in
     worked-start p sets old new c.requires.restriction
-    (subst (λ (b : Bool). IsWorked p b sets old new) root c.in_ok-closed-in-None.ensures.worked)
+    (subst (λ (b : Bool). IsWorked p b sets old new) root c.in_ok-closed-in-None.ensures.found.worked)
 
 pub returns-in_ok-outcome-in-Some-clause-start : goal.returns-in_ok-outcome-in-Some-clause-start
 returns-in_ok-outcome-in-Some-clause-start c root =
@@ -27,7 +27,7 @@ returns-in_ok-outcome-in-Some-clause-start c root =
     let old = c.args.task.now.table in
     let new = c.in_ok-outcome-in-Some.outcome.table in
     worked-start p sets old new c.requires.restriction
-    (subst (λ (b : Bool). IsWorked p b sets old new) root c.in_ok-outcome-in-Some.ensures.worked)
+    (subst (λ (b : Bool). IsWorked p b sets old new) root c.in_ok-outcome-in-Some.ensures.found.worked)
 
 pub returns-in_ok-outcome-in-Some-clause-alone : goal.returns-in_ok-outcome-in-Some-clause-alone
 returns-in_ok-outcome-in-Some-clause-alone c single =
