@@ -54,7 +54,13 @@ fn run_from(net: &LayerNet, offers: &[Option<i64>], kept: &mut Kept, answer: &mu
         → AreOffers p l.0 offers.now → RunLeast p l net.now offers.now answer.new }
 {
     kept.recall(net, offers);
-    settle(net, offers, &mut kept.search, &mut kept.shipment);
+    settle(
+        net,
+        offers,
+        &mut kept.search,
+        &mut kept.loads,
+        &mut kept.shipment,
+    );
     mark(net, &kept.shipment.flow.units, answer);
     if !are_kept_prices(&kept.shipment.prices) {
         let space = &mut kept.space;
