@@ -13,3 +13,4 @@ pub mod Fixing
 pub mod Relaxed
 pub mod Running
 pub mod Keeping
+pub mod Listing

@@ -6,6 +6,7 @@ use Rattle.vs_circ.specs.declared.shipment.Start.{Start}
 use Rattle.vs_circ.specs.declared.work.Kept.{Kept}
 use Rattle.vs_circ.specs.declared.work.Work.{Work}
 use Rattle.vs_match.specs.LayerGraph.{LayerGraph}
+use Rattle.vs_path.specs.Loads.{lists_in}
 use Rattle.vs_circ.specs.node_prices.Mirror.{IsMirror}
 use Rattle.vs_circ.specs.shipping.Shipments.{IsSized}
 
@@ -22,12 +23,13 @@ pub record IsStartFor (g : Graph) (start : Start) : Type 0 where
   pub units : length start.units.items ≡ length g.arcs
   pub prices : length start.prices.items ≡ g.nodes
 
--- the shipment and the start have a number for each arc and each node of the net, so have the search and the space, and
--- the mirror is the net's
+-- the shipment and the start have a number for each arc and each node of the net, so have the search and the space, the
+-- arcs that carry units have a list for each node, and the mirror is the net's
 pub record IsKeptFor (g : Graph) (kept : Kept) : Type 0 where
   pub sized : IsSized g kept.shipment
   pub before : IsStartFor g kept.before
   pub nodes : kept.search.nodes ≡ g.nodes
+  pub lists : length (lists_in kept.loads) ≡ g.nodes
   pub mirror : IsMirror g kept.mirror
   pub space : IsSpaceFor g.nodes kept.space
 

@@ -54,7 +54,7 @@ fn fix(alloc: Global, net: &LayerNet, must: &[bool], kept: &mut Kept) -> Result<
     let arcs = net.net();
     kept.exchange();
     supply(net, must, &mut kept.shipment);
-    match drain(arcs, &mut kept.search, &mut kept.shipment) {
+    match drain(arcs, &mut kept.search, &mut kept.loads, &mut kept.shipment) {
         None => covered(alloc, net, must, &kept.shipment, &mut kept.space),
         Some(_) => short(alloc, net, must, kept.search.reached(), &mut kept.space),
     }

@@ -64,7 +64,13 @@ fn relaxed_from(
 {
     let graph = net.net();
     kept.recall(net, offers);
-    settle(net, offers, &mut kept.search, &mut kept.shipment);
+    settle(
+        net,
+        offers,
+        &mut kept.search,
+        &mut kept.loads,
+        &mut kept.shipment,
+    );
     take_centred(graph, kept);
     let circ = circ_of(alloc, net, offers, &kept.shipment, &mut kept.space)?;
     swap(&mut kept.shipment.prices, &mut kept.space.prices);

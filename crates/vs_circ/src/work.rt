@@ -14,16 +14,17 @@ use std::alloc::Global;
 use std::mem::swap;
 use vs_layer::{Flow, Net};
 use vs_match::LayerNet;
-use vs_path::{Costs, Search};
+use vs_path::{Costs, Loads, Search};
 use vs_types::Memory;
 
-/// What is kept for a net: the units that were sent last, what a call can begin with instead, the searches, the net
-/// turned round, and space to work in.
+/// What is kept for a net: the units that were sent last, what a call can begin with instead, the searches, the arcs
+/// that carry units, the net turned round, and space to work in.
 #[derive(Drop)]
 pub(crate) struct Kept {
     pub shipment: Shipment,
     pub before: Start,
     pub search: Search,
+    pub loads: Loads,
     pub mirror: Net,
     pub space: Space,
 }
@@ -44,6 +45,7 @@ impl Kept {
             shipment: empty_shipment(alloc, net)?,
             before: Start::new(alloc, net)?,
             search: Search::new(alloc, net.nodes())?,
+            loads: Loads::new(alloc, net.nodes())?,
             mirror: mirror_of(alloc, net)?,
             space: Space::new(alloc, net.nodes())?,
         })
@@ -56,6 +58,7 @@ impl Kept {
         is_sized(&self.shipment, net)
             && self.before.is_of(net)
             && self.search.nodes() == net.nodes() as usize
+            && self.loads.nodes() == net.nodes() as usize
             && self.space.is_for(net.nodes())
             && is_mirror(&self.mirror, net)
     }
@@ -87,6 +90,7 @@ impl Kept {
         ensures costs { self.new.shipment.costs ≡ self.old.shipment.costs }
         ensures surplus { self.new.shipment.surplus ≡ self.old.shipment.surplus }
         ensures search { self.new.search ≡ self.old.search }
+        ensures loads { self.new.loads ≡ self.old.loads }
         ensures mirror { self.new.mirror ≡ self.old.mirror }
         ensures space { self.new.space ≡ self.old.space }
     {

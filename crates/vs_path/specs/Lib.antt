@@ -2,6 +2,7 @@ pub mod Keys
 pub mod Tournament
 pub mod Queues
 pub mod Residual
+pub mod Loads
 pub mod Labels
 pub mod Search
 pub mod Searchable

@@ -1,9 +1,10 @@
 //! What a search for least paths knows of the nodes, and how it settles one after the other.
 
 ghost use Rattle.std.specs.Prelude.{◌≡◌, ℕ, ℤ, IfSome, ◌<◌, ◌≤◌, ◌↔◌, ◌++◌, ◌∷◌, [], ◌+ℤ◌, length, set, replicate, IsTrue, IfOk, MatchOption, Some, None, vec_capacity, slice_index, slice_index_or};
-ghost use Rattle.vs_path.specs.Residual.{IsResidual, HasSignRule, arc_no, from_of, reduced, step_along};
+ghost use Rattle.vs_path.specs.Residual.{IsResidual, HasSignRule, arc_no, from_of, reduced};
 ghost use Rattle.vs_path.specs.declared.labels.Settled.{Settled};
 ghost use Rattle.vs_path.specs.declared.step.Step.{Step};
+ghost use Rattle.vs_path.specs.declared.step.Step.TheVariants.{Forward, Back};
 ghost use Rattle.vs_path.specs.Keys.{IsEmpty, IsLeast, IsNotAfter};
 ghost use Rattle.vs_path.specs.Labels.{AreLabels, AreFresh, AreListed, Covers, IsBetter, IsBound, IsFarthest, IsLowered, IsOver, IsReached, IsRelaxed, IsSettledAt, IsSmall, Lacks, Relaxes, lists_of, lowered, settle_in, settled_at, waiting_at};
 
@@ -163,8 +164,8 @@ impl Labels {
         ensures order { self.new.order ≡ self.old.order }
         ensures residual { IsResidual residual.now }
     {
-        self.relax_along(residual, prices, surplus, node, distance, Way::Forward);
-        self.relax_along(residual, prices, surplus, node, distance, Way::Back);
+        self.relax_forward(residual, prices, surplus, node, distance);
+        self.relax_back(residual, prices, surplus, node, distance);
     }
 
     /// Whether a node has no distance yet, or a greater one.
@@ -266,15 +267,14 @@ impl Labels {
         distance + residual.reduced(prices, step)
     }
 
-    /// Relaxes the steps that go this way from a node that is settled at this distance, the farthest so far.
-    fn relax_along(
+    /// Relaxes the steps forward from a node that is settled at this distance, the farthest so far.
+    fn relax_forward(
         &mut self,
         residual: &Residual,
         prices: &[i64],
         surplus: &[i64],
         node: u32,
         distance: i64,
-        way: Way,
     )
         requires small { IsSmall residual.now prices.now }
         requires sign_rule { HasSignRule residual.now prices.now }
@@ -289,12 +289,43 @@ impl Labels {
         ensures lowered { IsLowered (lists_of self.old) (lists_of self.new) }
         ensures relaxed { (k : ℕ)
             → IsRelaxed residual.now prices.now surplus.now (lists_of self.new) node distance
-            (step_along way k) }
+            (Forward k) }
         ensures order { self.new.order ≡ self.old.order }
         ensures residual { IsResidual residual.now }
     {
-        for k in residual.arcs_along(way, node) {
-            self.relax(residual, prices, surplus, distance, Step::along(way, *k));
+        for k in residual.open_along(Way::Forward, node) {
+            self.relax(residual, prices, surplus, distance, Step::Forward(*k));
+        }
+    }
+
+    /// Relaxes the steps back from a node that is settled at this distance, the farthest so far.
+    fn relax_back(
+        &mut self,
+        residual: &Residual,
+        prices: &[i64],
+        surplus: &[i64],
+        node: u32,
+        distance: i64,
+    )
+        requires small { IsSmall residual.now prices.now }
+        requires sign_rule { HasSignRule residual.now prices.now }
+        requires labels { AreLabels residual.now prices.now (lists_of self.old) }
+        requires node { node < residual.now.graph.nodes }
+        requires from { IsSettledAt (lists_of self.old) node distance }
+        requires farthest { IsFarthest (lists_of self.old) distance }
+        requires each_node { length surplus.now ≡ residual.now.graph.nodes }
+        requires bound { IsBound surplus.now (lists_of self.old) self.old.bound }
+        ensures bound { IsBound surplus.now (lists_of self.new) self.new.bound }
+        ensures labels { AreLabels residual.now prices.now (lists_of self.new) }
+        ensures lowered { IsLowered (lists_of self.old) (lists_of self.new) }
+        ensures relaxed { (k : ℕ)
+            → IsRelaxed residual.now prices.now surplus.now (lists_of self.new) node distance
+            (Back k) }
+        ensures order { self.new.order ≡ self.old.order }
+        ensures residual { IsResidual residual.now }
+    {
+        for k in residual.open_along(Way::Back, node) {
+            self.relax(residual, prices, surplus, distance, Step::Back(*k));
         }
     }
 }

@@ -7,6 +7,7 @@
 
 mod labels;
 mod least_tree;
+mod loads;
 mod node_heap;
 mod path_tree;
 mod paths;
@@ -18,6 +19,7 @@ mod search;
 mod step;
 mod tournament;
 
+pub use loads::Loads;
 pub use node_heap::NodeHeap;
 pub use paths::Paths;
 pub use reach::{Reach, distances, sign_rule_leaves_no_negative_cycle};

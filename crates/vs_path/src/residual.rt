@@ -2,8 +2,11 @@
 
 ghost use Rattle.std.specs.Prelude.{◌≡◌, ◌<◌, ◌≤◌, ◌↔◌, ◌≤ℤ◌, pos, length, IsTrue};
 ghost use Rattle.vs_path.specs.Labels.{IsSmall};
+ghost use Rattle.vs_path.specs.Loads.{AreAlong, AreLoads};
+ghost use Rattle.vs_path.specs.declared.step.Way.TheVariants.{Back};
 ghost use Rattle.vs_path.specs.Residual.{HasSignRule, IsResidual, IsOpen, IsWithin, AllWithin, arc_no, arcs_along, from_of, to_of, cost_of, reduced};
 
+use crate::loads::Loads;
 use crate::step::{Step, Way};
 use std::marker::Model;
 use vs_layer::{Flow, Net};
@@ -39,10 +42,14 @@ pub struct Residual<'a> {
     costs: &'a Costs,
     /// How many arcs may be used, from the first.
     arcs: u32,
+    /// The arcs that carry units, where they are listed.
+    loads: Option<&'a Loads>,
 }
 
 impl<'a> Model for Residual<'a> {
+    ghost use Rattle.std.specs.Prelude.{IfSome};
     ghost use Rattle.vs_path.specs.Residual.{ResidualNet, IsResidual};
+    ghost use Rattle.vs_path.specs.Loads.{AreLoads};
 
     ghost Value = { ResidualNet };
 
@@ -60,7 +67,7 @@ impl<'a> Model for Residual<'a> {
       cost = r.costs.now.cost.items;
       room = r.costs.now.room.items;
       arcs = r.arcs;
-    }) };
+    }) × IfSome r.loads (λ loads. AreLoads r.net.now r.flow.now.units.items loads.now) };
 }
 
 impl<'a> Residual<'a> {
@@ -85,6 +92,30 @@ impl<'a> Residual<'a> {
             flow,
             costs,
             arcs,
+            loads: None,
+        }
+    }
+
+    /// The same where the arcs that carry units are listed, all arcs of the net among those that may be used.
+    pub fn loaded(net: &'a Net, flow: &'a Flow, costs: &'a Costs, loads: &'a Loads) -> Residual<'a>
+        requires units { length flow.now.units.items ≡ length net.now.arcs }
+        requires cost { length costs.now.cost.items ≡ length net.now.arcs }
+        requires room { length costs.now.room.items ≡ length net.now.arcs }
+        requires loads { AreLoads net.now flow.now.units.items loads.now }
+        ensures { result ≡ record {
+          graph = net.entry.now;
+          units = flow.entry.now.units.items;
+          cost = costs.entry.now.cost.items;
+          room = costs.entry.now.room.items;
+          arcs = length net.entry.now.arcs;
+        } }
+    {
+        Residual {
+            net,
+            flow,
+            costs,
+            arcs: net.arcs(),
+            loads: Some(loads),
         }
     }
 
@@ -168,6 +199,32 @@ impl<'a> Residual<'a> {
             Way::Forward => self.net.leaving(node),
             Way::Back => self.net.reaching(node),
         }
+    }
+
+    /// Arcs along which steps that go this way leave a node, among them all along which a unit may.
+    pub fn open_along(&self, way: Way, node: u32) -> &[u32]
+        requires { node < self.now.graph.nodes }
+        ensures along { AreAlong self.now way node result.now }
+        ensures residual { IsResidual self.now }
+    {
+        match way {
+            Way::Forward => self.arcs_along(way, node),
+            Way::Back => self.loaded_along(node),
+        }
+    }
+
+    /// Arcs that reach a node, among them all that carry units.
+    fn loaded_along(&self, node: u32) -> &[u32]
+        requires { node < self.now.graph.nodes }
+        ensures along { AreAlong self.now Back node result.now }
+        ensures residual { IsResidual self.now }
+    {
+        if let Some(loads) = self.loads {
+            if let Some(arcs) = loads.reaching(node) {
+                return arcs;
+            }
+        }
+        self.arcs_along(Way::Back, node)
     }
 
     /// Whether the numbers are small enough for a search by these prices.

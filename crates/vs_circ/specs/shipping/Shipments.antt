@@ -1,15 +1,17 @@
 -- Units on their way from nodes with a surplus to nodes with a lack (the transshipment problem: Ahuja, Magnanti and
 -- Orlin, Network Flows, 1993, chapter 9).
-use Rattle.std.specs.Prelude.{◌≡◌, ◌≢◌, ℕ, ◌+◌, ◌^◌, ◌%◌, ◌<◌, ◌≤◌, List, length, map, set, slice_index, ℤ, pos, ◌+ℤ◌, ◌-ℤ◌, ◌≤ℤ◌, ◌<ℤ◌}
+use Rattle.std.specs.Prelude.{◌≡◌, ◌≢◌, ℕ, ◌+◌, ◌^◌, ◌%◌, ◌<◌, ◌≤◌, List, length, map, set, slice_index, ℤ, pos, ◌+ℤ◌, ◌-ℤ◌, ◌≤ℤ◌, ◌<ℤ◌, true}
 use Rattle.std.specs.Int.{int_max}
 use Rattle.vs_layer.specs.declared.arc.Arc.{Arc}
 use Rattle.vs_layer.specs.Graph.{Graph}
 use Rattle.vs_instance.specs.Lagrangian.{total}
 use Rattle.vs_path.specs.declared.residual.TheConstants.{MAX_STEP_COST, MAX_SEARCH_NODES, MAX_SEARCH_PRICE}
+use Rattle.vs_path.specs.declared.loads.Loads.{Loads}
 use Rattle.vs_path.specs.declared.step.Step.{Step}
 use Rattle.vs_path.specs.declared.step.Step.TheVariants.{Forward, Back}
 use Rattle.vs_path.specs.Residual.{ResidualNet, HasSignRule, IsWithin, AllWithin, price_at, step_in}
 use Rattle.vs_path.specs.Labels.{Lacks}
+use Rattle.vs_path.specs.Loads.{AreByNode, IsListed, lists_in}
 use Rattle.vs_path.specs.Search.{IsCut}
 use Rattle.vs_circ.specs.declared.shipment.Shipment.{Shipment}
 use Rattle.vs_circ.specs.declared.shipment.TheConstants.{MAX_FIRST_PRICE}
@@ -116,3 +118,10 @@ pub record IsSentAlong (old new : List ℕ) (path : List Step) (count : ℕ) : T
 abbrev pub GainAlong : List ℕ → List ℕ → List Step → Type 0
 GainAlong old new path = (weight : ℕ → ℤ) (arcs : List Arc) → length old ≡ length arcs
     → gained weight arcs new ≡ gained weight arcs old +ℤ steps_gain weight arcs path
+
+-- the arcs of the first so many steps forward are listed too
+pub record AreListedToo (g : Graph) (old new : Loads) (path : List Step) (count : ℕ) : Type 0 where
+  pub by_node : AreByNode g (lists_in new)
+  pub kept : (k : ℕ) → IsListed g (lists_in old) k → IsListed g (lists_in new) k
+  pub complete : new.complete ≡ true → old.complete ≡ true
+  pub listed : new.complete ≡ true → (i k : ℕ) → i < count → step_in path i ≡ Forward k → IsListed g (lists_in new) k

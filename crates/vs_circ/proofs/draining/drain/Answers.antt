@@ -23,6 +23,7 @@ loop-first-preserved c =
             | inr last ↦ c.in_default.ensures.left v (omega (arith, below, last))
           ];
       nodes = c.in_default.ensures.nodes ∙ inv.nodes;
+      loads = c.in_default.ensures.loads;
     }
 
 pub returns-clause-left : goal.returns-clause-left

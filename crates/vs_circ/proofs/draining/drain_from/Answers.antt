@@ -27,6 +27,7 @@ loop-node-preserved c =
                 subst P e c.if-not-drain_node.ensures.left
           ];
       nodes = c.drain_node.ensures.nodes ∙ inv.nodes;
+      loads = c.drain_node.ensures.loads;
     }
 
 pub returns-clause-left : goal.returns-clause-left

@@ -1,5 +1,6 @@
 use Rattle.std.proofs.Common.{◌≡◌, ◌-◌, ◌%◌, ◌<◌, ◌≤ℤ◌, ℕ, pos}
 use Rattle.vs_path.specs.Residual.{price_at}
+use Rattle.vs_path.specs.Loads.{AreLoads}
 use Rattle.vs_circ.specs.declared.draining.TheConstants.{STRIDE}
 use Rattle.vs_circ.specs.shipping.Shipments.{Ships}
 use Rattle.vs_circ.proofs.draining.drain_from.Given as goal
@@ -11,6 +12,7 @@ invariant-loop-node l = record {
   place : l.node % STRIDE ≡ l.first;
   none_left : (v : ℕ) → v < l.node → v % STRIDE ≡ l.first → price_at l.shipment.surplus.items v ≤ℤ pos 0;
   nodes : l.search.nodes ≡ l.fn.search.nodes;
+  loads : AreLoads l.net l.shipment.flow.units.items l.loads;
 }
 
 abbrev pub decreases-loop-node : goal.decreases-loop-node

@@ -13,4 +13,5 @@ loop-search-preserved c = record {
       c.loop-search.invariant.ships
       c.send.ensures.ships;
   nodes = c.send.ensures.nodes ∙ c.loop-search.invariant.nodes;
+  loads = c.send.ensures.loads;
 }

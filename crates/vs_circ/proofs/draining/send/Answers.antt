@@ -1,29 +1,16 @@
-use Rattle.std.proofs.Common.{◌≡◌, ◌∙◌, ◌<ℤ◌, pos, length, ℕ, List, ℤ, arith, refl, sym, ap, subst}
+use Rattle.std.proofs.Common.{◌≡◌, ◌∙◌, ◌<◌, ◌<ℤ◌, pos, length, ℕ, List, ℤ, arith, refl, sym, ap, subst}
 use Rattle.std.proofs.lemmas.List.{with_items_is}
-use Rattle.vs_layer.specs.Graph.{Graph}
 use Rattle.vs_path.specs.declared.step.Step.{Step}
-use Rattle.vs_path.specs.Residual.{ResidualNet, IsPath, price_at}
+use Rattle.vs_path.specs.Residual.{ResidualNet, IsPath, arc_no, price_at, step_in}
+use Rattle.vs_path.specs.Loads.{AreLoads}
 use Rattle.vs_path.specs.Labels.{Lacks}
 use Rattle.vs_path.specs.Search.{IsCut}
-use Rattle.vs_circ.specs.declared.shipment.Shipment.{Shipment}
 use Rattle.vs_circ.specs.shipping.Shipments.{CanTakeAll, IsSentAlong, GainAlong, residual_of, after_unit}
+use Rattle.vs_circ.proofs.shipping.Listing.{loads-sent}
+use Rattle.vs_circ.proofs.shipping.Paths.{leads-open}
 use Rattle.vs_circ.proofs.shipping.Sending.{can-take, goal-as, sent-ships, unit-source}
 use Rattle.vs_circ.proofs.shipping.Shipping.{ships-same}
 use Rattle.vs_circ.proofs.draining.send.Goals as goal
-
--- a shipment's residual net, but for how many arcs may be used
-abbrev residual_with : Graph → Shipment → ℕ → ResidualNet
-residual_with g s n = record {
-  graph = g;
-  units = s.flow.units.items;
-  cost = s.costs.cost.items;
-  room = s.costs.room.items;
-  arcs = n;
-}
-
-residual-is : (g : Graph) (s : Shipment) (r : ResidualNet) (n : ℕ) → r ≡ residual_with g s n → n ≡ length g.arcs
-    → r ≡ residual_of g s
-residual-is g s r n is count = is ∙ ap (residual_with g s) count
 
 pub returns-in_default-clause-ships : goal.returns-in_default-clause-ships
 returns-in_default-clause-ships c =
@@ -39,29 +26,28 @@ returns-in_default-clause-sent c =
     let old = c.args.shipment.now in
     let nodes = c.find-found.new.self.reached in
     let P : ResidualNet → Type 0 = λ r. IsCut r old.surplus.items c.args.source nodes in
-    let Q : List ℤ → Type 0 = λ surplus. IsCut c.new-residual.result surplus c.args.source nodes in
-    let same =
-    residual-is c.args.net.now old c.new-residual.result c.arcs.result c.new-residual.ensures c.arcs.ensures.count in
+    let Q : List ℤ → Type 0 = λ surplus. IsCut c.loaded-residual.result surplus c.args.source nodes in
+    let same = c.loaded-residual.ensures in
     record { left = c.requires.some; cut = subst P same (subst Q c.deref.ensures.value c.in_default.ensures.found) }
 
 pub carry-requires : goal.carry-requires
 carry-requires c =
     let g = c.args.net.now in
     let old = c.args.shipment.now in
-    let same = residual-is g old c.new-residual.result c.arcs.result c.new-residual.ensures c.arcs.ensures.count in
+    let same = c.loaded-residual.ensures in
     let P : ResidualNet → Type 0 = λ r. IsPath r c.args.source c.find-found.new.self.path c.in-Some.goal in
     let Q : List Step → Type 0 = λ path. CanTakeAll old.flow.units.items path in
-    let R : List ℕ → Type 0 = λ units. CanTakeAll units c.path.result.now in
+    let R : List ℕ → Type 0 = λ units. CanTakeAll units c.path-path.result.now in
     let path = subst P same c.in-Some.ensures.found.is_path in
     subst R (sym c.deref_mut-units.ensures.value)
-    (subst Q (sym c.path.ensures)
+    (subst Q (sym c.path-path.ensures)
     (can-take g old c.args.source c.in-Some.goal c.find-found.new.self.path c.requires.can path))
 
 pub move_unit-requires : goal.move_unit-requires
 move_unit-requires c =
     let g = c.args.net.now in
     let old = c.args.shipment.now in
-    let same = residual-is g old c.new-residual.result c.arcs.result c.new-residual.ensures c.arcs.ensures.count in
+    let same = c.loaded-residual.ensures in
     let nodes = ap (λ (r : ResidualNet). r.graph.nodes) same in
     let size = ap length c.deref_mut-surplus.ensures.value in
     let searched = c.deref.ensures.value ∙ sym c.deref_mut-surplus.ensures.value in
@@ -78,8 +64,8 @@ pub returns-clause-ships : goal.returns-clause-ships
 returns-clause-ships c =
     let g = c.args.net.now in
     let old = c.args.shipment.now in
-    let path = c.path.result.now in
-    let same = residual-is g old c.new-residual.result c.arcs.result c.new-residual.ensures c.arcs.ensures.count in
+    let path = c.path-path.result.now in
+    let same = c.loaded-residual.ensures in
     let nodes = ap (λ (r : ResidualNet). r.graph.nodes) same in
     let prices =
     with_items_is old.prices c.find-found.new.prices (c.find-found.auto.prices ∙ c.deref_mut-prices.ensures.len) in
@@ -87,9 +73,9 @@ returns-clause-ships c =
     let surplus =
     with_items_is old.surplus c.move_unit.new.surplus (c.move_unit.auto.surplus ∙ c.deref_mut-surplus.ensures.len) in
     let found =
-    goal-as c.new-residual.result (residual_of g old) c.deref.result.now old.surplus.items c.deref_mut-prices.result.now
+    goal-as c.loaded-residual.result (residual_of g old) c.deref.result.now old.surplus.items c.deref_mut-prices.result.now
     old.prices.items c.find-found.new.prices _ c.find-found.new.self.path path c.args.source c.in-Some.goal same
-    c.deref.ensures.value c.deref_mut-prices.ensures.value (sym prices) (sym c.path.ensures) c.in-Some.ensures.found in
+    c.deref.ensures.value c.deref_mut-prices.ensures.value (sym prices) (sym c.path-path.ensures) c.in-Some.ensures.found in
     let Sent : List ℕ → Type 0 = λ us. IsSentAlong us c.carry.new.units path (length path) in
     let SentTo : List ℕ → Type 0 = λ us. IsSentAlong old.flow.units.items us path (length path) in
     let Gain : List ℕ → Type 0 = λ us. GainAlong us c.carry.new.units path in
@@ -108,7 +94,7 @@ returns-clause-sent c =
     let old = c.args.shipment.now in
     let source = c.args.source in
     let goal_ = c.in-Some.goal in
-    let same = residual-is g old c.new-residual.result c.arcs.result c.new-residual.ensures c.arcs.ensures.count in
+    let same = c.loaded-residual.ensures in
     let nodes = ap (λ (r : ResidualNet). r.graph.nodes) same in
     let surplus =
     with_items_is old.surplus c.move_unit.new.surplus (c.move_unit.auto.surplus ∙ c.deref_mut-surplus.ensures.len) in
@@ -118,3 +104,26 @@ returns-clause-sent c =
     ∙ unit-source old.surplus.items source goal_ c.requires.some lacks
     (omega (arith, c.requires.source, c.requires.can.sized.surplus))
     (omega (arith, c.in-Some.ensures.else_same, nodes, c.requires.can.sized.surplus))
+
+pub list_loaded-requires-clause-arcs : goal.list_loaded-requires-clause-arcs
+list_loaded-requires-clause-arcs c = λ i within.
+    let g = c.args.net.now in
+    let old = c.args.shipment.now in
+    let same = c.loaded-residual.ensures in
+    let P : ResidualNet → Type 0 = λ r. IsPath r c.args.source c.find-found.new.self.path c.in-Some.goal in
+    let path = subst P same c.in-Some.ensures.found.is_path in
+    let Q : List Step → Type 0 = λ steps. (j : ℕ) → j < length steps → arc_no (step_in steps j) < length g.arcs in
+    let open_ = leads-open (residual_of g old) c.args.source c.find-found.new.self.path c.in-Some.goal path.leads in
+    subst Q (sym c.path-path.ensures) (λ j inside. (open_ j inside).arc) i within
+
+pub returns-clause-loads : goal.returns-clause-loads
+returns-clause-loads c =
+    let old = c.args.shipment.now in
+    let path = c.path-path.result.now in
+    let units =
+    with_items_is old.flow.units c.carry.new.units (c.carry.auto.units ∙ c.deref_mut-units.ensures.len) in
+    let Sent : List ℕ → Type 0 = λ us. IsSentAlong us c.carry.new.units path (length path) in
+    let Loaded : List ℕ → Type 0 = λ us. AreLoads c.args.net.now us c.list_loaded.new.loads in
+    subst Loaded (sym units)
+    (loads-sent c.args.net.now old.flow.units.items c.carry.new.units c.args.loads.now c.list_loaded.new.loads path
+    c.requires.loads (subst Sent c.deref_mut-units.ensures.value c.carry.ensures.sent) c.list_loaded.ensures)

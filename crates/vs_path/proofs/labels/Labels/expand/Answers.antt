@@ -10,13 +10,13 @@ returns-clause-relaxed c =
     let r = c.args.residual.now in
     let p = c.args.prices.now in
     let s = c.args.surplus.now in
-    let half = lists_of c.relax_along.new.self in
-    let new = lists_of c.relax_along-2.new.self in
+    let half = lists_of c.relax_forward.new.self in
+    let new = lists_of c.relax_back.new.self in
     let fits : SFits w64 c.args.distance = search rules in
-    let forward = simp to_z-of_z at c.relax_along.ensures.relaxed in
-    let back = simp to_z-of_z at c.relax_along-2.ensures.relaxed in
+    let forward = simp to_z-of_z at c.relax_forward.ensures.relaxed in
+    let back = simp to_z-of_z at c.relax_back.ensures.relaxed in
     both-ways r p s new c.args.node c.args.distance
     (λ k.
-    lowered-relaxed r p s half new c.args.node c.args.distance (Forward k) c.relax_along-2.ensures.lowered
+    lowered-relaxed r p s half new c.args.node c.args.distance (Forward k) c.relax_back.ensures.lowered
     (forward k))
     back
