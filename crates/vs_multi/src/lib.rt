@@ -12,6 +12,7 @@ mod starting;
 mod steps;
 
 pub use best::{Best, NEAR_ROUNDS, few_rounds, greatest_step, keep_better, near_rounds, rounds};
+pub use offering::offer;
 pub use raising::raise;
 pub use round::Case;
 pub use starting::{of_table, start};

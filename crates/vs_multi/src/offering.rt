@@ -4,6 +4,7 @@ ghost use Rattle.vs_types.specs.LayerSet.{Has};
 ghost use Rattle.vs_types.specs.declared.numbers.TheConstants.{MAX_LAYERS};
 ghost use Rattle.vs_instance.specs.Restriction.{IsRestriction};
 ghost use Rattle.vs_match.specs.LawfulNets.{IsLawful};
+ghost use Rattle.vs_circ.specs.Offers.{AreOffers};
 ghost use Rattle.vs_prices.specs.Table.{Fits};
 ghost use Rattle.vs_multi.specs.Multipliers.{AreMultipliers, IsMultiplier};
 ghost use Rattle.vs_multi.specs.Rounds.{IsCase};
@@ -25,7 +26,7 @@ fn offer_for(set: LayerSet, multiplier: i64, l: LayerNo) -> Option<i64>
 }
 
 /// Offers layer l the trips whose sets have it, each for its multiplier.
-fn offer(
+pub fn offer(
     instance: &Instance,
     sets: &[LayerSet],
     multipliers: &[i64],
@@ -36,7 +37,8 @@ fn offer(
     requires restriction { IsRestriction instance.now sets.now }
     requires multipliers { AreMultipliers instance.now multipliers.now }
     requires each_trip { length offers.old ≡ length instance.now.trips }
-    ensures { AreOffersTo instance.now sets.now multipliers.now l.0 offers.new }
+    ensures each { AreOffersTo instance.now sets.now multipliers.now l.0 offers.new }
+    ensures lawful { AreOffers instance.now l.0 offers.new }
 {
     prove!(l.0 < instance.layers());
     for i in 0..instance.trips() {

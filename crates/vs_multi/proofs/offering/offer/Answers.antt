@@ -3,7 +3,8 @@ use Rattle.std.proofs.lemmas.Int.{ints}
 use Rattle.std.proofs.lemmas.List.{length-set}
 use Rattle.vs_instance.specs.Lagrangian.{multiplier_of}
 use Rattle.vs_instance.specs.Restriction.{set_of}
-use Rattle.vs_multi.specs.Offers.{IsOfferFor}
+use Rattle.vs_multi.specs.Offers.{AreOffersTo, IsOfferFor}
+use Rattle.vs_multi.proofs.OfferedBlocks.{are_offers}
 use Rattle.vs_multi.proofs.Places.{place_filled}
 use Rattle.vs_multi.proofs.offering.offer.Goals as goal
 
@@ -22,3 +23,16 @@ loop-i-preserved c =
           (subst (λ (n : ℤ). IsOfferFor (set_of c.args.sets.now c.loop-i.i) n c.args.l.0 c.offer_for.result) value
           c.offer_for.ensures);
     }
+
+pub returns-clause-lawful : goal.returns-clause-lawful
+returns-clause-lawful c =
+    let p = c.args.instance.now in
+    let offers = c.loop-i.offers in
+    let each : AreOffersTo p c.args.sets.now c.args.multipliers.now c.args.l.0 offers =
+    record {
+      each_trip = c.loop-i.invariant.size;
+      each = λ i inside. c.loop-i.invariant.done i
+          (omega (arith, c.loop-i-test.false, c.loop-i.auto.i-end, c.trips-i-end.ensures.count));
+    } in
+    are_offers p c.args.sets.now c.args.multipliers.now c.args.l offers each c.requires.restriction
+    c.requires.multipliers
