@@ -51,7 +51,7 @@ def words_of_all():
             for path in files(crate, part, ending):
                 for line in lines(path):
                     words = WORD.findall(line)
-                    cited.update(words)
+                    cited.update(word.rsplit("::", 1)[-1] for word in words)
                     if line[:1].strip() and words:
                         begun[words[1] if words[0] == "pub" and len(words) > 1 else words[0]] += 1
     return cited, begun

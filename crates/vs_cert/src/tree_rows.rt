@@ -29,8 +29,7 @@ pub fn tree_rows(alloc: Global, tree: &Tree) -> Result<TreeRows, Memory>
     let _instance = tree.instance();
     let mut rows = Vec::with_capacity(alloc, tree.spots() as usize)?;
     let mut numbering = Numbering::new(alloc, tree.tables())?;
-    let mut spots = Vec::new(alloc);
-    spots.push(0)?;
+    let mut spots = vec![in alloc; 0; 1]?;
     while let Some(k) = spots.pop() {
         let row = row_at(tree, k, &mut spots, &mut numbering)?;
         rows.push(row)?;

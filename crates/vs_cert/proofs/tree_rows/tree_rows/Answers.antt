@@ -1,4 +1,4 @@
-use Rattle.std.proofs.Common.{◌≡◌, ℕ, ◌<◌, List, [], ◌∷◌, ◌++◌, length, sym, refl, ap, ◌∙◌, subst, arith, length-append}
+use Rattle.std.proofs.Common.{◌≡◌, ℕ, ◌<◌, List, [], ◌∷◌, ◌++◌, length, sym, refl, ap, ◌∙◌, subst, arith, rules, length-append}
 use Rattle.vs_tree.specs.History.{Opening, State, is_inner, spot_at, table_of}
 use Rattle.vs_tree.specs.Search.{state}
 use Rattle.vs_tree.specs.Sound.{IsSound}
@@ -47,9 +47,9 @@ loop-k-init c =
     let found = states_are_trees t.opening t.steps c.instance-instance.ensures.opening
     c.instance-instance.ensures.history in
     record {
-      underway = along t.opening (state t) c.push.new.self.items (0 ∷ []) c.in_ok-numbering.numbering.numbers []
+      underway = along t.opening (state t) c.in_ok-spots.spots.items (0 ∷ []) c.in_ok-numbering.numbering.numbers []
           c.in_ok-rows.rows.items []
-          (c.in_ok-push.ensures.items ∙ ap (λ xs. xs ++ 0 ∷ []) c.new-spots.ensures.items)
+          (search rules)
           (ap (λ (v : Numbered). v.numbers) c.in_ok-numbering.ensures) c.in_ok-rows.ensures.items
           (begun t.opening (state t) found.0 found.1);
       limit = ap (λ (v : Numbered). v.limit) c.in_ok-numbering.ensures ∙ c.tables.ensures;
@@ -76,7 +76,7 @@ loop-k-smaller c =
     c.loop-k.rows.items c.in-Some.ensures.items c.loop-k.invariant.underway in
     let ahead = rows_ahead t.opening (state t) c.pop.new.self.items c.loop-k.numbering.numbers c.loop-k.rows.items
     c.in-Some.k is in
-    let size = ap (λ (rs : List Shape). length rs) c.in_ok-push-2.ensures.items
+    let size = ap (λ (rs : List Shape). length rs) c.in_ok-push.ensures.items
     ∙ length-append c.loop-k.rows.items (c.in_ok-row.row ∷ []) in
     omega (arith, ahead, size)
 
@@ -87,8 +87,8 @@ loop-k-preserved c =
     c.loop-k.rows.items c.in-Some.ensures.items c.loop-k.invariant.underway in
     record {
       underway = along t.opening (state t) c.row_at.new.spots.items c.row_at.new.spots.items
-          c.row_at.new.numbering.numbers c.row_at.new.numbering.numbers c.push-in-Some.new.self.items _ refl refl
-          c.in_ok-push-2.ensures.items
+          c.row_at.new.numbering.numbers c.row_at.new.numbering.numbers c.push.new.self.items _ refl refl
+          c.in_ok-push.ensures.items
           (went_on t.opening (state t) c.pop.new.self.items c.loop-k.numbering.numbers c.loop-k.rows.items c.in-Some.k
           is c.row_at.new.spots.items c.row_at.new.numbering.numbers c.in_ok-row.row c.in_ok-row.ensures.row);
       limit = c.row_at.ensures.limit ∙ c.loop-k.invariant.limit;

@@ -16,7 +16,8 @@ pub returns-in-Some-clause-refused : goal.returns-in-Some-clause-refused
 returns-in-Some-clause-refused c =
     let first =
     at_layers c.args.parts c.in-Some.misfit
-    (c.in-Some.ensures ∙ ap (λ (ls : List Layer). first_misfit (layers_misfits ls)) c.as_slice-layers.ensures.value) in
+    (c.in-Some.ensures
+    ∙ ap (λ (ls : List Layer). first_misfit (layers_misfits ls)) c.as_slice-layers.ensures.value) in
     λ _. refuses c.args.parts c.in-Some.misfit first
 
 pub returns-in_err-ways-clause-misfit : goal.returns-in_err-ways-clause-misfit
@@ -25,7 +26,8 @@ returns-in_err-ways-clause-misfit c =
     let told : IsFirstOf (deadheads_misfits c.as_slice-deadheads.result.now) p.0 =
     rw p.2 c.in_err-ways.ensures.misfit in
     let h = at_deadheads c.args.parts p.0
-    (c.in_default.ensures ∙ ap (λ (ls : List Layer). first_misfit (layers_misfits ls)) c.as_slice-layers.ensures.value)
+    (c.in_default.ensures
+    ∙ ap (λ (ls : List Layer). first_misfit (layers_misfits ls)) c.as_slice-layers.ensures.value)
     (subst (λ (ds : List Deadhead). IsFirstOf (deadheads_misfits ds) p.0) c.as_slice-deadheads.ensures.value told) in
     rw p.1 h
 
@@ -35,14 +37,16 @@ returns-in_err-ways-clause-refused c =
     let told : IsFirstOf (deadheads_misfits c.as_slice-deadheads.result.now) p.0 =
     rw p.2 c.in_err-ways.ensures.misfit in
     let h = at_deadheads c.args.parts p.0
-    (c.in_default.ensures ∙ ap (λ (ls : List Layer). first_misfit (layers_misfits ls)) c.as_slice-layers.ensures.value)
+    (c.in_default.ensures
+    ∙ ap (λ (ls : List Layer). first_misfit (layers_misfits ls)) c.as_slice-layers.ensures.value)
     (subst (λ (ds : List Deadhead). IsFirstOf (deadheads_misfits ds) p.0) c.as_slice-deadheads.ensures.value told) in
     rw p.1 (refuses_error c.args.parts p.0 h)
 
 pub returns-in-Some-trips_misfit-clause-misfit : goal.returns-in-Some-trips_misfit-clause-misfit
 returns-in-Some-trips_misfit-clause-misfit c =
     at_trips c.args.parts c.in-Some-trips_misfit.misfit
-    (c.in_default.ensures ∙ ap (λ (ls : List Layer). first_misfit (layers_misfits ls)) c.as_slice-layers.ensures.value)
+    (c.in_default.ensures
+    ∙ ap (λ (ls : List Layer). first_misfit (layers_misfits ls)) c.as_slice-layers.ensures.value)
     (sym (ap deadheads_misfits c.as_slice-deadheads.ensures.value) ∙ c.in_ok-ways.ensures.fit)
     (c.in-Some-trips_misfit.ensures ∙ ap (λ (ts : List Trip). first_misfit (trips_misfits ts))
     c.as_slice-trips.ensures.value)
@@ -50,7 +54,8 @@ returns-in-Some-trips_misfit-clause-misfit c =
 pub returns-in-Some-trips_misfit-clause-refused : goal.returns-in-Some-trips_misfit-clause-refused
 returns-in-Some-trips_misfit-clause-refused c =
     let first = at_trips c.args.parts c.in-Some-trips_misfit.misfit
-    (c.in_default.ensures ∙ ap (λ (ls : List Layer). first_misfit (layers_misfits ls)) c.as_slice-layers.ensures.value)
+    (c.in_default.ensures
+    ∙ ap (λ (ls : List Layer). first_misfit (layers_misfits ls)) c.as_slice-layers.ensures.value)
     (sym (ap deadheads_misfits c.as_slice-deadheads.ensures.value) ∙ c.in_ok-ways.ensures.fit)
     (c.in-Some-trips_misfit.ensures
     ∙ ap (λ (ts : List Trip). first_misfit (trips_misfits ts)) c.as_slice-trips.ensures.value) in
@@ -59,7 +64,8 @@ returns-in-Some-trips_misfit-clause-refused c =
 pub closure_misfit-requires : goal.closure_misfit-requires
 closure_misfit-requires c = record {
   each = λ k s.
-      subst (λ (given : Map). IfSome (map.get given (k, s)) (λ w. (w.minutes ≤ MAX_MINUTES) × (w.metres ≤ MAX_METRES)))
+      subst (λ (given : Map). IfSome (map.get given (k, s))
+      (λ w. (w.minutes ≤ MAX_MINUTES) × (w.metres ≤ MAX_METRES)))
       (sym (c.in_ok-ways.ensures.given.1 ∙ ap deadheads_of c.as_slice-deadheads.ensures.value))
       (all_short c.args.parts.deadheads.items (sym (ap deadheads_misfits c.as_slice-deadheads.ensures.value)
       ∙ c.in_ok-ways.ensures.fit) k s);
@@ -70,7 +76,8 @@ returns-in-Some-detour-clause-misfit c =
     let given : c.in_ok-ways.ways.given ≡ deadheads_of c.args.parts.deadheads.items =
     c.in_ok-ways.ensures.given.1 ∙ ap deadheads_of c.as_slice-deadheads.ensures.value in
     at_closure c.args.parts c.in-Some-detour.misfit
-    (c.in_default.ensures ∙ ap (λ (ls : List Layer). first_misfit (layers_misfits ls)) c.as_slice-layers.ensures.value)
+    (c.in_default.ensures
+    ∙ ap (λ (ls : List Layer). first_misfit (layers_misfits ls)) c.as_slice-layers.ensures.value)
     (sym (ap deadheads_misfits c.as_slice-deadheads.ensures.value) ∙ c.in_ok-ways.ensures.fit)
     (c.in_default-trips_misfit.ensures
     ∙ ap (λ (ts : List Trip). first_misfit (trips_misfits ts)) c.as_slice-trips.ensures.value)
@@ -82,7 +89,8 @@ returns-in-Some-detour-clause-refused c =
     let given : c.in_ok-ways.ways.given ≡ deadheads_of c.args.parts.deadheads.items =
     c.in_ok-ways.ensures.given.1 ∙ ap deadheads_of c.as_slice-deadheads.ensures.value in
     let first = at_closure c.args.parts c.in-Some-detour.misfit
-    (c.in_default.ensures ∙ ap (λ (ls : List Layer). first_misfit (layers_misfits ls)) c.as_slice-layers.ensures.value)
+    (c.in_default.ensures
+    ∙ ap (λ (ls : List Layer). first_misfit (layers_misfits ls)) c.as_slice-layers.ensures.value)
     (sym (ap deadheads_misfits c.as_slice-deadheads.ensures.value) ∙ c.in_ok-ways.ensures.fit)
     (c.in_default-trips_misfit.ensures
     ∙ ap (λ (ts : List Trip). first_misfit (trips_misfits ts)) c.as_slice-trips.ensures.value)
@@ -95,7 +103,8 @@ invariant_of-result c =
     let given : c.in_ok-ways.ways.given ≡ deadheads_of c.args.parts.deadheads.items =
     c.in_ok-ways.ensures.given.1 ∙ ap deadheads_of c.as_slice-deadheads.ensures.value in
     let whole = made c.args.parts c.requires
-    (c.in_default.ensures ∙ ap (λ (ls : List Layer). first_misfit (layers_misfits ls)) c.as_slice-layers.ensures.value)
+    (c.in_default.ensures
+    ∙ ap (λ (ls : List Layer). first_misfit (layers_misfits ls)) c.as_slice-layers.ensures.value)
     (sym (ap deadheads_misfits c.as_slice-deadheads.ensures.value) ∙ c.in_ok-ways.ensures.fit)
     (c.in_default-trips_misfit.ensures
     ∙ ap (λ (ts : List Trip). first_misfit (trips_misfits ts)) c.as_slice-trips.ensures.value)
@@ -115,7 +124,8 @@ returns-clause-made c =
     let given : c.in_ok-ways.ways.given ≡ deadheads_of c.args.parts.deadheads.items =
     c.in_ok-ways.ensures.given.1 ∙ ap deadheads_of c.as_slice-deadheads.ensures.value in
     made c.args.parts c.requires
-    (c.in_default.ensures ∙ ap (λ (ls : List Layer). first_misfit (layers_misfits ls)) c.as_slice-layers.ensures.value)
+    (c.in_default.ensures
+    ∙ ap (λ (ls : List Layer). first_misfit (layers_misfits ls)) c.as_slice-layers.ensures.value)
     (sym (ap deadheads_misfits c.as_slice-deadheads.ensures.value) ∙ c.in_ok-ways.ensures.fit)
     (c.in_default-trips_misfit.ensures
     ∙ ap (λ (ts : List Trip). first_misfit (trips_misfits ts)) c.as_slice-trips.ensures.value)
