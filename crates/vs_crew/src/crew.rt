@@ -131,7 +131,8 @@ fn give_seats<G: Gate>(site: &Site<'_, G>, mut seat: Seat, crew: &mut [Worker])
         seat = first;
         crew[k].seat = Some(last);
     }
-    crew[0].seat = Some(seat);
+    let foremost = 0;
+    crew[foremost].seat = Some(seat);
 }
 
 /// Has all workers work, each in a thread of its own where one can be made, until each has ended.

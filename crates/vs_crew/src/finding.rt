@@ -16,8 +16,8 @@ use vs_plan::{cheaper, cost_of};
 use vs_tree::Finish;
 use vs_types::Memory;
 
-/// What the work on a leaf finds, and how the leaf is finished by that: what its new table is worth there, or in the two
-/// parts, is reckoned before the worker has the turn.
+/// What the work on a leaf finds, and how the leaf is finished by that: what its new table is worth there, or in the
+/// two parts, is reckoned before the worker has the turn.
 #[derive(Drop)]
 pub(crate) struct Finding {
     pub outcome: Outcome,

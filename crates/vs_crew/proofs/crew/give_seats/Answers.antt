@@ -35,5 +35,5 @@ returns-clause-each g c =
     let some = c.requires.some in
     given_all c.args.site.now.turn.now.name start c.args.site.now.instance.now c.loop-k.crew
     (subst (λ (n : ℕ). IsFresh n start) (sym c.loop-k.auto.crew) c.requires.fresh) c.requires.problem c.loop-k.seat
-    c.index-crew-0.result c.loop-k.k c.loop-k.invariant
+    c.index-crew-foremost.result c.loop-k.k c.loop-k.invariant
     (let one = c.loop-k-test.false in omega (arith, one)) (omega (arith, some, size))
