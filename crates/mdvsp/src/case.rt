@@ -41,10 +41,12 @@ pub fn read_case(alloc: Global, bytes: &[u8]) -> Result<Case, CaseError>
     let input = read_instance(alloc, bytes)?;
     match vs_document::read(alloc, &input) {
         Ok(document) => Ok(Case { input, document }),
-        Err(DocError::Refused { row, why }) => {
-            Err(refusal(Answer::refused_document(alloc, row, why)))
-        }
-        Err(DocError::Memory) => Err(CaseError::Memory),
+        Err(error) => match error {
+            DocError::Refused { row, why } => {
+                Err(refusal(Answer::refused_document(alloc, row, why)))
+            }
+            DocError::Memory => Err(CaseError::Memory),
+        },
     }
 }
 

@@ -90,6 +90,14 @@ fn broken_fields(text: &mut Text, names: &Names, at: BrokenAt) -> Result<(), Mem
     }
 }
 
+/// Adds a flaw's number and name to a row.
+fn heading(text: &mut Text, number: &str, name: &str) -> Result<(), Memory>
+    ensures { OnOk result (text.new ≡ text.old ++ more_fields (number.now ∷ name.now ∷ [])) }
+{
+    text.field(number)?;
+    text.field(name)
+}
+
 /// Adds to a row why a document doesn't hold: the flaw's number and name, and then its places by
 /// the instance's names, and values.
 pub fn flaw_fields(text: &mut Text, names: &Names, flaw: Flaw) -> Result<(), Memory>
@@ -102,32 +110,27 @@ pub fn flaw_fields(text: &mut Text, names: &Names, flaw: Flaw) -> Result<(), Mem
             fault_fields(text, names, fault)
         }
         Flaw::CostDiffers(printed, found) => {
-            text.field("2")?;
-            text.field("CostDiffers")?;
+            heading(text, "2", "CostDiffers")?;
             text.number(printed)?;
             text.number(found)
         }
         Flaw::TableBroken(t, at) => {
-            text.field("3")?;
-            text.field("TableBroken")?;
+            heading(text, "3", "TableBroken")?;
             position_field(text, t)?;
             broken_fields(text, names, at)
         }
         Flaw::BadSplit(position) => {
-            text.field("4")?;
-            text.field("BadSplit")?;
+            heading(text, "4", "BadSplit")?;
             position_field(text, position)
         }
         Flaw::LeafTooWeak(position, worth, bound) => {
-            text.field("5")?;
-            text.field("LeafTooWeak")?;
+            heading(text, "5", "LeafTooWeak")?;
             position_field(text, position)?;
             text.number(worth)?;
             bound_field(text, bound)
         }
         Flaw::ClaimDiffers(claimed, found) => {
-            text.field("6")?;
-            text.field("ClaimDiffers")?;
+            heading(text, "6", "ClaimDiffers")?;
             claim_field(text, claimed)?;
             claim_field(text, found)
         }

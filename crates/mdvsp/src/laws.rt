@@ -14,7 +14,8 @@ ghost use Rattle.vs_document.specs.ReadingBack.{ReadsAs};
 ghost use Rattle.vs_reader.specs.Rows.{Row, lines};
 
 /// What `solve` has to write for an instance is true: behind the instance's records, the last of which is
-/// ended by a line end, `check` has to answer `yes`. And both together read as the instance and the document that is owed.
+/// ended by a line end, `check` has to answer `yes`. And both together read as the instance and the document that is
+/// owed.
 pub fn solved_documents_hold()
     ensures { (effort : Effort) (bytes read : List ℕ) (answer : Status) (rows : List Row)
         (owed : OwesDocument effort bytes answer rows)
