@@ -1,18 +1,20 @@
 //! Circulations of a layer, taken apart into blocks.
 
-ghost use Rattle.std.specs.Prelude.{◌≡◌, ℕ, ◌<◌, ◌≤◌, true, length, slice_index};
+ghost use Rattle.std.specs.Prelude.{◌≡◌, ℕ, ◌<◌, ◌≤◌, true, length, slice_index, IfOk};
 ghost use Rattle.std.specs.List.{sum_by};
 ghost use Rattle.vs_layer.specs.Circulation.{IsCirculation, units_in, units_out};
 ghost use Rattle.vs_layer.specs.Graph.{arc_of};
+ghost use Rattle.vs_match.specs.LawfulNets.{IsLawful};
 
 use std::alloc::Global;
 use std::test::Fail;
 use trial_fixtures::instance_of;
 use trial_fixtures::texts::{LAYER, STOPS, TRIPS};
 use vs_decomp::blocks_of;
+use vs_instance::Instance;
 use vs_layer::{Flow, Net};
-use vs_match::{first_match, latest_first_match};
-use vs_types::{LayerNo, TripNo};
+use vs_match::{LayerNet, first_match, latest_first_match};
+use vs_types::{LayerNo, Memory, TripNo};
 
 /// What an arc carries.
 fn units_on(flow: &Flow, k: u32) -> u32
@@ -76,17 +78,25 @@ const UNITS: [(bool, [u32; 8], &[&[TripNo]]); 3] = [
     (false, [1, 0, 0, 1, 0, 0, 1, 1], &[]),
 ];
 
+/// The net of the first layer, by first match or by latest first match.
+fn net_of(alloc: Global, instance: &Instance, latest: bool) -> Result<LayerNet, Memory>
+    requires { 0 < length instance.now.layers }
+    ensures { IfOk result (IsLawful instance.now 0) }
+{
+    if latest {
+        latest_first_match(alloc, instance, LayerNo(0))
+    } else {
+        first_match(alloc, instance, LayerNo(0))
+    }
+}
+
 /// The trips of the blocks of these units, which have to be a circulation.
 fn blocks(alloc: Global, latest: bool, units: &[u32]) -> Result<Vec<Vec<TripNo>>, Fail> {
     let instance = instance_of(alloc, &[STOPS, LAYER, TRIPS])?;
     if instance.layers() == 0 {
         return Err(Fail::new("no layer"));
     }
-    let net = if latest {
-        latest_first_match(alloc, &instance, LayerNo(0))?
-    } else {
-        first_match(alloc, &instance, LayerNo(0))?
-    };
+    let net = net_of(alloc, &instance, latest)?;
     let flow = Flow {
         units: units.to_vec(alloc)?,
     };
