@@ -1,0 +1,241 @@
+//! Multipliers climbed to the greatest Lagrangian value.
+
+ghost use Rattle.std.specs.Prelude.{◌≡◌, ◌⊎◌, IfOk, length};
+ghost use Rattle.vs_multi.specs.Multipliers.{AreMultipliers, AreWithin};
+ghost use Rattle.vs_multi.specs.Rounds.{IsCase};
+ghost use Rattle.vs_bundle.specs.Climbs.{AreShares, IsAscentFor};
+
+use crate::aim::{Aim, Climbed};
+use crate::bundle::Bundle;
+use crate::stride::Stride;
+use crate::valuing::Trial;
+use crate::weights::Forecast;
+use crate::whole::WHOLE;
+use vs_circ::Work;
+use vs_instance::{MAX_LAYERS, MAX_TRIPS};
+use vs_match::LayerNet;
+use vs_multi::Case;
+use vs_types::{Memory, SCALE};
+
+/// A round gains where it comes to one in so many of what was forecast.
+const GAINED: i64 = 10;
+
+/// It gains much where it comes to one in so many.
+const GAINED_MUCH: i64 = 2;
+
+/// So many times what is forecast is the most that is hoped for from all rounds to come.
+const HOPE: i64 = 33;
+
+/// A climb ends once what is forecast is so small a part of the value.
+const NEAR: i64 = 1_000_000;
+
+/// A climb on its way.
+#[derive(Drop)]
+struct Ascent {
+    bundle: Bundle,
+    trial: Trial,
+    stride: Stride,
+    /// Multipliers that are tried.
+    candidate: Vec<i64>,
+    /// The Lagrangian value at the best multipliers.
+    top: i64,
+    /// What was forecast last.
+    forecast: i64,
+}
+
+impl Ascent {
+    /// Before the first circulations are found, at these multipliers.
+    fn new(case: &Case<'_>, aim: &Aim, multipliers: &[i64]) -> Result<Ascent, Memory>
+        requires { AreMultipliers case.now.instance.now multipliers.now }
+        ensures { IfOk result (IsAscentFor case.now.instance.now) }
+    {
+        let trips = case.instance.trips() as usize;
+        let layers = case.instance.layers();
+        let unit = ((aim.most / 100) as i64).max(1);
+        Ok(Ascent {
+            bundle: Bundle::new(case.alloc, trips, layers, aim.cuts)?,
+            trial: Trial::new(case.alloc, trips, layers)?,
+            stride: Stride::new(unit, i64::from(aim.first)),
+            candidate: Vec::from_slice(case.alloc, multipliers)?,
+            top: 0,
+            forecast: 0,
+        })
+    }
+
+    /// Finds the first circulations.
+    fn begin(&mut self, case: &Case<'_>, multipliers: &[i64], work: &mut Work) -> Result<(), Memory>
+        requires case { IsCase case.now.instance.now case.now.nets.now case.now.sets.now }
+        requires multipliers { AreMultipliers case.now.instance.now multipliers.now }
+        requires ascent { IsAscentFor case.now.instance.now self.old }
+        ensures { IsAscentFor case.now.instance.now self.new }
+    {
+        self.top = self.trial.value(case, multipliers, work)?;
+        self.bundle.take_parts(&self.trial.found);
+        self.bundle.keep(&mut self.trial.found, WHOLE);
+        self.bundle.set_errors(multipliers);
+        Ok(())
+    }
+
+    /// One round. Gives whether another one may gain something.
+    fn round(
+        &mut self,
+        case: &Case<'_>,
+        aim: &Aim,
+        multipliers: &mut [i64],
+        work: &mut Work,
+    ) -> Result<bool, Memory>
+        requires case { IsCase case.now.instance.now case.now.nets.now case.now.sets.now }
+        requires multipliers { AreMultipliers case.now.instance.now multipliers.old }
+        requires ascent { IsAscentFor case.now.instance.now self.old }
+        ensures multipliers { AreMultipliers case.now.instance.now multipliers.new }
+        ensures ascent { IsAscentFor case.now.instance.now self.new }
+    {
+        let step = self.stride.now;
+        let tolerance = self.tolerance();
+        let forecast = self.bundle.weigh(step, tolerance);
+        self.forecast = forecast.gain();
+        if self.forecast <= self.top / NEAR {
+            return Ok(false);
+        }
+        self.step(step, multipliers);
+        let candidate: &[i64] = &self.candidate;
+        let value = self.trial.value(case, candidate, work)?;
+        self.judge(forecast, value, aim, multipliers);
+        self.keep(multipliers);
+        Ok(!self.is_closed(aim))
+    }
+
+    /// Tries the multipliers a step of this length further.
+    fn step(&mut self, step: i64, multipliers: &[i64])
+        requires each { length self.old.candidate.items ≡ length multipliers.now }
+        requires within { AreWithin self.old.candidate.items }
+        ensures each { length self.new.candidate.items ≡ length multipliers.now }
+        ensures within { AreWithin self.new.candidate.items }
+        ensures trial { self.new.trial ≡ self.old.trial }
+    {
+        let candidate: &mut [i64] = &mut self.candidate;
+        self.bundle.step(step, multipliers, candidate);
+        self.bundle.set_free(multipliers);
+    }
+
+    /// Keeps what the layers found.
+    fn keep(&mut self, multipliers: &[i64])
+        ensures offers { self.new.trial.offers ≡ self.old.trial.offers }
+        ensures marks { self.new.trial.marks ≡ self.old.trial.marks }
+        ensures candidate { self.new.candidate ≡ self.old.candidate }
+    {
+        self.bundle.keep(&mut self.trial.found, 0);
+        self.bundle.set_errors(multipliers);
+    }
+
+    /// Round after round, as long as another one may gain something. Gives how many there were.
+    fn go_on(
+        &mut self,
+        case: &Case<'_>,
+        aim: &Aim,
+        multipliers: &mut [i64],
+        work: &mut Work,
+    ) -> Result<u32, Memory>
+        requires case { IsCase case.now.instance.now case.now.nets.now case.now.sets.now }
+        requires multipliers { AreMultipliers case.now.instance.now multipliers.old }
+        requires ascent { IsAscentFor case.now.instance.now self.old }
+        ensures { AreMultipliers case.now.instance.now multipliers.new }
+    {
+        let most = most_rounds(case.nets, aim);
+        for r in 0..most {
+            if !self.round(case, aim, multipliers, work)? {
+                return Ok(r);
+            }
+        }
+        Ok(most)
+    }
+
+    /// How much a move of weights has to gain.
+    fn tolerance(&self) -> i64 {
+        (self.top / 100_000_000).max(self.forecast / 500).max(1)
+    }
+
+    /// Takes the candidate where its value gains, and changes the stride.
+    fn judge(&mut self, forecast: Forecast, value: i64, aim: &Aim, multipliers: &mut [i64])
+        requires { length self.old.candidate.items ≡ length multipliers.old }
+        ensures trial { self.new.trial ≡ self.old.trial }
+        ensures candidate { self.new.candidate ≡ self.old.candidate }
+        ensures multipliers { (multipliers.new ≡ multipliers.old)
+            ⊎ (multipliers.new ≡ self.old.candidate.items) }
+    {
+        let gain = value.saturating_sub(self.top);
+        let low = self.is_low(aim);
+        if gain > 0 && gain.saturating_mul(GAINED) >= self.forecast {
+            let much = low || gain.saturating_mul(GAINED_MUCH) >= self.forecast;
+            self.stride.gain(much);
+            self.top = value;
+            multipliers.copy_from_slice(&self.candidate);
+            self.bundle.take_parts(&self.trial.found);
+        } else {
+            let errors = self.bundle.errors_of(&self.trial.found, multipliers);
+            let far_off = errors > self.forecast && forecast.errors > forecast.far;
+            self.stride.miss(low, far_off);
+        }
+    }
+
+    /// Whether what is forecast can't bring the value to the cost that is known.
+    fn is_low(&self, aim: &Aim) -> bool {
+        match aim.known {
+            Some(known) => self.forecast.saturating_mul(HOPE) <= known.saturating_sub(self.top),
+            None => false,
+        }
+    }
+
+    /// Whether no plan that is cheaper than the one known is left.
+    fn is_closed(&self, aim: &Aim) -> bool {
+        match aim.known {
+            Some(known) => self.top > known.saturating_sub(SCALE),
+            None => false,
+        }
+    }
+}
+
+/// Climbs from these multipliers to ever better ones, and leaves the best. Each round makes a step towards where the
+/// circulations that the layers found so far, each taken by a weight, run every trip once, and finds a further one in
+/// each layer there.
+pub fn climb(
+    case: &Case<'_>,
+    aim: &Aim,
+    multipliers: &mut [i64],
+    work: &mut Work,
+) -> Result<Climbed, Memory>
+    requires case { IsCase case.now.instance.now case.now.nets.now case.now.sets.now }
+    requires multipliers { AreMultipliers case.now.instance.now multipliers.old }
+    ensures within { AreMultipliers case.now.instance.now multipliers.new }
+    ensures shares { IfOk result (λ climbed. AreShares case.now.instance.now climbed.shares.items) }
+{
+    let mut ascent = Ascent::new(case, aim, multipliers)?;
+    ascent.begin(case, multipliers, work)?;
+    let rounds = ascent.go_on(case, aim, multipliers, work)?;
+    Ok(Climbed {
+        shares: shares_of(case, &ascent.bundle)?,
+        value: ascent.top,
+        rounds,
+    })
+}
+
+/// How much of each trip each layer runs.
+fn shares_of(case: &Case<'_>, bundle: &Bundle) -> Result<Vec<u32>, Memory>
+    ensures { IfOk result (λ shares. AreShares case.now.instance.now shares.items) }
+{
+    prove!(case.instance.trips() <= MAX_TRIPS && case.instance.layers() <= MAX_LAYERS);
+    let trips = case.instance.trips() as usize;
+    let mut shares = vec![in case.alloc; 0; trips * case.instance.layers() as usize]?;
+    bundle.set_shares(trips, &mut shares);
+    Ok(shares)
+}
+
+/// How many rounds there are at most, by how many arcs the nets have.
+fn most_rounds(nets: &[LayerNet], aim: &Aim) -> u32 {
+    let mut arcs: u64 = 0;
+    for net in nets {
+        arcs = arcs.saturating_add(u64::from(net.net().arcs()));
+    }
+    let affordable = aim.arcs / arcs.max(1);
+    u64::from(aim.rounds).min(affordable) as u32
+}
