@@ -1,4 +1,4 @@
--- What a climb works on, and what it gives. Nothing is said of how good that is.
+-- What a climb works on, and what it gives. How good that is nothing says.
 use Rattle.std.specs.Prelude.{◌≡◌, ℕ, ◌*◌, List, length, slice_index, pos, ◌≤ℤ◌}
 use Rattle.vs_instance.specs.Problem.{Problem}
 use Rattle.vs_multi.specs.Multipliers.{AreMultipliers}

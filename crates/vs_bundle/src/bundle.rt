@@ -256,10 +256,8 @@ fn error_of(cut: &Cut, part: i64, multipliers: &[i64]) -> i64 {
 fn stepped(step: i64, multiplier: i64, lack: i64) -> i64
     ensures { IsMultiplier result }
 {
-    multiplier
-        .saturating_add(part_of(step, lack))
-        .max(0)
-        .min(MAX_MULTIPLIER)
+    let further = multiplier.saturating_add(part_of(step, lack));
+    further.max(0).min(MAX_MULTIPLIER)
 }
 
 /// Sets each number.

@@ -5,7 +5,7 @@ ghost use Rattle.vs_multi.specs.Multipliers.{AreMultipliers, AreWithin};
 ghost use Rattle.vs_multi.specs.Rounds.{IsCase};
 ghost use Rattle.vs_bundle.specs.Climbs.{AreShares, IsAscentFor};
 
-use crate::aim::{Aim, Climbed};
+use crate::aim::Aim;
 use crate::bundle::Bundle;
 use crate::stride::Stride;
 use crate::valuing::Trial;
@@ -13,9 +13,8 @@ use crate::weights::Forecast;
 use crate::whole::WHOLE;
 use vs_circ::Work;
 use vs_instance::{MAX_LAYERS, MAX_TRIPS};
-use vs_match::LayerNet;
 use vs_multi::Case;
-use vs_types::{Memory, SCALE};
+use vs_types::Memory;
 
 /// A round gains where it comes to one in so many of what was forecast.
 const GAINED: i64 = 10;
@@ -23,11 +22,19 @@ const GAINED: i64 = 10;
 /// It gains much where it comes to one in so many.
 const GAINED_MUCH: i64 = 2;
 
-/// So many times what is forecast is the most that is hoped for from all rounds to come.
-const HOPE: i64 = 33;
-
 /// A climb ends once what is forecast is so small a part of the value.
 const NEAR: i64 = 1_000_000;
+
+/// What a climb found.
+#[derive(Drop)]
+pub struct Climbed {
+    /// By layer, and within that by trip: how much of the trip the layer runs, in parts of `WHOLE`.
+    pub shares: Vec<u32>,
+    /// The Lagrangian value at the multipliers, in 1/1000 of a cost unit, or near it where it is past what fits.
+    pub value: i64,
+    /// How many rounds there were.
+    pub rounds: u32,
+}
 
 /// A climb on its way.
 #[derive(Drop)]
@@ -55,7 +62,7 @@ impl Ascent {
         Ok(Ascent {
             bundle: Bundle::new(case.alloc, trips, layers, aim.cuts)?,
             trial: Trial::new(case.alloc, trips, layers)?,
-            stride: Stride::new(unit, i64::from(aim.first)),
+            stride: Stride::new(unit, i64::from(aim.hundredths)),
             candidate: Vec::from_slice(case.alloc, multipliers)?,
             top: 0,
             forecast: 0,
@@ -76,7 +83,7 @@ impl Ascent {
         Ok(())
     }
 
-    /// One round. Gives whether another one may gain something.
+    /// One round. Gives whether there was one: none where it would gain next to nothing.
     fn round(
         &mut self,
         case: &Case<'_>,
@@ -102,7 +109,7 @@ impl Ascent {
         let value = self.trial.value(case, candidate, work)?;
         self.judge(forecast, value, aim, multipliers);
         self.keep(multipliers);
-        Ok(!self.is_closed(aim))
+        Ok(true)
     }
 
     /// Tries the multipliers a step of this length further.
@@ -128,7 +135,7 @@ impl Ascent {
         self.bundle.set_errors(multipliers);
     }
 
-    /// Round after round, as long as another one may gain something. Gives how many there were.
+    /// Round after round, as long as another one may gain something that is asked for. Gives how many there were.
     fn go_on(
         &mut self,
         case: &Case<'_>,
@@ -141,9 +148,11 @@ impl Ascent {
         requires ascent { IsAscentFor case.now.instance.now self.old }
         ensures { AreMultipliers case.now.instance.now multipliers.new }
     {
-        let most = most_rounds(case.nets, aim);
+        let begin = self.top;
+        let most = aim.rounds_along(case.nets);
         for r in 0..most {
-            if !self.round(case, aim, multipliers, work)? {
+            let is_vain = r == aim.trial_rounds && self.top <= begin;
+            if is_vain || aim.is_reached(self.top) || !self.round(case, aim, multipliers, work)? {
                 return Ok(r);
             }
         }
@@ -164,7 +173,7 @@ impl Ascent {
             ⊎ (multipliers.new ≡ self.old.candidate.items) }
     {
         let gain = value.saturating_sub(self.top);
-        let low = self.is_low(aim);
+        let low = aim.is_far(self.top, self.forecast);
         if gain > 0 && gain.saturating_mul(GAINED) >= self.forecast {
             let much = low || gain.saturating_mul(GAINED_MUCH) >= self.forecast;
             self.stride.gain(much);
@@ -177,27 +186,12 @@ impl Ascent {
             self.stride.miss(low, far_off);
         }
     }
-
-    /// Whether what is forecast can't bring the value to the cost that is known.
-    fn is_low(&self, aim: &Aim) -> bool {
-        match aim.known {
-            Some(known) => self.forecast.saturating_mul(HOPE) <= known.saturating_sub(self.top),
-            None => false,
-        }
-    }
-
-    /// Whether no plan that is cheaper than the one known is left.
-    fn is_closed(&self, aim: &Aim) -> bool {
-        match aim.known {
-            Some(known) => self.top > known.saturating_sub(SCALE),
-            None => false,
-        }
-    }
 }
 
 /// Climbs from these multipliers to ever better ones, and leaves the best. Each round makes a step towards where the
 /// circulations that the layers found so far, each taken by a weight, run every trip once, and finds a further one in
-/// each layer there.
+/// each layer there. The multipliers keep within their limits, also after want of memory. What they are worth a table
+/// shows: nothing is promised of that.
 pub fn climb(
     case: &Case<'_>,
     aim: &Aim,
@@ -228,14 +222,4 @@ fn shares_of(case: &Case<'_>, bundle: &Bundle) -> Result<Vec<u32>, Memory>
     let mut shares = vec![in case.alloc; 0; trips * case.instance.layers() as usize]?;
     bundle.set_shares(trips, &mut shares);
     Ok(shares)
-}
-
-/// How many rounds there are at most, by how many arcs the nets have.
-fn most_rounds(nets: &[LayerNet], aim: &Aim) -> u32 {
-    let mut arcs: u64 = 0;
-    for net in nets {
-        arcs = arcs.saturating_add(u64::from(net.net().arcs()));
-    }
-    let affordable = aim.arcs / arcs.max(1);
-    u64::from(aim.rounds).min(affordable) as u32
 }

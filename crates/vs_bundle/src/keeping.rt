@@ -70,8 +70,8 @@ impl Bundle {
         spare
     }
 
-    /// Makes room in a layer by mixing its lightest cut into the mixed one, or the two lightest where there is none. Gives
-    /// the place where there was one.
+    /// Makes room in a layer by mixing its lightest cut into the mixed one, or the two lightest where there is none.
+    /// Gives the place where there was one.
     fn make_room(&mut self, l: usize) -> Option<usize> {
         let mixed = self.mixed_of(l);
         if !self.is_held(mixed) {

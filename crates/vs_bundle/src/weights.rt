@@ -33,8 +33,8 @@ impl Forecast {
 }
 
 impl Bundle {
-    /// Makes the weights such as are best for a step of this length, to within a tolerance. Gives what the step is forecast
-    /// to gain.
+    /// Makes the weights such as are best for a step of this length, to within a tolerance. Gives what the step is
+    /// forecast to gain.
     pub fn weigh(&mut self, step: i64, tolerance: i64) -> Forecast {
         self.set_lacks();
         self.set_slopes();
@@ -89,8 +89,8 @@ impl Bundle {
         gained
     }
 
-    /// Moves weight from the highest cut of a layer that has some to the lowest one, where they lie further apart than is
-    /// fine. Gives what that gained.
+    /// Moves weight from the highest cut of a layer that has some to the lowest one, where they lie further apart than
+    /// is fine. Gives what that gained.
     fn shift(&mut self, l: usize, step: i64, fine: i64) -> i64 {
         match (self.highest(l, step), self.lowest(l, step)) {
             (Some(high), Some(low)) => {
