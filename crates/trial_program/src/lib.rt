@@ -4,8 +4,6 @@
 #[cfg(test)]
 mod agreeing;
 #[cfg(test)]
-mod climbing;
-#[cfg(test)]
 mod commands;
 #[cfg(test)]
 mod documents;
