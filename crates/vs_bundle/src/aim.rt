@@ -6,12 +6,12 @@ use vs_types::SCALE;
 /// So many times what one round is forecast to gain is the most that is hoped for from all rounds to come.
 const HOPE: i64 = 33;
 
-/// What a climb is to come to, and after how much work it ends at the latest. It decides how good the multipliers become,
-/// and nothing else.
+/// What a climb is to come to, and after how much work it ends at the latest. It decides how good the multipliers
+/// become, and nothing else.
 #[derive(Clone, Copy, Debug)]
 pub struct Aim {
-    /// The cost of the cheapest plan that is known, in 1/1000 of a cost unit: a value less than one cost unit below it is
-    /// enough.
+    /// The cost of the cheapest plan that is known, in 1/1000 of a cost unit: a value less than one cost unit below it
+    /// is enough.
     pub known: Option<i64>,
     /// The step of the first rounds is taken of this, in 1/1000 of a cost unit: of `greatest_step`, as a rule.
     pub most: u64,
