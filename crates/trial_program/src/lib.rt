@@ -4,6 +4,8 @@
 #[cfg(test)]
 mod agreeing;
 #[cfg(test)]
+mod climbing;
+#[cfg(test)]
 mod commands;
 #[cfg(test)]
 mod documents;
