@@ -1,4 +1,4 @@
 pub mod Emptying
-pub mod Matches
+pub mod Entries
 pub mod Queuing
 pub mod Stacked

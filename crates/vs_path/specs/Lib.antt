@@ -1,5 +1,4 @@
 pub mod Keys
-pub mod Tournament
 pub mod Queues
 pub mod Residual
 pub mod Loads

@@ -17,7 +17,6 @@ mod reach;
 mod residual;
 mod search;
 mod step;
-mod tournament;
 
 pub use loads::Loads;
 pub use node_heap::NodeHeap;

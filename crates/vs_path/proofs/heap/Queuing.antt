@@ -1,13 +1,17 @@
 -- What nodes that come, go and move leave of a queue.
-use Rattle.std.proofs.Common.{◌≡◌, ◌≢◌, ℕ, ◌+◌, ◌*◌, ◌^◌, ◌<◌, ◌∙◌, List, [], ◌∷◌, ◌++◌, length, set, drop, refl, sym, ap, subst, arith, inl, inr, Option, Some, None, MatchOption, ℤ, ◌≤ℤ◌, length-set, length-drop}
+use Rattle.std.proofs.Common.{◌≡◌, ◌≢◌, ◌⊎◌, ℕ, ◌+◌, ◌^◌, ◌<◌, ◌∙◌, List, [], ◌∷◌, ◌++◌, length, set, refl, sym, ap, subst, arith, inl, inr, Option, Some, None, Bool, true, false, ℤ, ◌≤ℤ◌, length-set}
 use Rattle.std.proofs.lemmas.Bool.{cases_eq, cases_lt}
 use Rattle.std.proofs.lemmas.Int.{ints}
-use Rattle.std.proofs.lemmas.List.{get_or-set_same, get_or-set_other, get_or-drop, get_or_past}
-use Rattle.vs_path.specs.Keys.{Keys, IsLeast, IsNotAfter, key_at}
-use Rattle.vs_path.specs.Tournament.{AreTakenOut, IsTournament}
-use Rattle.vs_path.specs.Queues.{AreForgotten, AreQueued, IsOn}
-use Rattle.vs_path.proofs.heap.Emptying.{played-none}
-use Rattle.vs_path.proofs.heap.Matches.{root-least, root-none}
+use Rattle.std.proofs.lemmas.List.{get_or-set_same, get_or-set_other, get_or_past}
+use Rattle.std.proofs.lemmas.List.Sorted.{Contains-permutation, IsPermutation-sym}
+use Rattle.std.specs.BinaryHeap.{IsHeap, PopsGreatest, heap_items}
+use Rattle.std.specs.List.{Contains}
+use Rattle.std.specs.List.Sorted.{IsPermutation}
+use Rattle.vs_path.specs.declared.queue.Entry.{Entry}
+use Rattle.vs_path.specs.declared.queue.Queue.{Queue}
+use Rattle.vs_path.specs.Keys.{Keys, IsEmpty, IsLeast, IsNotAfter, key_at}
+use Rattle.vs_path.specs.Queues.{AreEntriesForgotten, AreForgotten, ArePut, AreQueued, IsLeastUpTo, IsLesser, IsOn, IsPut, IsQueue, entry, entry_cmp}
+use Rattle.vs_path.proofs.heap.Entries.{cons-in, first-in, first-least, in-cons}
 use Rattle.vs_path.proofs.heap.Stacked.{on-left, on-top, on-either, apart-left, apart-top, apart-push}
 
 -- a node with a key is one of those that there are
@@ -18,89 +22,74 @@ within-keys keys v key has =
       | inr past ↦ let e : key_at keys v ≡ None = get_or_past keys v None past in absurd (cc)
     ]
 
--- the tournament once node v of so many has another key in it
-pub record IsPut (count : ℕ) (old new : Keys) (v : ℕ) (key : Option ℤ) : Type 0 where
-  pub tournament : IsTournament count new
-  pub leaves : drop count new ≡ set (drop count old) v key
-
-put-here : (count : ℕ) (old new : Keys) (v : ℕ) (key : Option ℤ) → IsPut count old new v key
-    → length old ≡ 2 * count → v < count → key_at new (count + v) ≡ key
-put-here count old new v key put size within =
-    sym (get_or-drop count new v None) ∙ ap (λ (ks : Keys). key_at ks v) put.leaves
-    ∙ get_or-set_same (drop count old) v key None (omega (arith, length-drop count old, size))
-
-put-other : (count : ℕ) (old new : Keys) (v u : ℕ) (key : Option ℤ) → IsPut count old new v key → u ≢ v
-    → key_at new (count + u) ≡ key_at old (count + u)
-put-other count old new v u key put ne =
-    sym (get_or-drop count new u None) ∙ ap (λ (ks : Keys). key_at ks u) put.leaves
-    ∙ get_or-set_other (drop count old) v u key None (λ e. ne e) ∙ get_or-drop count old u None
+-- where nothing is on the stack, and the heap has all
+pub far-alone : (keys : Keys) (near : List ℕ) (floor : ℤ) (far : List Entry) (complete : Bool)
+    → AreQueued keys near floor far complete → near ≡ [] → complete ≡ true → AreQueued keys [] floor far true
+far-alone keys near floor far complete q empty all =
+    let P : List ℕ → Type 0 = λ stack. AreQueued keys stack floor far complete in
+    let Q : Bool → Type 0 = λ b. AreQueued keys [] floor far b in
+    subst Q all (subst P empty q)
 
 -- nothing is on an empty stack
 off-empty : (v : ℕ) → IsOn [] v → ⊥
 off-empty v (i, within, is) = absurd (omega (arith, within))
 
--- the node on top of the stack moves into the tournament
-pub moved-far : (keys : Keys) (near rest : List ℕ) (floor : ℤ) (far new : Keys) (v : ℕ)
-    → AreQueued keys near floor far → near ≡ rest ++ v ∷ [] → IsPut (length keys) far new v (Some floor)
-    → AreQueued keys rest floor new
-moved-far keys near rest floor far new v q top put =
-    let P : List ℕ → Type 0 = λ stack. AreQueued keys stack floor far in
-    let before : AreQueued keys (rest ++ v ∷ []) floor far = subst P top q in
+-- the entries that were put in are of nodes that there are
+nodes-put : (count : ℕ) (far new : List Entry) (complete complete' : Bool) (v : ℕ) (key : ℤ)
+    → ArePut far new complete complete' v key → v < count → ((e : Entry) → Contains far e → e.node < count)
+    → (e : Entry) → Contains new e → e.node < count
+nodes-put count far new complete complete' v key put within nodes e is =
+    elim (put.only e is) [
+      | inl same ↦ let at : v ≡ e.node = ap (λ (x : Entry). x.node) same in omega (arith, at)
+      | inr was ↦ nodes e was
+    ]
+
+-- the node on top of the stack moves into the heap
+pub moved-far : (keys : Keys) (near rest : List ℕ) (floor : ℤ) (far new : List Entry) (complete complete' : Bool) (v : ℕ)
+    → AreQueued keys near floor far complete → near ≡ rest ++ v ∷ [] → ArePut far new complete complete' v floor
+    → AreQueued keys rest floor new complete'
+moved-far keys near rest floor far new complete complete' v q top put =
+    let P : List ℕ → Type 0 = λ stack. AreQueued keys stack floor far complete in
+    let before : AreQueued keys (rest ++ v ∷ []) floor far complete = subst P top q in
     let here = before.near_too v (on-top rest v) in
-    let within : v < length keys = within-keys keys v floor here.0 in
-    let placed : key_at new (length keys + v) ≡ Some floor =
-    put-here (length keys) far new v (Some floor) put before.tournament.size within in
     record {
       few = before.few;
-      tournament = put.tournament;
-      each = λ u key has.
-          elim (cases_eq u v) [
-            | inl same ↦
-                let e : Some floor ≡ Some key = sym here.0 ∙ ap (key_at keys) (sym same) ∙ has in
-                inl (ap (λ (w : ℕ). key_at new (length keys + w)) same ∙ placed ∙ e)
-            | inr ne ↦
-                elim (before.each u key has) [
-                  | inl is_far ↦ inl (put-other (length keys) far new v u (Some floor) put ne ∙ is_far)
-                  | inr is_near ↦
-                      elim (on-either rest v u is_near.1) [
-                        | inl on ↦ inr (is_near.0, on)
-                        | inr same ↦ absurd (ne same)
-                      ]
+      order = put.order before.order;
+      nodes = nodes-put (length keys) far new complete complete' v floor put (within-keys keys v floor here) before.nodes;
+      each = λ all u key has.
+          elim (before.each (put.was all) u key has) [
+            | inl is_far ↦ inl (put.kept (entry key u) is_far)
+            | inr is_near ↦
+                elim (on-either rest v u is_near.1) [
+                  | inl on ↦ inr (is_near.0, on)
+                  | inr same ↦
+                      let R : ℤ → Type 0 = λ k. Contains new (entry k u) in
+                      let S : ℕ → Type 0 = λ w. Contains new (entry floor w) in
+                      inl (subst R (sym is_near.0) (subst S (sym same) (put.put all)))
                 ]
           ];
-      far_too = λ u key has.
-          elim (cases_eq u v) [
-            | inl same ↦
-                let e : Some floor ≡ Some key =
-                sym placed ∙ ap (λ (w : ℕ). key_at new (length keys + w)) (sym same) ∙ has in
-                ap (key_at keys) same ∙ here.0 ∙ e
-            | inr ne ↦ before.far_too u key (sym (put-other (length keys) far new v u (Some floor) put ne) ∙ has)
-          ];
-      near_too = λ u on.
-          let ne : u ≢ v = apart-top rest v u before.once on in
-          let had = before.near_too u (on-left rest v u on) in
-          (had.0, put-other (length keys) far new v u (Some floor) put ne ∙ had.1);
+      near_too = λ u on. before.near_too u (on-left rest v u on);
       once = apart-left rest v before.once;
       no_less = before.no_less;
     }
 
 -- the floor may be lower where nothing is on the stack
-pub floor-lowered : (keys : Keys) (near : List ℕ) (floor key : ℤ) (far : Keys)
-    → AreQueued keys near floor far → near ≡ [] → key ≤ℤ floor → AreQueued keys near key far
-floor-lowered keys near floor key far q empty lower =
-    let P : List ℕ → Type 0 = λ stack. AreQueued keys stack floor far in
-    let Q : List ℕ → Type 0 = λ stack. AreQueued keys stack key far in
-    let before : AreQueued keys [] floor far = subst P empty q in
+pub floor-lowered : (keys : Keys) (near : List ℕ) (floor key : ℤ) (far : List Entry) (complete : Bool)
+    → AreQueued keys near floor far complete → near ≡ [] → key ≤ℤ floor → AreQueued keys near key far complete
+floor-lowered keys near floor key far complete q empty lower =
+    let P : List ℕ → Type 0 = λ stack. AreQueued keys stack floor far complete in
+    let Q : List ℕ → Type 0 = λ stack. AreQueued keys stack key far complete in
+    let before : AreQueued keys [] floor far complete = subst P empty q in
     subst Q (sym empty)
     (record {
       few = before.few;
-      tournament = before.tournament;
-      each = λ u k has.
-          elim (before.each u k has) [
+      order = before.order;
+      nodes = before.nodes;
+      each = λ all u k has.
+          elim (before.each all u k has) [
             | inl is_far ↦ inl is_far
             | inr is_near ↦ absurd (off-empty u is_near.1)
           ];
-      far_too = before.far_too;
       near_too = λ u on. absurd (off-empty u on);
       once = before.once;
       no_less = λ u k has. omega (arith, ints, before.no_less u k has, lower);
@@ -126,109 +115,130 @@ module _ (keys : Keys) (v : ℕ) where
       ]
 
 -- the node on top of the stack has the least key
-pub top-least : (keys : Keys) (rest : List ℕ) (floor : ℤ) (far : Keys) (v : ℕ)
-    → AreQueued keys (rest ++ v ∷ []) floor far → IsLeast keys v floor
-top-least keys rest floor far v q = record { has = (q.near_too v (on-top rest v)).0; least = q.no_less }
+pub top-least : (keys : Keys) (rest : List ℕ) (floor : ℤ) (far : List Entry) (complete : Bool) (v : ℕ)
+    → AreQueued keys (rest ++ v ∷ []) floor far complete → IsLeast keys v floor
+top-least keys rest floor far complete v q = record { has = q.near_too v (on-top rest v); least = q.no_less }
 
 -- and may be taken from it
-pub taken-near : (keys : Keys) (rest : List ℕ) (floor : ℤ) (far : Keys) (v : ℕ)
-    → AreQueued keys (rest ++ v ∷ []) floor far → AreQueued (set keys v None) rest floor far
-taken-near keys rest floor far v q =
+pub taken-near : (keys : Keys) (rest : List ℕ) (floor : ℤ) (far : List Entry) (complete : Bool) (v : ℕ)
+    → AreQueued keys (rest ++ v ∷ []) floor far complete → AreQueued (set keys v None) rest floor far complete
+taken-near keys rest floor far complete v q =
     let here = q.near_too v (on-top rest v) in
-    let within : v < length keys = within-keys keys v floor here.0 in
+    let within : v < length keys = within-keys keys v floor here in
     let size : length (set keys v None) ≡ length keys = length-set keys v None in
-    let at : (u : ℕ) → key_at far (length (set keys v None) + u) ≡ key_at far (length keys + u) =
-    λ u. ap (λ (n : ℕ). key_at far (n + u)) size in
     record {
       few = omega (arith, size, q.few);
-      tournament = let P : ℕ → Type 0 = λ n. IsTournament n far in subst P (sym size) q.tournament;
-      each = λ u key has.
+      order = q.order;
+      nodes = λ e is. omega (arith, size, q.nodes e is);
+      each = λ all u key has.
           let before = had keys v u key within has in
-          elim (q.each u key before.1) [
-            | inl is_far ↦ inl (at u ∙ is_far)
+          elim (q.each all u key before.1) [
+            | inl is_far ↦ inl is_far
             | inr is_near ↦
                 elim (on-either rest v u is_near.1) [
                   | inl on ↦ inr (is_near.0, on)
                   | inr same ↦ absurd (before.0 same)
                 ]
           ];
-      far_too = λ u key has.
-          let is_far = sym (at u) ∙ has in
-          elim (cases_eq u v) [
-            | inl same ↦
-                let e : None ≡ Some key = sym here.1 ∙ ap (λ (w : ℕ). key_at far (length keys + w)) (sym same)
-                ∙ is_far in
-                absurd (cc)
-            | inr ne ↦ none-other keys v u ne ∙ q.far_too u key is_far
-          ];
       near_too = λ u on.
           let ne : u ≢ v = apart-top rest v u q.once on in
-          let before = q.near_too u (on-left rest v u on) in
-          (none-other keys v u ne ∙ before.0, at u ∙ before.1);
+          none-other keys v u ne ∙ q.near_too u (on-left rest v u on);
       once = apart-left rest v q.once;
       no_less = λ u key has. q.no_less u key (had keys v u key within has).1;
     }
 
--- where nothing is on the stack, the winner of the tournament has the least key
-pub winner-least : (keys : Keys) (floor key : ℤ) (far : Keys) (v : ℕ) → AreQueued keys [] floor far
-    → key_at far 1 ≡ Some key → key_at far (length keys + v) ≡ key_at far 1 → IsLeast keys v key
-winner-least keys floor key far v q root same =
-    let least = root-least far (length keys) v key q.tournament root same in
-    record {
-      has = q.far_too v key (same ∙ root);
-      least = λ u other has.
-          elim (q.each u other has) [
-            | inl is_far ↦ least.least u other (get_or-drop (length keys) far u None ∙ is_far)
-            | inr is_near ↦ absurd (off-empty u is_near.1)
-          ];
-    }
+-- where nothing is on the stack, and the entry that comes first is taken out of a heap with all nodes
+module _ (keys : Keys) (floor : ℤ) (far rest : List Entry) (x : Entry) (q : AreQueued keys [] floor far true)
+    (same : IsPermutation far (x ∷ rest)) (pops : PopsGreatest entry_cmp far x rest) where
+  in-rest : (e : Entry) → Contains far e → (x ≡ e) ⊎ Contains rest e
+  in-rest e is = in-cons x rest e (Contains-permutation far (x ∷ rest) e same is)
 
--- and where the tournament is empty too, no node has a key
-pub none-queued : (keys : Keys) (floor : ℤ) (far : Keys) (v : ℕ) → AreQueued keys [] floor far
-    → key_at far 1 ≡ None → key_at keys v ≡ None
-none-queued keys floor far v q root = go (key_at keys v) refl
+  back : (e : Entry) → Contains (x ∷ rest) e → Contains far e
+  back e is = Contains-permutation (x ∷ rest) far e (IsPermutation-sym far (x ∷ rest) same) is
+
+  pub popped-within : x.node < length keys
+  popped-within = q.nodes x (back x (first-in x rest))
+
+  is-far : (v : ℕ) (key : ℤ) → key_at keys v ≡ Some key → Contains far (entry key v)
+  is-far v key has =
+      elim (q.each refl v key has) [
+        | inl is ↦ is
+        | inr is_near ↦ absurd (off-empty v is_near.1)
+      ]
+
+  -- where it doesn't count, the rest is a queue
+  pub popped-stale : key_at keys x.node ≢ Some x.key.0 → AreQueued keys [] floor rest true
+  popped-stale stale = record {
+    few = q.few;
+    order = (pops q.order).0;
+    nodes = λ e is. q.nodes e (back e (cons-in x rest e is));
+    each = λ all v key has.
+        elim (in-rest (entry key v) (is-far v key has)) [
+          | inl first ↦
+              let node : x.node ≡ v = ap (λ (e : Entry). e.node) first in
+              let its : x.key.0 ≡ key = ap (λ (e : Entry). e.key.0) first in
+              absurd (stale (ap (key_at keys) node ∙ has ∙ ap (λ (k : ℤ). Some k) (sym its)))
+          | inr is ↦ inl is
+        ];
+    near_too = λ v on. absurd (off-empty v on);
+    once = q.once;
+    no_less = q.no_less;
+  }
+
+  -- where it counts, its node has the least key
+  pub popped-least : key_at keys x.node ≡ Some x.key.0 → IsLeast keys x.node x.key.0
+  popped-least has = record {
+    has = has;
+    least = λ w other its. first-least far x (entry other w) (pops q.order).1 (is-far w other its);
+  }
+
+  pub popped-taken : key_at keys x.node ≡ Some x.key.0 → AreQueued (set keys x.node None) [] x.key.0 rest true
+  popped-taken has =
+      let v = x.node in
+      let size : length (set keys v None) ≡ length keys = length-set keys v None in
+      record {
+        few = omega (arith, size, q.few);
+        order = (pops q.order).0;
+        nodes = λ e is. omega (arith, size, q.nodes e (back e (cons-in x rest e is)));
+        each = λ all u key its.
+            let before = had keys v u key popped-within its in
+            elim (in-rest (entry key u) (is-far u key before.1)) [
+              | inl first ↦ absurd (before.0 (sym (ap (λ (e : Entry). e.node) first)))
+              | inr is ↦ inl is
+            ];
+        near_too = λ u on. absurd (off-empty u on);
+        once = q.once;
+        no_less = λ u key its. (popped-least has).least u key (had keys v u key popped-within its).1;
+      }
+
+-- where the heap is empty, no node has a key
+pub none-queued : (keys : Keys) (floor : ℤ) (far : List Entry) → AreQueued keys [] floor far true → length far ≡ 0
+    → IsEmpty keys
+none-queued keys floor far q empty v = go (key_at keys v) refl
   where
     go : (key : Option ℤ) → key_at keys v ≡ key → key_at keys v ≡ None
     go None has = has
     go (Some key) has =
-        elim (q.each v key has) [
-          | inl is_far ↦
-              let none : key_at far (length keys + v) ≡ None =
-              sym (get_or-drop (length keys) far v None) ∙ root-none far (length keys) v q.tournament root in
-              let e : None ≡ Some key = sym none ∙ is_far in absurd (cc)
+        elim (q.each refl v key has) [
+          | inl is ↦ absurd (omega (arith, is.1, empty))
           | inr is_near ↦ absurd (off-empty v is_near.1)
         ]
 
--- the winner may be taken, and its key is the floor then
-pub taken-far : (keys : Keys) (floor key : ℤ) (far new : Keys) (v : ℕ) → AreQueued keys [] floor far
-    → IsLeast keys v key → IsPut (length keys) far new v None → AreQueued (set keys v None) [] key new
-taken-far keys floor key far new v q least put =
+-- a node with the least key may be taken where the heap doesn't have all
+pub taken-found : (keys : Keys) (near : List ℕ) (floor key : ℤ) (far : List Entry) (complete : Bool) (v : ℕ)
+    → AreQueued keys near floor far complete → near ≡ [] → complete ≡ false → IsLeast keys v key
+    → AreQueued (set keys v None) near key far complete
+taken-found keys near floor key far complete v q empty incomplete least =
     let within : v < length keys = within-keys keys v key least.has in
     let size : length (set keys v None) ≡ length keys = length-set keys v None in
-    let at : (u : ℕ) → key_at new (length (set keys v None) + u) ≡ key_at new (length keys + u) =
-    λ u. ap (λ (n : ℕ). key_at new (n + u)) size in
-    let placed = put-here (length keys) far new v None put q.tournament.size within in
+    let off : (u : ℕ) → IsOn near u → ⊥ =
+    λ u on. let P : List ℕ → Type 0 = λ stack. IsOn stack u in off-empty u (subst P empty on) in
     record {
       few = omega (arith, size, q.few);
-      tournament = let P : ℕ → Type 0 = λ n. IsTournament n new in subst P (sym size) put.tournament;
-      each = λ u other has.
-          let before = had keys v u other within has in
-          elim (q.each u other before.1) [
-            | inl is_far ↦ inl (at u ∙ put-other (length keys) far new v u None put before.0 ∙ is_far)
-            | inr is_near ↦ absurd (off-empty u is_near.1)
-          ];
-      far_too = λ u other has.
-          let is_far = sym (at u) ∙ has in
-          elim (cases_eq u v) [
-            | inl same ↦
-                let e : None ≡ Some other =
-                sym placed ∙ ap (λ (w : ℕ). key_at new (length keys + w)) (sym same) ∙ is_far in
-                absurd (cc)
-            | inr ne ↦
-                none-other keys v u ne
-                ∙ q.far_too u other (sym (put-other (length keys) far new v u None put ne) ∙ is_far)
-          ];
-      near_too = λ u on. absurd (off-empty u on);
+      order = q.order;
+      nodes = λ e is. omega (arith, size, q.nodes e is);
+      each = λ all u other has. let e : true ≡ false = sym all ∙ incomplete in absurd (cc);
+      near_too = λ u on. absurd (off u on);
       once = q.once;
       no_less = λ u other has. least.least u other (had keys v u other within has).1;
     }
@@ -247,167 +257,151 @@ module _ (keys : Keys) (v : ℕ) (key : ℤ) (within : v < length keys) where
   given-size : length given ≡ length keys
   given-size = length-set keys v (Some key)
 
-  given-at : (far : Keys) (u : ℕ) → key_at far (length given + u) ≡ key_at far (length keys + u)
-  given-at far u = ap (λ (n : ℕ). key_at far (n + u)) given-size
+  given-key : (u : ℕ) (k : ℤ) → u ≡ v → key_at given u ≡ Some k → key ≡ k
+  given-key u k same has =
+      let e : Some key ≡ Some k = sym given-here ∙ ap (key_at given) (sym same) ∙ has in cc
 
   -- no key is less than the floor then
   given-no_less : (floor : ℤ) → floor ≤ℤ key → ((u : ℕ) (k : ℤ) → key_at keys u ≡ Some k → floor ≤ℤ k)
       → (u : ℕ) (k : ℤ) → key_at given u ≡ Some k → floor ≤ℤ k
   given-no_less floor low no_less u k has =
       elim (cases_eq u v) [
-        | inl same ↦
-            let e : Some key ≡ Some k = sym given-here ∙ ap (key_at given) (sym same) ∙ has in
-            let same_key : key ≡ k = cc in
-            omega (arith, ints, low, same_key)
+        | inl same ↦ let same_key = given-key u k same has in omega (arith, ints, low, same_key)
         | inr ne ↦ no_less u k (sym (given-other u ne) ∙ has)
       ]
 
   -- where it goes onto the stack
-  put-near : (near : List ℕ) (floor : ℤ) (far new : Keys) → AreQueued keys near floor far → key ≡ floor
-      → key_at keys v ≢ Some key → IsPut (length keys) far new v None
-      → AreQueued given (near ++ v ∷ []) floor new
-  put-near near floor far new q least other put =
-      let placed = put-here (length keys) far new v None put q.tournament.size within in
+  pub put-near : (near stack : List ℕ) (floor : ℤ) (far : List Entry) (complete : Bool)
+      → AreQueued keys near floor far complete → key ≡ floor → key_at keys v ≢ Some key → stack ≡ near ++ v ∷ []
+      → AreQueued given stack floor far complete
+  put-near near stack floor far complete q least other pushed =
       let floor_key : Some key ≡ Some floor = ap (λ (k : ℤ). Some k) least in
-      let off : IsOn near v → ⊥ = λ on. other ((q.near_too v on).0 ∙ sym floor_key) in
-      record {
+      let off : IsOn near v → ⊥ = λ on. other (q.near_too v on ∙ sym floor_key) in
+      let P : List ℕ → Type 0 = λ s. AreQueued given s floor far complete in
+      subst P (sym pushed)
+      (record {
         few = omega (arith, given-size, q.few);
-        tournament = let P : ℕ → Type 0 = λ n. IsTournament n new in subst P (sym given-size) put.tournament;
-        each = λ u k has.
+        order = q.order;
+        nodes = λ e is. omega (arith, given-size, q.nodes e is);
+        each = λ all u k has.
             elim (cases_eq u v) [
               | inl same ↦
-                  let e : Some key ≡ Some k = sym given-here ∙ ap (key_at given) (sym same) ∙ has in
-                  let same_key : key ≡ k = cc in
-                  let P : ℕ → Type 0 = IsOn (near ++ v ∷ []) in
-                  inr (sym same_key ∙ least, subst P (sym same) (on-top near v))
+                  let R : ℕ → Type 0 = IsOn (near ++ v ∷ []) in
+                  inr (sym (given-key u k same has) ∙ least, subst R (sym same) (on-top near v))
               | inr ne ↦
-                  elim (q.each u k (sym (given-other u ne) ∙ has)) [
-                    | inl is_far ↦ inl (given-at new u ∙ put-other (length keys) far new v u None put ne ∙ is_far)
+                  elim (q.each all u k (sym (given-other u ne) ∙ has)) [
+                    | inl is_far ↦ inl is_far
                     | inr is_near ↦ inr (is_near.0, on-left near v u is_near.1)
                   ]
             ];
-        far_too = λ u k has.
-            let is_far = sym (given-at new u) ∙ has in
-            elim (cases_eq u v) [
-              | inl same ↦
-                  let e : None ≡ Some k =
-                  sym placed ∙ ap (λ (w : ℕ). key_at new (length keys + w)) (sym same) ∙ is_far in
-                  absurd (cc)
-              | inr ne ↦
-                  given-other u ne ∙ q.far_too u k (sym (put-other (length keys) far new v u None put ne) ∙ is_far)
-            ];
         near_too = λ u on.
             elim (cases_eq u v) [
-              | inl same ↦ (
-                ap (key_at given) same ∙ given-here ∙ floor_key,
-                given-at new u
-                    ∙ ap (λ (w : ℕ). key_at new (length keys + w)) same ∙ placed,
-              )
+              | inl same ↦ ap (key_at given) same ∙ given-here ∙ floor_key
               | inr ne ↦
                   elim (on-either near v u on) [
-                    | inl was ↦
-                        let before = q.near_too u was in (
-                          given-other u ne ∙ before.0,
-                          given-at new u
-                              ∙ put-other (length keys) far new v u None put ne ∙ before.1,
-                        )
+                    | inl was ↦ given-other u ne ∙ q.near_too u was
                     | inr same ↦ absurd (ne same)
                   ]
             ];
         once = apart-push near v q.once off;
         no_less = given-no_less floor (omega (arith, ints, least)) q.no_less;
-      }
+      })
 
-  -- where it goes into the tournament
-  put-far : (near : List ℕ) (floor : ℤ) (far new : Keys) → AreQueued keys near floor far → floor ≤ℤ key
-      → IsNotAfter (Some key) (key_at keys v) → key_at keys v ≢ Some key
-      → IsPut (length keys) far new v (Some key) → AreQueued given near floor new
-  put-far near floor far new q low lower other put =
-      let placed = put-here (length keys) far new v (Some key) put q.tournament.size within in
+  -- where it goes into the heap
+  pub put-far : (near : List ℕ) (floor : ℤ) (far new : List Entry) (complete complete' : Bool)
+      → AreQueued keys near floor far complete → floor ≤ℤ key → IsNotAfter (Some key) (key_at keys v)
+      → key_at keys v ≢ Some key → ArePut far new complete complete' v key → AreQueued given near floor new complete'
+  put-far near floor far new complete complete' q low lower other put =
       let off : IsOn near v → ⊥ =
       λ on.
-      let had_floor = (q.near_too v on).0 in
+      let had_floor = q.near_too v on in
       let P : Option ℤ → Type 0 = IsNotAfter (Some key) in
       let no_more : key ≤ℤ floor = subst P had_floor lower in
       let least : floor ≡ key = omega (arith, ints, low, no_more) in
       other (had_floor ∙ ap (λ (k : ℤ). Some k) least) in
+      let nodes = nodes-put (length keys) far new complete complete' v key put within q.nodes in
       record {
         few = omega (arith, given-size, q.few);
-        tournament = let P : ℕ → Type 0 = λ n. IsTournament n new in subst P (sym given-size) put.tournament;
-        each = λ u k has.
+        order = put.order q.order;
+        nodes = λ e is. omega (arith, given-size, nodes e is);
+        each = λ all u k has.
             elim (cases_eq u v) [
               | inl same ↦
-                  inl (given-at new u ∙ ap (λ (w : ℕ). key_at new (length keys + w)) same ∙ placed ∙ sym given-here
-                  ∙ ap (key_at given) (sym same) ∙ has)
+                  let R : ℤ → Type 0 = λ j. Contains new (entry j u) in
+                  let S : ℕ → Type 0 = λ w. Contains new (entry key w) in
+                  inl (subst R (given-key u k same has) (subst S (sym same) (put.put all)))
               | inr ne ↦
-                  elim (q.each u k (sym (given-other u ne) ∙ has)) [
-                    | inl is_far ↦
-                        inl (given-at new u ∙ put-other (length keys) far new v u (Some key) put ne ∙ is_far)
+                  elim (q.each (put.was all) u k (sym (given-other u ne) ∙ has)) [
+                    | inl is_far ↦ inl (put.kept (entry k u) is_far)
                     | inr is_near ↦ inr is_near
                   ]
             ];
-        far_too = λ u k has.
-            let is_far = sym (given-at new u) ∙ has in
-            elim (cases_eq u v) [
-              | inl same ↦
-                  ap (key_at given) same ∙ given-here ∙ sym placed
-                  ∙ ap (λ (w : ℕ). key_at new (length keys + w)) (sym same) ∙ is_far
-              | inr ne ↦
-                  given-other u ne
-                  ∙ q.far_too u k (sym (put-other (length keys) far new v u (Some key) put ne) ∙ is_far)
-            ];
         near_too = λ u on.
             let ne : u ≢ v = λ same. let P : ℕ → Type 0 = IsOn near in off (subst P same on) in
-            let before = q.near_too u on in (
-              given-other u ne ∙ before.0,
-              given-at new u
-                  ∙ put-other (length keys) far new v u (Some key) put ne ∙ before.1,
-            );
+            given-other u ne ∙ q.near_too u on;
         once = q.once;
         no_less = given-no_less floor low q.no_less;
       }
 
-  -- in either case
-  pub lowered-queue : (near stack : List ℕ) (floor : ℤ) (far new : Keys) (place : Option ℤ)
-      → AreQueued keys near floor far → floor ≤ℤ key
-      → IsNotAfter (Some key) (key_at keys v) → key_at keys v ≢ Some key
-      → MatchOption place ((key ≡ floor) × (stack ≡ near ++ v ∷ [])) (λ k. (k ≡ key) × (stack ≡ near))
-      → IsPut (length keys) far new v place → AreQueued given stack floor new
-  lowered-queue near stack floor far new None q low lower other top put =
-      let P : List ℕ → Type 0 = λ s. AreQueued given s floor new in
-      subst P (sym top.1) (put-near near floor far new q top.0 other put)
-  lowered-queue near stack floor far new (Some k) q low lower other same put =
-      let P : List ℕ → Type 0 = λ s. AreQueued given s floor new in
-      let Q : ℤ → Type 0 = λ k. IsPut (length keys) far new v (Some k) in
-      subst P (sym same.1) (put-far near floor far new q low lower other (subst Q same.0 put))
+  -- in either case, in the order in which it comes about
+  pub lowered-near : (a b : Queue) → IsQueue keys a → key_at keys v ≢ Some key → key ≡ a.floor
+      → b.near.items ≡ a.near.items ++ v ∷ [] → b.floor ≡ a.floor → b.far ≡ a.far → b.complete ≡ a.complete
+      → IsQueue given b
+  lowered-near a b q other least near floor far complete =
+      let P : ℤ → Type 0 = λ z. AreQueued given b.near.items z (heap_items b.far) b.complete in
+      let Q : List Entry → Type 0 = λ es. AreQueued given b.near.items a.floor es b.complete in
+      let R : Bool → Type 0 = λ all. AreQueued given b.near.items a.floor (heap_items a.far) all in
+      subst P (sym floor) (subst Q (sym (ap heap_items far)) (subst R (sym complete)
+      (put-near a.near.items b.near.items a.floor (heap_items a.far) a.complete q least other near)))
 
--- where there are no keys, there is nothing on the stack and in the tournament
-pub empty-queue : (keys : Keys) (near : List ℕ) (floor : ℤ) (tree : Keys) → length keys < 2 ^ 32 → 0 < length keys
-    → length tree ≡ 2 * length keys → near ≡ [] → ((v : ℕ) → key_at keys v ≡ None)
-    → ((k : ℕ) → 0 < k → key_at tree k ≡ None) → AreQueued keys near floor tree
-empty-queue keys near floor tree few some size empty none none-in =
-    let P : List ℕ → Type 0 = λ stack. AreQueued keys stack floor tree in
+  pub lowered-far : (a b d : Queue) → IsQueue keys a → a.floor ≤ℤ key → IsNotAfter (Some key) (key_at keys v)
+      → key_at keys v ≢ Some key → b.near.items ≡ a.near.items → b.floor ≡ a.floor → b.far ≡ a.far
+      → b.complete ≡ a.complete → IsPut b d v key → IsQueue given d
+  lowered-far a b d q low lower other near floor far complete put =
+      let F : List Entry → Type 0 = λ es. ArePut es (heap_items d.far) a.complete d.complete v key in
+      let C : Bool → Type 0 = λ all. ArePut (heap_items b.far) (heap_items d.far) all d.complete v key in
+      let P : ℤ → Type 0 = λ z. AreQueued given d.near.items z (heap_items d.far) d.complete in
+      let Q : List ℕ → Type 0 = λ stack. AreQueued given stack a.floor (heap_items d.far) d.complete in
+      subst P (sym (put.floor ∙ floor)) (subst Q (sym (ap (λ stack. stack.items) put.near ∙ near))
+      (put-far a.near.items a.floor (heap_items a.far) (heap_items d.far) a.complete d.complete q low lower other
+      (subst F (ap heap_items far) (subst C complete put.far))))
+
+-- the node on top of the stack moves into the heap
+pub moved-queue : (keys : Keys) (a b d : Queue) (v : ℕ) → IsQueue keys a → a.near.items ≡ b.near.items ++ v ∷ []
+    → b.floor ≡ a.floor → b.far ≡ a.far → b.complete ≡ a.complete → IsPut b d v a.floor → IsQueue keys d
+moved-queue keys a b d v q top floor far complete put =
+    let F : List Entry → Type 0 = λ es. ArePut es (heap_items d.far) a.complete d.complete v a.floor in
+    let C : Bool → Type 0 = λ all. ArePut (heap_items b.far) (heap_items d.far) all d.complete v a.floor in
+    let P : ℤ → Type 0 = λ z. AreQueued keys d.near.items z (heap_items d.far) d.complete in
+    let Q : List ℕ → Type 0 = λ stack. AreQueued keys stack a.floor (heap_items d.far) d.complete in
+    subst P (sym (put.floor ∙ floor)) (subst Q (sym (ap (λ stack. stack.items) put.near))
+    (moved-far keys a.near.items b.near.items a.floor (heap_items a.far) (heap_items d.far) a.complete d.complete v q top
+    (subst F (ap heap_items far) (subst C complete put.far))))
+
+-- where there are no keys, there is nothing on the stack and in the heap
+pub empty-queue : (keys : Keys) (near : List ℕ) (floor : ℤ) (far : List Entry) (complete : Bool)
+    → length keys < 2 ^ 32 → near ≡ [] → far ≡ [] → IsHeap entry_cmp far → ((v : ℕ) → key_at keys v ≡ None)
+    → AreQueued keys near floor far complete
+empty-queue keys near floor far complete few empty none-far order none =
+    let P : List ℕ → Type 0 = λ stack. AreQueued keys stack floor far complete in
     let no-key : (v : ℕ) (key : ℤ) → key_at keys v ≡ Some key → ⊥ =
     λ v key has. let e : None ≡ Some key = sym (none v) ∙ has in absurd (cc) in
     subst P (sym empty)
     (record {
       few = few;
-      tournament = played-none tree (length keys) some size none-in;
-      each = λ v key has. absurd (no-key v key has);
-      far_too = λ v key has.
-          let leaf : key_at tree (length keys + v) ≡ None = none-in (length keys + v) (omega (arith, some)) in
-          let e : None ≡ Some key = sym leaf ∙ has in
-          absurd (cc);
+      order = order;
+      nodes = λ e is. let zero : length far ≡ 0 = ap length none-far in absurd (omega (arith, is.1, zero));
+      each = λ all v key has. absurd (no-key v key has);
       near_too = λ v on. absurd (off-empty v on);
       once = λ i j before within. absurd (omega (arith, within));
       no_less = λ v key has. absurd (no-key v key has);
     })
 
--- no node has a key once those on the stack are forgotten and the tournament is emptied
-pub none-kept : (keys kept left : Keys) (near : List ℕ) (floor : ℤ) (far tree : Keys) → AreQueued keys near floor far
-    → AreForgotten near keys kept → length kept ≡ length keys → ((k : ℕ) → 0 < k → key_at tree k ≡ None)
-    → AreTakenOut far tree kept left → (v : ℕ) → key_at left v ≡ None
-none-kept keys kept left near floor far tree q forgotten size none-in taken v =
+-- no node has a key once those on the stack and in the heap are forgotten
+pub none-kept : (keys kept left : Keys) (near : List ℕ) (floor : ℤ) (far : List Entry)
+    → AreQueued keys near floor far true → AreForgotten near keys kept → AreEntriesForgotten far kept left
+    → (v : ℕ) → key_at left v ≡ None
+none-kept keys kept left near floor far q forgotten taken v =
     elim (taken v) [
       | inl none ↦ none
       | inr same ↦
@@ -417,16 +411,93 @@ none-kept keys kept left near floor far tree q forgotten size none-in taken v =
           ]
     ]
   where
-    go : (key : Option ℤ) → key_at keys v ≡ key → key_at tree (length kept + v) ≡ key_at far (length kept + v)
-        → ¬ (IsOn near v) → key_at keys v ≡ None
-    go None has leaf off = has
-    go (Some key) has leaf off =
-        elim (q.each v key has) [
-          | inl is_far ↦
-              let none : key_at tree (length kept + v) ≡ None =
-              none-in (length kept + v) (omega (arith, size, q.tournament.some)) in
-              let e : None ≡ Some key =
-              sym none ∙ leaf ∙ ap (λ (n : ℕ). key_at far (n + v)) size ∙ is_far in
-              absurd (cc)
+    go : (key : Option ℤ) → key_at keys v ≡ key → ((k : ℤ) → ¬ (Contains far (entry k v))) → ¬ (IsOn near v)
+        → key_at keys v ≡ None
+    go None has away off = has
+    go (Some key) has away off =
+        elim (q.each refl v key has) [
+          | inl is_far ↦ absurd (away key is_far)
           | inr is_near ↦ absurd (off is_near.1)
         ]
+
+-- of all nodes, one with the least key
+pub found-least : (keys : Keys) (t : ℕ × ℤ) → IsLeastUpTo keys (length keys) (Some t) → IsLeast keys t.0 t.1
+found-least keys t least = record {
+  has = least.1;
+  least = λ w other has. least.2 w other (within-keys keys w other has) has;
+}
+
+pub found-none : (keys : Keys) → IsLeastUpTo keys (length keys) None → IsEmpty keys
+found-none keys none v =
+    elim (cases_lt v (length keys)) [
+      | inl inside ↦ none v inside
+      | inr past ↦ get_or_past keys v None past
+    ]
+
+-- a node more is looked at
+pub least-more : (keys : Keys) (count : ℕ) (least lesser : Option (ℕ × ℤ)) → IsLeastUpTo keys count least
+    → IsLesser least count (key_at keys count) lesser → IsLeastUpTo keys (count + 1) lesser
+least-more keys count least lesser = go (key_at keys count) refl least
+  where
+    last : (w : ℕ) → w < count + 1 → (w < count) ⊎ (w ≡ count)
+    last w below = elim (cases_lt w count) [ inl before ↦ inl before | inr after ↦ inr (omega arith) ]
+
+    its : (key : ℤ) (w : ℕ) (other : ℤ) → key_at keys count ≡ Some key → w ≡ count → key_at keys w ≡ Some other
+        → key ≡ other
+    its key w other is same has =
+        let e : Some key ≡ Some other = sym is ∙ ap (key_at keys) (sym same) ∙ has in cc
+
+    new : (key : ℤ) → key_at keys count ≡ Some key
+        → ((w : ℕ) (other : ℤ) → w < count → key_at keys w ≡ Some other → key ≤ℤ other)
+        → IsLeastUpTo keys (count + 1) (Some (count, key))
+    new key is before = (
+      omega arith,
+      is,
+      λ w other below has.
+          elim (last w below) [
+            | inl low ↦ before w other low has
+            | inr same ↦ let e = its key w other is same has in omega (arith, ints, e)
+          ],
+    )
+
+    same-least : (t : ℕ × ℤ) → IsLeastUpTo keys count (Some t)
+        → ((w : ℕ) (other : ℤ) → w ≡ count → key_at keys w ≡ Some other → t.1 ≤ℤ other)
+        → IsLeastUpTo keys (count + 1) (Some t)
+    same-least t least here = (
+      omega (arith, least.0),
+      least.1,
+      λ w other below has.
+          elim (last w below) [
+            | inl low ↦ least.2 w other low has
+            | inr same ↦ here w other same has
+          ],
+    )
+
+    go : (key : Option ℤ) → key_at keys count ≡ key → (least : Option (ℕ × ℤ)) → IsLeastUpTo keys count least
+        → IsLesser least count key lesser → IsLeastUpTo keys (count + 1) lesser
+    go None is None none same =
+        let P : Option (ℕ × ℤ) → Type 0 = IsLeastUpTo keys (count + 1) in
+        subst P (sym same)
+        (λ w below.
+        elim (last w below) [
+          | inl low ↦ none w low
+          | inr here ↦ ap (key_at keys) here ∙ is
+        ])
+    go None is (Some t) known same =
+        let P : Option (ℕ × ℤ) → Type 0 = IsLeastUpTo keys (count + 1) in
+        subst P (sym same)
+        (same-least t known (λ w other here has.
+        let e : None ≡ Some other = sym is ∙ ap (key_at keys) (sym here) ∙ has in absurd (cc)))
+    go (Some key) is None none same =
+        let P : Option (ℕ × ℤ) → Type 0 = IsLeastUpTo keys (count + 1) in
+        subst P (sym same)
+        (new key is (λ w other low has. let e : None ≡ Some other = sym (none w low) ∙ has in absurd (cc)))
+    go (Some key) is (Some t) known (inl (less, same)) =
+        let P : Option (ℕ × ℤ) → Type 0 = IsLeastUpTo keys (count + 1) in
+        subst P (sym same)
+        (new key is (λ w other low has. omega (arith, ints, less, known.2 w other low has)))
+    go (Some key) is (Some t) known (inr (no_less, same)) =
+        let P : Option (ℕ × ℤ) → Type 0 = IsLeastUpTo keys (count + 1) in
+        subst P (sym same)
+        (same-least t known (λ w other here has.
+        let e = its key w other is here has in omega (arith, ints, no_less, e)))

@@ -1,8 +1,8 @@
-use Rattle.std.proofs.Common.{◌≡◌}
+use Rattle.std.proofs.Common.{◌≡◌, length}
 use Rattle.vs_path.specs.Queues.{IsQueue}
 use Rattle.vs_path.proofs.queue.Queue.unstack.Given as goal
 
--- the nodes so far are in the tournament
+-- the nodes so far are in the heap
 abbrev pub invariant-loop-node : goal.invariant-loop-node
 invariant-loop-node l = record {
   queue : IsQueue l.keys l.self;
@@ -10,4 +10,4 @@ invariant-loop-node l = record {
 }
 
 abbrev pub decreases-loop-node : goal.decreases-loop-node
-decreases-loop-node l = goal.left-loop-node l
+decreases-loop-node l = length l.self.near.items

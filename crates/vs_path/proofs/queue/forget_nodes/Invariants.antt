@@ -1,6 +1,6 @@
 use Rattle.std.proofs.Common.{◌≡◌, ◌≢◌, ◌⊎◌, ◌<◌, ℕ, None, get_or}
 use Rattle.vs_path.specs.Keys.{key_at}
-use Rattle.vs_path.proofs.queue.forget.Given as goal
+use Rattle.vs_path.proofs.queue.forget_nodes.Given as goal
 
 -- the nodes so far have no key
 abbrev pub invariant-loop-node : goal.invariant-loop-node

@@ -2,7 +2,7 @@ use Rattle.std.proofs.Common.{◌≡◌, ◌∙◌, ◌<◌, ℕ, length, get_or
 use Rattle.std.proofs.lemmas.Bool.{cases_eq, cases_lt}
 use Rattle.std.proofs.lemmas.List.{get_or-set_same, get_or-set_other}
 use Rattle.vs_path.specs.Keys.{key_at}
-use Rattle.vs_path.proofs.queue.forget.Goals as goal
+use Rattle.vs_path.proofs.queue.forget_nodes.Goals as goal
 
 pub loop-node-init : goal.loop-node-init
 loop-node-init c v = inr (refl, λ i before. absurd (omega (arith, before)))
