@@ -191,6 +191,7 @@ impl Labels {
 
     /// The node that a step reaches from one at this distance is given the distance along it, where that is less
     /// than what it has, and less than the distance of a node that lacks a unit: no node farther than that is settled.
+    #[inline(always)]
     fn relax(
         &mut self,
         residual: &Residual,

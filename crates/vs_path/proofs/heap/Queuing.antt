@@ -1,10 +1,10 @@
 -- What nodes that come, go and move leave of a queue.
-use Rattle.std.proofs.Common.{◌≡◌, ◌≢◌, ◌⊎◌, ℕ, ◌+◌, ◌^◌, ◌<◌, ◌∙◌, List, [], ◌∷◌, ◌++◌, length, set, refl, sym, ap, subst, arith, inl, inr, Option, Some, None, Bool, true, false, ℤ, ◌≤ℤ◌, length-set}
+use Rattle.std.proofs.Common.{◌≡◌, ◌≢◌, ◌⊎◌, ℕ, ◌+◌, ◌<◌, ◌∙◌, List, [], ◌∷◌, ◌++◌, length, set, refl, sym, ap, subst, arith, inl, inr, Option, Some, None, Bool, true, false, ℤ, ◌≤ℤ◌, length-set}
 use Rattle.std.proofs.lemmas.Bool.{cases_eq, cases_lt}
 use Rattle.std.proofs.lemmas.Int.{ints}
 use Rattle.std.proofs.lemmas.List.{get_or-set_same, get_or-set_other, get_or_past}
 use Rattle.std.proofs.lemmas.List.Sorted.{Contains-permutation, IsPermutation-sym}
-use Rattle.std.specs.BinaryHeap.{IsHeap, PopsGreatest, heap_items}
+use Rattle.std.specs.BinaryHeap.{PopsGreatest, heap_items}
 use Rattle.std.specs.List.{Contains}
 use Rattle.std.specs.List.Sorted.{IsPermutation}
 use Rattle.vs_path.specs.declared.queue.Entry.{Entry}
@@ -45,7 +45,8 @@ nodes-put count far new complete complete' v key put within nodes e is =
     ]
 
 -- the node on top of the stack moves into the heap
-pub moved-far : (keys : Keys) (near rest : List ℕ) (floor : ℤ) (far new : List Entry) (complete complete' : Bool) (v : ℕ)
+pub moved-far : (keys : Keys) (near rest : List ℕ) (floor : ℤ) (far new : List Entry) (complete complete' : Bool)
+    (v : ℕ)
     → AreQueued keys near floor far complete → near ≡ rest ++ v ∷ [] → ArePut far new complete complete' v floor
     → AreQueued keys rest floor new complete'
 moved-far keys near rest floor far new complete complete' v q top put =
@@ -55,7 +56,8 @@ moved-far keys near rest floor far new complete complete' v q top put =
     record {
       few = before.few;
       order = put.order before.order;
-      nodes = nodes-put (length keys) far new complete complete' v floor put (within-keys keys v floor here) before.nodes;
+      nodes = nodes-put (length keys) far new complete complete' v floor put (within-keys keys v floor here)
+          before.nodes;
       each = λ all u key has.
           elim (before.each (put.was all) u key has) [
             | inl is_far ↦ inl (put.kept (entry key u) is_far)
@@ -211,19 +213,6 @@ module _ (keys : Keys) (floor : ℤ) (far rest : List Entry) (x : Entry) (q : Ar
         no_less = λ u key its. (popped-least has).least u key (had keys v u key popped-within its).1;
       }
 
--- where the heap is empty, no node has a key
-pub none-queued : (keys : Keys) (floor : ℤ) (far : List Entry) → AreQueued keys [] floor far true → length far ≡ 0
-    → IsEmpty keys
-none-queued keys floor far q empty v = go (key_at keys v) refl
-  where
-    go : (key : Option ℤ) → key_at keys v ≡ key → key_at keys v ≡ None
-    go None has = has
-    go (Some key) has =
-        elim (q.each refl v key has) [
-          | inl is ↦ absurd (omega (arith, is.1, empty))
-          | inr is_near ↦ absurd (off-empty v is_near.1)
-        ]
-
 -- a node with the least key may be taken where the heap doesn't have all
 pub taken-found : (keys : Keys) (near : List ℕ) (floor key : ℤ) (far : List Entry) (complete : Bool) (v : ℕ)
     → AreQueued keys near floor far complete → near ≡ [] → complete ≡ false → IsLeast keys v key
@@ -375,27 +364,8 @@ moved-queue keys a b d v q top floor far complete put =
     let P : ℤ → Type 0 = λ z. AreQueued keys d.near.items z (heap_items d.far) d.complete in
     let Q : List ℕ → Type 0 = λ stack. AreQueued keys stack a.floor (heap_items d.far) d.complete in
     subst P (sym (put.floor ∙ floor)) (subst Q (sym (ap (λ stack. stack.items) put.near))
-    (moved-far keys a.near.items b.near.items a.floor (heap_items a.far) (heap_items d.far) a.complete d.complete v q top
-    (subst F (ap heap_items far) (subst C complete put.far))))
-
--- where there are no keys, there is nothing on the stack and in the heap
-pub empty-queue : (keys : Keys) (near : List ℕ) (floor : ℤ) (far : List Entry) (complete : Bool)
-    → length keys < 2 ^ 32 → near ≡ [] → far ≡ [] → IsHeap entry_cmp far → ((v : ℕ) → key_at keys v ≡ None)
-    → AreQueued keys near floor far complete
-empty-queue keys near floor far complete few empty none-far order none =
-    let P : List ℕ → Type 0 = λ stack. AreQueued keys stack floor far complete in
-    let no-key : (v : ℕ) (key : ℤ) → key_at keys v ≡ Some key → ⊥ =
-    λ v key has. let e : None ≡ Some key = sym (none v) ∙ has in absurd (cc) in
-    subst P (sym empty)
-    (record {
-      few = few;
-      order = order;
-      nodes = λ e is. let zero : length far ≡ 0 = ap length none-far in absurd (omega (arith, is.1, zero));
-      each = λ all v key has. absurd (no-key v key has);
-      near_too = λ v on. absurd (off-empty v on);
-      once = λ i j before within. absurd (omega (arith, within));
-      no_less = λ v key has. absurd (no-key v key has);
-    })
+    (moved-far keys a.near.items b.near.items a.floor (heap_items a.far) (heap_items d.far) a.complete d.complete v q
+    top (subst F (ap heap_items far) (subst C complete put.far))))
 
 -- no node has a key once those on the stack and in the heap are forgotten
 pub none-kept : (keys kept left : Keys) (near : List ℕ) (floor : ℤ) (far : List Entry)

@@ -73,9 +73,10 @@ returns-clause-ships c =
     let surplus =
     with_items_is old.surplus c.move_unit.new.surplus (c.move_unit.auto.surplus ∙ c.deref_mut-surplus.ensures.len) in
     let found =
-    goal-as c.loaded-residual.result (residual_of g old) c.deref.result.now old.surplus.items c.deref_mut-prices.result.now
-    old.prices.items c.find-found.new.prices _ c.find-found.new.self.path path c.args.source c.in-Some.goal same
-    c.deref.ensures.value c.deref_mut-prices.ensures.value (sym prices) (sym c.path-path.ensures) c.in-Some.ensures.found in
+    goal-as c.loaded-residual.result (residual_of g old) c.deref.result.now old.surplus.items
+    c.deref_mut-prices.result.now old.prices.items c.find-found.new.prices _ c.find-found.new.self.path path
+    c.args.source c.in-Some.goal same c.deref.ensures.value c.deref_mut-prices.ensures.value (sym prices) (sym c.path-path.ensures)
+    c.in-Some.ensures.found in
     let Sent : List ℕ → Type 0 = λ us. IsSentAlong us c.carry.new.units path (length path) in
     let SentTo : List ℕ → Type 0 = λ us. IsSentAlong old.flow.units.items us path (length path) in
     let Gain : List ℕ → Type 0 = λ us. GainAlong us c.carry.new.units path in

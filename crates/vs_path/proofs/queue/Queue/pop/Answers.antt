@@ -26,7 +26,8 @@ returns-then-counts-clause-taken c =
     let rest = heap_items c.pop.new.self in
     let q = far-alone keys now.near.items now.floor far now.complete inv.queue inv.none_near inv.complete in
     let has = c.if-counts.ensures.0 refl in
-    let left = popped-taken keys now.floor far rest x q c.in-Some.ensures.permutation c.in-Some.ensures.heap_order has in
+    let left = popped-taken keys now.floor far rest x q c.in-Some.ensures.permutation c.in-Some.ensures.heap_order
+    has in
     let P : List ℕ → Type 0 = λ stack. AreQueued (set keys x.node None) stack x.key.0 rest true in
     let Q : Bool → Type 0 = λ all. AreQueued (set keys x.node None) now.near.items x.key.0 rest all in
     let fits : SFits w64 x.key.0 = search rules in

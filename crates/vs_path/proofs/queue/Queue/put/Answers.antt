@@ -23,8 +23,8 @@ returns c =
       put = record {
         near = refl;
         floor = refl;
-        far = put-where (heap_items now.far) (heap_items c.push.new.self) now.complete c.is_ok-done.result c.if-self.self
-            c.args.node c.args.key
+        far = put-where (heap_items now.far) (heap_items c.push.new.self) now.complete c.is_ok-done.result
+            c.if-self.self c.args.node c.args.key
             (λ done.
             let is = sym c.is_ok-done.ensures.value ∙ done in
             (on-ok c.push.result permutation is, on-ok c.push.result c.push.ensures.heap_order is))
