@@ -23,15 +23,19 @@ pub record IsStartFor (g : Graph) (start : Start) : Type 0 where
   pub units : length start.units.items ≡ length g.arcs
   pub prices : length start.prices.items ≡ g.nodes
 
--- the shipment and the start have a number for each arc and each node of the net, so have the search and the space, the
--- arcs that carry units have a list for each node, and the mirror is the net's
-pub record IsKeptFor (g : Graph) (kept : Kept) : Type 0 where
+-- the shipment and the start have a number for each arc and each node of the net, so have the search and the space, and
+-- the arcs that carry units have a list for each node
+pub record IsReadyFor (g : Graph) (kept : Kept) : Type 0 where
   pub sized : IsSized g kept.shipment
   pub before : IsStartFor g kept.before
   pub nodes : kept.search.nodes ≡ g.nodes
   pub lists : length (lists_in kept.loads) ≡ g.nodes
-  pub mirror : IsMirror g kept.mirror
   pub space : IsSpaceFor g.nodes kept.space
+
+-- and the mirror is the net's
+pub record IsKeptFor (g : Graph) (kept : Kept) : Type 0 where
+  pub ready : IsReadyFor g kept
+  pub mirror : IsMirror g kept.mirror
 
 -- For each net, in order, something is kept at its place, and nothing is kept but that.
 pub record IsMadeFor (nets : List LayerGraph) (work : Work) : Type 0 where
@@ -39,7 +43,7 @@ pub record IsMadeFor (nets : List LayerGraph) (work : Work) : Type 0 where
   pub each : (i : ℕ) (n : LayerGraph) (k : Kept) → i < length nets → slice_get nets i ≡ Some n
       → slice_get work.kept.items i ≡ Some k → IsKeptFor n.graph k
 
--- at this place stands what is kept for the net
-pub record IsKeptAt (g : Graph) (kept : List Kept) (place : ℕ) : Type 0 where
+-- what stands at this place may be used for the net
+pub record IsReadyAt (g : Graph) (kept : List Kept) (place : ℕ) : Type 0 where
   pub within : place < length kept
-  pub each : (k : Kept) → slice_get kept place ≡ Some k → IsKeptFor g k
+  pub each : (k : Kept) → slice_get kept place ≡ Some k → IsReadyFor g k

@@ -12,7 +12,7 @@ ghost use Rattle.vs_circ.specs.Offers.{AreMust};
 ghost use Rattle.vs_circ.specs.shipping.Prepared.{HasSmallArcs};
 ghost use Rattle.vs_circ.specs.shipping.Shipments.{IsDrained};
 ghost use Rattle.vs_circ.specs.shipping.Supplied.{AreRun, AreStuckPrices, HasStuckUnits, IsSupplied};
-ghost use Rattle.vs_circ.specs.Works.{IsKeptFor, IsSpaceFor};
+ghost use Rattle.vs_circ.specs.Works.{IsReadyFor, IsSpaceFor};
 
 use crate::circ::FixedFlow;
 use crate::draining::drain;
@@ -47,7 +47,7 @@ pub fn fixed(
 fn fix(alloc: Global, net: &LayerNet, must: &[bool], kept: &mut Kept) -> Result<FixedFlow, Memory>
     requires of_layer { (p : Problem) × (l : LayerNo) × IsInstance p × IsLawful p l.0 net.now
         × AreMust p l.0 must.now }
-    requires kept { IsKeptFor net.now.graph kept.old }
+    requires kept { IsReadyFor net.now.graph kept.old }
     ensures fixed { IfOk result (λ f. (p : Problem) (l : LayerNo) → IsInstance p
         → IsLawful p l.0 net.now → AreMust p l.0 must.now → IsFixed p l net.now must.now f) }
 {

@@ -1,13 +1,15 @@
 //! How many trips change where a call begins with given units and prices.
 
-ghost use Rattle.std.specs.Prelude.{◌≡◌, ◌<◌, length};
+ghost use Rattle.std.specs.Prelude.{◌≡◌, length};
 ghost use Rattle.vs_layer.specs.Graph.{IsNet};
 ghost use Rattle.vs_path.specs.Residual.{AllWithin};
 ghost use Rattle.vs_circ.specs.declared.shipment.TheConstants.{MAX_FIRST_PRICE};
 ghost use Rattle.vs_circ.specs.shipping.Prepared.{AreSmallOffers, HasSmallArcs};
 
 use crate::preparing::{are_first_prices, loss_on, offered_cost, offered_room, suiting};
+use vs_instance::MAX_TRIPS;
 use vs_match::{ArcKind, LayerNet};
+use vs_types::TripNo;
 
 /// How many trips change from being run to not being run, or the other way, where a call with these offers begins with
 /// these units and prices. It decides only how long the call takes.
@@ -21,30 +23,36 @@ pub(crate) fn misfits(net: &LayerNet, offers: &[Option<i64>], units: &[u32], pri
     if !are_first_prices(prices) {
         return arcs;
     }
+    let trips = offers.len().min(MAX_TRIPS as usize) as u32;
     let mut count = 0;
-    for k in 0..arcs {
-        if is_misfit(net, offers, units, prices, k) {
+    for i in 0..trips {
+        if is_misfit(net, offers, units, prices, TripNo(i)) {
             count += 1;
         }
     }
     count
 }
 
-/// Whether an arc is a trip's that the units on it don't suit.
-fn is_misfit(net: &LayerNet, offers: &[Option<i64>], units: &[u32], prices: &[i64], k: u32) -> bool
+/// Whether the units on the arc of a trip don't suit it.
+fn is_misfit(
+    net: &LayerNet,
+    offers: &[Option<i64>],
+    units: &[u32],
+    prices: &[i64],
+    trip: TripNo,
+) -> bool
     requires net { IsNet net.now.graph }
-    requires arc { k < length net.now.graph.arcs }
     requires arcs { HasSmallArcs net.now }
     requires offers { AreSmallOffers offers.now }
     requires units { length units.now ≡ length net.now.graph.arcs }
     requires each_node { length prices.now ≡ net.now.graph.nodes }
     requires prices { AllWithin MAX_FIRST_PRICE prices.now }
 {
-    let kind = net.kind(k);
-    let ArcKind::Trip(_) = kind else {
+    let Some(k) = net.trip_arc(trip) else {
         return false;
     };
     let arc = net.net().arc(k);
+    let kind = ArcKind::Trip(trip);
     let loss = loss_on(arc, offered_cost(offers, kind, arc), prices);
     let n = units[k as usize];
     suiting(loss, offered_room(offers, kind, arc), arc.room, n) != Some(n)

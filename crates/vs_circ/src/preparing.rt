@@ -146,6 +146,9 @@ fn pass(surplus: &mut [i64], arc: Arc, n: u32)
     requires within { AllWithin MAX_FIRST_PRICE surplus.old }
     ensures { surplus.new ≡ passed_along surplus.old arc n }
 {
+    if n == 0 {
+        return;
+    }
     let n = i64::from(n);
     surplus[arc.from as usize] -= n;
     surplus[arc.to as usize] += n;

@@ -15,7 +15,7 @@ ghost use Rattle.vs_circ.specs.Offers.{AreOffers};
 ghost use Rattle.vs_circ.specs.shipping.Settled.{IsSettled};
 ghost use Rattle.vs_circ.specs.shipping.Shipments.{residual_of};
 ghost use Rattle.vs_circ.specs.shipping.Values.{worth_of_units};
-ghost use Rattle.vs_circ.specs.Works.{IsKeptFor, IsSpaceFor};
+ghost use Rattle.vs_circ.specs.Works.{IsKeptFor, IsReadyFor, IsSpaceFor};
 
 use crate::centring::centre;
 use crate::circ::Circ;
@@ -57,13 +57,14 @@ fn relaxed_from(
 ) -> Result<Circ, Memory>
     requires of_layer { (p : Problem) × (l : LayerNo) × IsInstance p × IsLawful p l.0 net.now
         × AreOffers p l.0 offers.now }
-    requires kept { IsKeptFor net.now.graph kept.old }
+    requires kept { IsReadyFor net.now.graph kept.old }
     ensures least { IfOk result (λ c. (p : Problem) (l : LayerNo) → IsInstance p
         → IsLawful p l.0 net.now → AreOffers p l.0 offers.now
         → IsLeastCirculation p l net.now offers.now c) }
 {
     let graph = net.net();
     kept.recall(net, offers);
+    kept.turn(alloc, graph)?;
     settle(
         net,
         offers,

@@ -10,7 +10,7 @@ ghost use Rattle.vs_path.specs.declared.residual.TheConstants.{MAX_SEARCH_NODES,
 ghost use Rattle.vs_path.specs.Residual.{AllWithin};
 ghost use Rattle.vs_circ.specs.Circulations.{RunLeast, RunTrip};
 ghost use Rattle.vs_circ.specs.Offers.{AreOffers};
-ghost use Rattle.vs_circ.specs.Works.{IsKeptFor};
+ghost use Rattle.vs_circ.specs.Works.{IsReadyFor};
 
 use crate::fixing::cost_of;
 use crate::gaps::bring_near;
@@ -50,7 +50,7 @@ fn run_from(net: &LayerNet, offers: &[Option<i64>], kept: &mut Kept, answer: &mu
     requires of_layer { (p : Problem) × (l : LayerNo) × IsInstance p × IsLawful p l.0 net.now
         × AreOffers p l.0 offers.now }
     requires nodes { net.now.graph.nodes ≤ MAX_SEARCH_NODES }
-    requires kept { IsKeptFor net.now.graph kept.old }
+    requires kept { IsReadyFor net.now.graph kept.old }
     requires each_trip { length answer.old ≡ length offers.now }
     ensures least { (p : Problem) (l : LayerNo) → IsInstance p → IsLawful p l.0 net.now
         → AreOffers p l.0 offers.now → RunLeast p l net.now offers.now answer.new result }

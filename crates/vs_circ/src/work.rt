@@ -1,10 +1,10 @@
 //! What is kept for the nets of the layers from one call to the next.
 
-ghost use Rattle.std.specs.Prelude.{◌≡◌, IfOk, IsTrue, length};
+ghost use Rattle.std.specs.Prelude.{◌≡◌, IfOk, IsTrue, OnOk, length};
 ghost use Rattle.vs_circ.specs.node_prices.Mirror.{IsMirror};
 ghost use Rattle.vs_circ.specs.shipping.Prepared.{AreSmallOffers, HasSmallArcs};
 ghost use Rattle.vs_circ.specs.shipping.Shipments.{IsSized};
-ghost use Rattle.vs_circ.specs.Works.{IsKeptAt, IsKeptFor, IsMadeFor};
+ghost use Rattle.vs_circ.specs.Works.{IsKeptFor, IsMadeFor, IsReadyAt, IsReadyFor};
 
 use crate::mirror::{mirror_of, turned};
 use crate::misfits::misfits;
@@ -51,16 +51,28 @@ impl Kept {
         })
     }
 
-    /// Whether it is one of this net.
+    /// Whether it can be used for this net. It is made for another one only where the two are as large, and alike at
+    /// some arcs.
     fn is_of(&self, net: &Net) -> bool
-        ensures { IsTrue result → IsKeptFor net.now self.now }
+        ensures { IsTrue result → IsReadyFor net.now self.now }
     {
         is_sized(&self.shipment, net)
             && self.before.is_of(net)
             && self.search.nodes() == net.nodes() as usize
             && self.loads.nodes() == net.nodes() as usize
             && self.space.is_for(net.nodes())
-            && is_mirror(&self.mirror, net)
+            && is_like_mirror(&self.mirror, net)
+    }
+
+    /// Makes the net turned round where that which is kept is another's.
+    pub(crate) fn turn(&mut self, alloc: Global, net: &Net) -> Result<(), Memory>
+        requires { IsReadyFor net.now self.old }
+        ensures { OnOk result (IsKeptFor net.now self.new) }
+    {
+        if !is_mirror(&self.mirror, net) {
+            self.mirror = mirror_of(alloc, net)?;
+        }
+        Ok(())
     }
 
     /// Lets a call begin with the units and prices that the last call left or with those that the one before it did,
@@ -68,8 +80,8 @@ impl Kept {
     pub(crate) fn recall(&mut self, net: &LayerNet, offers: &[Option<i64>])
         requires arcs { HasSmallArcs net.now }
         requires offers { AreSmallOffers offers.now }
-        requires kept { IsKeptFor net.now.graph self.old }
-        ensures kept { IsKeptFor net.now.graph self.new }
+        requires kept { IsReadyFor net.now.graph self.old }
+        ensures kept { IsReadyFor net.now.graph self.new }
     {
         let shipment = &self.shipment;
         let last = misfits(net, offers, &shipment.flow.units, &shipment.prices);
@@ -115,7 +127,7 @@ impl Work {
 
     /// The place of what is kept for a net, which is made where there is none.
     pub(crate) fn place_of(&mut self, alloc: Global, net: &Net) -> Result<usize, Memory>
-        ensures { IfOk result (λ place. IsKeptAt net.now self.new.kept.items place) }
+        ensures { IfOk result (λ place. IsReadyAt net.now self.new.kept.items place) }
     {
         for (place, kept) in self.kept.iter().enumerate() {
             if kept.is_of(net) {
@@ -127,7 +139,7 @@ impl Work {
 
     /// Keeps a start for a net, at the last place.
     fn add(&mut self, alloc: Global, net: &Net) -> Result<usize, Memory>
-        ensures { IfOk result (λ place. IsKeptAt net.now self.new.kept.items place) }
+        ensures { IfOk result (λ place. IsReadyAt net.now self.new.kept.items place) }
     {
         let place = self.kept.len();
         let kept = Kept::new(alloc, net)?;
@@ -175,6 +187,24 @@ fn is_sized(shipment: &Shipment, net: &Net) -> bool
         && shipment.costs.room.len() == arcs
         && shipment.prices.len() == nodes
         && shipment.surplus.len() == nodes
+}
+
+/// How many arcs of a net are compared to know it from another.
+const COMPARED: u32 = 16;
+
+/// Whether some arcs are those of the net turned round.
+fn is_like_mirror(mirror: &Net, net: &Net) -> bool {
+    if mirror.nodes() != net.nodes() || mirror.arcs() != net.arcs() {
+        return false;
+    }
+    let mut k = 0;
+    while k < net.arcs() {
+        if mirror.arc(k) != turned(net.nodes(), net.arc(k)) {
+            return false;
+        }
+        k = k.saturating_add(net.arcs() / COMPARED + 1);
+    }
+    true
 }
 
 /// Whether this is the net turned round.
