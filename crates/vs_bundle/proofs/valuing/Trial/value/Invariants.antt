@@ -1,0 +1,5 @@
+use Rattle.vs_bundle.specs.Climbs.{IsTrialFor}
+use Rattle.vs_bundle.proofs.valuing.Trial.value.Given as goal
+
+abbrev pub invariant-loop-l : goal.invariant-loop-l
+invariant-loop-l l = IsTrialFor l.case.instance.now l.self

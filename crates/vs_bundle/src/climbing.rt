@@ -1,0 +1,225 @@
+//! Multipliers climbed to the greatest Lagrangian value.
+
+ghost use Rattle.std.specs.Prelude.{◌≡◌, ◌⊎◌, IfOk, length};
+ghost use Rattle.vs_multi.specs.Multipliers.{AreMultipliers, AreWithin};
+ghost use Rattle.vs_multi.specs.Rounds.{IsCase};
+ghost use Rattle.vs_bundle.specs.Climbs.{AreShares, IsAscentFor};
+
+use crate::aim::Aim;
+use crate::bundle::Bundle;
+use crate::stride::Stride;
+use crate::valuing::Trial;
+use crate::weights::Forecast;
+use crate::whole::WHOLE;
+use vs_circ::Work;
+use vs_instance::{MAX_LAYERS, MAX_TRIPS};
+use vs_multi::Case;
+use vs_types::Memory;
+
+/// A round gains where it comes to one in so many of what was forecast.
+const GAINED: i64 = 10;
+
+/// It gains much where it comes to one in so many.
+const GAINED_MUCH: i64 = 2;
+
+/// A climb ends once what is forecast is so small a part of the value.
+const NEAR: i64 = 1_000_000;
+
+/// What a climb found.
+#[derive(Drop)]
+pub struct Climbed {
+    /// By layer, and within that by trip: how much of the trip the layer runs, in parts of `WHOLE`.
+    pub shares: Vec<u32>,
+    /// The Lagrangian value at the multipliers, in 1/1000 of a cost unit, or near it where it is past what fits.
+    pub value: i64,
+    /// How many rounds there were.
+    pub rounds: u32,
+}
+
+/// A climb on its way.
+#[derive(Drop)]
+struct Ascent {
+    bundle: Bundle,
+    trial: Trial,
+    stride: Stride,
+    /// Multipliers that are tried.
+    candidate: Vec<i64>,
+    /// The Lagrangian value at the best multipliers.
+    top: i64,
+    /// What was forecast last.
+    forecast: i64,
+}
+
+impl Ascent {
+    /// Before the first circulations are found, at these multipliers.
+    fn new(case: &Case<'_>, aim: &Aim, multipliers: &[i64]) -> Result<Ascent, Memory>
+        requires { AreMultipliers case.now.instance.now multipliers.now }
+        ensures { IfOk result (IsAscentFor case.now.instance.now) }
+    {
+        let trips = case.instance.trips() as usize;
+        let layers = case.instance.layers();
+        let unit = ((aim.most / 100) as i64).max(1);
+        Ok(Ascent {
+            bundle: Bundle::new(case.alloc, trips, layers, aim.cuts)?,
+            trial: Trial::new(case.alloc, trips, layers)?,
+            stride: Stride::new(unit, i64::from(aim.hundredths)),
+            candidate: Vec::from_slice(case.alloc, multipliers)?,
+            top: 0,
+            forecast: 0,
+        })
+    }
+
+    /// Finds the first circulations.
+    fn begin(&mut self, case: &Case<'_>, multipliers: &[i64], work: &mut Work) -> Result<(), Memory>
+        requires case { IsCase case.now.instance.now case.now.nets.now case.now.sets.now }
+        requires multipliers { AreMultipliers case.now.instance.now multipliers.now }
+        requires ascent { IsAscentFor case.now.instance.now self.old }
+        ensures { IsAscentFor case.now.instance.now self.new }
+    {
+        self.top = self.trial.value(case, multipliers, work)?;
+        self.bundle.take_parts(&self.trial.found);
+        self.bundle.keep(&mut self.trial.found, WHOLE);
+        self.bundle.set_errors(multipliers);
+        Ok(())
+    }
+
+    /// One round. Gives whether there was one: none where it would gain next to nothing.
+    fn round(
+        &mut self,
+        case: &Case<'_>,
+        aim: &Aim,
+        multipliers: &mut [i64],
+        work: &mut Work,
+    ) -> Result<bool, Memory>
+        requires case { IsCase case.now.instance.now case.now.nets.now case.now.sets.now }
+        requires multipliers { AreMultipliers case.now.instance.now multipliers.old }
+        requires ascent { IsAscentFor case.now.instance.now self.old }
+        ensures multipliers { AreMultipliers case.now.instance.now multipliers.new }
+        ensures ascent { IsAscentFor case.now.instance.now self.new }
+    {
+        let step = self.stride.now;
+        let tolerance = self.tolerance();
+        let forecast = self.bundle.weigh(step, tolerance);
+        self.forecast = forecast.gain();
+        if self.forecast <= self.top / NEAR {
+            return Ok(false);
+        }
+        self.step(step, multipliers);
+        let candidate: &[i64] = &self.candidate;
+        let value = self.trial.value(case, candidate, work)?;
+        self.judge(forecast, value, aim, multipliers);
+        self.keep(multipliers);
+        Ok(true)
+    }
+
+    /// Tries the multipliers a step of this length further.
+    fn step(&mut self, step: i64, multipliers: &[i64])
+        requires each { length self.old.candidate.items ≡ length multipliers.now }
+        requires within { AreWithin self.old.candidate.items }
+        ensures each { length self.new.candidate.items ≡ length multipliers.now }
+        ensures within { AreWithin self.new.candidate.items }
+        ensures trial { self.new.trial ≡ self.old.trial }
+    {
+        let candidate: &mut [i64] = &mut self.candidate;
+        self.bundle.step(step, multipliers, candidate);
+        self.bundle.set_free(multipliers);
+    }
+
+    /// Keeps what the layers found.
+    fn keep(&mut self, multipliers: &[i64])
+        ensures offers { self.new.trial.offers ≡ self.old.trial.offers }
+        ensures marks { self.new.trial.marks ≡ self.old.trial.marks }
+        ensures candidate { self.new.candidate ≡ self.old.candidate }
+    {
+        self.bundle.keep(&mut self.trial.found, 0);
+        self.bundle.set_errors(multipliers);
+    }
+
+    /// Round after round, as long as another one may gain something that is asked for. Gives how many there were.
+    fn go_on(
+        &mut self,
+        case: &Case<'_>,
+        aim: &Aim,
+        multipliers: &mut [i64],
+        work: &mut Work,
+    ) -> Result<u32, Memory>
+        requires case { IsCase case.now.instance.now case.now.nets.now case.now.sets.now }
+        requires multipliers { AreMultipliers case.now.instance.now multipliers.old }
+        requires ascent { IsAscentFor case.now.instance.now self.old }
+        ensures { AreMultipliers case.now.instance.now multipliers.new }
+    {
+        let begin = self.top;
+        let most = aim.rounds_along(case.nets);
+        for r in 0..most {
+            let is_vain = r == aim.trial_rounds && self.top <= begin;
+            if is_vain || aim.is_reached(self.top) || !self.round(case, aim, multipliers, work)? {
+                return Ok(r);
+            }
+        }
+        Ok(most)
+    }
+
+    /// How much a move of weights has to gain.
+    fn tolerance(&self) -> i64 {
+        (self.top / 100_000_000).max(self.forecast / 500).max(1)
+    }
+
+    /// Takes the candidate where its value gains, and changes the stride.
+    fn judge(&mut self, forecast: Forecast, value: i64, aim: &Aim, multipliers: &mut [i64])
+        requires { length self.old.candidate.items ≡ length multipliers.old }
+        ensures trial { self.new.trial ≡ self.old.trial }
+        ensures candidate { self.new.candidate ≡ self.old.candidate }
+        ensures multipliers { (multipliers.new ≡ multipliers.old)
+            ⊎ (multipliers.new ≡ self.old.candidate.items) }
+    {
+        let gain = value.saturating_sub(self.top);
+        let low = aim.is_far(self.top, self.forecast);
+        if gain > 0 && gain.saturating_mul(GAINED) >= self.forecast {
+            let much = low || gain.saturating_mul(GAINED_MUCH) >= self.forecast;
+            self.stride.gain(much);
+            self.top = value;
+            multipliers.copy_from_slice(&self.candidate);
+            self.bundle.take_parts(&self.trial.found);
+        } else {
+            let errors = self.bundle.errors_of(&self.trial.found, multipliers);
+            let far_off = errors > self.forecast && forecast.errors > forecast.far;
+            self.stride.miss(low, far_off);
+        }
+    }
+}
+
+/// Climbs from these multipliers to ever better ones, and leaves the best. Each round makes a step towards where the
+/// circulations that the layers found so far, each taken by a weight, run every trip once, and finds a further one in
+/// each layer there. The multipliers keep within their limits, also after want of memory. What they are worth a table
+/// shows: nothing is promised of that.
+pub fn climb(
+    case: &Case<'_>,
+    aim: &Aim,
+    multipliers: &mut [i64],
+    work: &mut Work,
+) -> Result<Climbed, Memory>
+    requires case { IsCase case.now.instance.now case.now.nets.now case.now.sets.now }
+    requires multipliers { AreMultipliers case.now.instance.now multipliers.old }
+    ensures within { AreMultipliers case.now.instance.now multipliers.new }
+    ensures shares { IfOk result (λ climbed. AreShares case.now.instance.now climbed.shares.items) }
+{
+    let mut ascent = Ascent::new(case, aim, multipliers)?;
+    ascent.begin(case, multipliers, work)?;
+    let rounds = ascent.go_on(case, aim, multipliers, work)?;
+    Ok(Climbed {
+        shares: shares_of(case, &ascent.bundle)?,
+        value: ascent.top,
+        rounds,
+    })
+}
+
+/// How much of each trip each layer runs.
+fn shares_of(case: &Case<'_>, bundle: &Bundle) -> Result<Vec<u32>, Memory>
+    ensures { IfOk result (λ shares. AreShares case.now.instance.now shares.items) }
+{
+    prove!(case.instance.trips() <= MAX_TRIPS && case.instance.layers() <= MAX_LAYERS);
+    let trips = case.instance.trips() as usize;
+    let mut shares = vec![in case.alloc; 0; trips * case.instance.layers() as usize]?;
+    bundle.set_shares(trips, &mut shares);
+    Ok(shares)
+}

@@ -1,0 +1,20 @@
+//! The best multipliers of trips, nearly exactly, by a proximal bundle method (Lemarechal 1975, Kiwiel 1990): each
+//! layer keeps circulations that it found before, its cuts, and the multipliers go where these, mixed by weights, run
+//! every trip just once.
+#![tactic(auto)]
+
+mod aim;
+mod bundle;
+mod climbing;
+mod cut;
+mod keeping;
+mod standing;
+mod stride;
+mod trip_set;
+mod valuing;
+mod weights;
+mod whole;
+
+pub use aim::Aim;
+pub use climbing::{Climbed, climb};
+pub use whole::WHOLE;

@@ -1,0 +1,47 @@
+//! How cuts stand.
+
+use crate::whole::part_of;
+
+/// How a cut stands.
+#[derive(Clone, Copy, Debug)]
+pub(crate) struct Standing {
+    /// In parts of a whole, which the weights of a layer's cuts are together.
+    pub weight: i64,
+    /// By how much its value at the best multipliers is above the least, in 1/1000 of a cost unit.
+    pub error: i64,
+    /// How much is lacking of its free trips.
+    pub slope: i64,
+    /// For how many rounds it has had no weight.
+    pub idle: u32,
+    /// Whether there is a cut at all.
+    pub held: bool,
+}
+
+impl Standing {
+    /// That of no cut.
+    pub fn none() -> Standing {
+        Standing {
+            weight: 0,
+            error: 0,
+            slope: 0,
+            idle: u32::MAX,
+            held: false,
+        }
+    }
+
+    /// That of a further cut.
+    pub fn new(weight: i64) -> Standing {
+        Standing {
+            weight,
+            error: 0,
+            slope: 0,
+            idle: 0,
+            held: true,
+        }
+    }
+
+    /// How high it stands: its error, less what a step along what is lacking of its trips gains.
+    pub fn height(&self, step: i64) -> i64 {
+        self.error.saturating_sub(part_of(step, self.slope))
+    }
+}

@@ -1,0 +1,107 @@
+//! The Lagrangian value at given multipliers.
+
+ghost use Rattle.std.specs.Prelude.{◌≡◌, ◌<◌, IfOk, length};
+ghost use Rattle.vs_instance.specs.Problem.{Problem};
+ghost use Rattle.vs_multi.specs.Multipliers.{AreMultipliers};
+ghost use Rattle.vs_multi.specs.Rounds.{IsCase};
+ghost use Rattle.vs_bundle.specs.Climbs.{IsTrialFor};
+
+use crate::cut::Cut;
+use std::alloc::Global;
+use vs_circ::{Work, runs};
+use vs_multi::{Case, offer};
+use vs_types::{LayerNo, Memory};
+
+/// A circulation that a layer has just found.
+#[derive(Drop)]
+pub(crate) struct Found {
+    pub cut: Cut,
+    /// Its cost less the multipliers at which it was found.
+    pub part: i64,
+}
+
+/// What the layers found last, and space to find it in.
+#[derive(Drop)]
+pub(crate) struct Trial {
+    /// What the layer that comes next is offered.
+    offers: Vec<Option<i64>>,
+    /// Which trips it runs.
+    marks: Vec<bool>,
+    /// By layer.
+    pub found: Vec<Found>,
+}
+
+impl Trial {
+    /// Nothing found yet.
+    pub fn new(alloc: Global, trips: usize, layers: u32) -> Result<Trial, Memory>
+        ensures { IfOk result (λ trial. (p : Problem) → length p.trips ≡ trips → IsTrialFor p trial) }
+    {
+        let mut found = Vec::with_capacity(alloc, layers as usize)?;
+        for _ in 0..layers {
+            let cut = Cut::new(alloc, trips)?;
+            found.push(Found { cut, part: 0 })?;
+        }
+        Ok(Trial {
+            offers: vec![in alloc; None; trips]?,
+            marks: vec![in alloc; false; trips]?,
+            found,
+        })
+    }
+
+    /// Finds a least circulation in every layer. Gives the Lagrangian value.
+    pub fn value(
+        &mut self,
+        case: &Case<'_>,
+        multipliers: &[i64],
+        work: &mut Work,
+    ) -> Result<i64, Memory>
+        requires case { IsCase case.now.instance.now case.now.nets.now case.now.sets.now }
+        requires multipliers { AreMultipliers case.now.instance.now multipliers.now }
+        requires trial { IsTrialFor case.now.instance.now self.old }
+        ensures { IsTrialFor case.now.instance.now self.new }
+    {
+        let mut value = total(multipliers);
+        for l in 0..case.instance.layers() {
+            let part = self.find(case, multipliers, LayerNo(l), work)?;
+            value = value.saturating_add(part);
+        }
+        Ok(value)
+    }
+
+    /// Finds a least circulation of layer l. Gives its cost less the multipliers of its trips.
+    fn find(
+        &mut self,
+        case: &Case<'_>,
+        multipliers: &[i64],
+        l: LayerNo,
+        work: &mut Work,
+    ) -> Result<i64, Memory>
+        requires case { IsCase case.now.instance.now case.now.nets.now case.now.sets.now }
+        requires multipliers { AreMultipliers case.now.instance.now multipliers.now }
+        requires layer { l.0 < length case.now.instance.now.layers }
+        requires trial { IsTrialFor case.now.instance.now self.old }
+        ensures { IsTrialFor case.now.instance.now self.new }
+    {
+        let offers: &mut [Option<i64>] = &mut self.offers;
+        offer(case.instance, case.sets, multipliers, l, offers);
+        let net = &case.nets[l.0 as usize];
+        let cost = runs(case.alloc, net, offers, work, &mut self.marks)?;
+        match self.found.get_mut(l.0 as usize) {
+            Some(found) => {
+                found.cut.set(&self.marks, cost);
+                found.part = found.cut.value(multipliers);
+                Ok(found.part)
+            }
+            None => Ok(0),
+        }
+    }
+}
+
+/// The sum of all multipliers.
+fn total(multipliers: &[i64]) -> i64 {
+    let mut total: i64 = 0;
+    for multiplier in multipliers {
+        total = total.saturating_add(*multiplier);
+    }
+    total
+}
