@@ -2,13 +2,13 @@
 use Rattle.std.specs.Prelude.{◌≡◌, ℕ, ◌<◌, List, length, Some, slice_get}
 use Rattle.vs_layer.specs.Graph.{Graph}
 use Rattle.vs_circ.specs.declared.space.Space.{Space}
-use Rattle.vs_circ.specs.declared.shipment.Start.{Start}
+use Rattle.vs_circ.specs.declared.start.Start.{Start}
 use Rattle.vs_circ.specs.declared.work.Kept.{Kept}
 use Rattle.vs_circ.specs.declared.work.Work.{Work}
 use Rattle.vs_match.specs.LayerGraph.{LayerGraph}
 use Rattle.vs_path.specs.Loads.{lists_in}
-use Rattle.vs_circ.specs.node_prices.Mirror.{IsMirror}
-use Rattle.vs_circ.specs.shipping.Shipments.{IsSized}
+use Rattle.vs_ship.specs.Mirror.{IsMirror}
+use Rattle.vs_ship.specs.Shipments.{IsSized}
 
 -- it has numbers for so many nodes
 pub record IsSpaceFor (nodes : ℕ) (space : Space) : Type 0 where

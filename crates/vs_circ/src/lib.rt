@@ -2,22 +2,18 @@
 //! ray that shows that there is none.
 #![tactic(auto)]
 
-mod centring;
 mod circ;
-mod draining;
 mod fixing;
-mod gaps;
 mod laws;
 mod leeways;
-mod mirror;
 mod misfits;
 mod preparing;
 mod price_tables;
 mod relaxing;
 mod running;
 mod settling;
-mod shipment;
 mod space;
+mod start;
 mod supplying;
 mod work;
 

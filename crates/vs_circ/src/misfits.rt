@@ -3,12 +3,13 @@
 ghost use Rattle.std.specs.Prelude.{◌≡◌, length};
 ghost use Rattle.vs_layer.specs.Graph.{IsNet};
 ghost use Rattle.vs_path.specs.Residual.{AllWithin};
-ghost use Rattle.vs_circ.specs.declared.shipment.TheConstants.{MAX_FIRST_PRICE};
+ghost use Rattle.vs_ship.specs.declared.shipment.TheConstants.{MAX_FIRST_PRICE};
 ghost use Rattle.vs_circ.specs.shipping.Prepared.{AreSmallOffers, HasSmallArcs};
 
-use crate::preparing::{are_first_prices, loss_on, offered_cost, offered_room, suiting};
+use crate::preparing::{offered_cost, offered_room};
 use vs_instance::MAX_TRIPS;
 use vs_match::{ArcKind, LayerNet};
+use vs_ship::{are_first_prices, loss_on, suiting};
 use vs_types::TripNo;
 
 /// How many trips change from being run to not being run, or the other way, where a call with these offers begins with

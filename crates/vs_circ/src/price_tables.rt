@@ -12,10 +12,11 @@ ghost use Rattle.vs_circ.specs.node_prices.Leeways.{AreFewLeeways, shifted};
 ghost use Rattle.vs_circ.specs.node_prices.PriceTables.{AreEntries, IsEntry, IsTableOf, base_price};
 
 use crate::circ::LayerPrices;
-use crate::leeways::{MAX_LEEWAY, MAX_NODE_PRICE, Side, set_entering, set_leaving};
+use crate::leeways::{MAX_LEEWAY, Side, set_entering, set_leaving};
 use std::alloc::Global;
 use vs_instance::MAX_TRIPS;
 use vs_match::LayerNet;
+use vs_ship::MAX_NODE_PRICE;
 use vs_types::{Memory, TripNo};
 
 /// Prices of a layer, with entries for so many trips, from prices of the nodes. They hold, and each trip pays no less

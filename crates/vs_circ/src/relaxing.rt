@@ -9,18 +9,16 @@ ghost use Rattle.vs_match.specs.LawfulNets.{IsLawful};
 ghost use Rattle.vs_path.specs.declared.residual.TheConstants.{MAX_STEP_COST};
 ghost use Rattle.vs_path.specs.Labels.{IsSmall};
 ghost use Rattle.vs_path.specs.Residual.{AllWithin, HasSignRule, IsWithin};
-ghost use Rattle.vs_circ.specs.node_prices.Centring.{AreSettled};
+ghost use Rattle.vs_ship.specs.Centring.{AreSettled};
 ghost use Rattle.vs_circ.specs.Circulations.{IsLeastCirculation};
 ghost use Rattle.vs_circ.specs.Offers.{AreOffers};
 ghost use Rattle.vs_circ.specs.shipping.Settled.{IsSettled};
-ghost use Rattle.vs_circ.specs.shipping.Shipments.{residual_of};
+ghost use Rattle.vs_ship.specs.Shipments.{residual_of};
 ghost use Rattle.vs_circ.specs.shipping.Values.{worth_of_units};
 ghost use Rattle.vs_circ.specs.Works.{IsKeptFor, IsReadyFor, IsSpaceFor};
 
-use crate::centring::centre;
 use crate::circ::Circ;
 use crate::settling::settle;
-use crate::shipment::Shipment;
 use crate::space::Space;
 use crate::work::{Kept, Work};
 use std::alloc::Global;
@@ -28,6 +26,7 @@ use std::mem::swap;
 use vs_layer::{Flow, Net};
 use vs_match::LayerNet;
 use vs_path::Residual;
+use vs_ship::{Shipment, centre};
 use vs_types::Memory;
 
 /// A circulation of offered trips whose cost less their multipliers is the least, with prices that

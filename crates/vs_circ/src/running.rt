@@ -13,11 +13,11 @@ ghost use Rattle.vs_circ.specs.Offers.{AreOffers};
 ghost use Rattle.vs_circ.specs.Works.{IsReadyFor};
 
 use crate::fixing::cost_of;
-use crate::gaps::bring_near;
 use crate::settling::settle;
 use crate::work::{Kept, Work};
 use std::alloc::Global;
 use vs_match::LayerNet;
+use vs_ship::bring_near;
 use vs_types::{Memory, TripNo};
 
 /// The greatest price of a node, either way, that is kept for the next call, in 1/1000 of a cost unit: somewhat more

@@ -6,17 +6,17 @@ ghost use Rattle.vs_instance.specs.Instance.{IsInstance};
 ghost use Rattle.vs_match.specs.LawfulNets.{IsLawful};
 ghost use Rattle.vs_path.specs.declared.residual.TheConstants.{MAX_SEARCH_NODES, MAX_SEARCH_PRICE};
 ghost use Rattle.vs_path.specs.Residual.{AllWithin};
-ghost use Rattle.vs_circ.specs.node_prices.Gaps.{AreNear};
+ghost use Rattle.vs_ship.specs.Gaps.{AreNear};
 ghost use Rattle.vs_circ.specs.LayerPrices.{AreHolding};
 ghost use Rattle.vs_circ.specs.node_prices.NodePrices.{HasMovePrices};
 ghost use Rattle.vs_circ.specs.PricedFlows.{PaysNoLess};
 ghost use Rattle.vs_circ.specs.Works.{IsSpaceFor};
 
 use crate::circ::LayerPrices;
-use crate::gaps::bring_near;
 use crate::price_tables::layer_prices;
 use std::alloc::Global;
 use vs_match::LayerNet;
+use vs_ship::bring_near;
 use vs_types::Memory;
 
 /// Numbers for the nodes of a net that each call writes afresh.

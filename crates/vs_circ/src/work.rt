@@ -1,20 +1,19 @@
 //! What is kept for the nets of the layers from one call to the next.
 
 ghost use Rattle.std.specs.Prelude.{◌≡◌, IfOk, IsTrue, OnOk, length};
-ghost use Rattle.vs_circ.specs.node_prices.Mirror.{IsMirror};
 ghost use Rattle.vs_circ.specs.shipping.Prepared.{AreSmallOffers, HasSmallArcs};
-ghost use Rattle.vs_circ.specs.shipping.Shipments.{IsSized};
+ghost use Rattle.vs_ship.specs.Shipments.{IsSized};
 ghost use Rattle.vs_circ.specs.Works.{IsKeptFor, IsMadeFor, IsReadyAt, IsReadyFor};
 
-use crate::mirror::{mirror_of, turned};
 use crate::misfits::misfits;
-use crate::shipment::{Shipment, Start};
 use crate::space::Space;
+use crate::start::Start;
 use std::alloc::Global;
 use std::mem::swap;
 use vs_layer::{Flow, Net};
 use vs_match::LayerNet;
 use vs_path::{Costs, Loads, Search};
+use vs_ship::{Shipment, is_like_mirror, is_mirror, mirror_of};
 use vs_types::Memory;
 
 /// What is kept for a net: the units that were sent last, what a call can begin with instead, the searches, the arcs
@@ -187,37 +186,4 @@ fn is_sized(shipment: &Shipment, net: &Net) -> bool
         && shipment.costs.room.len() == arcs
         && shipment.prices.len() == nodes
         && shipment.surplus.len() == nodes
-}
-
-/// How many arcs of a net are compared to know it from another.
-const COMPARED: u32 = 16;
-
-/// Whether some arcs are those of the net turned round.
-fn is_like_mirror(mirror: &Net, net: &Net) -> bool {
-    if mirror.nodes() != net.nodes() || mirror.arcs() != net.arcs() {
-        return false;
-    }
-    let mut k = 0;
-    while k < net.arcs() {
-        if mirror.arc(k) != turned(net.nodes(), net.arc(k)) {
-            return false;
-        }
-        k = k.saturating_add(net.arcs() / COMPARED + 1);
-    }
-    true
-}
-
-/// Whether this is the net turned round.
-fn is_mirror(mirror: &Net, net: &Net) -> bool
-    ensures { IsTrue result → IsMirror net.now mirror.now }
-{
-    if mirror.nodes() != net.nodes() || mirror.arcs() != net.arcs() {
-        return false;
-    }
-    for k in 0..net.arcs() {
-        if mirror.arc(k) != turned(net.nodes(), net.arc(k)) {
-            return false;
-        }
-    }
-    true
 }
