@@ -8,4 +8,3 @@ pub mod Covering
 pub mod Fixing
 pub mod Relaxed
 pub mod Running
-pub mod Keeping

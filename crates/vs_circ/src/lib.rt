@@ -12,10 +12,7 @@ mod price_tables;
 mod relaxing;
 mod running;
 mod settling;
-mod space;
-mod start;
 mod supplying;
-mod work;
 
 pub use circ::{Circ, FixedFlow, LayerPrices};
 pub use fixing::fixed;
@@ -23,4 +20,4 @@ pub use laws::{covered_circulations, least_circulations, stuck_trips};
 pub use relaxing::relaxed;
 pub use running::runs;
 pub use vs_instance::{MAX_MULTIPLIER, MAX_PRICE};
-pub use work::Work;
+pub use vs_ship::Work;

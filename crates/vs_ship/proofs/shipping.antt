@@ -5,3 +5,4 @@ pub mod Sending
 pub mod Shipping
 pub mod Listing
 pub mod Suiting
+pub mod Keeping

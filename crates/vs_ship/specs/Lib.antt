@@ -5,3 +5,4 @@ pub mod Leaving
 pub mod Mirror
 pub mod Gaps
 pub mod Centring
+pub mod Works

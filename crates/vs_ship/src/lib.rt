@@ -9,11 +9,16 @@ mod gaps;
 mod leaving;
 mod mirror;
 mod shipment;
+mod space;
+mod start;
+mod work;
 
 pub use centring::{MAX_RAISED_PRICE, centre};
 pub use draining::drain;
 pub use fitting::{are_first_prices, fit, loss_on, suiting};
 pub use gaps::{MAX_NODE_PRICE, bring_near};
 pub use leaving::{clear, leave};
-pub use mirror::{is_like_mirror, is_mirror, mirror_of};
 pub use shipment::{MAX_FIRST_PRICE, Shipment};
+pub use space::Space;
+pub use start::Start;
+pub use work::{Kept, Work};

@@ -11,7 +11,7 @@ use vs_types::Memory;
 
 /// The net turned round: each arc leads the other way, under the same number, and the nodes are numbered from the last
 /// one.
-pub fn mirror_of(alloc: Global, net: &Net) -> Result<Net, Memory>
+pub(crate) fn mirror_of(alloc: Global, net: &Net) -> Result<Net, Memory>
     ensures { IfOk result (IsMirror net.now) }
 {
     let arcs = turned_arcs(alloc, net)?;
@@ -64,7 +64,7 @@ pub(crate) fn turn_prices(prices: &[i64], turned: &mut [i64])
 const COMPARED: u32 = 16;
 
 /// Whether some arcs are those of the net turned round.
-pub fn is_like_mirror(mirror: &Net, net: &Net) -> bool {
+pub(crate) fn is_like_mirror(mirror: &Net, net: &Net) -> bool {
     if mirror.nodes() != net.nodes() || mirror.arcs() != net.arcs() {
         return false;
     }
@@ -79,7 +79,7 @@ pub fn is_like_mirror(mirror: &Net, net: &Net) -> bool {
 }
 
 /// Whether this is the net turned round.
-pub fn is_mirror(mirror: &Net, net: &Net) -> bool
+pub(crate) fn is_mirror(mirror: &Net, net: &Net) -> bool
     ensures { IsTrue result → IsMirror net.now mirror.now }
 {
     if mirror.nodes() != net.nodes() || mirror.arcs() != net.arcs() {

@@ -7,9 +7,9 @@ use Rattle.std.proofs.lemmas.List.{get_or_push}
 use Rattle.std.proofs.lemmas.Option.{get_or_from_slice_get, slice_get-get_or}
 use Rattle.vs_layer.specs.Graph.{Graph}
 use Rattle.vs_match.specs.LayerGraph.{LayerGraph}
-use Rattle.vs_circ.specs.declared.work.Kept.{Kept}
-use Rattle.vs_circ.specs.declared.work.Work.{Work}
-use Rattle.vs_circ.specs.Works.{IsKeptFor, IsMadeFor, IsReadyAt, IsReadyFor}
+use Rattle.vs_ship.specs.declared.work.Kept.{Kept}
+use Rattle.vs_ship.specs.declared.work.Work.{Work}
+use Rattle.vs_ship.specs.Works.{IsKeptFor, IsMadeFor, IsReadyAt, IsReadyFor}
 
 -- what was added for a net stands at the last place
 pub kept-at : (g : Graph) (old new : List Kept) (kept : Kept) (place : ℕ) → new ≡ old ++ kept ∷ [] → place ≡ length old

@@ -1,22 +1,13 @@
 //! Numbers for the nodes of a net that each call writes afresh.
 
-ghost use Rattle.std.specs.Prelude.{◌≡◌, ℕ, ◌<◌, ◌≤◌, IfOk, IsTrue, length, true, false};
-ghost use Rattle.vs_instance.specs.Problem.{Problem};
-ghost use Rattle.vs_instance.specs.Instance.{IsInstance};
-ghost use Rattle.vs_match.specs.LawfulNets.{IsLawful};
+ghost use Rattle.std.specs.Prelude.{◌≡◌, ◌<◌, ◌≤◌, IfOk, IsTrue, length};
 ghost use Rattle.vs_path.specs.declared.residual.TheConstants.{MAX_SEARCH_NODES, MAX_SEARCH_PRICE};
 ghost use Rattle.vs_path.specs.Residual.{AllWithin};
 ghost use Rattle.vs_ship.specs.Gaps.{AreNear};
-ghost use Rattle.vs_circ.specs.LayerPrices.{AreHolding};
-ghost use Rattle.vs_circ.specs.node_prices.NodePrices.{HasMovePrices};
-ghost use Rattle.vs_circ.specs.PricedFlows.{PaysNoLess};
-ghost use Rattle.vs_circ.specs.Works.{IsSpaceFor};
+ghost use Rattle.vs_ship.specs.Works.{IsSpaceFor};
 
-use crate::circ::LayerPrices;
-use crate::price_tables::layer_prices;
+use crate::gaps::bring_near;
 use std::alloc::Global;
-use vs_match::LayerNet;
-use vs_ship::bring_near;
 use vs_types::Memory;
 
 /// Numbers for the nodes of a net that each call writes afresh.
@@ -72,31 +63,5 @@ impl Space {
     {
         self.prices.copy_from_slice(prices);
         bring_near(&mut self.prices, &mut self.turned, &mut self.low);
-    }
-
-    /// Prices of a layer, with entries for so many trips, from the prices taken.
-    pub fn layer_prices(
-        &mut self,
-        alloc: Global,
-        net: &LayerNet,
-        trips: usize,
-    ) -> Result<LayerPrices, Memory>
-        requires of_layer { (p : Problem) × (l : ℕ) × IsInstance p × IsLawful p l net.now
-            × (length p.trips ≡ trips) }
-        requires prices { HasMovePrices net.now self.old.prices.items }
-        requires space { IsSpaceFor net.now.graph.nodes self.old }
-        ensures holding { IfOk result (λ given. (p : Problem) (l : ℕ) → IsInstance p
-            → IsLawful p l net.now → length p.trips ≡ trips → AreHolding p l false given) }
-        ensures pays { IfOk result (PaysNoLess net.now trips self.old.prices.items) }
-        ensures same { self.new.prices ≡ self.old.prices }
-    {
-        layer_prices(
-            alloc,
-            net,
-            trips,
-            &self.prices,
-            &mut self.entering,
-            &mut self.leaving,
-        )
     }
 }

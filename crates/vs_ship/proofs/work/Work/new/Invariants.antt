@@ -1,5 +1,5 @@
-use Rattle.vs_circ.proofs.shipping.Keeping.{AreKeptSoFar}
-use Rattle.vs_circ.proofs.work.Work.new.Given as goal
+use Rattle.vs_ship.proofs.shipping.Keeping.{AreKeptSoFar}
+use Rattle.vs_ship.proofs.work.Work.new.Given as goal
 
 -- something is kept for the nets so far
 abbrev pub invariant-loop-net : goal.invariant-loop-net

@@ -1,11 +1,11 @@
 //! What is kept for the nets of the layers from one call to the next.
 
 ghost use Rattle.std.specs.Prelude.{◌≡◌, IfOk, IsTrue, OnOk, length};
-ghost use Rattle.vs_circ.specs.shipping.Prepared.{AreSmallOffers, HasSmallArcs};
 ghost use Rattle.vs_ship.specs.Shipments.{IsSized};
-ghost use Rattle.vs_circ.specs.Works.{IsKeptFor, IsMadeFor, IsReadyAt, IsReadyFor};
+ghost use Rattle.vs_ship.specs.Works.{IsKeptFor, IsMadeFor, IsReadyAt, IsReadyFor};
 
-use crate::misfits::misfits;
+use crate::mirror::{is_like_mirror, is_mirror, mirror_of};
+use crate::shipment::Shipment;
 use crate::space::Space;
 use crate::start::Start;
 use std::alloc::Global;
@@ -13,13 +13,12 @@ use std::mem::swap;
 use vs_layer::{Flow, Net};
 use vs_match::LayerNet;
 use vs_path::{Costs, Loads, Search};
-use vs_ship::{Shipment, is_like_mirror, is_mirror, mirror_of};
 use vs_types::Memory;
 
 /// What is kept for a net: the units that were sent last, what a call can begin with instead, the searches, the arcs
 /// that carry units, the net turned round, and space to work in.
 #[derive(Drop)]
-pub(crate) struct Kept {
+pub struct Kept {
     pub shipment: Shipment,
     pub before: Start,
     pub search: Search,
@@ -32,7 +31,8 @@ pub(crate) struct Kept {
 /// asks nothing of it.
 #[derive(Drop)]
 pub struct Work {
-    pub(crate) kept: Vec<Kept>,
+    /// For each net in their order, and then for those for which a place was made.
+    pub kept: Vec<Kept>,
 }
 
 impl Kept {
@@ -64,7 +64,7 @@ impl Kept {
     }
 
     /// Makes the net turned round where that which is kept is another's.
-    pub(crate) fn turn(&mut self, alloc: Global, net: &Net) -> Result<(), Memory>
+    pub fn turn(&mut self, alloc: Global, net: &Net) -> Result<(), Memory>
         requires { IsReadyFor net.now self.old }
         ensures { OnOk result (IsKeptFor net.now self.new) }
     {
@@ -74,26 +74,8 @@ impl Kept {
         Ok(())
     }
 
-    /// Lets a call begin with the units and prices that the last call left or with those that the one before it did,
-    /// whichever need fewer changes. Where multipliers swing to and fro, that is the call before.
-    pub(crate) fn recall(&mut self, net: &LayerNet, offers: &[Option<i64>])
-        requires arcs { HasSmallArcs net.now }
-        requires offers { AreSmallOffers offers.now }
-        requires kept { IsReadyFor net.now.graph self.old }
-        ensures kept { IsReadyFor net.now.graph self.new }
-    {
-        let shipment = &self.shipment;
-        let last = misfits(net, offers, &shipment.flow.units, &shipment.prices);
-        let before = misfits(net, offers, &self.before.units, &self.before.prices);
-        if before < last {
-            self.exchange();
-        } else {
-            self.before.take(&self.shipment);
-        }
-    }
-
     /// Exchanges the units and prices that the last call left with those that the one before it did.
-    pub(crate) fn exchange(&mut self)
+    pub fn exchange(&mut self)
         ensures units { self.new.shipment.flow.units ≡ self.old.before.units }
         ensures prices { self.new.shipment.prices ≡ self.old.before.prices }
         ensures before_units { self.new.before.units ≡ self.old.shipment.flow.units }
@@ -125,7 +107,7 @@ impl Work {
     }
 
     /// The place of what is kept for a net, which is made where there is none.
-    pub(crate) fn place_of(&mut self, alloc: Global, net: &Net) -> Result<usize, Memory>
+    pub fn place_of(&mut self, alloc: Global, net: &Net) -> Result<usize, Memory>
         ensures { IfOk result (λ place. IsReadyAt net.now self.new.kept.items place) }
     {
         for (place, kept) in self.kept.iter().enumerate() {

@@ -1,8 +1,8 @@
 use Rattle.std.proofs.Common.{arith, subst}
 use Rattle.vs_layer.specs.Graph.{Graph}
-use Rattle.vs_circ.specs.Works.{IsKeptFor}
-use Rattle.vs_circ.proofs.shipping.Keeping.{kept-all, kept-more}
-use Rattle.vs_circ.proofs.work.Work.new.Goals as goal
+use Rattle.vs_ship.specs.Works.{IsKeptFor}
+use Rattle.vs_ship.proofs.shipping.Keeping.{kept-all, kept-more}
+use Rattle.vs_ship.proofs.work.Work.new.Goals as goal
 
 pub loop-net-preserved : goal.loop-net-preserved
 loop-net-preserved c =

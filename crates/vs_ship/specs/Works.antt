@@ -1,10 +1,10 @@
 -- What is kept for a net from one call to the next.
 use Rattle.std.specs.Prelude.{◌≡◌, ℕ, ◌<◌, List, length, Some, slice_get}
 use Rattle.vs_layer.specs.Graph.{Graph}
-use Rattle.vs_circ.specs.declared.space.Space.{Space}
-use Rattle.vs_circ.specs.declared.start.Start.{Start}
-use Rattle.vs_circ.specs.declared.work.Kept.{Kept}
-use Rattle.vs_circ.specs.declared.work.Work.{Work}
+use Rattle.vs_ship.specs.declared.space.Space.{Space}
+use Rattle.vs_ship.specs.declared.start.Start.{Start}
+use Rattle.vs_ship.specs.declared.work.Kept.{Kept}
+use Rattle.vs_ship.specs.declared.work.Work.{Work}
 use Rattle.vs_match.specs.LayerGraph.{LayerGraph}
 use Rattle.vs_path.specs.Loads.{lists_in}
 use Rattle.vs_ship.specs.Mirror.{IsMirror}

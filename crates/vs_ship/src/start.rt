@@ -1,16 +1,16 @@
 //! Units and prices with which a call may begin.
 
 ghost use Rattle.std.specs.Prelude.{◌≡◌, IfOk, IsTrue, length};
-ghost use Rattle.vs_circ.specs.Works.{IsStartFor};
+ghost use Rattle.vs_ship.specs.Works.{IsStartFor};
 
+use crate::shipment::Shipment;
 use std::alloc::Global;
 use vs_layer::Net;
-use vs_ship::Shipment;
 use vs_types::Memory;
 
 /// Units on the arcs of a net and prices of its nodes, with which a call may begin.
 #[derive(Drop)]
-pub(crate) struct Start {
+pub struct Start {
     pub units: Vec<u32>,
     /// In 1/1000 of a cost unit.
     pub prices: Vec<i64>,
@@ -35,7 +35,7 @@ impl Start {
     }
 
     /// Takes the units and prices of a shipment.
-    pub(crate) fn take(&mut self, shipment: &Shipment)
+    pub fn take(&mut self, shipment: &Shipment)
         requires units { length self.old.units.items ≡ length shipment.now.flow.units.items }
         requires prices { length self.old.prices.items ≡ length shipment.now.prices.items }
         ensures units { self.new.units.items ≡ shipment.now.flow.units.items }

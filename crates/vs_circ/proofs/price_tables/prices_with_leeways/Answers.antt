@@ -1,6 +1,6 @@
 use Rattle.std.proofs.Common.{false}
 use Rattle.vs_circ.proofs.prices.Holding.{if-ok, table-holds, table-pays}
-use Rattle.vs_circ.proofs.price_tables.layer_prices.Goals as goal
+use Rattle.vs_circ.proofs.price_tables.prices_with_leeways.Goals as goal
 
 pub returns-clause-holding : goal.returns-clause-holding
 returns-clause-holding c =

@@ -1,6 +1,6 @@
 use Rattle.std.proofs.Common.{arith}
-use Rattle.vs_circ.proofs.shipping.Keeping.{kept-at}
-use Rattle.vs_circ.proofs.work.Work.add.Goals as goal
+use Rattle.vs_ship.proofs.shipping.Keeping.{kept-at}
+use Rattle.vs_ship.proofs.work.Work.add.Goals as goal
 
 pub returns : goal.returns
 returns c =
