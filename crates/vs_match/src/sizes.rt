@@ -1,7 +1,7 @@
 //! How large a layer's net is, and how many connections it stands for.
 
 ghost use Rattle.std.specs.Prelude.{◌≡◌, ◌+◌, ◌<◌, length, count_by};
-ghost use Rattle.vs_match.specs.Sizes.{HasRoom, counts_of, with_kind, full_count_of, is_connection, numbers};
+ghost use Rattle.vs_match.specs.Sizes.{HasRoom, counts_of, line_points, with_kind, full_count_of, is_connection, numbers};
 
 use crate::arc_kind::ArcKind;
 use crate::layer_net::LayerNet;
@@ -17,6 +17,10 @@ pub struct NetCounts {
     pub pull_outs: u32,
     pub pull_ins: u32,
     pub trips: u32,
+    /// How many nodes are on the depot line.
+    pub line: u32,
+    /// How many arcs lead into the depot for a rest.
+    pub rests: u32,
 }
 
 /// How large a layer's net is.
@@ -24,18 +28,34 @@ pub fn counts(net: &LayerNet) -> NetCounts
     ensures { result ≡ counts_of net.now }
 {
     let graph = net.net();
+    let line = line_count(net);
     let mut counts = NetCounts {
-        nodes: graph.nodes() - 2,
+        nodes: graph.nodes() - 2 - line,
         waiting: 0,
         deadheads: 0,
         pull_outs: 0,
         pull_ins: 0,
         trips: 0,
+        line,
+        rests: 0,
     };
     for k in 0..graph.arcs() {
         count(&mut counts, net.kind(k));
     }
     counts
+}
+
+/// How many nodes are on the depot line.
+fn line_count(net: &LayerNet) -> u32
+    ensures { result ≡ line_points net.now.points }
+{
+    let mut count = 0;
+    for node in 0..net.net().nodes() {
+        if net.line(node).is_some() {
+            count += 1;
+        }
+    }
+    count
 }
 
 /// Counts one arc more.
@@ -49,7 +69,8 @@ fn count(counts: &mut NetCounts, kind: ArcKind)
         ArcKind::Deadhead => counts.deadheads += 1,
         ArcKind::PullOut => counts.pull_outs += 1,
         ArcKind::PullIn => counts.pull_ins += 1,
-        ArcKind::Return => {}
+        ArcKind::RestIn => counts.rests += 1,
+        ArcKind::RestWait | ArcKind::RestOut | ArcKind::Return => {}
     }
 }
 

@@ -7,7 +7,7 @@ use Rattle.vs_match.proofs.sizes.counts.Goals as goal
 
 pub loop-k-init : goal.loop-k-init
 loop-k-init c =
-    let nodes : c.nodes.result - 2 ≡ length c.args.net.now.events =
+    let nodes : c.nodes.result - 2 ≡ length c.args.net.now.points =
     omega (
       arith,
       c.nodes.ensures.count,
@@ -29,5 +29,5 @@ returns c =
       c.net-graph.ensures.labelled.each_arc,
     ) in
     c.loop-k.invariant
-    ∙ ap (λ (ks : List ArcKind). counts_from (length n.events) ks)
+    ∙ ap (λ (ks : List ArcKind). counts_from (length n.points) ks)
     (ap (λ (k : ℕ). take k n.kinds) all ∙ take_all (length n.kinds) n.kinds (omega arith))

@@ -4,4 +4,4 @@ use Rattle.vs_match.proofs.sizes.counts.Given as goal
 
 -- the arcs so far are counted
 abbrev pub invariant-loop-k : goal.invariant-loop-k
-invariant-loop-k l = l.counts ≡ counts_from (length l.net.events) (take l.k l.net.kinds)
+invariant-loop-k l = l.counts ≡ counts_from (length l.net.points) (take l.k l.net.kinds)

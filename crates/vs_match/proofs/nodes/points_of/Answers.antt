@@ -6,16 +6,16 @@ use Rattle.vs_match.specs.Events.{departure, arrival, MayRun}
 use Rattle.vs_match.specs.declared.event.Event.{Event}
 use Rattle.vs_match.specs.Adds.{Adds}
 use Rattle.vs_match.proofs.events.Adding.{Upto, upto-none, upto-many, upto-skip}
-use Rattle.vs_match.proofs.events.EventLists.{OfTrip, are_events, event_equal, adds_both_events}
-use Rattle.vs_match.proofs.nodes.events_of.Goals as goal
-use Rattle.vs_match.proofs.nodes.events_of.Goals.{then-has+in_ok-push+in_ok-push-2, else-has}
+use Rattle.vs_match.proofs.events.PointLists.{OfTrip, are_points, event_equal, adds_both_events}
+use Rattle.vs_match.proofs.nodes.points_of.Goals as goal
+use Rattle.vs_match.proofs.nodes.points_of.Goals.{then-has+in_ok-push+in_ok-push-2, else-has}
 
 pub put_in_order-requires : goal.put_in_order-requires
 put_in_order-requires c = event_equal
 
 pub loop-i-init : goal.loop-i-init
 loop-i-init c =
-    let none = c.new-events.ensures.items in
+    let none = c.new-points.ensures.items in
     record {
       adds = rw none (upto-none (OfTrip c.args.instance.now c.args.l.0) []);
       few = rw none (omega arith);
@@ -26,16 +26,16 @@ loop-i-preserved c =
     let p = c.args.instance.now in
     let l = c.args.l.0 in
     let i = c.loop-i.i in
-    let before = c.loop-i.events.items in
+    let before = c.loop-i.points.items in
     elim c.if-has.branch [
       | then-has+in_ok-push+in_ok-push-2 w ↦
           let may : MayRun p l i = (
             omega (arith, c.loop-i-test.true, c.trips-i-end.ensures.count),
             ap (λ (t : Trip). bit_at t.layers.0 l) (sym c.trip.ensures) ∙ w.if-has.ensures.0 refl,
           ) in
-          let items : c.if-has.events.items ≡ (before ++ departure p i ∷ []) ++ arrival p i ∷ [] =
-          ap (λ (v : Vec Event Global). v.items) w.events-is ∙ w.in_ok-push-2.ensures.items
-          ∙ ap (λ (xs : List Event). xs ++ w.event-then-has.result ∷ []) w.in_ok-push.ensures.items
+          let items : c.if-has.points.items ≡ (before ++ departure p i ∷ []) ++ arrival p i ∷ [] =
+          ap (λ (v : Vec Event Global). v.items) w.points-is ∙ w.in_ok-push-2.ensures.items
+          ∙ ap (λ (xs : List Point). xs ++ w.event-then-has.result ∷ []) w.in_ok-push.ensures.items
           ∙ ap (λ (e : Event). (before ++ e ∷ []) ++ w.event-then-has.result ∷ []) w.event.ensures
           ∙ ap (λ (e : Event). (before ++ departure p i ∷ []) ++ e ∷ []) w.event-then-has.ensures in
           record {
@@ -50,7 +50,7 @@ loop-i-preserved c =
                 ));
           }
       | else-has w ↦
-          let same = ap (λ (v : Vec Event Global). v.items) w.events-is in
+          let same = ap (λ (v : Vec Event Global). v.items) w.points-is in
           record {
             adds = rw same (upto-skip (OfTrip p l) i [] before c.loop-i.invariant.adds
                 (λ e of. false≢true
@@ -59,12 +59,12 @@ loop-i-preserved c =
           }
     ]
 
-pub returns-clause-events : goal.returns-clause-events
-returns-clause-events c =
+pub returns-clause-points : goal.returns-clause-points
+returns-clause-points c =
     let all : c.loop-i.i ≡ length c.args.instance.now.trips =
     omega (arith, c.loop-i.auto.i-end, c.loop-i-test.false, c.trips-i-end.ensures.count) in
-    let P : ℕ → Type 0 = λ n. Adds (Upto (OfTrip c.args.instance.now c.args.l.0) n) [] c.loop-i.events.items in
-    are_events c.args.instance.now c.args.l.0 c.loop-i.events.items c.put_in_order.new.items.items
+    let P : ℕ → Type 0 = λ n. Adds (Upto (OfTrip c.args.instance.now c.args.l.0) n) [] c.loop-i.points.items in
+    are_points c.args.instance.now c.args.l.0 c.loop-i.points.items c.put_in_order.new.items.items
     (subst P all c.loop-i.invariant.adds) c.put_in_order.ensures.same c.put_in_order.ensures.ordered
 
 pub returns-clause-few : goal.returns-clause-few
