@@ -3,6 +3,8 @@
 ghost use Rattle.std.specs.Prelude.{◌≡◌, ◌+◌, ◌*◌, ◌<◌, ◌≤◌, All, IfOk, length, map, option_map};
 ghost use Rattle.vs_layer.specs.Graph.{AllRight};
 ghost use Rattle.vs_match.specs.Adds.{arc_in};
+ghost use Rattle.vs_match.specs.Events.{point_at};
+ghost use Rattle.vs_match.specs.Sizes.{line_points};
 ghost use Rattle.vs_match.specs.LayerGraph.{IsLabelled, kind_of, line_of, place_of};
 ghost use Rattle.vs_match.specs.TripIndex.{IsBelow, IsTripAt, IsTripIndex};
 
@@ -99,8 +101,7 @@ impl LayerNet {
         requires { node < self.now.graph.nodes }
         ensures { result ≡ option_map (λ e. (e.stop, e.minute)) (place_of self.now node) }
     {
-        let k = (node as usize).checked_sub(1)?;
-        let point = self.points.get(k)?;
+        let point = self.point(node)?;
         Some((point.stop?, point.minute))
     }
 
@@ -110,12 +111,32 @@ impl LayerNet {
         requires { node < self.now.graph.nodes }
         ensures { result ≡ line_of self.now node }
     {
-        let k = (node as usize).checked_sub(1)?;
-        let point = self.points.get(k)?;
+        let point = self.point(node)?;
         match point.stop {
             Some(_stop) => None,
             None => Some(point.minute),
         }
+    }
+
+    /// How many nodes are on the depot line.
+    pub(crate) fn line_count(&self) -> u32
+        ensures { result ≡ line_points self.now.points }
+    {
+        let mut count = 0;
+        for point in &self.points {
+            if point.stop.is_none() {
+                count += 1;
+            }
+        }
+        count
+    }
+
+    /// What a node stands for. None exactly for the first and the last node.
+    fn point(&self, node: u32) -> Option<Point>
+        ensures { result ≡ point_at self.now.points node }
+    {
+        let k = (node as usize).checked_sub(1)?;
+        self.points.get(k).copied()
     }
 }
 

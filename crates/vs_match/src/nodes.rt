@@ -5,11 +5,11 @@ ghost use Rattle.vs_instance.specs.Ways.{layer_of};
 ghost use Rattle.vs_match.specs.Adds.{Adds};
 ghost use Rattle.vs_match.specs.Events.{ArePoints, IsBefore, MayRun, HasPoint, point_of};
 ghost use Rattle.vs_match.specs.TripEnds.{HappensAt};
-ghost use Rattle.vs_match.specs.TripPoints.{OfTrip};
+ghost use Rattle.vs_match.specs.TripPoints.{OfTrip, IsLineOf, IsOfDeparture};
 ghost use Rattle.vs_match.specs.StopNodes.{AreStopNodes, AreLineNodes};
 ghost use Rattle.vs_match.specs.Nodes.{AreNodes};
 
-use crate::event::{Point, TripEnd};
+use crate::event::{Event, Point, TripEnd};
 use crate::rates::way_after_rest;
 use crate::sorting::put_in_order;
 use crate::stop_node::StopNode;
@@ -79,10 +79,45 @@ fn push_points(
     ensures adds { OnOk result (Adds (OfTrip instance.now l.0 i.0) points.old.items points.new.items) }
     ensures few { OnOk result (length points.new.items ≤ length points.old.items + 3) }
 {
+    prove!(i.0 < instance.trips());
     let departure = TripEnd::Departure.event(instance, i);
+    let arrival = TripEnd::Arrival.event(instance, i);
+    push_departure(instance, l, &departure, points)?;
+    points.push(arrival.point())?;
+    Ok(())
+}
+
+/// Puts a departure to the points, and the minute until which a vehicle rests that leaves the depot for it.
+fn push_departure(
+    instance: &Instance,
+    l: LayerNo,
+    departure: &Event,
+    points: &mut Vec<Point>,
+) -> Result<(), Memory>
+    requires layer { l.0 < length instance.now.layers }
+    requires stop { departure.now.stop.0 < instance.now.stops }
+    ensures adds { OnOk result
+        (Adds (IsOfDeparture instance.now l.0 departure.now) points.old.items points.new.items) }
+    ensures few { OnOk result (length points.new.items ≤ length points.old.items + 2) }
+{
     points.push(departure.point())?;
-    points.push(TripEnd::Arrival.event(instance, i).point())?;
-    if let Some(way) = way_after_rest(instance, l, &departure) {
+    push_line(instance, l, departure, points)?;
+    Ok(())
+}
+
+/// Puts the minute until which a vehicle rests that leaves the depot for a departure to the points.
+fn push_line(
+    instance: &Instance,
+    l: LayerNo,
+    departure: &Event,
+    points: &mut Vec<Point>,
+) -> Result<(), Memory>
+    requires layer { l.0 < length instance.now.layers }
+    requires stop { departure.now.stop.0 < instance.now.stops }
+    ensures adds { OnOk result (Adds (IsLineOf instance.now l.0 departure.now) points.old.items points.new.items) }
+    ensures few { OnOk result (length points.new.items ≤ length points.old.items + 1) }
+{
+    if let Some(way) = way_after_rest(instance, l, departure) {
         points.push(Point {
             minute: departure.minute - way.minutes,
             stop: None,

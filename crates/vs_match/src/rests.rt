@@ -31,6 +31,8 @@ pub fn push_rest_ins(
         (Adds (IsRestIn instance.now l.0 nodes.now.points.items) arcs.old.items arcs.new.items) }
     ensures few { OnOk result (length arcs.new.items ≤ length arcs.old.items + MAX_TRIPS) }
 {
+    // for the proof: the trips of an instance are within its limits
+    prove!(l.0 < instance.layers());
     for arrival in &nodes.arrivals {
         if let Some(arc) = rest_in(instance, l, &nodes.line, arrival) {
             arcs.push(arc)?;
@@ -53,7 +55,9 @@ pub fn push_rest_waits(
     ensures few { OnOk result (length arcs.new.items ≤ length arcs.old.items + 3 * MAX_TRIPS) }
 {
     for k in 1..nodes.line.len() {
-        arcs.push(rest_wait_arc(instance, l, &nodes.line[k - 1], &nodes.line[k]))?;
+        let since = nodes.line[k - 1];
+        let until = nodes.line[k];
+        arcs.push(rest_wait_arc(instance, l, &since, &until))?;
     }
     Ok(())
 }
@@ -109,7 +113,7 @@ fn first_rested(line: &[StopNode], minute: u32) -> Option<StopNode>
         (IsFirstFrom line.now minute) }
 {
     let place = line.partition_point(|node| node.minute < minute);
-    line.get(place).copied()
+    if place < line.len() { Some(line[place]) } else { None }
 }
 
 /// The way out of the depot of a vehicle that rested and is to be at a departure. None where the layer has no stay, or
@@ -128,6 +132,8 @@ fn rest_out(
         ((x : LayerArc) → ¬ (IsRestOutTo instance.now l.0 nodes.now.points.items until.now x))
         (IsRestOutTo instance.now l.0 nodes.now.points.items until.now) }
 {
+    // for the proof: the trips of an instance are within its limits
+    prove!(l.0 < instance.layers());
     let departure = Event {
         minute: until.minute,
         stop: until.stop,

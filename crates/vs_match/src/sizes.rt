@@ -1,7 +1,7 @@
 //! How large a layer's net is, and how many connections it stands for.
 
 ghost use Rattle.std.specs.Prelude.{◌≡◌, ◌+◌, ◌<◌, length, count_by};
-ghost use Rattle.vs_match.specs.Sizes.{HasRoom, counts_of, line_points, with_kind, full_count_of, is_connection, numbers};
+ghost use Rattle.vs_match.specs.Sizes.{HasRoom, counts_of, with_kind, full_count_of, is_connection, numbers};
 
 use crate::arc_kind::ArcKind;
 use crate::layer_net::LayerNet;
@@ -28,7 +28,7 @@ pub fn counts(net: &LayerNet) -> NetCounts
     ensures { result ≡ counts_of net.now }
 {
     let graph = net.net();
-    let line = line_count(net);
+    let line = net.line_count();
     let mut counts = NetCounts {
         nodes: graph.nodes() - 2 - line,
         waiting: 0,
@@ -43,19 +43,6 @@ pub fn counts(net: &LayerNet) -> NetCounts
         count(&mut counts, net.kind(k));
     }
     counts
-}
-
-/// How many nodes are on the depot line.
-fn line_count(net: &LayerNet) -> u32
-    ensures { result ≡ line_points net.now.points }
-{
-    let mut count = 0;
-    for node in 0..net.net().nodes() {
-        if net.line(node).is_some() {
-            count += 1;
-        }
-    }
-    count
 }
 
 /// Counts one arc more.

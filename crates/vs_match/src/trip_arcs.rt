@@ -46,11 +46,13 @@ fn trip_arc(instance: &Instance, l: LayerNo, nodes: &Nodes, i: TripNo) -> LayerA
 {
     prove!(i.0 < instance.trips());
     let trip = instance.trip(i);
-    let departure = TripEnd::Departure.event(instance, i).point();
-    let arrival = TripEnd::Arrival.event(instance, i).point();
+    let departure = TripEnd::Departure.event(instance, i);
+    let arrival = TripEnd::Arrival.event(instance, i);
+    let start = departure.point();
+    let end = arrival.point();
     let points: &[Point] = &nodes.points;
-    let from = node_of(points, &departure);
-    let to = node_of(points, &arrival);
+    let from = node_of(points, &start);
+    let to = node_of(points, &end);
     LayerArc {
         from,
         to,

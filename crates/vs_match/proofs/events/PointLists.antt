@@ -10,7 +10,7 @@ use Rattle.vs_instance.specs.Problem.{Problem}
 use Rattle.vs_match.specs.declared.event.Event.{Event}
 use Rattle.vs_match.specs.declared.event.Point.{Point}
 use Rattle.vs_match.specs.Events.{departure, arrival, MayRun, DepartsAt, IsPoint, IsPointAt, IsWayAfterRest, RestsUntil, ArePoints, point_of, line_point, stop_rank}
-use Rattle.vs_match.specs.TripPoints.{IsLineOf, OfTrip}
+use Rattle.vs_match.specs.TripPoints.{IsLineOf, IsOfDeparture, OfTrip}
 use Rattle.vs_match.specs.Adds.{Adds}
 use Rattle.vs_match.proofs.events.Adding.{Upto, adds-none, adds-one, adds-both, adds-as, contains-none}
 use Rattle.vs_match.proofs.walks.ClosedWays.{some-same}
@@ -20,55 +20,40 @@ use Rattle.vs_match.proofs.order.Orders.{point_cmp, point_before, point_of_both}
 same_way : (p : Problem) (l : ℕ) (e : Event) (v w : Way) → IsWayAfterRest p l e v → IsWayAfterRest p l e w → v ≡ w
 same_way p l e v w is is' = some-same v w (sym is.way_is ∙ is'.way_is)
 
-module _ (p : Problem) (l i : ℕ) (may : MayRun p l i) where
-  -- the two events of a trip, and what more it gives
-  adds_three : (a b c : List Point) → Adds (λ x. point_of (departure p i) ≡ x) a b
-      → Adds (λ x. point_of (arrival p i) ≡ x) b c → (d : List Point) → Adds (IsLineOf p l i) c d
-      → Adds (OfTrip p l i) a d
-  adds_three a b c departs arrives d line =
-      let D : Point → Type 0 = λ x. point_of (departure p i) ≡ x in
-      let A : Point → Type 0 = λ x. point_of (arrival p i) ≡ x in
-      adds-as (λ x. (D x ⊎ A x) ⊎ IsLineOf p l i x) (OfTrip p l i) a d
-      (adds-both (λ x. D x ⊎ A x) (IsLineOf p l i) a c d (adds-both D A a b c departs arrives) line)
-      (λ x is. (
-        may,
-        elim is [ inl event ↦ elim event [ inl out ↦ inl out | inr back ↦ inr (inl back) ] | inr rest ↦ inr (inr rest) ],
-      ))
-      (λ x is. elim is.1 [
-        | inl out ↦ inl (inl out)
-        | inr more ↦ elim more [ inl back ↦ inl (inr back) | inr rest ↦ inr rest ]
-      ])
+-- the minute at which a vehicle leaves for an event, where there is one
+pub adds_line : (p : Problem) (l : ℕ) (e : Event) (points : List Point) (w : Way) → IsWayAfterRest p l e w
+    → Adds (IsLineOf p l e) points (points ++ line_point (e.minute - w.minutes) ∷ [])
+adds_line p l e points w after =
+    let line = line_point (e.minute - w.minutes) in
+    adds-one (IsLineOf p l e) points line (e.minute - w.minutes, (w, after, refl), refl)
+    (λ x (minute, (v, after', at), is).
+    let way = same_way p l e w v after after' in
+    ap (λ (u : Way). line_point (e.minute - u.minutes)) way ∙ ap line_point (sym at) ∙ is)
 
-  -- with a minute of the depot line
-  pub adds_with_line : (points : List Point) (w : Way) → IsWayAfterRest p l (departure p i) w
-      → Adds (OfTrip p l i) points
-      (((points ++ point_of (departure p i) ∷ []) ++ point_of (arrival p i) ∷ [])
-      ++ line_point ((departure p i).minute - w.minutes) ∷ [])
-  adds_with_line points w after =
-      let one = points ++ point_of (departure p i) ∷ [] in
-      let two = one ++ point_of (arrival p i) ∷ [] in
-      let line = line_point ((departure p i).minute - w.minutes) in
-      adds_three points one two
-      (adds-one (λ x. point_of (departure p i) ≡ x) points (point_of (departure p i)) refl (λ x same. same))
-      (adds-one (λ x. point_of (arrival p i) ≡ x) one (point_of (arrival p i)) refl (λ x same. same))
-      (two ++ line ∷ [])
-      (adds-one (IsLineOf p l i) two line ((departure p i).minute - w.minutes, (w, after, refl), refl)
-      (λ x (minute, (v, after', at), is).
-      let way = same_way p l (departure p i) w v after after' in
-      ap (λ (u : Way). line_point ((departure p i).minute - u.minutes)) way ∙ ap line_point (sym at) ∙ is))
+pub adds_no_line : (p : Problem) (l : ℕ) (e : Event) (points : List Point)
+    → ((w : Way) → ¬ (IsWayAfterRest p l e w)) → Adds (IsLineOf p l e) points points
+adds_no_line p l e points none =
+    adds-none (IsLineOf p l e) points (λ x (minute, (v, after, at), is). none v after)
 
-  -- and without one
-  pub adds_without_line : (points : List Point) → ((w : Way) → ¬ (IsWayAfterRest p l (departure p i) w))
-      → Adds (OfTrip p l i) points
-      ((points ++ point_of (departure p i) ∷ []) ++ point_of (arrival p i) ∷ [])
-  adds_without_line points none =
-      let one = points ++ point_of (departure p i) ∷ [] in
-      let two = one ++ point_of (arrival p i) ∷ [] in
-      adds_three points one two
-      (adds-one (λ x. point_of (departure p i) ≡ x) points (point_of (departure p i)) refl (λ x same. same))
-      (adds-one (λ x. point_of (arrival p i) ≡ x) one (point_of (arrival p i)) refl (λ x same. same))
-      two
-      (adds-none (IsLineOf p l i) two (λ x (minute, (v, after, at), is). none v after))
+-- a departure, and then what it adds besides
+pub adds_departure : (p : Problem) (l : ℕ) (e : Event) (before after : List Point)
+    → Adds (IsLineOf p l e) (before ++ point_of e ∷ []) after → Adds (IsOfDeparture p l e) before after
+adds_departure p l e before after line =
+    let D : Point → Type 0 = λ x. point_of e ≡ x in
+    adds-both D (IsLineOf p l e) before (before ++ point_of e ∷ []) after
+    (adds-one D before (point_of e) refl (λ x same. same)) line
+
+-- the points of a departure, and then the arrival
+pub adds_trip : (p : Problem) (l i : ℕ) → MayRun p l i → (before after : List Point)
+    → Adds (IsOfDeparture p l (departure p i)) before after
+    → Adds (OfTrip p l i) before (after ++ point_of (arrival p i) ∷ [])
+adds_trip p l i may before after departs =
+    let D : Point → Type 0 = IsOfDeparture p l (departure p i) in
+    let A : Point → Type 0 = λ x. point_of (arrival p i) ≡ x in
+    let all = after ++ point_of (arrival p i) ∷ [] in
+    let arrives : Adds A after all = adds-one A after (point_of (arrival p i)) refl (λ x same. same) in
+    adds-as (λ x. D x ⊎ A x) (OfTrip p l i) before all (adds-both D A before after all departs arrives)
+    (λ x is. (may, is)) (λ x is. is.1)
 
 -- a point of one of the trips is one of the layer
 is_point : (p : Problem) (l : ℕ) (x y : Point) → y ≡ x → IsPoint p l y → IsPoint p l x
@@ -77,20 +62,20 @@ is_point p l x y same is = let P : Point → Type 0 = λ z. IsPoint p l z in sub
 point-of : (p : Problem) (l : ℕ) (x : Point) → Upto (OfTrip p l) (length p.trips) x → IsPoint p l x
 point-of p l x (i, within, (may, is)) =
     elim is [
-      | inl departs ↦ is_point p l x (point_of (departure p i)) departs (inl (i, may, refl))
-      | inr more ↦ elim more [
-        | inl arrives ↦ is_point p l x (point_of (arrival p i)) arrives (inr (i, may, refl))
+      | inl some ↦ elim some [
+        | inl departs ↦ is_point p l x (point_of (departure p i)) departs (inl (i, may, refl))
         | inr line ↦ is_point p l x (line_point line.0) line.2 (departure p i, (i, may, refl), line.1)
       ]
+      | inr arrives ↦ is_point p l x (point_of (arrival p i)) arrives (inr (i, may, refl))
     ]
 
 of-point : (p : Problem) (l minute : ℕ) (stop : Option StopNo) → IsPointAt p l minute stop
     → Upto (OfTrip p l) (length p.trips) (record { minute = minute; stop = stop })
-of-point p l minute (Some stop) (inl (i, may, departs)) = (i, may.0, (may, inl (ap point_of departs)))
-of-point p l minute (Some stop) (inr (i, may, arrives)) = (i, may.0, (may, inr (inl (ap point_of arrives))))
+of-point p l minute (Some stop) (inl (i, may, departs)) = (i, may.0, (may, inl (inl (ap point_of departs))))
+of-point p l minute (Some stop) (inr (i, may, arrives)) = (i, may.0, (may, inr (ap point_of arrives)))
 of-point p l minute None (e, (i, may, departs), rests) =
     let R : Event → Type 0 = λ f. RestsUntil p l minute f in
-    (i, may.0, (may, inr (inr (minute, subst R (sym departs) rests, refl))))
+    (i, may.0, (may, inl (inr (minute, subst R (sym departs) rests, refl))))
 
 -- all of them, put in order
 pub are_points : (p : Problem) (l : ℕ) (found points : List Point) → Adds (Upto (OfTrip p l) (length p.trips)) [] found

@@ -1,10 +1,10 @@
 -- The nodes of events by their stops, put together one by one.
-use Rattle.std.proofs.Common.{◌≡◌, ℕ, ◌+◌, ◌<◌, List, [], length, get_or, Option, Some, None, inl, inr, arith, sym, ap, ◌∙◌, refl, subst, true, eqb, ◌&&◌}
-use Rattle.std.specs.Prelude.{◌↔◌, Contains, AllPairs}
+use Rattle.std.proofs.Common.{◌≡◌, ℕ, ◌+◌, ◌<◌, List, [], length, get_or, Option, Some, None, inl, inr, arith, sym, ap, ◌∙◌, refl, subst, true, false, eqb, ◌&&◌}
+use Rattle.std.specs.Prelude.{◌↔◌, Contains, AllPairs, is_some}
 use Rattle.std.specs.declared.cmp.Ordering.{Ordering}
 use Rattle.std.specs.declared.cmp.Ordering.TheVariants.{Less}
 use Rattle.std.specs.Ordering.{nat_cmp, ordering_then}
-use Rattle.std.proofs.lemmas.Bool.{eqb-true, and_parts}
+use Rattle.std.proofs.lemmas.Bool.{eqb-true, and_parts, false≢true}
 use Rattle.std.proofs.lemmas.List.{get_or_default}
 use Rattle.std.proofs.lemmas.Option.{none-some}
 use Rattle.vs_instance.specs.Problem.{Problem}
@@ -232,3 +232,12 @@ pub event_known : (end : TripEnd) (p : Problem) (l i : ℕ) (points : List Point
     → MayRun p l i → Contains points (point_of (event_at end p i))
 event_known Departure p l i points are may = are.every (point_of (event_at Departure p i)) (inl (i, may, refl))
 event_known Arrival p l i points are may = are.every (point_of (event_at Arrival p i)) (inr (i, may, refl))
+
+-- what the test of a stop tells
+pub none_of_test : (o : Option StopNo) → is_some o ≡ false → o ≡ None
+none_of_test None is = refl
+none_of_test (Some stop) is = absurd (false≢true (sym is))
+
+pub some_of_test : (o : Option StopNo) → is_some o ≡ true → (stop : StopNo) × (o ≡ Some stop)
+some_of_test None is = absurd (false≢true is)
+some_of_test (Some stop) is = (stop, refl)

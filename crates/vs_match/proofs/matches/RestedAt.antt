@@ -118,8 +118,10 @@ module _ (p : Problem) (l : ℕ) (points : List Point) (are_points : ArePoints p
 
   module _ (stop_nodes : List StopNode) (are : AreStopNodes points (ArrivesAt p l) stop_nodes) where
     to_rest_in : (k : ℕ) (x : LayerArc) → OfRestIn p l line stop_nodes k x → IsRestIn p l points x
-    to_rest_in k x (record { since = since; at = at; of = of }) =
-        let s = are.only since (k, at.0, at.1) in
+    to_rest_in k x rest =
+        let since = rest.since in
+        let of = rest.of in
+        let s = are.only since (k, rest.at.0, rest.at.1) in
         let u = (are_line.only of.until of.first.departs).0 in
         let P : ℕ → Type 0 = λ v. HasPlace points v (event_of since) in
         let Q : ℕ → Type 0 = λ v. HasLine points v of.until.minute in (

@@ -1,17 +1,17 @@
-use Rattle.std.proofs.Common.{◌≡◌, ℕ, ◌∙◌, sym, ap, subst, refl, length, arith, [], ◌∷◌, ◌++◌, List, length-append, Vec, Global}
+use Rattle.std.proofs.Common.{◌≡◌, ℕ, ◌∙◌, sym, ap, subst, refl, length, arith, [], Vec, Global}
 use Rattle.std.specs.Int.{bit_at}
 use Rattle.std.proofs.lemmas.Bool.{false≢true}
 use Rattle.vs_instance.specs.declared.trip.Trip.{Trip}
-use Rattle.vs_match.specs.Events.{departure, arrival, MayRun}
-use Rattle.vs_match.specs.declared.event.Event.{Event}
+use Rattle.vs_match.specs.declared.event.Point.{Point}
+use Rattle.vs_match.specs.TripPoints.{OfTrip}
 use Rattle.vs_match.specs.Adds.{Adds}
 use Rattle.vs_match.proofs.events.Adding.{Upto, upto-none, upto-many, upto-skip}
-use Rattle.vs_match.proofs.events.PointLists.{OfTrip, are_points, event_equal, adds_both_events}
+use Rattle.vs_match.proofs.events.PointLists.{are_points, point_equal}
 use Rattle.vs_match.proofs.nodes.points_of.Goals as goal
-use Rattle.vs_match.proofs.nodes.points_of.Goals.{then-has+in_ok-push+in_ok-push-2, else-has}
+use Rattle.vs_match.proofs.nodes.points_of.Goals.{then-has+in_ok-push_points, else-has}
 
 pub put_in_order-requires : goal.put_in_order-requires
-put_in_order-requires c = event_equal
+put_in_order-requires c = point_equal
 
 pub loop-i-init : goal.loop-i-init
 loop-i-init c =
@@ -28,32 +28,18 @@ loop-i-preserved c =
     let i = c.loop-i.i in
     let before = c.loop-i.points.items in
     elim c.if-has.branch [
-      | then-has+in_ok-push+in_ok-push-2 w ↦
-          let may : MayRun p l i = (
-            omega (arith, c.loop-i-test.true, c.trips-i-end.ensures.count),
-            ap (λ (t : Trip). bit_at t.layers.0 l) (sym c.trip.ensures) ∙ w.if-has.ensures.0 refl,
-          ) in
-          let items : c.if-has.points.items ≡ (before ++ departure p i ∷ []) ++ arrival p i ∷ [] =
-          ap (λ (v : Vec Event Global). v.items) w.points-is ∙ w.in_ok-push-2.ensures.items
-          ∙ ap (λ (xs : List Point). xs ++ w.event-then-has.result ∷ []) w.in_ok-push.ensures.items
-          ∙ ap (λ (e : Event). (before ++ e ∷ []) ++ w.event-then-has.result ∷ []) w.event.ensures
-          ∙ ap (λ (e : Event). (before ++ departure p i ∷ []) ++ e ∷ []) w.event-then-has.ensures in
+      | then-has+in_ok-push_points w ↦
+          let same = ap (λ (v : Vec Point Global). v.items) w.points-is in
           record {
-            adds = rw items
-                (upto-many (OfTrip p l) i [] before _ c.loop-i.invariant.adds (adds_both_events p l i before may));
-            few = rw items
-                (omega (
-                  arith,
-                  c.loop-i.invariant.few,
-                  length-append (before ++ departure p i ∷ []) (arrival p i ∷ []),
-                  length-append before (departure p i ∷ []),
-                ));
+            adds = rw same
+                (upto-many (OfTrip p l) i [] before _ c.loop-i.invariant.adds w.in_ok-push_points.ensures.adds);
+            few = rw same (omega (arith, c.loop-i.invariant.few, w.in_ok-push_points.ensures.few));
           }
       | else-has w ↦
-          let same = ap (λ (v : Vec Event Global). v.items) w.points-is in
+          let same = ap (λ (v : Vec Point Global). v.items) w.points-is in
           record {
             adds = rw same (upto-skip (OfTrip p l) i [] before c.loop-i.invariant.adds
-                (λ e of. false≢true
+                (λ x of. false≢true
                 (w.if-has.ensures.1 (ap (λ (t : Trip). bit_at t.layers.0 l) c.trip.ensures ∙ of.0.1))));
             few = rw same (omega (arith, c.loop-i.invariant.few));
           }

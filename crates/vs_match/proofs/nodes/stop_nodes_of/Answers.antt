@@ -5,7 +5,8 @@ use Rattle.std.proofs.lemmas.Bool.{false≢true}
 use Rattle.vs_instance.specs.declared.trip.Trip.{Trip}
 use Rattle.vs_match.specs.declared.event.Event.{Event}
 use Rattle.vs_match.specs.declared.stop_node.StopNode.{StopNode}
-use Rattle.vs_match.specs.Events.{MayRun}
+use Rattle.vs_match.specs.declared.event.Point.{Point}
+use Rattle.vs_match.specs.Events.{MayRun, HasPoint, point_of}
 use Rattle.vs_match.specs.Adds.{Adds}
 use Rattle.vs_match.proofs.events.Adding.{Upto, upto-none, upto-one, upto-skip}
 use Rattle.vs_match.proofs.events.StopNodeLists.{OfTripEnd, trip_stop_nodes, stop_node_equal, same_stop_node, event_known}
@@ -24,8 +25,10 @@ node_of-requires-clause-known c =
       omega (arith, c.loop-i-test.true, c.trips-i-end.ensures.count),
       ap (λ (t : Trip). bit_at t.layers.0 l) (sym c.trip.ensures) ∙ c.if-has.ensures.0 refl,
     ) in
-    let P : Event → Type 0 = λ e. Contains c.args.points.now e in
-    subst P (sym c.event-event.ensures) (event_known c.args.end p l i c.args.points.now c.requires.points may)
+    let P : Event → Type 0 = λ e. Contains c.args.points.now (point_of e) in
+    let Q : Point → Type 0 = λ x. Contains c.args.points.now x in
+    subst Q (sym c.point.ensures)
+    (subst P (sym c.event-event.ensures) (event_known c.args.end p l i c.args.points.now c.requires.points may))
 
 pub loop-i-init : goal.loop-i-init
 loop-i-init c =
@@ -58,7 +61,9 @@ loop-i-preserved c =
           } in
           let items : c.if-has.stop_nodes.items ≡ before ++ s ∷ [] =
           ap (λ (v : Vec StopNode Global). v.items) w.stop_nodes-is ∙ w.in_ok-push.ensures.items in
-          let of : From i s = (may, (sym w.event-event.ensures, w.node_of.ensures)) in
+          let P : Point → Type 0 = λ x. HasPoint points w.node_of.result x in
+          let node = subst P w.point.ensures w.node_of.ensures in
+          let of : From i s = (may, (sym w.event-event.ensures, node)) in
           record {
             adds = rw items (upto-one From i [] before s c.loop-i.invariant.adds of
                 (λ x of'. same_stop_node points c.requires.points.ordered s x (sym of.1.0 ∙ of'.1.0) of.1.1 of'.1.1));
