@@ -1,5 +1,5 @@
--- Where and when the trips of a layer depart and arrive, until when its vehicles rest in the depot, and the nodes that stand
--- for it.
+-- Where and when the trips of a layer depart and arrive, until when its vehicles rest in the depot, and the nodes
+-- that stand for it.
 use Rattle.std.specs.Prelude.{◌≡◌, ℕ, ◌+◌, ◌-◌, ◌<◌, ◌≤◌, ◌⊎◌, zero, suc, List, length, Option, Some, None, IsSome, option_map, option_and_then, Contains, AllPairs, slice_get}
 use Rattle.vs_types.specs.declared.numbers.StopNo.{StopNo}
 use Rattle.vs_instance.specs.declared.way.Way.{Way}
@@ -29,8 +29,7 @@ ArrivesAt p l e = (i : ℕ) × MayRun p l i × (arrival p i ≡ e)
 abbrev pub IsEvent : Problem → ℕ → Event → Type 0
 IsEvent p l e = DepartsAt p l e ⊎ ArrivesAt p l e
 
--- by the way w a vehicle of layer l that rested in its depot gets to the stop of an event in time, leaving at minute 0 or
--- later
+-- by the way w a vehicle of layer l that rested in its depot gets to an event in time, leaving at minute 0 or later
 pub record IsWayAfterRest (p : Problem) (l : ℕ) (e : Event) (w : Way) : Type 0 where
   pub rests : IsSome (layer_of p l).stay
   pub way_is : way p (layer_of p l).depot.0 e.stop.0 ≡ Some w
@@ -73,8 +72,8 @@ pub record ArePoints (p : Problem) (l : ℕ) (points : List Point) : Type 0 wher
   pub every : (x : Point) → IsPoint p l x → Contains points x
   pub ordered : AllPairs IsBefore points
 
--- which point a node stands for: node 0 is the beginning of the depot, then come the points in order, and the last node is
--- the depot's end
+-- which point a node stands for: node 0 is the beginning of the depot, then come the points in order, and the last
+-- node is the depot's end
 abbrev pub point_at : List Point → ℕ → Option Point
 point_at points zero = None
 point_at points (suc k) = slice_get points k

@@ -39,8 +39,8 @@ place_of n v = place_at n.points v
 abbrev pub line_of : LayerGraph → ℕ → Option ℕ
 line_of n v = line_at n.points v
 
--- the net of layer l by this matching: its nodes are the layer's points between the depot's beginning and its end, and its
--- arcs those of the layer, in order, each once
+-- the net of layer l by this matching: its nodes are the layer's points between the depot's beginning and its end,
+-- and its arcs those of the layer, in order, each once
 pub record IsNetOf (p : Problem) (l : ℕ) (matching : Matching) (n : LayerGraph) : Type 0 where
   pub points : ArePoints p l n.points
   pub nodes : n.graph.nodes ≡ length n.points + 2

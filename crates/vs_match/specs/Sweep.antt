@@ -17,7 +17,8 @@ pub record IsFirstFrom (departures : List StopNode) (minute : ℕ) (b : StopNode
 -- by latest first match no arrival after a may be in time for b as well
 abbrev pub IsKept : Matching → List StopNode → Way → StopNode → StopNode → Type 0
 IsKept First arrivals w a b = Unit {0}
-IsKept Latest arrivals w a b = (c : StopNode) → Contains arrivals c → c.minute + w.minutes ≤ b.minute → c.minute ≤ a.minute
+IsKept Latest arrivals w a b = (c : StopNode) → Contains arrivals c → c.minute + w.minutes ≤ b.minute
+    → c.minute ≤ a.minute
 
 -- the deadhead from an arrival to its match
 pub record IsMatched (p : Problem) (l : ℕ) (matching : Matching) (w : Way) (arrivals departures : List StopNode)

@@ -1,5 +1,5 @@
--- What the arcs of a layer's net on which vehicles wait, drive and rest lead to: exactly the trips that connect, at exactly
--- what their link costs, straight or by the depot, as is cheaper.
+-- What the arcs of a layer's net on which vehicles wait, drive and rest lead to: exactly the trips that connect, at
+-- exactly what their link costs, straight or by the depot, as is cheaper.
 use Rattle.std.specs.Prelude.{◌≡◌, ℕ, ◌<◌, List, [], ◌∷◌, ◌++◌, length, option_map}
 use Rattle.vs_layer.specs.Graph.{arc_of}
 use Rattle.vs_layer.specs.Walks.{Leads, IsLeastCost}
@@ -38,9 +38,10 @@ pub record IsWayIn (n : LayerGraph) (u : ℕ) (ks : List ℕ) : Type 0 where
   pub pull_in : kind_of n last ≡ PullIn
   pub is_walk : IsWalk n u walk (arc_of n.graph last).from
 
--- For all trips i and j that layer l may run, with u the node where i arrives and v the node where j departs: a way out
--- leads to v exactly where j has a pull-out, a way in leads from u exactly where i has a pull-in, and a walk leads from u
--- to v exactly where i connects to j. The cheapest of them costs what the pull-out, the pull-in or the link costs.
+-- For all trips i and j that layer l may run, with u the node where i arrives and v the node where j departs: a way
+-- out leads to v exactly where j has a pull-out, a way in leads from u exactly where i has a pull-in, and a walk leads
+-- from u to v exactly where i connects to j. The cheapest of them costs what the pull-out, the pull-in or the link
+-- costs.
 pub record HasWalkLaw (p : Problem) (l : ℕ) (n : LayerGraph) : Type 0 where
   pub outs : (j v : ℕ) → MayRun p l j → HasPlace n.points v (departure p j)
       → IsLeastCost n.graph (IsWayOut n v) (option_map at_scale (out_piece p l j))

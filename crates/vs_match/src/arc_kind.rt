@@ -19,8 +19,8 @@ pub enum ArcKind {
     PullOut,
     /// It comes back to its depot.
     PullIn,
-    /// It comes back to its depot between two trips, and rests there until the first minute of the depot line from which
-    /// on it may leave again.
+    /// It comes back to its depot between two trips, and rests there until the first minute of the depot line at which
+    /// its stay is over.
     RestIn,
     /// It rests on, until the next minute of the depot line.
     RestWait,

@@ -143,7 +143,13 @@ fn is_kept(matching: Matching, way: Way, arrivals: &[StopNode], k: usize, until:
     }
 }
 
-fn deadhead_arc(instance: &Instance, l: LayerNo, way: Way, since: &StopNode, until: &StopNode) -> LayerArc
+fn deadhead_arc(
+    instance: &Instance,
+    l: LayerNo,
+    way: Way,
+    since: &StopNode,
+    until: &StopNode,
+) -> LayerArc
     requires layer { l.0 < length instance.now.layers }
     requires in_time { since.now.minute ≤ until.now.minute × until.now.minute < TWO_DAYS }
     requires metres { way.metres ≤ MAX_METRES }

@@ -56,8 +56,8 @@ pub fn fleet(instance: &Instance, l: LayerNo) -> u32
     instance.layer(l).fleet as u32
 }
 
-/// The way of a vehicle of a layer that rested in its depot to an event. None where the layer has no stay, where there is
-/// no such way, or where the vehicle would have to leave before minute 0.
+/// The way of a vehicle of a layer that rested in its depot to an event. None exactly where the layer has no stay,
+/// where there is no such way, or where the vehicle would have to leave before minute 0.
 pub fn way_after_rest(instance: &Instance, l: LayerNo, until: &Event) -> Option<Way>
     requires layer { l.0 < length instance.now.layers }
     requires stop { until.now.stop.0 < instance.now.stops }
@@ -68,5 +68,9 @@ pub fn way_after_rest(instance: &Instance, l: LayerNo, until: &Event) -> Option<
     let layer = instance.layer(l);
     let _stay = layer.stay?;
     let way = instance.way(layer.depot, until.stop)?;
-    if way.minutes <= until.minute { Some(way) } else { None }
+    if way.minutes <= until.minute {
+        Some(way)
+    } else {
+        None
+    }
 }

@@ -85,12 +85,7 @@ pub fn push_rest_outs(
 
 /// The way into the depot of a vehicle that arrived. None where the layer has no stay, where there is no such way, or
 /// where nothing leaves the depot once the vehicle has rested.
-fn rest_in(
-    instance: &Instance,
-    l: LayerNo,
-    line: &[StopNode],
-    since: &StopNode,
-) -> Option<LayerArc>
+fn rest_in(instance: &Instance, l: LayerNo, line: &[StopNode], since: &StopNode) -> Option<LayerArc>
     requires layer { l.0 < length instance.now.layers }
     requires stop { since.now.stop.0 < instance.now.stops }
     requires minute { since.now.minute < TWO_DAYS }
@@ -113,17 +108,16 @@ fn first_rested(line: &[StopNode], minute: u32) -> Option<StopNode>
         (IsFirstFrom line.now minute) }
 {
     let place = line.partition_point(|node| node.minute < minute);
-    if place < line.len() { Some(line[place]) } else { None }
+    if place < line.len() {
+        Some(line[place])
+    } else {
+        None
+    }
 }
 
 /// The way out of the depot of a vehicle that rested and is to be at a departure. None where the layer has no stay, or
 /// where there is no such way from minute 0 on.
-fn rest_out(
-    instance: &Instance,
-    l: LayerNo,
-    nodes: &Nodes,
-    until: &StopNode,
-) -> Option<LayerArc>
+fn rest_out(instance: &Instance, l: LayerNo, nodes: &Nodes, until: &StopNode) -> Option<LayerArc>
     requires layer { l.0 < length instance.now.layers }
     requires nodes { AreNodes instance.now l.0 nodes.now }
     requires place { HasPlace nodes.now.points.items until.now.node (event_of until.now) }
@@ -180,13 +174,7 @@ fn rest_wait_arc(instance: &Instance, l: LayerNo, since: &StopNode, until: &Stop
     }
 }
 
-fn rest_out_arc(
-    instance: &Instance,
-    l: LayerNo,
-    way: Way,
-    since: u32,
-    until: &StopNode,
-) -> LayerArc
+fn rest_out_arc(instance: &Instance, l: LayerNo, way: Way, since: u32, until: &StopNode) -> LayerArc
     requires layer { l.0 < length instance.now.layers }
     requires way { way.minutes ≤ MAX_MINUTES × way.metres ≤ MAX_METRES }
     ensures { result ≡ rest_out_of instance.now l.0 way since until.now }

@@ -29,7 +29,11 @@ pub fn at_stop(stop_nodes: &[StopNode], stop: StopNo) -> &[StopNode]
 }
 
 /// The stop_nodes at each of so many stops, by minute.
-pub fn by_stop(alloc: Global, stop_nodes: &[StopNode], stops: u32) -> Result<Vec<&[StopNode]>, Memory>
+pub fn by_stop(
+    alloc: Global,
+    stop_nodes: &[StopNode],
+    stops: u32,
+) -> Result<Vec<&[StopNode]>, Memory>
     requires { AllPairs IsStopNodeBefore stop_nodes.now }
     ensures { IfOk result (λ groups. AreByStop stops stop_nodes.now (map (λ g. g.now) groups.items)) }
 {

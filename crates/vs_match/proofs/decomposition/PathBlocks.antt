@@ -116,7 +116,11 @@ module _ (p : Problem) (is : IsInstance p) (l : LayerNo) (n : LayerGraph) (lawfu
   rest_trip k ks j e after walk i s u may at is_walk leads =
       let arc = arc_by (Trip j) k leads.1 e in
       let from = subst (λ (v : ℕ). HasPlace n.points v (departure p j.0)) leads.2 arc.from in
-      let next = after [] j (arc_of g k).to (arc_of g k).to arc.may_run arc.to (point_of (arrival p j.0), arc.to) refl leads.3 in
+      let next = after [] j (arc_of g k).to (arc_of g k).to arc.may_run arc.to (
+        point_of
+            (arrival p j.0),
+        arc.to,
+      ) refl leads.3 in
       let link =
       paid_of g (λ (ws : List ℕ). IsWalk n s ws u) (link_piece p l.0 i.0 j.0)
       (lawful.walks.links i.0 j.0 s u may arc.may_run at from) walk is_walk in
@@ -224,7 +228,11 @@ module _ (p : Problem) (is : IsInstance p) (l : LayerNo) (n : LayerGraph) (lawfu
       let from = subst (λ (v : ℕ). HasPlace n.points v (departure p j.0)) leads.2 arc.from in
       let rest = trips_of n.kinds ks in
       let next =
-      rest_of ks [] j (arc_of g k).to (arc_of g k).to arc.may_run arc.to (point_of (arrival p j.0), arc.to) refl leads.3 in
+      rest_of ks [] j (arc_of g k).to (arc_of g k).to arc.may_run arc.to (
+        point_of
+            (arrival p j.0),
+        arc.to,
+      ) refl leads.3 in
       let first =
       paid_of g (IsWayOut n u) (out_piece p l.0 j.0) (lawful.walks.outs j.0 u arc.may_run from) (o ∷ walk)
       (of_net, out, is_walk) in
@@ -299,7 +307,12 @@ module _ (p : Problem) (is : IsInstance p) (l : LayerNo) (n : LayerGraph) (lawfu
       subst (λ (c : ℤ). IsServed c (trips_of n.kinds ks)) nothing
       (start_of ks [] k (arc_of g k).to leads.0 e (between_at_stop n.points (arc_of g k).to arc.1) refl leads.3)
   served_by k ks PullIn e leads =
-      absurd (omega (arith, leads.2, (inside (arc_of g k).from (between_at_stop n.points (arc_of g k).from (arc_by PullIn k leads.1 e).0)).0))
+      absurd (omega (
+        arith,
+        leads.2,
+        (inside (arc_of g k).from (between_at_stop n.points (arc_of g k).from
+            (arc_by PullIn k leads.1 e).0)).0,
+      ))
   served_by k ks RestIn e leads =
       absurd (omega (arith, leads.2, (inside (arc_of g k).from (from_inside RestIn k leads.1 e tt)).0))
   served_by k ks RestWait e leads =

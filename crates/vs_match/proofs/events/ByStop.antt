@@ -21,7 +21,8 @@ by_stop-none stop_nodes = record {
 }
 
 -- the nodes at one stop more
-pub by_stop-more : (n : ℕ) (stop_nodes : List StopNode) (groups : List (List StopNode)) (here : List StopNode) → AreByStop n stop_nodes groups
+pub by_stop-more : (n : ℕ) (stop_nodes : List StopNode) (groups : List (List StopNode)) (here : List StopNode)
+    → AreByStop n stop_nodes groups
     → IsAtStop stop_nodes n here → AreByStop (n + 1) stop_nodes (groups ++ here ∷ [])
 by_stop-more n stop_nodes groups here are at =
     let each : (k : ℕ) → k < n + 1 → IsAtStop stop_nodes k (get_or (groups ++ here ∷ []) k []) = λ k less.

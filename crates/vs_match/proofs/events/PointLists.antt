@@ -1,39 +1,18 @@
 -- The points of a layer's trips, put together trip by trip.
-use Rattle.std.proofs.Common.{◌≡◌, ℕ, ◌-◌, List, [], ◌∷◌, ◌++◌, length, Option, Some, None, inl, inr, refl, sym, ap, ◌∙◌, subst, true, eqb, ◌&&◌, arith}
+use Rattle.std.proofs.Common.{◌≡◌, ℕ, List, [], ◌∷◌, ◌++◌, length, Option, Some, None, inl, inr, refl, sym, ap, subst, true, eqb, ◌&&◌, arith}
 use Rattle.std.specs.Prelude.{◌⊎◌, ◌↔◌, Contains, AllPairs}
 use Rattle.std.specs.Option.{option_eq}
 use Rattle.std.specs.declared.cmp.Ordering.TheVariants.{Less}
 use Rattle.std.proofs.lemmas.Bool.{eqb-true, and_parts, false≢true}
 use Rattle.vs_types.specs.declared.numbers.StopNo.{StopNo}
-use Rattle.vs_instance.specs.declared.way.Way.{Way}
 use Rattle.vs_instance.specs.Problem.{Problem}
 use Rattle.vs_match.specs.declared.event.Event.{Event}
 use Rattle.vs_match.specs.declared.event.Point.{Point}
-use Rattle.vs_match.specs.Events.{departure, arrival, MayRun, DepartsAt, IsPoint, IsPointAt, IsWayAfterRest, RestsUntil, ArePoints, point_of, line_point, stop_rank}
+use Rattle.vs_match.specs.Events.{departure, arrival, MayRun, IsPoint, IsPointAt, RestsUntil, ArePoints, point_of, line_point, stop_rank}
 use Rattle.vs_match.specs.TripPoints.{IsLineOf, IsOfDeparture, OfTrip}
 use Rattle.vs_match.specs.Adds.{Adds}
-use Rattle.vs_match.proofs.events.Adding.{Upto, adds-none, adds-one, adds-both, adds-as, contains-none}
-use Rattle.vs_match.proofs.walks.ClosedWays.{some-same}
+use Rattle.vs_match.proofs.events.Adding.{Upto, adds-one, adds-both, adds-as, contains-none}
 use Rattle.vs_match.proofs.order.Orders.{point_cmp, point_before, point_of_both}
-
--- by the way of a vehicle that rested it rests until one minute
-same_way : (p : Problem) (l : ℕ) (e : Event) (v w : Way) → IsWayAfterRest p l e v → IsWayAfterRest p l e w → v ≡ w
-same_way p l e v w is is' = some-same v w (sym is.way_is ∙ is'.way_is)
-
--- the minute at which a vehicle leaves for an event, where there is one
-pub adds_line : (p : Problem) (l : ℕ) (e : Event) (points : List Point) (w : Way) → IsWayAfterRest p l e w
-    → Adds (IsLineOf p l e) points (points ++ line_point (e.minute - w.minutes) ∷ [])
-adds_line p l e points w after =
-    let line = line_point (e.minute - w.minutes) in
-    adds-one (IsLineOf p l e) points line (e.minute - w.minutes, (w, after, refl), refl)
-    (λ x (minute, (v, after', at), is).
-    let way = same_way p l e w v after after' in
-    ap (λ (u : Way). line_point (e.minute - u.minutes)) way ∙ ap line_point (sym at) ∙ is)
-
-pub adds_no_line : (p : Problem) (l : ℕ) (e : Event) (points : List Point)
-    → ((w : Way) → ¬ (IsWayAfterRest p l e w)) → Adds (IsLineOf p l e) points points
-adds_no_line p l e points none =
-    adds-none (IsLineOf p l e) points (λ x (minute, (v, after, at), is). none v after)
 
 -- a departure, and then what it adds besides
 pub adds_departure : (p : Problem) (l : ℕ) (e : Event) (before after : List Point)

@@ -16,7 +16,7 @@ use Rattle.vs_match.specs.declared.event.TripEnd.{TripEnd}
 use Rattle.vs_match.specs.declared.event.TripEnd.TheVariants.{Departure, Arrival}
 use Rattle.vs_match.specs.Events.{MayRun, HasPlace, HasLine, IsBefore, ArePoints, point_of, line_point}
 use Rattle.vs_match.specs.TripEnds.{event_at, HappensAt}
-use Rattle.vs_match.specs.StopNodes.{event_of, IsStopNodeBefore, IsRising, AreStopNodes, AreLineNodes}
+use Rattle.vs_match.specs.StopNodes.{event_of, IsStopNodeBefore, AreStopNodes, AreLineNodes}
 use Rattle.vs_match.specs.Adds.{Adds}
 use Rattle.vs_match.proofs.events.Adding.{Upto, contains-none}
 use Rattle.vs_match.proofs.order.Orders.{less, less-then}
@@ -27,7 +27,8 @@ stop_node_cmp a b =
     ordering_then (nat_cmp a.stop.0 b.stop.0) (ordering_then (nat_cmp a.minute b.minute) (nat_cmp a.node b.node))
 
 -- nodes that test equal are
-pub stop_node_equal : (a b : StopNode) → (eqb a.stop.0 b.stop.0 && (eqb a.minute b.minute && eqb a.node b.node)) ≡ true → a ≡ b
+pub stop_node_equal : (a b : StopNode)
+    → (eqb a.stop.0 b.stop.0 && (eqb a.minute b.minute && eqb a.node b.node)) ≡ true → a ≡ b
 stop_node_equal a b is =
     let first = and_parts (eqb a.stop.0 b.stop.0) (eqb a.minute b.minute && eqb a.node b.node) is in
     let second = and_parts (eqb a.minute b.minute) (eqb a.node b.node) first.1 in
@@ -50,7 +51,8 @@ module _ (points : List Point) (ordered : AllPairs IsBefore points) (Such : Even
     (only : (s : StopNode) → Contains stop_nodes s → HasPlace points s.node (event_of s) × Such (event_of s))
     (every : (s : StopNode) → HasPlace points s.node (event_of s) → Such (event_of s) → Contains stop_nodes s)
     (rising : AllPairs (λ a b. stop_node_cmp a b ≡ Less) stop_nodes) where
-  before : (a b : StopNode) → Contains stop_nodes a → Contains stop_nodes b → stop_node_cmp a b ≡ Less → IsStopNodeBefore a b
+  before : (a b : StopNode) → Contains stop_nodes a → Contains stop_nodes b → stop_node_cmp a b ≡ Less
+      → IsStopNodeBefore a b
   before a b has has' is = elim (less-then a.stop.0 b.stop.0 _ is) [
     | inl stop ↦ inl stop
     | inr same ↦ elim (less-then a.minute b.minute (nat_cmp a.node b.node) same.1) [

@@ -63,7 +63,8 @@ module _ (p : Problem) (l : ℕ) (nodes : Nodes) (are : AreNodes p l nodes) wher
         let x : StopNode = record { stop = e.stop; minute = e.minute; node = v.0 } in
         (x, (from x).1 (are.arrivals.every x v.1 arrives, at), refl)
 
-    departure_there : (e : Event) → DepartsAt p l e → e.stop ≡ s → (x : StopNode) × Contains departures x × (event_of x ≡ e)
+    departure_there : (e : Event) → DepartsAt p l e → e.stop ≡ s
+        → (x : StopNode) × Contains departures x × (event_of x ≡ e)
     departure_there e departs at =
         let v = has_node points (point_of e) (are.points.every (point_of e) (inl departs)) in
         let x : StopNode = record { stop = e.stop; minute = e.minute; node = v.0 } in

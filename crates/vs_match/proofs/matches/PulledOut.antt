@@ -19,10 +19,12 @@ use Rattle.vs_match.proofs.walks.ClosedWays.{some-same}
 abbrev pub AtPlace : List StopNode → ℕ → StopNode → Type 0
 AtPlace stop_nodes k s = (k < length stop_nodes) × (get_or stop_nodes k s ≡ s)
 
-pub same_at : (stop_nodes : List StopNode) (k : ℕ) (a b : StopNode) → AtPlace stop_nodes k a → AtPlace stop_nodes k b → a ≡ b
+pub same_at : (stop_nodes : List StopNode) (k : ℕ) (a b : StopNode) → AtPlace stop_nodes k a
+    → AtPlace stop_nodes k b → a ≡ b
 same_at stop_nodes k a b at at' = sym at.1 ∙ get_or_default stop_nodes k a b at.0 ∙ at'.1
 
-pub at_place : (stop_nodes : List StopNode) (k : ℕ) (d : StopNode) → k < length stop_nodes → AtPlace stop_nodes k (get_or stop_nodes k d)
+pub at_place : (stop_nodes : List StopNode) (k : ℕ) (d : StopNode) → k < length stop_nodes
+    → AtPlace stop_nodes k (get_or stop_nodes k d)
 at_place stop_nodes k d within = (within, get_or_default stop_nodes k _ d within)
 
 -- the pull-out to departure k
@@ -43,13 +45,15 @@ pub record OfArrived (p : Problem) (l : ℕ) (points : List Point) (stop_nodes :
   pub way_is : way p stop_node.stop.0 (layer_of p l).depot.0 ≡ Some by
   pub is : x ≡ pull_in_of p l (last_node points) by stop_node
 
-pub only_out : (p : Problem) (l : ℕ) (stop_nodes : List StopNode) (k : ℕ) (x y : LayerArc) → OfDeparture p l stop_nodes k x
+pub only_out : (p : Problem) (l : ℕ) (stop_nodes : List StopNode) (k : ℕ) (x y : LayerArc)
+    → OfDeparture p l stop_nodes k x
     → OfDeparture p l stop_nodes k y → x ≡ y
 only_out p l stop_nodes k x y of of' =
     let stop_node = same_at stop_nodes k of.stop_node of'.stop_node of.at of'.at in
     let by = some-same of.by of'.by
     (sym of.way_is ∙ ap (λ (s : StopNode). way p (layer_of p l).depot.0 s.stop.0) stop_node ∙ of'.way_is) in
-    of.is ∙ ap (λ (w : Way). pull_out_of p l w of.stop_node) by ∙ ap (λ (s : StopNode). pull_out_of p l of'.by s) stop_node
+    of.is ∙ ap (λ (w : Way). pull_out_of p l w of.stop_node) by
+    ∙ ap (λ (s : StopNode). pull_out_of p l of'.by s) stop_node
     ∙ sym of'.is
 
 pub only_in : (p : Problem) (l : ℕ) (points : List Point) (stop_nodes : List StopNode) (k : ℕ) (x y : LayerArc)

@@ -1,15 +1,14 @@
 -- The arcs by which vehicles rest, by the nodes of arrivals, of the depot line and of departures.
-use Rattle.std.proofs.Common.{◌≡◌, ℕ, ◌+◌, ◌-◌, ◌<◌, ◌≤◌, List, length, get_or, Option, Some, inl, inr, arith, sym, ap, ◌∙◌, refl, subst}
+use Rattle.std.proofs.Common.{◌≡◌, ℕ, ◌+◌, ◌-◌, ◌<◌, ◌≤◌, List, length, get_or, inl, inr, arith, sym, ap, ◌∙◌, refl, subst}
 use Rattle.std.specs.Prelude.{AllPairs, Contains}
 use Rattle.std.proofs.lemmas.Bool.{cases_lt, cases_order}
 use Rattle.vs_instance.specs.declared.way.Way.{Way}
 use Rattle.vs_instance.specs.Problem.{Problem}
-use Rattle.vs_instance.specs.Ways.{way, layer_of}
-use Rattle.vs_match.specs.declared.event.Event.{Event}
+use Rattle.vs_instance.specs.Ways.{layer_of}
 use Rattle.vs_match.specs.declared.event.Point.{Point}
 use Rattle.vs_match.specs.declared.stop_node.StopNode.{StopNode}
 use Rattle.vs_match.specs.declared.arc_kind.LayerArc.{LayerArc}
-use Rattle.vs_match.specs.Events.{DepartsAt, ArrivesAt, IsBefore, IsLineMinute, IsWayAfterRest, ArePoints, HasPlace, HasLine, line_point}
+use Rattle.vs_match.specs.Events.{DepartsAt, ArrivesAt, IsBefore, IsLineMinute, ArePoints, HasPlace, HasLine, line_point}
 use Rattle.vs_match.specs.ArcsOf.{rest_in_of, rest_wait_of, rest_out_of}
 use Rattle.vs_match.specs.RestMoves.{IsRestInFrom, IsRestOutTo}
 use Rattle.vs_match.specs.StopNodes.{IsRising, event_of, AreStopNodes, AreLineNodes}
@@ -19,7 +18,7 @@ use Rattle.vs_match.specs.Parts.{IsRestIn, IsRestWait, IsRestOut}
 use Rattle.vs_match.proofs.events.Adding.{Upto, adds-as}
 use Rattle.vs_match.proofs.events.Places.{placed, has_node, same_node}
 use Rattle.vs_match.proofs.matches.PulledOut.{AtPlace, same_at, at_place}
-use Rattle.vs_match.proofs.matches.Sweeping.{minutes-≤, same_departure}
+use Rattle.vs_match.proofs.matches.Sweeping.{same_departure}
 use Rattle.vs_match.proofs.walks.ClosedWays.{some-same}
 
 -- there is one way in from an arrival

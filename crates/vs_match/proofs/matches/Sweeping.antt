@@ -17,7 +17,8 @@ use Rattle.vs_match.specs.Adds.{Adds}
 use Rattle.vs_match.proofs.events.Adding.{Upto, adds-as}
 
 -- minutes at places that come no later are no later
-pub minutes-≤ : (stop_nodes : List StopNode) → IsRising stop_nodes → (j k : ℕ) (d : StopNode) → j ≤ k → k < length stop_nodes
+pub minutes-≤ : (stop_nodes : List StopNode) → IsRising stop_nodes → (j k : ℕ) (d : StopNode) → j ≤ k
+    → k < length stop_nodes
     → (get_or stop_nodes j d).minute ≤ (get_or stop_nodes k d).minute
 minutes-≤ stop_nodes rising j k d le within =
     elim (cases_eq j k) [
@@ -26,7 +27,8 @@ minutes-≤ stop_nodes rising j k d le within =
     ]
 
 -- the minute of an item is that of its place
-pub minute-at : (stop_nodes : List StopNode) (c d : StopNode) (has : Contains stop_nodes c) → (get_or stop_nodes has.0 d).minute ≡ c.minute
+pub minute-at : (stop_nodes : List StopNode) (c d : StopNode) (has : Contains stop_nodes c)
+    → (get_or stop_nodes has.0 d).minute ≡ c.minute
 minute-at stop_nodes c d has = ap (λ (s : StopNode). s.minute) (get_or_default stop_nodes has.0 d c has.1 ∙ has.2)
 
 module _ (arrivals : List StopNode) (rising : IsRising arrivals) (w : Way) (k : ℕ) (within : k < length arrivals)
@@ -151,7 +153,8 @@ are_matches p l matching w arrivals departures old new adds =
         within = has.1;
         first = λ d. let P : StopNode → Type 0 =
             λ a. IsFirstFrom departures (a.minute + w.minutes) m.until in subst P (sym (at d)) m.first;
-        kept = λ d. let P : StopNode → Type 0 = λ a. IsKept matching arrivals w a m.until in subst P (sym (at d)) m.kept;
+        kept = λ d. let P : StopNode → Type 0 = λ a. IsKept matching arrivals w a m.until in subst P (sym
+            (at d)) m.kept;
         is = λ d. m.is ∙ ap (λ (a : StopNode). deadhead_of p l w a m.until) (sym (at d));
       },
     ))

@@ -29,14 +29,16 @@ pub record OfNeighbours (p : Problem) (l : ℕ) (stop_nodes : List StopNode) (k 
   pub same : since.stop ≡ until.stop
   pub is : x ≡ waiting_of p l since until
 
-pub only_waiting : (p : Problem) (l : ℕ) (stop_nodes : List StopNode) (k : ℕ) (x y : LayerArc) → OfNeighbours p l stop_nodes k x
+pub only_waiting : (p : Problem) (l : ℕ) (stop_nodes : List StopNode) (k : ℕ) (x y : LayerArc)
+    → OfNeighbours p l stop_nodes k x
     → OfNeighbours p l stop_nodes k y → x ≡ y
 only_waiting p l stop_nodes k x y of of' =
     let firsts : of'.first ≡ of.first = omega (arith, of.follows, of'.follows) in
     let P : ℕ → Type 0 = λ n. AtPlace stop_nodes n of'.since in
     let since = same_at stop_nodes of.first of.since of'.since of.at (subst P firsts of'.at) in
     let until = same_at stop_nodes k of.until of'.until of.at_next of'.at_next in
-    of.is ∙ ap (λ (s : StopNode). waiting_of p l s of.until) since ∙ ap (λ (s : StopNode). waiting_of p l of'.since s) until
+    of.is ∙ ap (λ (s : StopNode). waiting_of p l s of.until) since
+    ∙ ap (λ (s : StopNode). waiting_of p l of'.since s) until
     ∙ sym of'.is
 
 module _ (p : Problem) (l : ℕ) (points : List Point) (are_points : ArePoints p l points) (stop_nodes : List StopNode)
@@ -49,17 +51,24 @@ module _ (p : Problem) (l : ℕ) (points : List Point) (are_points : ArePoints p
   before j k a b at at' less =
       let P : StopNode → Type 0 = λ s. IsStopNodeBefore s b in
       let Q : StopNode → Type 0 = λ s. IsStopNodeBefore (get_or stop_nodes j a) s in
-      subst P at.1 (subst Q (same_at stop_nodes k _ b (at_place stop_nodes k a at'.0) at') (are.ordered j k a less at'.0))
+      subst P at.1 (subst Q (same_at stop_nodes k _ b (at_place stop_nodes k a at'.0) at')
+      (are.ordered j k a less at'.0))
 
   -- of two nodes at a stop the later stands further on
-  further : (j k : ℕ) (a b : StopNode) → AtPlace stop_nodes j a → AtPlace stop_nodes k b → a.stop ≡ b.stop → a.minute < b.minute
+  further : (j k : ℕ) (a b : StopNode) → AtPlace stop_nodes j a → AtPlace stop_nodes k b → a.stop ≡ b.stop
+      → a.minute < b.minute
       → j < k
   further j k a b at at' same later =
       let number = ap (λ (s : StopNo). s.0) same in
       elim (cases_order j k) [
         | inl equal ↦
             let P : ℕ → Type 0 = λ n. AtPlace stop_nodes n a in
-            absurd (omega (arith, later, ap (λ (s : StopNode). s.minute) (same_at stop_nodes k a b (subst P equal at) at')))
+            absurd (omega (
+              arith,
+              later,
+              ap (λ (s : StopNode). s.minute) (same_at stop_nodes k a b
+                  (subst P equal at) at'),
+            ))
         | inr more ↦ elim more [
           | inl up ↦ up
           | inr down ↦
@@ -71,7 +80,8 @@ module _ (p : Problem) (l : ℕ) (points : List Point) (are_points : ArePoints p
         ]
       ]
 
-  pub at_stop_later : (j k : ℕ) (a b : StopNode) → AtPlace stop_nodes j a → AtPlace stop_nodes k b → a.stop ≡ b.stop → j < k
+  pub at_stop_later : (j k : ℕ) (a b : StopNode) → AtPlace stop_nodes j a → AtPlace stop_nodes k b → a.stop ≡ b.stop
+      → j < k
       → a.minute < b.minute
   at_stop_later j k a b at at' same less =
       elim (before j k a b at at' less) [
@@ -183,12 +193,15 @@ module _ (p : Problem) (l : ℕ) (points : List Point) (are_points : ArePoints p
       (λ x (k, within, of). to_waiting k x of) from_waiting
 
 -- nothing comes of places past the end
-pub waiting_past : (p : Problem) (l : ℕ) (stop_nodes : List StopNode) (n : ℕ) (old new : List LayerArc) → length stop_nodes ≤ n
-    → Adds (Upto (OfNeighbours p l stop_nodes) n) old new → Adds (Upto (OfNeighbours p l stop_nodes) (length stop_nodes)) old new
+pub waiting_past : (p : Problem) (l : ℕ) (stop_nodes : List StopNode) (n : ℕ) (old new : List LayerArc)
+    → length stop_nodes ≤ n
+    → Adds (Upto (OfNeighbours p l stop_nodes) n) old new
+    → Adds (Upto (OfNeighbours p l stop_nodes) (length stop_nodes)) old new
 waiting_past p l stop_nodes n old new past adds =
     adds-as (Upto (OfNeighbours p l stop_nodes) n) (Upto (OfNeighbours p l stop_nodes) (length stop_nodes)) old new adds
     (λ x (k, within, of). (k, of.at_next.0, of)) (λ x (k, within, of). (k, omega (arith, within, past), of))
 
 -- the first node has none before it
-pub none_before_first : (p : Problem) (l : ℕ) (stop_nodes : List StopNode) (x : LayerArc) → ¬ (OfNeighbours p l stop_nodes 0 x)
+pub none_before_first : (p : Problem) (l : ℕ) (stop_nodes : List StopNode) (x : LayerArc)
+    → ¬ (OfNeighbours p l stop_nodes 0 x)
 none_before_first p l stop_nodes x of = omega (arith, of.follows)

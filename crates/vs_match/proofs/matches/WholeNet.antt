@@ -15,7 +15,6 @@ use Rattle.vs_instance.specs.Problem.{Problem}
 use Rattle.vs_instance.specs.Ways.{way, layer_of, no_trip}
 use Rattle.vs_instance.specs.Instance.{IsInstance, IsStay, IsDeadhead as IsWay}
 use Rattle.vs_instance.proofs.CallerLemmas.{layer_of-IsLayer}
-use Rattle.vs_match.specs.declared.event.Event.{Event}
 use Rattle.vs_match.specs.declared.event.Point.{Point}
 use Rattle.vs_match.specs.declared.arc_kind.ArcKind.{ArcKind}
 use Rattle.vs_match.specs.declared.arc_kind.ArcKind.TheVariants.{Trip, Waiting, Deadhead, PullOut, PullIn, RestIn, RestWait, RestOut, Return}
@@ -232,7 +231,8 @@ module _ (p : Problem) (is : IsInstance p) (l : ℕ) (layer : l < length p.layer
 
   item_lies : (k : ℕ) → k < length arcs → Lies points (item k).kind (arc_in (item k))
   item_lies k within =
-      lies p is l layer matching points are_points (item k).kind (arc_in (item k)) (are.only (item k) (has_item k within))
+      lies p is l layer matching points are_points (item k).kind (arc_in (item k)) (are.only (item k)
+      (has_item k within))
 
   returns : Contains arcs (return_of p l (last_node points))
   returns = are.every (return_of p l (last_node points)) (record { from = refl; to = refl; cost = refl; room = refl })

@@ -109,8 +109,10 @@ module _ (p : Problem) (is : IsInstance p) (l : ℕ) (within : l < length p.laye
   -- each trip that the layer may run has an arc
   arc_of_each : (i : ℕ) → MayRun p l i → (k : ℕ) × IsArcOfTrip n.kinds i k
   arc_of_each i may =
-      let u = has_node n.points (point_of (departure p i)) (net.points.every (point_of (departure p i)) (inl (i, may, refl))) in
-      let v = has_node n.points (point_of (arrival p i)) (net.points.every (point_of (arrival p i)) (inr (i, may, refl))) in
+      let u = has_node n.points (point_of (departure p i)) (net.points.every (point_of (departure p i)) (inl
+      (i, may, refl))) in
+      let v = has_node n.points (point_of (arrival p i)) (net.points.every (point_of (arrival p i)) (inr
+      (i, may, refl))) in
       let found = net.every (Trip (record { 0 = i })) (arc_of_trip p l i u.0 v.0)
       (record { may_run = may; from = u.1; to = v.1; cost = refl; room = refl }) in
       (found.0, (omega (arith, found.1, net.kinds), found.2))
@@ -125,9 +127,11 @@ module _ (p : Problem) (is : IsInstance p) (l : ℕ) (within : l < length p.laye
   not_before i j k first second less =
       let a = trip_arc i j first in
       let b = trip_arc i k second in
-      let from = same_node n.points net.points.ordered (arc_of n.graph j).from (arc_of n.graph k).from (point_of (departure p i))
+      let from = same_node n.points net.points.ordered (arc_of n.graph j).from (arc_of n.graph k).from (point_of
+      (departure p i))
       a.from b.from in
-      let to = same_node n.points net.points.ordered (arc_of n.graph j).to (arc_of n.graph k).to (point_of (arrival p i))
+      let to = same_node n.points net.points.ordered (arc_of n.graph j).to (arc_of n.graph k).to (point_of
+      (arrival p i))
       a.to b.to in
       let before = net.ordered j k less (omega (arith, second.0, net.kinds)) in
       let P : ArcKind → Type 0 = λ t. IsArcBefore (arc_of n.graph j) (kind_of n j) (arc_of n.graph k) t in

@@ -14,7 +14,6 @@ use Rattle.vs_match.specs.declared.arc_kind.ArcKind.TheVariants.{RestIn, RestOut
 use Rattle.vs_match.specs.declared.matching.Matching.{Matching}
 use Rattle.vs_match.specs.Events.{DepartsAt, ArrivesAt, IsLineMinute, IsWayAfterRest, HasPlace, HasLine, line_point, stop_rank}
 use Rattle.vs_match.specs.LayerGraph.{LayerGraph, IsNetOf}
-use Rattle.vs_match.specs.WalkLaw.{IsMove}
 use Rattle.vs_match.proofs.order.Orders.{stop_of_rank}
 use Rattle.vs_match.proofs.events.LeastTrips.{least_of, decide_both, decide_le}
 use Rattle.vs_match.proofs.events.Places.{place-at, has_node}
@@ -44,7 +43,7 @@ module _ (p : Problem) (l : ℕ) (matching : Matching) (n : LayerGraph) (net : I
       let has = net.points.every d is in
       let Such = IsLineFrom n.points d minute in
       let such_of : (o : ℕ) → IsLineMinute p l o → minute ≤ o
-          → (k : ℕ) × (k < length n.points) × Such k × ((get_or n.points k d).minute ≡ o) = λ o is_o le_o.
+      → (k : ℕ) × (k < length n.points) × Such k × ((get_or n.points k d).minute ≡ o) = λ o is_o le_o.
       let has_o = net.points.every (line_point o) is_o in
       let here : get_or n.points has_o.0 d ≡ line_point o =
       get_or_default n.points has_o.0 d (line_point o) has_o.1 ∙ has_o.2 in
@@ -92,7 +91,7 @@ module _ (p : Problem) (l : ℕ) (matching : Matching) (n : LayerGraph) (net : I
         let d = 1000 * rated p l out.minutes out.metres in
         let in_arc : Arc = record { from = u; to = line.node; cost = pos c; room = fleet } in
         let out_arc : Arc = record { from = w.0; to = v; cost = pos d; room = fleet } in
-        let found_in = net.every RestIn in_arc (record {
+        let pull_in = arc_walk n RestIn in_arc c tt refl (net.every RestIn in_arc (record {
           since = a;
           by = back;
           stay = stay;
@@ -106,8 +105,8 @@ module _ (p : Problem) (l : ℕ) (matching : Matching) (n : LayerGraph) (net : I
           first = line.first;
           cost = refl;
           room = refl;
-        }) in
-        let found_out = net.every RestOut out_arc (record {
+        })) in
+        let pull_out = arc_walk n RestOut out_arc d tt refl (net.every RestOut out_arc (record {
           until = b;
           by = out;
           from = w.1;
@@ -116,10 +115,7 @@ module _ (p : Problem) (l : ℕ) (matching : Matching) (n : LayerGraph) (net : I
           after = after;
           cost = refl;
           room = refl;
-        }) in
-        let pull_in = arc_walk n found_in.0 in_arc c found_in.1 (subst IsMove (sym found_in.2) tt) found_in.3 refl in
-        let pull_out =
-        arc_walk n found_out.0 out_arc d found_out.1 (subst IsMove (sym found_out.2) tt) found_out.3 refl in
+        })) in
         let on =
         rest_on p l matching n net (line_point left) line.node w.0 line.until left line.at w.1
         (line.first left is_line (omega (arith, in_time))) in

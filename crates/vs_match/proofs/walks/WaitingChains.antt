@@ -1,5 +1,5 @@
--- From an event to a later one at the same stop leads a walk that waits, and from a minute of the depot line to a later one
--- a walk that rests.
+-- From an event to a later one at the same stop leads a walk that waits, and from a minute of the depot line to a
+-- later one a walk that rests.
 use Rattle.std.proofs.Common.{◌≡◌, ◌≢◌, ℕ, zero, suc, ◌+◌, ◌-◌, ◌*◌, ◌<◌, ◌≤◌, List, [], ◌∷◌, ◌++◌, length, get_or, Option, Some, None, refl, sym, ap, ◌∙◌, subst, inl, inr, arith, pos}
 use Rattle.std.specs.Prelude.{ℤ, ◌+ℤ◌, Contains}
 use Rattle.std.proofs.lemmas.Bool.{cases_eq, cases_lt}
@@ -13,6 +13,7 @@ use Rattle.vs_instance.specs.Problem.{Problem}
 use Rattle.vs_instance.specs.Ways.{layer_of}
 use Rattle.vs_match.specs.declared.event.Event.{Event}
 use Rattle.vs_match.specs.declared.event.Point.{Point}
+use Rattle.vs_match.specs.declared.arc_kind.ArcKind.{ArcKind}
 use Rattle.vs_match.specs.declared.arc_kind.ArcKind.TheVariants.{Waiting, RestWait}
 use Rattle.vs_match.specs.declared.matching.Matching.{Matching}
 use Rattle.vs_match.specs.Events.{HasPoint, HasPlace, HasLine, point_of, line_point, stop_rank}
@@ -48,13 +49,21 @@ walk_then n u v w c d e first second sum = record {
       ∙ ap (λ (x : ℤ). pos c +ℤ x) second.cost_is ∙ ap pos sum;
 }
 
+-- an arc of this kind that is this one
+abbrev pub Found : LayerGraph → ArcKind → Arc → Type 0
+Found n kind a = (k : ℕ) × (k < length n.graph.arcs) × (kind_of n k ≡ kind) × (arc_of n.graph k ≡ a)
+
 -- one arc as a walk
-pub arc_walk : (n : LayerGraph) (k : ℕ) (a : Arc) (c : ℕ) → k < length n.graph.arcs → IsMove (kind_of n k)
-    → arc_of n.graph k ≡ a → a.cost ≡ pos c
+pub arc_walk : (n : LayerGraph) (kind : ArcKind) (a : Arc) (c : ℕ) → IsMove kind → a.cost ≡ pos c → Found n kind a
     → IsWalkOf n a.from a.to c
-arc_walk n k a c within moves is cost = record {
+arc_walk n kind a c moves cost (k, within, is_kind, is) = record {
   arcs = k ∷ [];
-  walk = (within, moves, ap (λ (x : Arc). x.from) is, ap (λ (x : Arc). x.to) is);
+  walk = (
+    within,
+    subst IsMove (sym is_kind) moves,
+    ap (λ (x : Arc). x.from) is,
+    ap (λ (x : Arc). x.to) is,
+  );
   cost_is = ap (λ (x : Arc). x.cost +ℤ pos 0) is ∙ ap (λ (x : ℤ). x +ℤ pos 0) cost ∙ omega (arith, ints);
 }
 
@@ -242,7 +251,7 @@ module _ (p : Problem) (l : ℕ) (matching : Matching) (n : LayerGraph) (net : I
       let until : Event = record { minute = (at next.k).minute; stop = stop } in
       let since-is : at i ≡ point_of since = λ t. record { minute = (at i).minute; stop = here t } in
       let until-is : at next.k ≡ point_of until = λ t. record { minute = (at next.k).minute; stop = next.here t } in
-      let found = net.every Waiting a (record {
+      arc_walk n Waiting a cost tt refl (net.every Waiting a (record {
         since = since;
         until = until;
         from = place-at n.points i (point_of since) d inside since-is;
@@ -254,8 +263,7 @@ module _ (p : Problem) (l : ℕ) (matching : Matching) (n : LayerGraph) (net : I
             (ap (λ (s : StopNo). Some s) same) later;
         cost = refl;
         room = refl;
-      }) in
-      arc_walk n found.0 a cost found.1 (subst IsMove (sym found.2) tt) found.3 refl
+      }))
 
   -- the arc on which a vehicle rests from a minute of the depot line to the next one
   rest_once : Once None 0
@@ -265,7 +273,9 @@ module _ (p : Problem) (l : ℕ) (matching : Matching) (n : LayerGraph) (net : I
       let since-is : at i ≡ line_point (at i).minute = λ t. record { minute = (at i).minute; stop = here t } in
       let until-is : at next.k ≡ line_point (at next.k).minute =
       λ t. record { minute = (at next.k).minute; stop = next.here t } in
-      let found = net.every RestWait a (record {
+      let nothing : 0 ≡ 1000 * (0 * ((at next.k).minute - (at i).minute)) = omega arith in
+      let P : ℕ → Type 0 = λ c. IsWalkOf n (i + 1) (next.k + 1) c in
+      subst P nothing (arc_walk n RestWait a 0 tt refl (net.every RestWait a (record {
         since = (at i).minute;
         until = (at next.k).minute;
         from = place-at n.points i (line_point (at i).minute) d inside since-is;
@@ -275,10 +285,7 @@ module _ (p : Problem) (l : ℕ) (matching : Matching) (n : LayerGraph) (net : I
             next_is_first i None next within (line_point minute) (net.points.every (line_point minute) is) refl later;
         cost = refl;
         room = refl;
-      }) in
-      let nothing : 0 ≡ 1000 * (0 * ((at next.k).minute - (at i).minute)) = omega arith in
-      let P : ℕ → Type 0 = λ c. IsWalkOf n (i + 1) (next.k + 1) c in
-      subst P nothing (arc_walk n found.0 a 0 found.1 (subst IsMove (sym found.2) tt) found.3 refl)
+      })))
 
   -- from an event to one at the same stop that is no earlier leads a walk that waits
   pub wait : (u v : ℕ) (a b : Event) → HasPlace n.points u a → HasPlace n.points v b → a.stop ≡ b.stop

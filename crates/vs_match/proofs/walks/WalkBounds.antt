@@ -1,9 +1,8 @@
--- What a walk shows of the two events that it joins: there is a way between them that fits, straight or by the depot, and
--- the walk costs no less than it.
+-- What a walk shows of the two events that it joins: there is a way between them that fits, straight or by the depot,
+-- and the walk costs no less than it.
 use Rattle.std.proofs.Common.{◌≡◌, ℕ, ◌+◌, ◌-◌, ◌*◌, ◌≤◌, List, [], ◌∷◌, Some, refl, sym, ap, ◌∙◌, subst, inl, inr, arith, pos}
 use Rattle.std.specs.Prelude.{◌⊎◌, ℤ, ◌+ℤ◌}
 use Rattle.std.proofs.Math.Nat.{mul-le-mul_left}
-use Rattle.vs_layer.specs.declared.arc.Arc.{Arc}
 use Rattle.vs_layer.specs.Graph.{Graph, arc_of}
 use Rattle.vs_layer.specs.Walks.{path_cost}
 use Rattle.vs_instance.specs.declared.way.Way.{Way}
@@ -12,7 +11,6 @@ use Rattle.vs_instance.specs.Ways.{way, no_way, layer_of}
 use Rattle.vs_instance.specs.Instance.{IsInstance}
 use Rattle.vs_instance.specs.Pieces.{rated}
 use Rattle.vs_match.specs.declared.event.Event.{Event}
-use Rattle.vs_match.specs.declared.event.Point.{Point}
 use Rattle.vs_match.specs.declared.arc_kind.ArcKind.{ArcKind}
 use Rattle.vs_match.specs.declared.arc_kind.ArcKind.TheVariants.{Trip, Waiting, Deadhead, PullOut, PullIn, RestIn, RestWait, RestOut, Return}
 use Rattle.vs_match.specs.declared.matching.Matching.{Matching}
@@ -234,7 +232,7 @@ module _ (p : Problem) (is : IsInstance p) (l : ℕ) (matching : Matching) (n : 
           cost = 1000 * rated p l arc.by.minutes arc.by.metres + on.cost;
           cost_is = cost_more k ks _ on.cost arc.cost on.cost_is;
           goes = inr (then_in p is l b arc.since arc.by arc.stay arc.until arc.stay_is arc.way_is arc.rested on.cost
-          on.goes);
+              on.goes);
         }),
     λ m line. absurd (at_stop_or_line n.points (arc_of n.graph k).from arc.since m arc.from line),
   )

@@ -20,7 +20,7 @@ use Rattle.vs_match.specs.declared.matching.Matching.{Matching}
 use Rattle.vs_match.specs.Events.{departure, arrival, MayRun, HasPlace, last_node, point_of}
 use Rattle.vs_match.specs.NetArcs.{IsArcOf, at_scale}
 use Rattle.vs_match.specs.LayerGraph.{LayerGraph, IsNetOf}
-use Rattle.vs_match.specs.WalkLaw.{IsMove, IsWalk, IsWayOut, IsWayIn, HasWalkLaw}
+use Rattle.vs_match.specs.WalkLaw.{IsWalk, IsWayOut, IsWayIn, HasWalkLaw}
 use Rattle.vs_match.proofs.walks.ClosedWays.{some-same, way-own, way-through}
 use Rattle.vs_match.proofs.events.Places.{has_node}
 use Rattle.vs_match.proofs.walks.WalkBounds.{IsStraight, IsByDepot, IsBound, walk_bound, then_out, rated-≤, first_of_match}
@@ -69,7 +69,8 @@ module _ (p : Problem) (is : IsInstance p) (l : ℕ) (matching : Matching) (n : 
         let P : ℕ → Type 0 = λ c. IsWalkOf n u v c in
         let cost : 1000 * ((layer_of p l).per_minute * (b.minute - a.minute))
         ≡ 1000 * rated p l (b.minute - a.minute) w.metres = rw metres (omega arith) in
-        subst P cost (wait p l matching n net (point_of a) u v a b from to (same_stop _ _ same) (omega (arith, in_time)))
+        subst P cost (wait p l matching n net (point_of a) u v a b from to (same_stop _ _ same) (omega
+        (arith, in_time)))
 
     by_match : (w : Way) → IsMatchBetween p l matching w a b
         → IsWalkOf n u v (1000 * rated p l (b.minute - a.minute) w.metres)
@@ -79,7 +80,7 @@ module _ (p : Problem) (is : IsInstance p) (l : ℕ) (matching : Matching) (n : 
         let t = has_node n.points (point_of m.until) (net.points.every (point_of m.until) (inl first.departs)) in
         let cost = 1000 * rated p l (m.until.minute - m.since.minute) w.metres in
         let arc : Arc = record { from = s.0; to = t.0; cost = pos cost; room = (layer_of p l).fleet } in
-        let found = net.every Deadhead arc (record {
+        let drive = arc_walk n Deadhead arc cost tt refl (net.every Deadhead arc (record {
           since = m.since;
           until = m.until;
           by = w;
@@ -88,8 +89,7 @@ module _ (p : Problem) (is : IsInstance p) (l : ℕ) (matching : Matching) (n : 
           matched = m.matched;
           cost = refl;
           room = refl;
-        }) in
-        let drive = arc_walk n found.0 arc cost found.1 (subst IsMove (sym found.2) tt) found.3 refl in
+        })) in
         let before = wait p l matching n net (point_of a) u s.0 a m.since from s.1 m.same_start m.no_earlier in
         let after = wait p l matching n net (point_of a) t.0 v m.until b t.1 to m.same_end m.no_later in
         walk_then n u s.0 v _ _ _ before (walk_then n s.0 t.0 v _ _ _ drive after refl)

@@ -53,7 +53,8 @@ loop-k-preserved c =
           first_departure ys up' _ place no_stop_node b.if-first-departures.true earlier
           (c.first_from-first.ensures.first no_stop_node b.if-first-departures.true) in
           let kept = (b.is_kept.ensures no_stop_node).0 b.if-is_kept.true in
-          let items : c.if-first-departures.arcs.items ≡ before ++ deadhead_of p l w (get_or xs k no_stop_node) until ∷ [] =
+          let items : c.if-first-departures.arcs.items ≡ before ++ deadhead_of p l w
+          (get_or xs k no_stop_node) until ∷ [] =
           ap (λ (v : Vec LayerArc Global). v.items) b.arcs-is ∙ b.in_ok-push.ensures.items
           ∙ ap (λ (x : LayerArc). before ++ x ∷ []) b.deadhead_arc.ensures in
           record {

@@ -1,4 +1,4 @@
-use Rattle.std.proofs.Common.{◌≡◌, ℕ, ◌+◌, ◌∙◌, sym, ap, subst, length, arith, [], ◌∷◌, ◌++◌, length-append, get_or, Option, Some, None, Vec, Global}
+use Rattle.std.proofs.Common.{◌≡◌, ℕ, ◌+◌, ◌∙◌, ap, subst, length, arith, [], ◌∷◌, ◌++◌, length-append, get_or, None, Vec, Global}
 use Rattle.vs_match.specs.declared.event.Point.{Point}
 use Rattle.vs_match.specs.declared.stop_node.StopNode.{StopNode}
 use Rattle.vs_match.specs.Adds.{Adds}

@@ -1,7 +1,7 @@
 use Rattle.std.proofs.Common.{◌≡◌, ◌∙◌, ap, subst, [], ◌∷◌, ◌++◌}
 use Rattle.vs_match.specs.declared.event.Event.{Event}
 use Rattle.vs_match.specs.declared.event.Point.{Point}
-use Rattle.vs_match.specs.Events.{departure, arrival, point_of}
+use Rattle.vs_match.specs.Events.{arrival, point_of}
 use Rattle.vs_match.specs.TripPoints.{IsOfDeparture}
 use Rattle.vs_match.specs.Adds.{Adds}
 use Rattle.vs_match.proofs.events.PointLists.{adds_trip}

@@ -48,7 +48,8 @@ loop-arrival-preserved c =
     let before = c.loop-arrival.arcs.items in
     let From = OfArrived p l points stop_nodes in
     let s = get_or c.deref-arrival-items.result.now k no_stop_node in
-    let read : get_or stop_nodes k no_stop_node ≡ s = ap (λ (xs : List StopNode). get_or xs k no_stop_node) (sym list) in
+    let read : get_or stop_nodes k no_stop_node ≡ s = ap (λ (xs : List StopNode). get_or xs k no_stop_node)
+    (sym list) in
     let within : k < length stop_nodes = omega (arith, c.loop-arrival-test.true, ap length list) in
     let P : StopNode → Type 0 = λ x. AtPlace stop_nodes k x in
     let at : AtPlace stop_nodes k s = subst P read (at_place stop_nodes k no_stop_node within) in

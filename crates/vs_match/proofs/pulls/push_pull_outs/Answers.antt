@@ -49,7 +49,8 @@ loop-departure-preserved c =
     let before = c.loop-departure.arcs.items in
     let From = OfDeparture p l stop_nodes in
     let s = get_or c.deref-departure-items.result.now k no_stop_node in
-    let read : get_or stop_nodes k no_stop_node ≡ s = ap (λ (xs : List StopNode). get_or xs k no_stop_node) (sym list) in
+    let read : get_or stop_nodes k no_stop_node ≡ s = ap (λ (xs : List StopNode). get_or xs k no_stop_node)
+    (sym list) in
     let within : k < length stop_nodes = omega (arith, c.loop-departure-test.true, ap length list) in
     let P : StopNode → Type 0 = λ x. AtPlace stop_nodes k x in
     let at : AtPlace stop_nodes k s = subst P read (at_place stop_nodes k no_stop_node within) in
@@ -119,6 +120,7 @@ returns-clause-adds c =
     ) in
     let P : ℕ → Type 0 =
     λ n. Adds (Upto (OfDeparture p c.args.l.0 stop_nodes) n) c.args.arcs.now.items c.loop-departure.arcs.items in
-    pull_outs_are p c.args.l.0 c.args.nodes.now.points.items stop_nodes c.requires.nodes.departures c.args.arcs.now.items
+    pull_outs_are p c.args.l.0 c.args.nodes.now.points.items stop_nodes c.requires.nodes.departures
+    c.args.arcs.now.items
     c.loop-departure.arcs.items
     (subst P all c.loop-departure.invariant.adds)

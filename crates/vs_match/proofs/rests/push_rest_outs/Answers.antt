@@ -1,4 +1,4 @@
-use Rattle.std.proofs.Common.{◌≡◌, ℕ, ◌+◌, ◌<◌, ◌∙◌, sym, ap, subst, refl, length, length-append, get_or, arith, List, ◌∷◌, [], ◌++◌, Vec, Global}
+use Rattle.std.proofs.Common.{◌≡◌, ℕ, ◌<◌, ◌∙◌, sym, ap, subst, length, length-append, get_or, arith, List, ◌∷◌, [], ◌++◌, Vec, Global}
 use Rattle.std.proofs.lemmas.Option.{MatchOption-at_some, MatchOption-at_none}
 use Rattle.vs_match.specs.declared.stop_node.StopNode.{StopNode}
 use Rattle.vs_match.specs.declared.arc_kind.LayerArc.{LayerArc}

@@ -1,4 +1,4 @@
-use Rattle.std.proofs.Common.{◌≡◌, ℕ, ◌+◌, ◌-◌, ◌<◌, ◌∙◌, sym, ap, refl, length, length-append, arith, ◌∷◌, [], ◌++◌}
+use Rattle.std.proofs.Common.{◌≡◌, ◌-◌, ◌<◌, ◌∙◌, sym, ap, refl, length, length-append, arith, ◌∷◌, [], ◌++◌}
 use Rattle.vs_match.specs.declared.arc_kind.LayerArc.{LayerArc}
 use Rattle.vs_match.specs.ArcsOf.{rest_wait_of}
 use Rattle.vs_match.proofs.events.Adding.{upto-one, upto-skip, upto-none}

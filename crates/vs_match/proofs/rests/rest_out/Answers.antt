@@ -1,4 +1,4 @@
-use Rattle.std.proofs.Common.{◌≡◌, ◌-◌, List, refl, subst, sym}
+use Rattle.std.proofs.Common.{◌-◌, List, refl, subst, sym}
 use Rattle.std.specs.Prelude.{Contains, AllPairs}
 use Rattle.vs_instance.specs.Ways.{layer_of}
 use Rattle.vs_instance.proofs.CallerLemmas.{way-within}

@@ -1,8 +1,7 @@
-use Rattle.std.proofs.Common.{◌≡◌, ℕ, ◌+◌, ◌∙◌, ap, sym, subst, List, length, length-take, get_or, take, arith, Option, None}
-use Rattle.std.specs.Prelude.{count_by, is_none, not}
+use Rattle.std.proofs.Common.{◌≡◌, ℕ, ◌∙◌, ap, length, length-take, take, arith, None}
+use Rattle.std.specs.Prelude.{is_none, not}
 use Rattle.std.proofs.lemmas.List.{take_all}
 use Rattle.std.proofs.lemmas.List.Sums.{count_by-le-length, count_by_more_yes, count_by_more_no}
-use Rattle.vs_layer.specs.Graph.{Graph}
 use Rattle.vs_match.specs.declared.event.Point.{Point}
 use Rattle.vs_match.specs.LayerGraph.{LayerGraph}
 use Rattle.vs_match.specs.Sizes.{line_points}
