@@ -6,13 +6,17 @@ ghost use Rattle.vs_connect.specs.Laws.{PiecesExistWhereMovesDo};
 ghost use Rattle.vs_connect.specs.declared.pieces.TheConstants.{MAX_RATED};
 ghost use Rattle.vs_instance.specs.HoldingTable.{scaled};
 ghost use Rattle.vs_instance.specs.Problem.{Problem};
-ghost use Rattle.vs_instance.specs.Pieces.{out_piece, trip_piece, link_piece, in_piece};
+ghost use Rattle.vs_instance.specs.Blocks.{rest_times as times_of_rest};
+ghost use Rattle.vs_instance.specs.Pieces.{out_piece, trip_piece, direct_piece, rest_piece, link_piece, in_piece};
 
 use vs_instance::{Instance, Layer, MAX_METRES, MAX_PER_METRE, MAX_PER_MINUTE, TWO_DAYS};
 use vs_types::{LayerNo, SCALE, TripNo};
 
 /// No move and no trip costs more cost units than this, within the limits of an instance.
 pub const MAX_PIECE: i64 = 20_000_000_000;
+
+/// No rest, with the ways into the depot and out of it, costs more cost units than this.
+pub const MAX_REST: i64 = 30_000_000_000;
 
 /// The minutes and metres of a way or of a trip cost no more cost units than this.
 const MAX_RATED: u64 = 15_000_000_000;
@@ -62,13 +66,13 @@ pub fn trip_cost(instance: &Instance, l: LayerNo, i: TripNo) -> i64
     rated(instance.layer(l), trip.end - trip.start, trip.metres) as i64
 }
 
-/// What a vehicle of layer l costs from the end of trip i to the start of trip j, in cost units. None
-/// exactly where i doesn't connect to j.
-pub fn link_cost(instance: &Instance, l: LayerNo, i: TripNo, j: TripNo) -> Option<i64>
+/// What a vehicle of layer l costs from the end of trip i to the start of trip j where it goes straight from the one to the
+/// other, in cost units. None exactly where i doesn't connect to j.
+pub fn direct_cost(instance: &Instance, l: LayerNo, i: TripNo, j: TripNo) -> Option<i64>
     requires layer { l.0 < length instance.now.layers }
     requires trip { i.0 < length instance.now.trips }
     requires next { j.0 < length instance.now.trips }
-    ensures value { result ≡ option_map pos (link_piece instance.now l.0 i.0 j.0) }
+    ensures value { result ≡ option_map pos (direct_piece instance.now l.0 i.0 j.0) }
     ensures limit { IfSome result IsCost }
 {
     // for the proof: layers and trips of an instance are within its limits
@@ -81,6 +85,69 @@ pub fn link_cost(instance: &Instance, l: LayerNo, i: TripNo, j: TripNo) -> Optio
     }
     let layer = instance.layer(l);
     Some(rated(layer, next.start - ended.end, u64::from(way.metres)) as i64)
+}
+
+/// What it costs that a vehicle of layer l pulls in after trip i, rests, and pulls out again to trip j, in cost units. Its
+/// rest costs nothing. None exactly where i doesn't rest before j in l.
+pub fn rest_cost(instance: &Instance, l: LayerNo, i: TripNo, j: TripNo) -> Option<i64>
+    requires layer { l.0 < length instance.now.layers }
+    requires trip { i.0 < length instance.now.trips }
+    requires next { j.0 < length instance.now.trips }
+    ensures value { result ≡ option_map pos (rest_piece instance.now l.0 i.0 j.0) }
+    ensures limit { IfSome result (λ cost. (pos 0 ≤ℤ cost) × (cost ≤ℤ MAX_REST)) }
+{
+    // for the proof: layers and trips of an instance are within its limits
+    prove!(l.0 < instance.layers() && i.0 < instance.trips() && j.0 < instance.trips());
+    let layer = instance.layer(l);
+    let ended = instance.trip(i);
+    let next = instance.trip(j);
+    let stay = layer.stay?;
+    let back = instance.way(ended.to, layer.depot)?;
+    let out = instance.way(layer.depot, next.from)?;
+    if u64::from(ended.end + back.minutes) + stay + u64::from(out.minutes) > u64::from(next.start) {
+        return None;
+    }
+    let cost = rated(layer, back.minutes, u64::from(back.metres)) + rated(layer, out.minutes, u64::from(out.metres));
+    Some(cost as i64)
+}
+
+/// What a vehicle of layer l costs from the end of trip i to the start of trip j, in cost units, straight or by the depot,
+/// as is cheaper. None exactly where i doesn't connect to j.
+pub fn link_cost(instance: &Instance, l: LayerNo, i: TripNo, j: TripNo) -> Option<i64>
+    requires layer { l.0 < length instance.now.layers }
+    requires trip { i.0 < length instance.now.trips }
+    requires next { j.0 < length instance.now.trips }
+    ensures value { result ≡ option_map pos (link_piece instance.now l.0 i.0 j.0) }
+    ensures limit { IfSome result IsCost }
+{
+    let direct = direct_cost(instance, l, i, j)?;
+    match rest_cost(instance, l, i, j) {
+        Some(rest) if rest < direct => Some(rest),
+        _ => Some(direct),
+    }
+}
+
+/// When a vehicle of layer l is back in its depot between trips i and j, and when it leaves it again, in minutes from 0:00 of
+/// the first day. None exactly where it goes straight: where i doesn't rest before j in l, or a rest isn't cheaper.
+pub fn rest_times(instance: &Instance, l: LayerNo, i: TripNo, j: TripNo) -> Option<(u32, u32)>
+    requires layer { l.0 < length instance.now.layers }
+    requires trip { i.0 < length instance.now.trips }
+    requires next { j.0 < length instance.now.trips }
+    ensures { result ≡ times_of_rest instance.now l i j }
+{
+    // for the proof: layers and trips of an instance are within its limits
+    prove!(l.0 < instance.layers() && i.0 < instance.trips() && j.0 < instance.trips());
+    let rest = rest_cost(instance, l, i, j)?;
+    let direct = direct_cost(instance, l, i, j)?;
+    if rest >= direct {
+        return None;
+    }
+    let depot = instance.layer(l).depot;
+    let ended = instance.trip(i);
+    let next = instance.trip(j);
+    let back = instance.minutes(ended.to, depot)?;
+    let out = instance.minutes(depot, next.from)?;
+    Some((ended.end + back, next.start - out))
 }
 
 /// What it costs to take a vehicle of layer l from trip i back to its depot, in cost units. None exactly

@@ -12,7 +12,9 @@ pub use Rattle.vs_instance.proofs.misfits.Empty.{None, both_none, each_none, fal
 -- what a refusal tells
 pub use Rattle.vs_instance.proofs.misfits.Judged.{refuses}
 -- pieces of cost that there are
-pub use Rattle.vs_instance.proofs.costs.PieceLemmas.{in_taken, link_taken, out_taken}
+pub use Rattle.vs_instance.proofs.costs.PieceLemmas.{direct_taken, in_taken, out_taken}
+-- links, straight or by the depot
+pub use Rattle.vs_instance.proofs.costs.Links.{IsLink, IsRest, link_taken, rest_taken, rests_connect}
 -- what a block costs, by its pieces
 pub use Rattle.vs_instance.proofs.costs.BlockPieces.{IsChain, blocks_cost_their_pieces, chain_of_block, first_of_chain, last_of-is, last_of_chain, last_trip, links_cost, trips_cost}
 -- totals over trips and blocks

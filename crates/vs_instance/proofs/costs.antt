@@ -1,4 +1,6 @@
 pub mod PieceLemmas
+pub mod Rates
+pub mod Links
 pub mod BlockPieces
 pub mod Totals
 pub mod LayerDuality

@@ -1,7 +1,7 @@
 -- How problems are stored, so that a proof can tell them apart.
-use Rattle.std.specs.Prelude.{ℕ, List, refl}
+use Rattle.std.specs.Prelude.{ℕ, List, Option, refl}
 use Rattle.std.specs.FinMap as map
-use Rattle.std.specs.Coded.{Coded, code_by, coded×, coded_ℕ, coded_list}
+use Rattle.std.specs.Coded.{Coded, code_by, coded×, coded_ℕ, coded_list, coded_option}
 use Rattle.vs_instance.specs.declared.layer.Layer.{Layer}
 use Rattle.vs_instance.specs.declared.trip.Trip.{Trip}
 use Rattle.vs_instance.specs.declared.way.Way.{Way}
@@ -21,18 +21,19 @@ coded_way_map =
     code_by (ℕ × map.FinMap pair_cmp Way) (coded× coded_ℕ coded_deadheads) (λ w. (w.stops, w.given))
     (λ c. record { stops = c.0; given = c.1 }) (λ _. refl)
 
--- a layer as the number of its depot, its fleet and its three rates
+-- a layer as the number of its depot, its fleet, its three rates and its least rest
 abbrev pub coded_layer : Coded Layer
 coded_layer =
-    code_by (ℕ × (ℕ × (ℕ × (ℕ × ℕ)))) (coded× coded_ℕ (coded× coded_ℕ (coded× coded_ℕ (coded× coded_ℕ coded_ℕ))))
-    (λ l. (l.depot.0, (l.fleet, (l.fixed, (l.per_minute, l.per_metre)))))
+    code_by (ℕ × (ℕ × (ℕ × (ℕ × (ℕ × Option ℕ)))))
+    (coded× coded_ℕ (coded× coded_ℕ (coded× coded_ℕ (coded× coded_ℕ (coded× coded_ℕ (coded_option coded_ℕ))))))
+    (λ l. (l.depot.0, (l.fleet, (l.fixed, (l.per_minute, (l.per_metre, l.stay))))))
     (λ c. record {
       depot = record { 0 = c.0 };
       fleet = c.1.0;
       fixed = c.1.1.0;
       per_minute = c.1.1.1.0;
-      per_metre =
-          c.1.1.1.1;
+      per_metre = c.1.1.1.1.0;
+      stay = c.1.1.1.1.1;
     }) (λ _. refl)
 
 abbrev pub coded_trip : Coded Trip

@@ -6,8 +6,12 @@ use Rattle.vs_instance.specs.declared.layer.Layer.{Layer}
 use Rattle.vs_instance.specs.declared.trip.Trip.{Trip}
 use Rattle.vs_instance.specs.declared.way.Way.{Way}
 use Rattle.vs_types.specs.declared.numbers.TheConstants.{MAX_LAYERS}
-use Rattle.vs_instance.specs.declared.limits.TheConstants.{MAX_STOPS, MAX_TRIPS, MAX_FLEET, MAX_FIXED, MAX_PER_MINUTE, MAX_PER_METRE, MAX_MINUTES, MAX_METRES, TWO_DAYS}
+use Rattle.vs_instance.specs.declared.limits.TheConstants.{MAX_STOPS, MAX_TRIPS, MAX_FLEET, MAX_FIXED, MAX_PER_MINUTE, MAX_PER_METRE, MAX_STAY, MAX_MINUTES, MAX_METRES, TWO_DAYS}
 use Rattle.vs_instance.specs.Problem.{Problem}
+
+-- so many minutes a rest may last at least
+abbrev pub IsStay : ℕ → Type 0
+IsStay minutes = (1 ≤ minutes) × (minutes ≤ MAX_STAY)
 
 -- a layer within the limits
 pub record IsLayer (p : Problem) (layer : Layer) : Type 0 where
@@ -16,6 +20,7 @@ pub record IsLayer (p : Problem) (layer : Layer) : Type 0 where
   pub fixed : layer.fixed ≤ MAX_FIXED
   pub per_minute : layer.per_minute ≤ MAX_PER_MINUTE
   pub per_metre : layer.per_metre ≤ MAX_PER_METRE
+  pub stay : IfSome layer.stay IsStay
 
 -- a trip within the limits, which ends later than it starts and is permitted in some layer
 pub record IsTrip (p : Problem) (trip : Trip) : Type 0 where

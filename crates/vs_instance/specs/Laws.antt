@@ -1,7 +1,9 @@
--- What holds of the Lagrangian values of every problem.
-use Rattle.std.specs.Prelude.{◌≡◌, ◌*◌, List, length, ℤ, pos, ◌≤ℤ◌}
+-- What holds of every problem: of its Lagrangian values, and of rests.
+use Rattle.std.specs.Prelude.{◌≡◌, ℕ, ◌*◌, List, length, ℤ, pos, ◌≤ℤ◌}
 use Rattle.vs_types.specs.declared.layer_set.LayerSet.{LayerSet}
 use Rattle.vs_instance.specs.Problem.{Problem}
+use Rattle.vs_instance.specs.Instance.{IsInstance}
+use Rattle.vs_instance.specs.Ways.{Connects, Rests}
 use Rattle.vs_instance.specs.Lagrangian.{IsLagrangianValue, IsStartingValue}
 use Rattle.vs_instance.specs.Plan.{LayerBlock, IsPlan, plan_cost}
 use Rattle.vs_instance.specs.Restriction.{IsWithin}
@@ -24,3 +26,7 @@ LagrangianValuesExist =
 -- there is a value at the starting multipliers
 abbrev pub StartingValuesExist : Type 0
 StartingValuesExist = (p : Problem) → (value : ℤ) × IsStartingValue p value
+
+-- in an instance, who rests in the depot before a trip could have gone there straight
+abbrev pub RestsConnect : Type 0
+RestsConnect = (p : Problem) → IsInstance p → (l i j : ℕ) → Rests p l i j → Connects p i j

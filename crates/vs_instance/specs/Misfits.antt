@@ -15,7 +15,7 @@ use Rattle.vs_instance.specs.declared.misfit.NewError.TheVariants as error
 use Rattle.vs_instance.specs.declared.misfit.Field.TheVariants as field
 use Rattle.vs_instance.specs.declared.misfit.Place.TheVariants as place
 use Rattle.vs_types.specs.declared.numbers.TheConstants.{MAX_LAYERS}
-use Rattle.vs_instance.specs.declared.limits.TheConstants.{MAX_STOPS, MAX_TRIPS, MAX_FLEET, MAX_FIXED, MAX_PER_MINUTE, MAX_PER_METRE, MAX_MINUTES, MAX_METRES, TWO_DAYS}
+use Rattle.vs_instance.specs.declared.limits.TheConstants.{MAX_STOPS, MAX_TRIPS, MAX_FLEET, MAX_FIXED, MAX_PER_MINUTE, MAX_PER_METRE, MAX_STAY, MAX_MINUTES, MAX_METRES, TWO_DAYS}
 use Rattle.vs_instance.specs.Firsts.{when, first}
 use Rattle.vs_instance.specs.Problem.{Problem, pair_cmp}
 use Rattle.vs_instance.specs.Instance.{IsInstance}
@@ -44,12 +44,18 @@ pub record MakeInstance (parts : Parts) : Type 0 where
   pub once : AllPairs (λ d e. are_twins d e ≡ Bool.false) parts.deadheads.items
   pub instance : IsInstance (problem_of parts)
 
+-- there is a least rest, and it is out of range
+abbrev pub is_no_stay : Option ℕ → Bool
+is_no_stay None = Bool.false
+is_no_stay (Some minutes) = (minutes == 0) || nat_lt MAX_STAY minutes
+
 abbrev pub layer_misfits : ℕ → Layer → List Misfit
 layer_misfits l layer = let at = place.Layer (record { 0 = l }) in
     when (nat_lt MAX_FLEET layer.fleet) (Range field.Fleet at)
     ++ when (nat_lt MAX_FIXED layer.fixed) (Range field.Fixed at)
     ++ when (nat_lt MAX_PER_MINUTE layer.per_minute) (Range field.PerMinute at)
     ++ when (nat_lt MAX_PER_METRE layer.per_metre) (Range field.PerMetre at)
+    ++ when (is_no_stay layer.stay) (Range field.Stay at)
 
 -- of the deadhead n, which may have a twin before it
 abbrev pub deadhead_misfits : Bool → ℕ → Deadhead → List Misfit

@@ -1,5 +1,5 @@
 -- Which trips a layer may run, and which moves without passengers there are.
-use Rattle.std.specs.Prelude.{ℕ, ◌+◌, ◌≤◌, ◌==◌, if◌then◌else◌, Option, Some, IsSome, IsSomeAnd, slice_index_or}
+use Rattle.std.specs.Prelude.{ℕ, ◌+◌, ◌≤◌, ◌==◌, if◌then◌else◌, Option, Some, None, IsSome, IsSomeAnd, slice_index_or}
 use Rattle.std.specs.FinMap as map
 use Rattle.vs_types.specs.LayerSet.{Has}
 use Rattle.vs_instance.specs.declared.layer.Layer.{Layer}
@@ -21,7 +21,7 @@ no_trip =
     record { from = record { 0 = 0 }; start = 0; to = record { 0 = 0 }; end = 0; metres = 0; layers = record { 0 = 0 } }
 
 abbrev pub no_layer : Layer
-no_layer = record { depot = record { 0 = 0 }; fleet = 0; fixed = 0; per_minute = 0; per_metre = 0 }
+no_layer = record { depot = record { 0 = 0 }; fleet = 0; fixed = 0; per_minute = 0; per_metre = 0; stay = None }
 
 -- trip i, and layer l
 abbrev pub trip_of : Problem → ℕ → Trip
@@ -56,3 +56,10 @@ HasPullOut p l i = IsSomeAnd (way_out p l i) (λ w. w.minutes ≤ (trip_of p i).
 -- a vehicle of layer l can come back to its depot after trip i
 abbrev pub HasPullIn : Problem → ℕ → ℕ → Type 0
 HasPullIn p l i = IsSome (way_in p l i)
+
+-- a vehicle of layer l that ran trip i can pull in, rest in the depot for at least the layer's stay, and pull out again in
+-- time for trip j
+abbrev pub Rests : Problem → ℕ → ℕ → ℕ → Type 0
+Rests p l i j =
+    IsSomeAnd (layer_of p l).stay (λ stay. IsSomeAnd (way_in p l i) (λ back. IsSomeAnd (way_out p l j) (λ out.
+    (trip_of p i).end + back.minutes + stay + out.minutes ≤ (trip_of p j).start)))

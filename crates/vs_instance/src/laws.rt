@@ -1,8 +1,9 @@
-//! What holds of the Lagrangian values of every problem.
+//! What holds of every problem: of its Lagrangian values, and of rests.
 
 ghost use Rattle.vs_instance.specs.Laws.{
   LagrangianValuesBoundPlans,
   LagrangianValuesExist,
+  RestsConnect,
   StartingValuesExist,
 };
 
@@ -20,4 +21,10 @@ pub fn lagrangian_values_exist()
 /// There is a value at the starting multipliers, of every problem.
 pub fn starting_values_exist()
     ensures { StartingValuesExist }
+{}
+
+/// Who rests connects: where a vehicle can pull in after a trip, rest, and pull out to another one in time, it can also go
+/// straight from the one to the other, since deadheads are closed.
+pub fn who_rests_connects()
+    ensures { RestsConnect }
 {}

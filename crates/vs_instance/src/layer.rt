@@ -15,4 +15,7 @@ pub struct Layer {
     pub per_minute: u64,
     /// What each metre driven costs, 0 to 10^4 cost units.
     pub per_metre: u64,
+    /// How many minutes a vehicle that pulls in between two trips rests in the depot at least, 1 to 600. None where
+    /// none of them ever rests.
+    pub stay: Option<u64>,
 }

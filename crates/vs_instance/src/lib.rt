@@ -17,11 +17,13 @@ mod way;
 mod ways;
 
 pub use instance::Instance;
-pub use laws::{lagrangian_values_bound_plans, lagrangian_values_exist, starting_values_exist};
+pub use laws::{
+    lagrangian_values_bound_plans, lagrangian_values_exist, starting_values_exist, who_rests_connects,
+};
 pub use layer::Layer;
 pub use limits::{
     MAX_BUDGET, MAX_FIXED, MAX_FLEET, MAX_METRES, MAX_MINUTES, MAX_MULTIPLIER, MAX_PER_METRE,
-    MAX_PER_MINUTE, MAX_PRICE, MAX_STOPS, MAX_TRIPS, MAX_WORKERS, TWO_DAYS,
+    MAX_PER_MINUTE, MAX_PRICE, MAX_STAY, MAX_STOPS, MAX_TRIPS, MAX_WORKERS, TWO_DAYS,
 };
 pub use misfit::{Field, Misfit, NewError, Place};
 pub use parts::{Deadhead, Parts};

@@ -18,6 +18,9 @@ pub const MAX_PER_MINUTE: u64 = 1_000_000;
 /// What a metre costs at most, in cost units.
 pub const MAX_PER_METRE: u64 = 10_000;
 
+/// How many minutes the least rest in a depot takes at most.
+pub const MAX_STAY: u64 = 600;
+
 /// How many minutes a deadhead takes at most.
 pub const MAX_MINUTES: u64 = 1_440;
 

@@ -11,6 +11,7 @@ pub enum Field {
     Fixed,
     PerMinute,
     PerMetre,
+    Stay,
     Minutes,
     Metres,
 }

@@ -1,10 +1,10 @@
 //! Whether the numbers of layers and trips are within their limits.
 
 ghost use Rattle.std.specs.Prelude.{◌≡◌, ◌≤◌, length};
-ghost use Rattle.vs_instance.specs.Misfits.{first_misfit, layer_misfits, layers_misfits, trip_misfits, trips_misfits};
+ghost use Rattle.vs_instance.specs.Misfits.{first_misfit, is_no_stay, layer_misfits, layers_misfits, trip_misfits, trips_misfits};
 
 use crate::layer::Layer;
-use crate::limits::{MAX_FIXED, MAX_FLEET, MAX_METRES, MAX_PER_METRE, MAX_PER_MINUTE, MAX_TRIPS};
+use crate::limits::{MAX_FIXED, MAX_FLEET, MAX_METRES, MAX_PER_METRE, MAX_PER_MINUTE, MAX_STAY, MAX_TRIPS};
 use crate::misfit::{Field, Misfit, Place};
 use crate::trip::Trip;
 use vs_types::{LayerNo, MAX_LAYERS, TripNo};
@@ -21,8 +21,20 @@ fn layer_misfit(l: LayerNo, layer: &Layer) -> Option<Misfit>
         Some(Misfit::Range(Field::PerMinute, place))
     } else if layer.per_metre > MAX_PER_METRE {
         Some(Misfit::Range(Field::PerMetre, place))
+    } else if is_out_of_range(layer.stay) {
+        Some(Misfit::Range(Field::Stay, place))
     } else {
         None
+    }
+}
+
+/// Whether there is a least rest and it is out of its range.
+fn is_out_of_range(stay: Option<u64>) -> bool
+    ensures { result ≡ is_no_stay stay }
+{
+    match stay {
+        Some(minutes) => minutes == 0 || minutes > MAX_STAY,
+        None => false,
     }
 }
 

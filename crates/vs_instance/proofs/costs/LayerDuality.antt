@@ -16,7 +16,8 @@ use Rattle.vs_instance.specs.Blocks.{IsBlock, last_of, block_cost}
 use Rattle.vs_instance.specs.BlockPieces.{cost_of, links_between}
 use Rattle.vs_instance.specs.HoldingTable.{HoldsInLayer, price_of, scaled}
 use Rattle.vs_instance.specs.Plan.{LayerBlock, all_trips, plan_cost, times_run}
-use Rattle.vs_instance.proofs.costs.PieceLemmas.{out_taken, link_taken, in_taken}
+use Rattle.vs_instance.proofs.costs.PieceLemmas.{out_taken, in_taken}
+use Rattle.vs_instance.proofs.costs.Links.{link_taken}
 use Rattle.vs_instance.proofs.costs.BlockPieces.{IsChain, chain_of_block, first_of_chain, last_of_chain, last_trip, last_of-is, trips_cost, links_cost, blocks_cost_their_pieces}
 use Rattle.vs_instance.proofs.costs.Totals.{times_le, times_more, times_none, total-by_count, total-map_append}
 
@@ -77,12 +78,12 @@ module _ (p : Problem) (l : LayerNo) (ray : Bool) (into from : List ℤ) (vehicl
       omega (arith, ints, cost)
   chain_pays holds i (j ∷ rest) chain =
       let next = first_of_chain p l j rest chain.3 in
-      let link = link_taken p l.0 i.0 j.0 chain.2 in
+      let link = link_taken p l i j chain.2 in
       let cost = cost_of (link_piece p l.0 i.0 j.0) in
-      let is_cost = ap cost_of link.costs in
+      let is_cost = ap cost_of link.is in
       let move : price_of into j.0 ≤ℤ (price_of from i.0 +ℤ scaled ray cost) =
       subst (λ (c : ℕ). price_of into j.0 ≤ℤ (price_of from i.0 +ℤ scaled ray c)) (sym is_cost)
-      (at_piece _ _ (λ (c : ℕ). price_of into j.0 ≤ℤ (price_of from i.0 +ℤ scaled ray c)) link.costs
+      (at_piece _ _ (λ (c : ℕ). price_of into j.0 ≤ℤ (price_of from i.0 +ℤ scaled ray c)) link.is
       (holds.links i.0 j.0 chain.0 next.0 chain.1 next.1)) in
       let after = chain_pays holds j rest chain.3 in
       let trips = sum_by-cons (λ (k : TripNo). trip_piece p l.0 k.0) i (j ∷ rest) in

@@ -5,7 +5,7 @@ use Rattle.std.proofs.lemmas.Bool.{le-leb}
 use Rattle.vs_instance.specs.declared.way.Way.{Way}
 use Rattle.vs_instance.specs.Problem.{Problem}
 use Rattle.vs_instance.specs.Ways.{trip_of, layer_of, way_out, way_in, way_between, Connects, HasPullOut, HasPullIn}
-use Rattle.vs_instance.specs.Pieces.{rated, out_piece, link_piece, in_piece}
+use Rattle.vs_instance.specs.Pieces.{rated, out_piece, direct_piece, in_piece}
 
 -- a way that is taken, in time, and what it costs
 pub record IsTaken (found : Option Way) (in_time : Way → Type 0) (piece : Option ℕ) (cost : Way → ℕ) : Type 0 where
@@ -35,10 +35,10 @@ module _ (p : Problem) (l i : ℕ) where
       (Some ((layer_of p l).fixed + rated p l v.minutes v.metres)) None)) is
       ∙ ap (λ (b : Bool). cond b (Some cost) None) (le-leb w.minutes (trip_of p i).start time))
 
-  pub link_taken : (j : ℕ) → Connects p i j
-      → IsTaken (way_between p i j) (λ w. (trip_of p i).end + w.minutes ≤ (trip_of p j).start) (link_piece p l i j)
+  pub direct_taken : (j : ℕ) → Connects p i j
+      → IsTaken (way_between p i j) (λ w. (trip_of p i).end + w.minutes ≤ (trip_of p j).start) (direct_piece p l i j)
       (λ w. rated p l ((trip_of p j).start - (trip_of p i).end) w.metres)
-  link_taken j connects =
+  direct_taken j connects =
       taken _ _ _ _ connects (λ w is time.
       let cost = rated p l ((trip_of p j).start - (trip_of p i).end) w.metres in
       ap (option_and_then

@@ -1,14 +1,16 @@
 -- Layers and trips with no misfit are within the limits, and the other way round.
-use Rattle.std.proofs.Common.{◌≢◌, ℕ, ◌<◌, ◌≤◌, not, ltb, [], length, ap}
-use Rattle.std.proofs.lemmas.Bool.{ltb-false, ltb-true, le-ltb, lt-ltb, not-false}
+use Rattle.std.proofs.Common.{◌≡◌, ◌≢◌, ℕ, zero, suc, ◌<◌, ◌≤◌, ◌==◌, not, ltb, false, [], length, refl, ap, arith, Option, Some}
+use Rattle.std.specs.Prelude.{IfSome}
+use Rattle.std.specs.declared.option.Option.TheVariants as option
+use Rattle.std.proofs.lemmas.Bool.{ltb-false, ltb-true, le-ltb, lt-ltb, ne_eqb, not-false, or_from, or_parts, true≢false}
 use Rattle.vs_types.specs.LayerSet.{Has, members}
 use Rattle.vs_instance.specs.declared.layer.Layer.{Layer}
 use Rattle.vs_instance.specs.declared.trip.Trip.{Trip}
 use Rattle.vs_instance.specs.declared.misfit.Misfit.{Misfit}
-use Rattle.vs_instance.specs.declared.limits.TheConstants.{MAX_FLEET, MAX_FIXED, MAX_PER_MINUTE, MAX_PER_METRE, MAX_METRES, TWO_DAYS}
+use Rattle.vs_instance.specs.declared.limits.TheConstants.{MAX_FLEET, MAX_FIXED, MAX_PER_MINUTE, MAX_PER_METRE, MAX_STAY, MAX_METRES, TWO_DAYS}
 use Rattle.vs_instance.specs.Problem.{Problem}
-use Rattle.vs_instance.specs.Instance.{IsLayer, IsTrip}
-use Rattle.vs_instance.specs.Misfits.{layer_misfits, trip_misfits}
+use Rattle.vs_instance.specs.Instance.{IsLayer, IsStay, IsTrip}
+use Rattle.vs_instance.specs.Misfits.{is_no_stay, layer_misfits, trip_misfits}
 use Rattle.vs_instance.specs.Firsts.{when}
 use Rattle.vs_instance.proofs.misfits.Empty.{None, both_none, none-append, false_from_none, none_from_false}
 
@@ -19,10 +21,27 @@ within limit n m none = ltb-false limit n (false_from_none (ltb limit n) m none)
 fits : (limit n : ℕ) (m : Misfit) → n ≤ limit → None (when (ltb limit n) m)
 fits limit n m few = none_from_false (ltb limit n) m (le-ltb limit n few)
 
+-- a least rest that isn't misfit is within its range, and the other way round
+stay_within : (stay : Option ℕ) → is_no_stay stay ≡ false → IfSome stay IsStay
+stay_within option.None none = tt
+stay_within (Some minutes) none =
+    let parts = or_parts (minutes == 0) (ltb MAX_STAY minutes) none in
+    (some_minutes minutes parts.0, ltb-false MAX_STAY minutes parts.1)
+  where
+    some_minutes : (n : ℕ) → (n == 0) ≡ false → 1 ≤ n
+    some_minutes zero is = absurd (true≢false is)
+    some_minutes (suc n) is = omega arith
+
+stay_fits : (stay : Option ℕ) → IfSome stay IsStay → is_no_stay stay ≡ false
+stay_fits option.None is = refl
+stay_fits (Some minutes) is = or_from (minutes == 0) (ltb MAX_STAY minutes)
+    (ne_eqb minutes 0 (λ none. omega (arith, none, is.0))) (le-ltb MAX_STAY minutes is.1)
+
 pub layer_fits : (p : Problem) (l : ℕ) (layer : Layer) → layer.depot.0 < p.stops → None (layer_misfits l layer)
     → IsLayer p layer
 layer_fits p l layer depot none =
-    let last = both_none _ _ none in
+    let stay = both_none _ _ none in
+    let last = both_none _ _ stay.0 in
     let third = both_none _ _ last.0 in
     let second = both_none _ _ third.0 in
     record {
@@ -31,14 +50,17 @@ layer_fits p l layer depot none =
       fixed = within MAX_FIXED layer.fixed _ second.1;
       per_minute = within MAX_PER_MINUTE layer.per_minute _ third.1;
       per_metre = within MAX_PER_METRE layer.per_metre _ last.1;
+      stay = stay_within layer.stay (false_from_none (is_no_stay layer.stay) _ stay.1);
     }
 
 pub none_of_layer : (p : Problem) (l : ℕ) (layer : Layer) → IsLayer p layer → None (layer_misfits l layer)
 none_of_layer p l layer is =
     none-append _ _
     (none-append _ _
+    (none-append _ _
     (none-append _ _ (fits MAX_FLEET layer.fleet _ is.fleet) (fits MAX_FIXED layer.fixed _ is.fixed))
-    (fits MAX_PER_MINUTE layer.per_minute _ is.per_minute)) (fits MAX_PER_METRE layer.per_metre _ is.per_metre)
+    (fits MAX_PER_MINUTE layer.per_minute _ is.per_minute)) (fits MAX_PER_METRE layer.per_metre _ is.per_metre))
+    (none_from_false (is_no_stay layer.stay) _ (stay_fits layer.stay is.stay))
 
 pub trip_fits : (p : Problem) (i : ℕ) (trip : Trip) → trip.from.0 < p.stops → trip.to.0 < p.stops → trip.end < TWO_DAYS
     → members trip.layers ≢ [] → ((l : ℕ) → Has trip.layers l → l < length p.layers) → None (trip_misfits i trip)
