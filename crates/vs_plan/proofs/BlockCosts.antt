@@ -1,5 +1,5 @@
 -- The trips of a block one by one, and what a block costs at most.
-use Rattle.std.proofs.Common.{◌≡◌, ℕ, zero, suc, ◌+◌, ◌-◌, ◌*◌, ◌<◌, ◌≤◌, List, [], ◌∷◌, length, get_or, All, refl, sym, ap, ◌∙◌, subst, arith, drop, length-drop, Option, Some, None, ℤ, pos, ◌+ℤ◌, ◌≤ℤ◌, unwrap_or}
+use Rattle.std.proofs.Common.{◌≡◌, ℕ, zero, suc, ◌+◌, ◌-◌, ◌*◌, ◌<◌, ◌≤◌, true, false, cond, List, [], ◌∷◌, length, get_or, All, refl, sym, ap, ◌∙◌, subst, arith, drop, length-drop, Option, Some, None, ℤ, pos, ◌+ℤ◌, ◌≤ℤ◌, unwrap_or}
 use Rattle.std.specs.Prelude.{IfSome, IsSomeAnd, option_map, sum_by}
 use Rattle.std.specs.List.{AllAdjacentBelow}
 use Rattle.std.proofs.lemmas.Int.{ints}
@@ -12,11 +12,11 @@ use Rattle.vs_types.specs.declared.numbers.TripNo.{TripNo}
 use Rattle.vs_connect.specs.Cost.{IsCost}
 use Rattle.vs_instance.specs.declared.way.Way.{Way}
 use Rattle.vs_instance.specs.BlockPieces.{cost_of, links_between}
-use Rattle.vs_instance.specs.Blocks.{IsBlock, block_cost, block_metres, first_of, last_of, metres_between, metres_of, minutes_of, pull_in_minute, pull_out_minute}
+use Rattle.vs_instance.specs.Blocks.{IsBlock, block_cost, block_metres, driven_between, first_of, goes_by_depot, last_of, metres_between, metres_of, minutes_of, pull_in_minute, pull_out_minute, rested_minutes}
 use Rattle.vs_instance.specs.Instance.{IsInstance}
 use Rattle.vs_instance.specs.Pieces.{in_piece, link_piece, out_piece, trip_piece}
 use Rattle.vs_instance.specs.Problem.{Problem}
-use Rattle.vs_instance.specs.Ways.{Connects, layer_of, no_trip, trip_of, way, way_between}
+use Rattle.vs_instance.specs.Ways.{Connects, layer_of, no_trip, trip_of, way, way_between, way_in, way_out}
 use Rattle.vs_instance.specs.declared.limits.TheConstants.{MAX_FIXED, MAX_METRES, MAX_MINUTES, MAX_PER_METRE, MAX_PER_MINUTE, TWO_DAYS}
 use Rattle.vs_instance.proofs.CallerLemmas.{blocks_cost_their_pieces, layer_of-IsLayer, trip_of-IsTrip, way-within}
 use Rattle.vs_plan.specs.declared.costs.TheConstants.{MAX_COST_PER_TRIP}
@@ -122,21 +122,34 @@ trips_metres-limit p trips inst each =
     (All-weaker (λ (i : TripNo). i.0 < length p.trips) (λ (i : TripNo). (trip_of p i.0).metres ≤ MAX_METRES)
     (λ i within. (trip_of-IsTrip p inst i.0 within).metres) trips each)
 
-metres_between-limit : (p : Problem) (trips : List TripNo) → IsInstance p
-    → metres_between p trips ≤ MAX_METRES * length trips
-metres_between-limit p [] inst = omega arith
-metres_between-limit p (i ∷ []) inst = omega arith
-metres_between-limit p (i ∷ j ∷ rest) inst =
-    let here = (way_limits p inst (trip_of p i.0).to.0 (trip_of p j.0).from.0).1 in
-    omega (arith, here, metres_between-limit p (j ∷ rest) inst)
+-- between two trips no more metres are driven than on two ways
+driven_between-limit : (p : Problem) (l : LayerNo) (i j : TripNo) → IsInstance p
+    → driven_between p l i j ≤ 2 * MAX_METRES
+driven_between-limit p l i j inst =
+    let back = (way_limits p inst (trip_of p i.0).to.0 (layer_of p l.0).depot.0).1 in
+    let out = (way_limits p inst (layer_of p l.0).depot.0 (trip_of p j.0).from.0).1 in
+    let straight = (way_limits p inst (trip_of p i.0).to.0 (trip_of p j.0).from.0).1 in
+    elim (goes_by_depot p l i j) as
+    (λ b. cond b (metres_of (way_in p l.0 i.0) + metres_of (way_out p l.0 j.0)) (metres_of (way_between p i.0 j.0))
+    ≤ 2 * MAX_METRES) [
+      | true ↦ omega (arith, back, out)
+      | false ↦ omega (arith, straight)
+    ]
+
+metres_between-limit : (p : Problem) (l : LayerNo) (trips : List TripNo) → IsInstance p
+    → metres_between p l trips ≤ 2 * MAX_METRES * (length trips - 1)
+metres_between-limit p l [] inst = omega arith
+metres_between-limit p l (i ∷ []) inst = omega arith
+metres_between-limit p l (i ∷ j ∷ rest) inst =
+    omega (arith, driven_between-limit p l i j inst, metres_between-limit p l (j ∷ rest) inst)
 
 -- what minutes and metres at the rates of a layer cost at most
 cost_limit : (fixed per_minute minutes per_metre metres trips : ℕ) → fixed ≤ MAX_FIXED → per_minute ≤ MAX_PER_MINUTE
-    → minutes ≤ 4320 → per_metre ≤ MAX_PER_METRE → metres ≤ 2000000 * trips + 2000000 → 0 < trips
+    → minutes ≤ 4320 → per_metre ≤ MAX_PER_METRE → metres ≤ 3000000 * trips → 0 < trips
     → fixed + per_minute * minutes + per_metre * metres ≤ MAX_COST_PER_TRIP * trips
 cost_limit fixed per_minute minutes per_metre metres trips f a m b n some =
     let timed = mul-le per_minute minutes MAX_PER_MINUTE 4320 a m in
-    let driven = mul-le per_metre metres MAX_PER_METRE (2000000 * trips + 2000000) b n in
+    let driven = mul-le per_metre metres MAX_PER_METRE (3000000 * trips) b n in
     omega arith
 
 -- what a block costs at most
@@ -151,8 +164,9 @@ block_cost-limit p l trips inst block =
     let out = way_limits p inst (layer_of p l.0).depot.0 (trip_of p (first_of trips)).from.0 in
     let back = way_limits p inst (trip_of p (last_of trips)).to.0 (layer_of p l.0).depot.0 in
     let served = trips_metres-limit p trips inst block.of_instance in
-    let between = metres_between-limit p trips inst in
-    cost_limit (layer_of p l.0).fixed (layer_of p l.0).per_minute (pull_in_minute p l trips - pull_out_minute p l trips)
+    let between = metres_between-limit p l trips inst in
+    cost_limit (layer_of p l.0).fixed (layer_of p l.0).per_minute
+    (pull_in_minute p l trips - pull_out_minute p l trips - rested_minutes p l trips)
     (layer_of p l.0).per_metre (block_metres p l trips) (length trips) layer.fixed layer.per_minute
     (omega (arith, ends, back.0)) layer.per_metre (omega (arith, out.1, back.1, served, between)) some
 

@@ -68,7 +68,7 @@ fn trips_cost(instance: &Instance, l: LayerNo, trips: &[TripNo]) -> i64
     cost
 }
 
-/// What the ways between trips that follow each other cost in layer l, in cost units.
+/// What it costs in layer l to get from each of the trips to the next, in cost units.
 fn links_cost(instance: &Instance, l: LayerNo, trips: &[TripNo]) -> i64
     requires layer { l.0 < length instance.now.layers }
     requires trips { All (λ i. i.0 < length instance.now.trips) trips.now }
@@ -84,8 +84,8 @@ fn links_cost(instance: &Instance, l: LayerNo, trips: &[TripNo]) -> i64
     cost
 }
 
-/// What a vehicle of layer l costs that runs the trips, in cost units: its pull-out, its trips, the ways between them
-/// and its pull-in, each of which a block has.
+/// What a vehicle of layer l costs that runs the trips, in cost units: its pull-out, its trips, the ways between them,
+/// straight or by the depot, and its pull-in, each of which a block has.
 fn run_cost(instance: &Instance, l: LayerNo, trips: &[TripNo]) -> i64
     requires instance { IsInstance instance.now }
     requires block { IsBlock instance.now l trips.now }
@@ -117,8 +117,8 @@ pub fn block_times(instance: &Instance, block: &Block) -> (u32, u32)
     run_times(instance, block.layer, &block.trips)
 }
 
-/// What a block costs, in cost units: for the vehicle, for each minute from the one at which it leaves its
-/// depot to the one at which it is back, and for each metre.
+/// What a block costs, in cost units: for the vehicle, for each minute from the one at which it leaves its depot to the
+/// one at which it is back, save those that it rests there in between, and for each metre.
 pub fn block_cost(instance: &Instance, block: &Block) -> i64
     requires { IsBlock instance.now block.now.layer block.now.trips.items }
     ensures value { result ≡ pos (block_cost instance.now block.now.layer block.now.trips.items) }

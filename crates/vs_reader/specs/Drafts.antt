@@ -4,6 +4,7 @@ use Rattle.vs_types.specs.LayerSet.{Has}
 use Rattle.vs_types.specs.declared.numbers.TheConstants.{MAX_LAYERS}
 use Rattle.vs_instance.specs.declared.limits.TheConstants.{MAX_STOPS, MAX_TRIPS, TWO_DAYS}
 use Rattle.vs_reader.specs.declared.draft.Draft.{Draft}
+use Rattle.vs_reader.specs.declared.version.Version.{Version}
 use Rattle.vs_reader.specs.Rows.{Field, Row}
 use Rattle.vs_reader.specs.InstanceText.{Declared, Adds}
 use Rattle.vs_reader.specs.Refusals.{is_layer, is_deadhead, is_trip}
@@ -14,8 +15,8 @@ declared_of d =
     record { names = d.names; deadheads = d.deadheads.items; layers = d.layers.items; trips = d.trips.items }
 
 -- the record of this number adds to the draft what it declares, and its number
-pub record AddsRecord (number : ℕ) (old : Draft) (row : Row) (new : Draft) : Type 0 where
-  pub declared : Adds (declared_of old) row (declared_of new)
+pub record AddsRecord (version : Version) (number : ℕ) (old : Draft) (row : Row) (new : Draft) : Type 0 where
+  pub declared : Adds version (declared_of old) row (declared_of new)
   pub deadheads : new.numbers.deadheads.items ≡ with_number is_deadhead number row old.numbers.deadheads.items
   pub layers : new.numbers.layers.items ≡ with_number is_layer number row old.numbers.layers.items
   pub trips : new.numbers.trips.items ≡ with_number is_trip number row old.numbers.trips.items

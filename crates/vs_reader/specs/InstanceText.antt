@@ -1,5 +1,5 @@
 -- What the records of an instance text say. Each record adds to what the records before it declare.
-use Rattle.std.specs.Prelude.{◌≡◌, ℕ, ◌+◌, ◌<◌, ◌≤◌, false, List, [], ◌∷◌, ◌++◌, length, drop, All, AllPairs, Contains, codes, ◌⊎◌, ◌↔◌}
+use Rattle.std.specs.Prelude.{◌≡◌, ℕ, ◌+◌, ◌<◌, ◌≤◌, false, List, [], ◌∷◌, ◌++◌, length, drop, All, AllPairs, Contains, Option, None, IsSomeAnd, codes, ◌⊎◌, ◌↔◌}
 use Rattle.vs_types.specs.LayerSet.{Has}
 use Rattle.vs_types.specs.declared.layer_set.LayerSet.{LayerSet}
 use Rattle.vs_instance.specs.declared.parts.Deadhead.{Deadhead}
@@ -10,10 +10,13 @@ use Rattle.vs_instance.specs.Instance.{IsInstance}
 use Rattle.vs_instance.specs.Misfits.{are_twins, deadheads_of}
 use Rattle.vs_types.specs.declared.numbers.TheConstants.{MAX_LAYERS}
 use Rattle.vs_instance.specs.declared.limits.TheConstants.{MAX_STOPS, MAX_TRIPS}
+use Rattle.vs_reader.specs.declared.version.Version.{Version}
+use Rattle.vs_reader.specs.declared.version.Version.TheVariants.{One, Two}
 use Rattle.vs_reader.specs.Rows.{Field, Row}
 use Rattle.vs_reader.specs.Numbers.{IsNumber, IsTime}
 use Rattle.vs_reader.specs.Names.{IsName, NameLists, Names}
-use Rattle.vs_reader.specs.Kinds.{HasHeader, before_result}
+use Rattle.vs_reader.specs.Versions.{HasHeader}
+use Rattle.vs_reader.specs.Kinds.{before_result}
 
 -- what records declare: names, and the deadheads, layers and trips, each in order
 pub record Declared : Type 0 where
@@ -55,24 +58,37 @@ pub record AddsDeadhead (old : Declared) (row : Row) (new : Declared) : Type 0 w
   pub row_is : DeadheadRow old.names.stops row deadhead
   pub added : new ≡ record old { deadheads = old.deadheads ++ deadhead ∷ [] }
 
--- `layer`, NAME, DEPOT, FLEET, FIXED, PER_MINUTE, PER_METRE
-pub record LayerRow (stops : List Field) (row : Row) (name : Field) (layer : Layer) : Type 0 where
+-- the fields behind the rates of a layer: none in version 1, and in version 2 the one that writes its least rest
+abbrev pub stay_fields : Version → Field → List Field
+stay_fields One stay = []
+stay_fields Two stay = stay ∷ []
+
+-- the least rest of a layer: none in version 1, and in version 2 the number that the field writes
+abbrev pub StayOf : Version → Field → Option ℕ → Type 0
+StayOf One field stay = stay ≡ None
+StayOf Two field stay = IsSomeAnd stay (IsNumber field)
+
+-- `layer`, NAME, DEPOT, FLEET, FIXED, PER_MINUTE, PER_METRE, and in version 2 STAY
+pub record LayerRow (version : Version) (stops : List Field) (row : Row) (name : Field) (layer : Layer) : Type 0 where
   pub depot : Field
   pub fleet : Field
   pub fixed : Field
   pub per_minute : Field
   pub per_metre : Field
-  pub row_is : row ≡ codes "layer" ∷ name ∷ depot ∷ fleet ∷ fixed ∷ per_minute ∷ per_metre ∷ []
+  pub stay : Field
+  pub row_is : row
+      ≡ codes "layer" ∷ name ∷ depot ∷ fleet ∷ fixed ∷ per_minute ∷ per_metre ∷ stay_fields version stay
   pub depot_is : Names stops depot layer.depot.0
   pub fleet_is : IsNumber fleet layer.fleet
   pub fixed_is : IsNumber fixed layer.fixed
   pub per_minute_is : IsNumber per_minute layer.per_minute
   pub per_metre_is : IsNumber per_metre layer.per_metre
+  pub stay_is : StayOf version stay layer.stay
 
-pub record AddsLayer (old : Declared) (row : Row) (new : Declared) : Type 0 where
+pub record AddsLayer (version : Version) (old : Declared) (row : Row) (new : Declared) : Type 0 where
   pub name : Field
   pub layer : Layer
-  pub row_is : LayerRow old.names.stops row name layer
+  pub row_is : LayerRow version old.names.stops row name layer
   pub new_name : IsNew old.names.layers name
   pub room : length old.names.layers < MAX_LAYERS
   pub added : new ≡ record old {
@@ -117,13 +133,14 @@ pub record AddsTrip (old : Declared) (row : Row) (new : Declared) : Type 0 where
   }
 
 -- one record adds to what was declared
-abbrev pub Adds : Declared → Row → Declared → Type 0
-Adds old row new = AddsStop old row new ⊎ (AddsDeadhead old row new ⊎ (AddsLayer old row new ⊎ AddsTrip old row new))
+abbrev pub Adds : Version → Declared → Row → Declared → Type 0
+Adds version old row new =
+    AddsStop old row new ⊎ (AddsDeadhead old row new ⊎ (AddsLayer version old row new ⊎ AddsTrip old row new))
 
 -- the records do, one after another
-abbrev pub AddAll : Declared → List Row → Declared → Type 0
-AddAll old [] new = new ≡ old
-AddAll old (row ∷ rows) new = (next : Declared) × Adds old row next × AddAll next rows new
+abbrev pub AddAll : Version → Declared → List Row → Declared → Type 0
+AddAll version old [] new = new ≡ old
+AddAll version old (row ∷ rows) new = (next : Declared) × Adds version old row next × AddAll version next rows new
 
 -- what is declared is the instance: no deadhead stands twice, and the limits and closure hold
 pub record Makes (declared : Declared) (p : Problem) : Type 0 where
@@ -141,14 +158,14 @@ pub record Makes (declared : Declared) (p : Problem) : Type 0 where
 abbrev pub instance_records : List Row → List Row
 instance_records rows = before_result (drop 1 rows)
 
--- The rows are an instance text: the first is `instance`, `1`, and the records of the instance declare it and its
--- names. So many rows come
--- before the first `result` record, and these from there on.
+-- The rows are an instance text: the first is `instance` and a version, and the records of the instance declare it and
+-- its names, by the rules of that version. So many rows come before the first `result` record, and these from there on.
 pub record InstanceText (rows : List Row) (p : Problem) (names : NameLists) (before : ℕ)
     (rest : List Row) : Type 0 where
-  pub first : HasHeader rows
+  pub version : Version
+  pub first : HasHeader version rows
   pub declared : Declared
-  pub declares : AddAll nothing_yet (instance_records rows) declared
+  pub declares : AddAll version nothing_yet (instance_records rows) declared
   pub makes : Makes declared p
   pub names_are : names ≡ declared.names
   pub before_is : before ≡ length (instance_records rows) + 1

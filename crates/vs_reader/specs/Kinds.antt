@@ -1,9 +1,9 @@
 -- What the first field of a record says.
-use Rattle.std.specs.Prelude.{◌≡◌, Bool, ◌&&◌, ◌==◌, if◌then◌else◌, List, [], ◌∷◌, Option, Some, None, codes, length}
+use Rattle.std.specs.Prelude.{Bool, if◌then◌else◌, List, [], ◌∷◌, Option, Some, None, codes}
 use Rattle.std.specs.Str.{bytes_eq}
 use Rattle.vs_reader.specs.declared.kind.Kind.{Kind}
 use Rattle.vs_reader.specs.declared.kind.Kind.TheVariants.{Stop, Deadhead, Layer, Trip}
-use Rattle.vs_reader.specs.Rows.{Field, Row, field_of, row_of}
+use Rattle.vs_reader.specs.Rows.{Field, Row, field_of}
 
 -- the first field of a record of the kind
 abbrev pub kind_name : Kind → Field
@@ -20,18 +20,6 @@ kind_of field =
     else if bytes_eq field (codes "layer") then Some Layer
     else if bytes_eq field (codes "trip") then Some Trip
     else None
-
--- `instance`, `1`
-abbrev pub header : Row
-header = codes "instance" ∷ codes "1" ∷ []
-
-abbrev pub is_header : Row → Bool
-is_header row =
-    (length row == 2) && bytes_eq (field_of row 0) (codes "instance") && bytes_eq (field_of row 1) (codes "1")
-
--- the first of all rows is that
-abbrev pub HasHeader : List Row → Type 0
-HasHeader rows = row_of rows 0 ≡ header
 
 abbrev pub is_result : Row → Bool
 is_result row = bytes_eq (field_of row 0) (codes "result")

@@ -6,6 +6,7 @@ pub mod Names
 pub mod NameRules
 pub mod NameCodes
 pub mod Kinds
+pub mod Versions
 pub mod InstanceText
 pub mod Rules
 pub mod Judged

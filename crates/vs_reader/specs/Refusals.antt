@@ -10,20 +10,21 @@ use Rattle.vs_reader.specs.declared.kind.Kind.{Kind}
 use Rattle.vs_reader.specs.declared.kind.Kind.TheVariants as kind
 use Rattle.vs_reader.specs.declared.refused.Refused.{Refused}
 use Rattle.vs_reader.specs.declared.refused.Why.TheVariants as why
+use Rattle.vs_reader.specs.declared.version.Version.{Version}
 use Rattle.vs_reader.specs.Rows.{Row, field_of}
 use Rattle.vs_reader.specs.Names.{NameLists}
-use Rattle.vs_reader.specs.Kinds.{HasHeader, kind_of}
+use Rattle.vs_reader.specs.Versions.{HasHeader}
+use Rattle.vs_reader.specs.Kinds.{kind_of}
 use Rattle.vs_reader.specs.InstanceText.{Declared, AddAll, nothing_yet, instance_records}
 use Rattle.vs_reader.specs.Rules.{AreKept, BreaksFirst, rules, with_row}
 
 -- Of these records, the first of which has number n, the first that breaks a rule is refused for the first rule that it
--- breaks. These names are
--- declared before.
-abbrev pub BreaksRule : ℕ → NameLists → List Row → Refused → Type 0
-BreaksRule n names [] refused = ⊥
-BreaksRule n names (row ∷ rows) refused =
-    ((refused.row ≡ n) × BreaksFirst (rules names row) refused.why)
-    ⊎ (AreKept (rules names row) × BreaksRule (n + 1) (with_row names row) rows refused)
+-- breaks. These names are declared before.
+abbrev pub BreaksRule : Version → ℕ → NameLists → List Row → Refused → Type 0
+BreaksRule version n names [] refused = ⊥
+BreaksRule version n names (row ∷ rows) refused =
+    ((refused.row ≡ n) × BreaksFirst (rules version names row) refused.why)
+    ⊎ (AreKept (rules version names row) × BreaksRule version (n + 1) (with_row names row) rows refused)
 
 -- whether a record is of the kind
 abbrev pub is_stop : Option Kind → Bool
@@ -71,9 +72,9 @@ pub record ArePartsOf (declared : Declared) (parts : Parts) : Type 0 where
   pub trips : parts.trips.items ≡ declared.trips
 
 -- each record keeps its rules, and the first misfit of what they declare is refused
-pub record HasMisfit (records : List Row) (refused : Refused) : Type 0 where
+pub record HasMisfit (version : Version) (records : List Row) (refused : Refused) : Type 0 where
   pub declared : Declared
-  pub declares : AddAll nothing_yet records declared
+  pub declares : AddAll version nothing_yet records declared
   pub parts : Parts
   pub parts_are : ArePartsOf declared parts
   pub misfit : Misfit
@@ -81,12 +82,17 @@ pub record HasMisfit (records : List Row) (refused : Refused) : Type 0 where
   pub why_is : refused.why ≡ why.Misfit misfit
   pub row_is : refused.row ≡ misfit_row records misfit
 
--- the first record isn't `instance`, `1`, or there is none
+-- the first record is `instance` and a version for no version, or there is none
 abbrev pub LacksHeader : List Row → Refused → Type 0
-LacksHeader rows refused = ¬ (HasHeader rows) × (refused.row ≡ 1) × (refused.why ≡ why.NoHeader)
+LacksHeader rows refused =
+    ((version : Version) → ¬ (HasHeader version rows)) × (refused.row ≡ 1) × (refused.why ≡ why.NoHeader)
+
+-- the records break a rule of this version, or what they declare by its rules has a misfit
+abbrev pub BreaksOrMisfits : Version → List Row → Refused → Type 0
+BreaksOrMisfits version records refused =
+    BreaksRule version 2 nothing_yet.names records refused ⊎ HasMisfit version records refused
 
 -- the refusal of rows that are no instance text
 abbrev pub IsRefusal : List Row → Refused → Type 0
 IsRefusal rows refused = LacksHeader rows refused
-    ⊎ (HasHeader rows
-    × (BreaksRule 2 nothing_yet.names (instance_records rows) refused ⊎ HasMisfit (instance_records rows) refused))
+    ⊎ ((version : Version) × HasHeader version rows × BreaksOrMisfits version (instance_records rows) refused)

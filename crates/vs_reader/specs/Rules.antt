@@ -6,10 +6,13 @@ use Rattle.vs_types.specs.declared.numbers.TheConstants.{MAX_LAYERS}
 use Rattle.vs_instance.specs.declared.limits.TheConstants.{MAX_STOPS, MAX_TRIPS}
 use Rattle.vs_reader.specs.declared.refused.Why.{Why}
 use Rattle.vs_reader.specs.declared.refused.Why.TheVariants as why
+use Rattle.vs_reader.specs.declared.version.Version.{Version}
+use Rattle.vs_reader.specs.declared.version.Version.TheVariants.{One, Two}
 use Rattle.vs_reader.specs.Rows.{Field, Row, field_of}
 use Rattle.vs_reader.specs.Numbers.{IsNumber, IsTime}
 use Rattle.vs_reader.specs.Names.{IsName, NameLists}
 use Rattle.vs_reader.specs.Kinds.{kind_of}
+use Rattle.vs_reader.specs.Versions.{layer_fields}
 
 pub data Rule : Type 0 where
   -- the field says a kind
@@ -84,13 +87,19 @@ deadhead_rules names row =
     HasFields 5 row ∷ known_name names.stops (field_of row 1) ++ known_name names.stops (field_of row 2)
     ++ WritesNumber (field_of row 3) ∷ WritesNumber (field_of row 4) ∷ []
 
--- `layer`, NAME, DEPOT, FLEET, FIXED, PER_MINUTE, PER_METRE
-abbrev pub layer_rules : NameLists → Row → List Rule
-layer_rules names row =
-    HasFields 7 row ∷ new_name names.layers (field_of row 1) ++ known_name names.stops (field_of row 2)
+-- STAY, which the record of a layer has in version 2 alone
+abbrev pub stay_rules : Version → Row → List Rule
+stay_rules One row = []
+stay_rules Two row = WritesNumber (field_of row 7) ∷ []
+
+-- `layer`, NAME, DEPOT, FLEET, FIXED, PER_MINUTE, PER_METRE, and in version 2 STAY
+abbrev pub layer_rules : Version → NameLists → Row → List Rule
+layer_rules version names row =
+    HasFields (layer_fields version) row ∷ new_name names.layers (field_of row 1)
+    ++ known_name names.stops (field_of row 2)
     ++ WritesNumber (field_of row 3) ∷ WritesNumber (field_of row 4) ∷ WritesNumber (field_of row 5)
     ∷ WritesNumber (field_of row 6)
-    ∷ HasRoom MAX_LAYERS names.layers ∷ []
+    ∷ stay_rules version row ++ HasRoom MAX_LAYERS names.layers ∷ []
 
 -- `trip`, NAME, FROM, START, TO, END, METRES, and one LAYER or more
 abbrev pub trip_rules : NameLists → Row → List Rule
@@ -100,16 +109,16 @@ trip_rules names row =
     ∷ WritesNumber (field_of row 6)
     ∷ layer_names names.layers [] (drop 7 row) ++ HasRoom MAX_TRIPS names.trips ∷ []
 
-abbrev pub rules_of_kind : Option Kind → NameLists → Row → List Rule
-rules_of_kind None names row = []
-rules_of_kind (Some Stop) names row = stop_rules names row
-rules_of_kind (Some Deadhead) names row = deadhead_rules names row
-rules_of_kind (Some Layer) names row = layer_rules names row
-rules_of_kind (Some Trip) names row = trip_rules names row
+abbrev pub rules_of_kind : Option Kind → Version → NameLists → Row → List Rule
+rules_of_kind None version names row = []
+rules_of_kind (Some Stop) version names row = stop_rules names row
+rules_of_kind (Some Deadhead) version names row = deadhead_rules names row
+rules_of_kind (Some Layer) version names row = layer_rules version names row
+rules_of_kind (Some Trip) version names row = trip_rules names row
 
 -- the rules of a record, where these names are declared by the records before it
-abbrev pub rules : NameLists → Row → List Rule
-rules names row = SaysKind (field_of row 0) ∷ rules_of_kind (kind_of (field_of row 0)) names row
+abbrev pub rules : Version → NameLists → Row → List Rule
+rules version names row = SaysKind (field_of row 0) ∷ rules_of_kind (kind_of (field_of row 0)) version names row
 
 -- the names with the one that a record of the kind declares
 abbrev pub with_name : Option Kind → NameLists → Field → NameLists

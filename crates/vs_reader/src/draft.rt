@@ -16,6 +16,7 @@ use crate::record::{RecordError, field};
 use crate::record_numbers::RecordNumbers;
 use crate::records::{self, Ends};
 use crate::refused::Why;
+use crate::version::Version;
 use csv::ByteRecord;
 use std::alloc::Global;
 use vs_instance::{Deadhead, Layer, Trip};
@@ -45,16 +46,22 @@ impl Draft {
         }
     }
 
-    /// Adds what a record declares, which has this number. After an error the draft is of no more use.
-    pub fn add(&mut self, number: u32, row: &ByteRecord) -> Result<(), RecordError>
+    /// Adds what a record of a text of this version declares, which has this number. After an error the draft is of no
+    /// more use.
+    pub fn add(
+        &mut self,
+        version: Version,
+        number: u32,
+        row: &ByteRecord,
+    ) -> Result<(), RecordError>
         requires layers { length self.old.names.layers ≤ MAX_LAYERS }
-        ensures { JudgedOrMemory (rules self.old.names (fields_of row.now))
-            (AddsRecord number self.old (fields_of row.now) self.new) result }
+        ensures { JudgedOrMemory (rules version self.old.names (fields_of row.now))
+            (AddsRecord version number self.old (fields_of row.now) self.new) result }
     {
         match Kind::of(field(row, 0)) {
             Some(Kind::Stop) => self.add_stop(row),
             Some(Kind::Deadhead) => self.add_deadhead(number, row),
-            Some(Kind::Layer) => self.add_layer(number, row),
+            Some(Kind::Layer) => self.add_layer(version, number, row),
             Some(Kind::Trip) => self.add_trip(number, row),
             None => Err(RecordError::Refused(Why::UnknownKind)),
         }
@@ -86,14 +93,19 @@ impl Draft {
         Ok(())
     }
 
-    /// Adds the layer that a record declares, which has this number.
-    fn add_layer(&mut self, number: u32, row: &ByteRecord) -> Result<(), RecordError>
+    /// Adds the layer that a record of a text of this version declares, which has this number.
+    fn add_layer(
+        &mut self,
+        version: Version,
+        number: u32,
+        row: &ByteRecord,
+    ) -> Result<(), RecordError>
         requires { field_of (fields_of row.now) 0 ≡ codes "layer" }
-        ensures { JudgedOrMemory (layer_rules self.old.names (fields_of row.now))
-            (AddsLayer (declared_of self.old) (fields_of row.now) (declared_of self.new)
+        ensures { JudgedOrMemory (layer_rules version self.old.names (fields_of row.now))
+            (AddsLayer version (declared_of self.old) (fields_of row.now) (declared_of self.new)
             × NumbersLayer number self.old.numbers self.new.numbers) result }
     {
-        let layer = records::layer(&self.names, row)?;
+        let layer = records::layer(version, &self.names, row)?;
         self.names.add_layer(field(row, 1))?;
         self.layers.push(layer)?;
         self.numbers.layers.push(number)?;

@@ -18,6 +18,7 @@ mod refused;
 mod rows;
 mod text_records;
 mod time;
+mod version;
 
 pub use input::{Input, Timetable};
 pub use limits::MAX_BYTES;

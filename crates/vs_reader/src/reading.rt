@@ -1,12 +1,12 @@
 //! The reading of a whole text: its header, the records that declare the instance, and the rows behind them.
 
-ghost use Rattle.std.specs.Prelude.{◌≡◌, ◌≤◌, ◌<◌, ◌^◌, ℕ, List, [], ◌∷◌, length, IfOk, IfErr, IsTrue, MatchBool, true};
+ghost use Rattle.std.specs.Prelude.{◌≡◌, ◌≤◌, ◌<◌, ◌^◌, ℕ, List, [], ◌∷◌, length, IfOk, IfErr, IsTrue, MatchOption, true};
 ghost use Rattle.csv.specs.Records.{fields_of};
 ghost use Rattle.vs_instance.specs.Problem.{Problem};
 ghost use Rattle.vs_reader.specs.declared.limits.TheConstants.{MAX_BYTES};
 ghost use Rattle.vs_reader.specs.Rows.{Row, AreCounted, all_fields};
 ghost use Rattle.vs_reader.specs.Names.{NameLists};
-ghost use Rattle.vs_reader.specs.Kinds.{HasHeader};
+ghost use Rattle.vs_reader.specs.Versions.{HasHeader};
 ghost use Rattle.vs_reader.specs.InstanceText.{AddAll, Makes, nothing_yet};
 ghost use Rattle.vs_reader.specs.Refusals.{HasMisfit};
 ghost use Rattle.vs_reader.specs.RecordNumbers.{HasNumbers};
@@ -20,10 +20,11 @@ ghost use Rattle.vs_reader.specs.Heads.{HeadOrRefuse};
 use crate::draft::Draft;
 use crate::input::{Input, Timetable};
 use crate::names::Names;
-use crate::record::{RecordError, is_header, is_result};
+use crate::record::{RecordError, is_result};
 use crate::refused::{ReadError, Refused, Why};
 use crate::rows::{RowBuilder, Rows};
 use crate::text_records::TextRecords;
+use crate::version::Version;
 use std::alloc::Global;
 use vs_instance::{Instance, NewError, Parts};
 use vs_types::Memory;
@@ -105,13 +106,13 @@ fn read_head(alloc: Global, records: &mut TextRecords) -> Result<Head, ReadError
     ensures read { (rows : List Row) → AreLeft records.old rows → HeadOrRefuse rows records.new result }
     ensures goes_on { IfOk result (λ head. IsTrue head.in_rest → IsOpen records.new) }
 {
-    if !read_header(records)? {
+    let Some(version) = read_header(records)? else {
         return Err(ReadError::Refused(Refused {
             row: 1,
             why: Why::NoHeader,
         }));
-    }
-    let declarations = read_declarations(alloc, records)?;
+    };
+    let declarations = read_declarations(alloc, version, records)?;
     let (instance, names) = made(alloc, declarations.draft)?;
     Ok(Head {
         instance,
@@ -121,19 +122,27 @@ fn read_head(alloc: Global, records: &mut TextRecords) -> Result<Head, ReadError
     })
 }
 
-/// Whether the next record is `instance`, `1`.
-fn read_header(records: &mut TextRecords) -> Result<bool, Memory>
-    ensures { IfOk result (λ is_one. (rows : List Row) → AreLeft records.old rows → MatchBool is_one
-        (HasHeader rows × GivesNext records.new rows true)
-        (¬ (HasHeader rows))) }
+/// The version that the next record says, `instance` and 1 or 2. None where it says none, or there is no record.
+fn read_header(records: &mut TextRecords) -> Result<Option<Version>, Memory>
+    ensures { IfOk result (λ said. (rows : List Row) → AreLeft records.old rows → MatchOption said
+        ((version : Version) → ¬ (HasHeader version rows))
+        (λ version. HasHeader version rows × GivesNext records.new rows true)) }
 {
-    Ok(records.next()? && is_header(&records.current))
+    if !records.next()? {
+        return Ok(None);
+    }
+    Ok(Version::of(&records.current))
 }
 
-/// Reads the records of the instance that come next, and the first `result` record behind them.
-fn read_declarations(alloc: Global, records: &mut TextRecords) -> Result<Declarations, ReadError>
+/// Reads the records of the instance that come next, by the rules of this version, and the first `result` record behind
+/// them.
+fn read_declarations(
+    alloc: Global,
+    version: Version,
+    records: &mut TextRecords,
+) -> Result<Declarations, ReadError>
     requires { IsOpen records.old }
-    ensures { (rows : List Row) → AreLeft records.old rows → DeclareOrRefuse rows records.new result }
+    ensures { (rows : List Row) → AreLeft records.old rows → DeclareOrRefuse version rows records.new result }
 {
     let mut draft = Draft::new(alloc);
     for number in 2..u32::MAX {
@@ -145,7 +154,7 @@ fn read_declarations(alloc: Global, records: &mut TextRecords) -> Result<Declara
                 in_rest: found,
             });
         }
-        if let Err(e) = draft.add(number, &records.current) {
+        if let Err(e) = draft.add(version, number, &records.current) {
             return Err(refused_at(number, e));
         }
     }
@@ -191,9 +200,9 @@ fn made(alloc: Global, draft: Draft) -> Result<(Instance, Names), ReadError>
     requires few { length draft.deadheads.items < 2 ^ 32 }
     ensures found { IfOk result (λ made.
         Makes (declared_of draft) made.0 × (made.1 ≡ draft.names)) }
-    ensures refused { IfErr result (RefusesAs (λ refused. (records : List Row)
-        → AddAll nothing_yet records (declared_of draft) → HasNumbers draft.numbers records
-        → HasMisfit records refused)) }
+    ensures refused { IfErr result (RefusesAs (λ refused. (version : Version) (records : List Row)
+        → AddAll version nothing_yet records (declared_of draft) → HasNumbers draft.numbers records
+        → HasMisfit version records refused)) }
     ensures none { IfErr result (λ e. IsRefusedError e
         → (p : Problem) → ¬ (Makes (declared_of draft) p)) }
 {

@@ -3,7 +3,7 @@
 ghost use Rattle.std.specs.Prelude.{◌≡◌};
 ghost use Rattle.csv.specs.Records.{fields_of};
 ghost use Rattle.vs_reader.specs.Rows.{field_of};
-ghost use Rattle.vs_reader.specs.Kinds.{is_header, is_result};
+ghost use Rattle.vs_reader.specs.Kinds.{is_result};
 ghost use Rattle.vs_reader.specs.declared.record.RecordError.TheVariants as error;
 
 use crate::kind::is_text;
@@ -49,13 +49,6 @@ pub fn field(row: &ByteRecord, k: usize) -> &[u8]
     ensures { result.now ≡ field_of (fields_of row.now) k }
 {
     row.get(k).unwrap_or(&[])
-}
-
-/// Whether a record is `instance`, `1`.
-pub fn is_header(row: &ByteRecord) -> bool
-    ensures { result ≡ is_header (fields_of row.now) }
-{
-    row.len() == 2 && is_text(field(row, 0), "instance") && is_text(field(row, 1), "1")
 }
 
 /// Whether the first field of a record is `result`.

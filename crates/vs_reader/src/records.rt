@@ -6,8 +6,8 @@ ghost use Rattle.vs_types.specs.declared.numbers.TheConstants.{MAX_LAYERS};
 ghost use Rattle.vs_reader.specs.Rows.{field_of};
 ghost use Rattle.vs_reader.specs.Numbers.{IsNumber, IsTime};
 ghost use Rattle.vs_reader.specs.Names.{Names as Numbered};
-ghost use Rattle.vs_reader.specs.InstanceText.{DeadheadRow, LayerRow, TripRow, NameLayers};
-ghost use Rattle.vs_reader.specs.Rules.{WritesName, WritesNumber, WritesTime, new_name, known_name, layer_names, stop_rules, deadhead_rules, layer_rules, trip_rules};
+ghost use Rattle.vs_reader.specs.InstanceText.{DeadheadRow, LayerRow, StayOf, TripRow, NameLayers};
+ghost use Rattle.vs_reader.specs.Rules.{WritesName, WritesNumber, WritesTime, new_name, known_name, layer_names, stop_rules, deadhead_rules, layer_rules, stay_rules, trip_rules};
 ghost use Rattle.vs_reader.specs.Judged.{Judged};
 ghost use Rattle.vs_reader.specs.Ends.{ends_rules, NamesEnds};
 
@@ -17,6 +17,7 @@ use crate::number::number;
 use crate::record::field;
 use crate::refused::Why;
 use crate::time::time;
+use crate::version::Version;
 use csv::ByteRecord;
 use vs_instance::{Deadhead, Layer, MAX_LAYERS, MAX_STOPS, MAX_TRIPS, Trip};
 use vs_types::{LayerNo, LayerSet, StopNo};
@@ -83,13 +84,13 @@ pub fn deadhead(names: &Names, guess: Ends, row: &ByteRecord) -> Result<Deadhead
     })
 }
 
-/// The layer that a record declares.
-pub fn layer(names: &Names, row: &ByteRecord) -> Result<Layer, Why>
+/// The layer that a record of a text of this version declares.
+pub fn layer(version: Version, names: &Names, row: &ByteRecord) -> Result<Layer, Why>
     requires kind { field_of (fields_of row.now) 0 ≡ codes "layer" }
-    ensures { Judged (layer_rules names.now (fields_of row.now))
-        (LayerRow names.now.stops (fields_of row.now) (field_of (fields_of row.now) 1)) result }
+    ensures { Judged (layer_rules version names.now (fields_of row.now))
+        (LayerRow version names.now.stops (fields_of row.now) (field_of (fields_of row.now) 1)) result }
 {
-    if row.len() != 7 {
+    if row.len() != version.layer_fields() {
         return Err(Why::FieldCount);
     }
     let name = written_name(row, 1)?;
@@ -101,6 +102,7 @@ pub fn layer(names: &Names, row: &ByteRecord) -> Result<Layer, Why>
     let fixed = written_number(row, 4)?;
     let per_minute = written_number(row, 5)?;
     let per_metre = written_number(row, 6)?;
+    let stay = written_stay(version, row)?;
     if names.layers() >= MAX_LAYERS as usize {
         return Err(Why::TooMany);
     }
@@ -110,7 +112,18 @@ pub fn layer(names: &Names, row: &ByteRecord) -> Result<Layer, Why>
         fixed,
         per_minute,
         per_metre,
+        stay,
     })
+}
+
+/// The least rest that the record of a layer writes in a text of this version, in minutes.
+fn written_stay(version: Version, row: &ByteRecord) -> Result<Option<u64>, Why>
+    ensures { Judged (stay_rules version (fields_of row.now)) (StayOf version (field_of (fields_of row.now) 7)) result }
+{
+    match version {
+        Version::One => Ok(None),
+        Version::Two => Ok(Some(written_number(row, 7)?)),
+    }
 }
 
 /// The trip that a record declares.

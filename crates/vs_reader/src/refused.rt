@@ -9,11 +9,11 @@ use vs_instance::Misfit;
 /// Why a text is refused.
 #[derive(Clone, Copy, Debug, PartialEq, Eq)]
 pub enum Why {
-    /// The first record isn't `instance`, `1`, or there is no record.
+    /// The first record is neither `instance`, `1` nor `instance`, `2`, or there is no record.
     NoHeader,
     /// The first field of a record is none of the kinds.
     UnknownKind,
-    /// The record's kind has another number of fields.
+    /// The record's kind has another number of fields in a text of this version.
     FieldCount,
     /// A field that has to be a name isn't one.
     BadName,

@@ -4,6 +4,7 @@ use Rattle.std.proofs.lemmas.List.{get_or_default, length_push}
 use Rattle.std.proofs.lemmas.List.Elements.{All-nil, All-push}
 use Rattle.std.proofs.lemmas.List.Quantifiers.{all_pairs_push}
 use Rattle.vs_instance.specs.Problem.{Problem}
+use Rattle.vs_reader.specs.declared.version.Version.{Version}
 use Rattle.vs_reader.specs.InstanceText.{IsNew, Declared, nothing_yet, Adds, AddAll, instance_records}
 use Rattle.vs_reader.specs.NameRules.{AreNames}
 use Rattle.vs_reader.specs.Names.{IsName, NameLists}
@@ -28,30 +29,31 @@ one_more_name names name are new room = record {
   few = let more = length_push names name in omega (arith, more, room);
 }
 
-adds_names : (old : Declared) (row : Row) (new : Declared) → Adds old row new → HaveNames old.names
-    → HaveNames new.names
-adds_names old row new (inl a) h =
+adds_names : (version : Version) (old : Declared) (row : Row) (new : Declared) → Adds version old row new
+    → HaveNames old.names → HaveNames new.names
+adds_names version old row new (inl a) h =
     subst (λ (d : Declared). HaveNames d.names) (sym a.added) (record { layers = h.layers; trips = h.trips })
-adds_names old row new (inr (inl a)) h =
+adds_names version old row new (inr (inl a)) h =
     subst (λ (d : Declared). HaveNames d.names) (sym a.added) (record { layers = h.layers; trips = h.trips })
-adds_names old row new (inr (inr (inl a))) h = subst (λ (d : Declared). HaveNames d.names) (sym a.added)
+adds_names version old row new (inr (inr (inl a))) h = subst (λ (d : Declared). HaveNames d.names) (sym a.added)
     (record {
       layers =
           one_more_name old.names.layers a.name h.layers a.new_name (let room = a.room in omega arith);
       trips = h.trips;
     })
-adds_names old row new (inr (inr (inr a))) h = subst (λ (d : Declared). HaveNames d.names) (sym a.added)
+adds_names version old row new (inr (inr (inr a))) h = subst (λ (d : Declared). HaveNames d.names) (sym a.added)
     (record { layers = h.layers; trips = one_more_name old.names.trips a.name h.trips a.new_name a.room })
 
-add_all_names : (old : Declared) (rows : List Row) (new : Declared) → AddAll old rows new → HaveNames old.names
-    → HaveNames new.names
-add_all_names old [] new h have = subst (λ (d : Declared). HaveNames d.names) (sym h) have
-add_all_names old (row ∷ rows) new h have = add_all_names h.0 rows new h.2 (adds_names old row h.0 h.1 have)
+add_all_names : (version : Version) (old : Declared) (rows : List Row) (new : Declared)
+    → AddAll version old rows new → HaveNames old.names → HaveNames new.names
+add_all_names version old [] new h have = subst (λ (d : Declared). HaveNames d.names) (sym h) have
+add_all_names version old (row ∷ rows) new h have =
+    add_all_names version h.0 rows new h.2 (adds_names version old row h.0 h.1 have)
 
 pub instance_names : (bytes : List ℕ) (p : Problem) (names : NameLists) (before : ℕ) (rest : List Row)
     → StandsFor bytes p names before rest → HaveNames names
 instance_names bytes p names before rest stands =
     let t = stands.text in
     subst HaveNames (sym t.names_are)
-    (add_all_names nothing_yet (instance_records stands.rows) t.declared t.declares
+    (add_all_names t.version nothing_yet (instance_records stands.rows) t.declared t.declares
     (record { layers = no_names; trips = no_names }))

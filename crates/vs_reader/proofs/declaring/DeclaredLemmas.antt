@@ -12,6 +12,7 @@ use Rattle.vs_instance.specs.declared.layer.Layer.{Layer}
 use Rattle.vs_instance.specs.declared.trip.Trip.{Trip}
 use Rattle.vs_reader.specs.declared.kind.Kind.{Kind}
 use Rattle.vs_reader.specs.declared.kind.Kind.TheVariants as kind
+use Rattle.vs_reader.specs.declared.version.Version.{Version}
 use Rattle.vs_reader.specs.Rows.{Field, Row, field_of}
 use Rattle.vs_reader.specs.Kinds.{kind_of}
 use Rattle.vs_reader.proofs.declaring.KindLemmas.{AddsOfKind, adds_by_kind}
@@ -98,8 +99,9 @@ sound_deadhead old new row s a =
       trip_layers = s.trip_layers;
     })
 
-sound_layer : (old new : Declared) (row : Row) → IsSound old → AddsLayer old row new → IsSound new
-sound_layer old new row s a =
+sound_layer : (version : Version) (old new : Declared) (row : Row) → IsSound old → AddsLayer version old row new
+    → IsSound new
+sound_layer version old new row s a =
     let more = length_push old.names.layers a.name in
     subst IsSound (sym a.added) (record {
       stops_apart = s.stops_apart;
@@ -164,15 +166,18 @@ sound_trip old new row s a =
           (λ l has. let w = (r.layers_are.members l).0 has in slice_get_within old.names.layers l w.0 w.2);
     })
 
-pub IsSound-Adds : (old new : Declared) (row : Row) → IsSound old → Adds old row new → IsSound new
-IsSound-Adds old new row s (inl a) = sound_stop old new row s a
-IsSound-Adds old new row s (inr (inl a)) = sound_deadhead old new row s a
-IsSound-Adds old new row s (inr (inr (inl a))) = sound_layer old new row s a
-IsSound-Adds old new row s (inr (inr (inr a))) = sound_trip old new row s a
+pub IsSound-Adds : (version : Version) (old new : Declared) (row : Row) → IsSound old → Adds version old row new
+    → IsSound new
+IsSound-Adds version old new row s (inl a) = sound_stop old new row s a
+IsSound-Adds version old new row s (inr (inl a)) = sound_deadhead old new row s a
+IsSound-Adds version old new row s (inr (inr (inl a))) = sound_layer version old new row s a
+IsSound-Adds version old new row s (inr (inr (inr a))) = sound_trip old new row s a
 
-pub IsSound-AddAll : (old new : Declared) (rows : List Row) → IsSound old → AddAll old rows new → IsSound new
-IsSound-AddAll old new [] s all = subst IsSound (sym all) s
-IsSound-AddAll old new (row ∷ rows) s all = IsSound-AddAll all.0 new rows (IsSound-Adds old all.0 row s all.1) all.2
+pub IsSound-AddAll : (version : Version) (old new : Declared) (rows : List Row) → IsSound old
+    → AddAll version old rows new → IsSound new
+IsSound-AddAll version old new [] s all = subst IsSound (sym all) s
+IsSound-AddAll version old new (row ∷ rows) s all =
+    IsSound-AddAll version all.0 new rows (IsSound-Adds version old all.0 row s all.1) all.2
 
 -- what records of one kind add is one thing
 one_stop : (old a b : Declared) (row : Row) → AddsStop old row a → AddsStop old row b → a ≡ b
@@ -187,9 +192,10 @@ one_more_deadhead old a b row s x y =
     let d = one_deadhead old.names.stops row x.deadhead y.deadhead s.stops_apart x.row_is y.row_is in
     x.added ∙ ap (λ (d : Deadhead). record old { deadheads = old.deadheads ++ d ∷ [] }) d ∙ sym y.added
 
-one_more_layer : (old a b : Declared) (row : Row) → IsSound old → AddsLayer old row a → AddsLayer old row b → a ≡ b
-one_more_layer old a b row s x y =
-    let l = one_layer old.names.stops row x.name y.name x.layer y.layer s.stops_apart x.row_is y.row_is in
+one_more_layer : (version : Version) (old a b : Declared) (row : Row) → IsSound old → AddsLayer version old row a
+    → AddsLayer version old row b → a ≡ b
+one_more_layer version old a b row s x y =
+    let l = one_layer version old.names.stops row x.name y.name x.layer y.layer s.stops_apart x.row_is y.row_is in
     x.added ∙
     (λ i. record old {
       names = record old.names { layers = old.names.layers ++ l.0 i ∷ [] };
@@ -207,33 +213,38 @@ one_more_trip old a b row s x y =
           old.trips ++ t.1 i ∷ [];
     }) ∙ sym y.added
 
-pub one_Adds : (old a b : Declared) (row : Row) → IsSound old → Adds old row a → Adds old row b → a ≡ b
-one_Adds old a b row s x y = by (kind_of (field_of row 0)) (adds_by_kind old row a x) (adds_by_kind old row b y)
+pub one_Adds : (version : Version) (old a b : Declared) (row : Row) → IsSound old → Adds version old row a
+    → Adds version old row b → a ≡ b
+one_Adds version old a b row s x y =
+    by (kind_of (field_of row 0)) (adds_by_kind version old row a x) (adds_by_kind version old row b y)
   where
-    by : (kind : Option Kind) → AddsOfKind kind old row a → AddsOfKind kind old row b → a ≡ b
+    by : (kind : Option Kind) → AddsOfKind kind version old row a → AddsOfKind kind version old row b → a ≡ b
     by None x y = absurd x
     by (Some kind.Stop) x y = one_stop old a b row x y
     by (Some kind.Deadhead) x y = one_more_deadhead old a b row s x y
-    by (Some kind.Layer) x y = one_more_layer old a b row s x y
+    by (Some kind.Layer) x y = one_more_layer version old a b row s x y
     by (Some kind.Trip) x y = one_more_trip old a b row s x y
 
-pub AddAll-push : (old mid new : Declared) (rows : List Row) (row : Row) → AddAll old rows mid → Adds mid row new
-    → AddAll old (rows ++ row ∷ []) new
-AddAll-push old mid new [] row all adds = (new, subst (λ (m : Declared). Adds m row new) all adds, refl)
-AddAll-push old mid new (r ∷ rows) row all adds = (all.0, all.1, AddAll-push all.0 mid new rows row all.2 adds)
+pub AddAll-push : (version : Version) (old mid new : Declared) (rows : List Row) (row : Row)
+    → AddAll version old rows mid → Adds version mid row new → AddAll version old (rows ++ row ∷ []) new
+AddAll-push version old mid new [] row all adds = (new, subst (λ (m : Declared). Adds version m row new) all adds, refl)
+AddAll-push version old mid new (r ∷ rows) row all adds =
+    (all.0, all.1, AddAll-push version all.0 mid new rows row all.2 adds)
 
-pub one_AddAll : (old a b : Declared) (rows : List Row) → IsSound old → AddAll old rows a → AddAll old rows b → a ≡ b
-one_AddAll old a b [] s x y = x ∙ sym y
-one_AddAll old a b (row ∷ rows) s x y =
-    let same = one_Adds old x.0 y.0 row s x.1 y.1 in
-    one_AddAll x.0 a b rows (IsSound-Adds old x.0 row s x.1) x.2
-    (subst (λ (m : Declared). AddAll m rows b) (sym same) y.2)
+pub one_AddAll : (version : Version) (old a b : Declared) (rows : List Row) → IsSound old
+    → AddAll version old rows a → AddAll version old rows b → a ≡ b
+one_AddAll version old a b [] s x y = x ∙ sym y
+one_AddAll version old a b (row ∷ rows) s x y =
+    let same = one_Adds version old x.0 y.0 row s x.1 y.1 in
+    one_AddAll version x.0 a b rows (IsSound-Adds version old x.0 row s x.1) x.2
+    (subst (λ (m : Declared). AddAll version m rows b) (sym same) y.2)
 
 -- records declare no more deadheads than there are records
-fewer_deadheads : (old new : Declared) (row : Row) → Adds old row new → length new.deadheads ≤ length old.deadheads + 1
-fewer_deadheads old new row adds = by (kind_of (field_of row 0)) (adds_by_kind old row new adds)
+fewer_deadheads : (version : Version) (old new : Declared) (row : Row) → Adds version old row new
+    → length new.deadheads ≤ length old.deadheads + 1
+fewer_deadheads version old new row adds = by (kind_of (field_of row 0)) (adds_by_kind version old row new adds)
   where
-    by : (kind : Option Kind) → AddsOfKind kind old row new → length new.deadheads ≤ length old.deadheads + 1
+    by : (kind : Option Kind) → AddsOfKind kind version old row new → length new.deadheads ≤ length old.deadheads + 1
     by None a = absurd a
     by (Some kind.Stop) a = omega (arith, ap (λ (d : Declared). length d.deadheads) a.added)
     by (Some kind.Deadhead) a =
@@ -241,8 +252,8 @@ fewer_deadheads old new row adds = by (kind_of (field_of row 0)) (adds_by_kind o
     by (Some kind.Layer) a = omega (arith, ap (λ (d : Declared). length d.deadheads) a.added)
     by (Some kind.Trip) a = omega (arith, ap (λ (d : Declared). length d.deadheads) a.added)
 
-pub few_deadheads : (old new : Declared) (rows : List Row) → AddAll old rows new
+pub few_deadheads : (version : Version) (old new : Declared) (rows : List Row) → AddAll version old rows new
     → length new.deadheads ≤ length old.deadheads + length rows
-few_deadheads old new [] all = omega (arith, ap (λ (d : Declared). length d.deadheads) all)
-few_deadheads old new (row ∷ rows) all =
-    omega (arith, fewer_deadheads old all.0 row all.1, few_deadheads all.0 new rows all.2)
+few_deadheads version old new [] all = omega (arith, ap (λ (d : Declared). length d.deadheads) all)
+few_deadheads version old new (row ∷ rows) all =
+    omega (arith, fewer_deadheads version old all.0 row all.1, few_deadheads version all.0 new rows all.2)

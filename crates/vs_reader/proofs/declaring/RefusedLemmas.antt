@@ -1,17 +1,21 @@
 -- A text in which a record breaks a rule declares nothing.
 use Rattle.std.proofs.Common.{◌≡◌, ℕ, ◌+◌, inl, inr, List, [], ◌∷◌, ◌++◌, length, get_or, Option, Some, None, IsSome, Contains, append_assoc, refl, sym, ◌∙◌, subst, arith}
-use Rattle.std.specs.Prelude.{All, AllPairs}
+use Rattle.std.specs.Prelude.{All, AllPairs, codes}
 use Rattle.std.proofs.lemmas.List.{get_or_append_left, length-append}
 use Rattle.std.proofs.lemmas.List.Elements.{All-nil, All-push, All-head, All-tail, All-contains}
 use Rattle.vs_reader.specs.declared.kind.Kind.{Kind}
 use Rattle.vs_reader.specs.declared.kind.Kind.TheVariants.{Stop, Deadhead, Layer, Trip}
 use Rattle.vs_reader.specs.declared.refused.Refused.{Refused}
+use Rattle.vs_reader.specs.declared.version.Version.{Version}
+use Rattle.vs_reader.specs.declared.version.Version.TheVariants.{One, Two}
 use Rattle.vs_reader.specs.Rows.{Field, Row, field_of}
 use Rattle.vs_reader.specs.Names.{IsName, NameLists, Names}
 use Rattle.vs_reader.specs.Kinds.{kind_of}
-use Rattle.vs_reader.specs.InstanceText.{Declared, AddsStop, AddsDeadhead, AddsLayer, AddsTrip, Adds, AddAll, nothing_yet}
-use Rattle.vs_reader.specs.Rules.{AreKept, HasRoom, rules, rules_of_kind, stop_rules, deadhead_rules, layer_rules, trip_rules, layer_names}
+use Rattle.vs_reader.specs.Versions.{layer_fields}
+use Rattle.vs_reader.specs.InstanceText.{Declared, AddsStop, AddsDeadhead, AddsLayer, AddsTrip, Adds, AddAll, StayOf, stay_fields, nothing_yet}
+use Rattle.vs_reader.specs.Rules.{AreKept, HasRoom, rules, rules_of_kind, stop_rules, deadhead_rules, layer_rules, stay_rules, trip_rules, layer_names}
 use Rattle.vs_reader.specs.Refusals.{BreaksRule}
+use Rattle.vs_types.specs.declared.numbers.TheConstants.{MAX_LAYERS}
 use Rattle.vs_instance.specs.declared.limits.TheConstants.{MAX_TRIPS}
 use Rattle.vs_reader.proofs.naming.NameLemmas.{Contains-Names}
 use Rattle.vs_reader.proofs.declaring.RuleLemmas.{AreKept-append, broken_not_kept}
@@ -54,7 +58,22 @@ kept_layers names earlier (f ∷ fields) are each once =
         once k (length earlier) f within (omega (arith, length-append earlier (f ∷ fields)))
         (get_or_append_left earlier (f ∷ fields) f k within ∙ is ∙ sym (element_behind earlier fields f f))
 
-module _ (old : Declared) (row : Row) (new : Declared) (are : AreAllNames old.names) where
+-- a row with the fields of a least rest behind seven others
+abbrev with_stay : Version → Field → Field → Field → Field → Field → Field → Field → Field → Row
+with_stay version a b c d e f g stay = a ∷ b ∷ c ∷ d ∷ e ∷ f ∷ g ∷ stay_fields version stay
+
+with_stay-count : (version : Version) (a b c d e f g stay : Field)
+    → length (with_stay version a b c d e f g stay) ≡ layer_fields version
+with_stay-count One a b c d e f g stay = refl
+with_stay-count Two a b c d e f g stay = refl
+
+with_stay-kept : (version : Version) (a b c d e f g field : Field) (stay : Option ℕ) → StayOf version field stay
+    → AreKept (stay_rules version (with_stay version a b c d e f g field))
+with_stay-kept One a b c d e f g field stay is = tt
+with_stay-kept Two a b c d e f g field None is = absurd is
+with_stay-kept Two a b c d e f g field (Some n) is = ((n, is), tt)
+
+module _ (version : Version) (old : Declared) (row : Row) (new : Declared) (are : AreAllNames old.names) where
   stop_kept : AddsStop old row new → AreKept (stop_rules old.names row)
   stop_kept a =
       subst (λ (r : Row). AreKept (stop_rules old.names r)) (sym a.row_is)
@@ -73,12 +92,20 @@ module _ (old : Declared) (row : Row) (new : Declared) (are : AreAllNames old.na
         ),
       )
 
-  layer_kept : AddsLayer old row new → AreKept (layer_rules old.names row)
+  layer_kept : AddsLayer version old row new → AreKept (layer_rules version old.names row)
   layer_kept a =
       let r = a.row_is in
       let depot = named old.names.stops r.depot a.layer.depot.0 are.stops r.depot_is in
-      subst (λ (r : Row). AreKept (layer_rules old.names r)) (sym r.row_is) (
-        refl,
+      let row = with_stay version (codes "layer") a.name r.depot r.fleet r.fixed r.per_minute r.per_metre r.stay in
+      let count =
+      with_stay-count version (codes "layer") a.name r.depot r.fleet r.fixed r.per_minute r.per_metre r.stay in
+      let stay =
+      with_stay-kept version (codes "layer") a.name r.depot r.fleet r.fixed r.per_minute r.per_metre r.stay a.layer.stay
+      r.stay_is in
+      let rest =
+      AreKept-append (stay_rules version row) (HasRoom MAX_LAYERS old.names.layers ∷ []) stay (a.room, tt) in
+      subst (λ (r : Row). AreKept (layer_rules version old.names r)) (sym r.row_is) (
+        count,
         (
           a.new_name.name,
           (
@@ -91,7 +118,7 @@ module _ (old : Declared) (row : Row) (new : Declared) (are : AreAllNames old.na
                   (a.layer.fleet, r.fleet_is),
                   (
                     (a.layer.fixed, r.fixed_is),
-                    ((a.layer.per_minute, r.per_minute_is), ((a.layer.per_metre, r.per_metre_is), (a.room, tt))),
+                    ((a.layer.per_minute, r.per_minute_is), ((a.layer.per_metre, r.per_metre_is), rest)),
                   ),
                 ),
               ),
@@ -140,8 +167,8 @@ module _ (old : Declared) (row : Row) (new : Declared) (are : AreAllNames old.na
         ),
       )
 
-  kept_of_kind : (kind : Option Kind) → AddsOfKind kind old row new → IsSome kind
-      × AreKept (rules_of_kind kind old.names row)
+  kept_of_kind : (kind : Option Kind) → AddsOfKind kind version old row new → IsSome kind
+      × AreKept (rules_of_kind kind version old.names row)
   kept_of_kind None a = absurd a
   kept_of_kind (Some Stop) a = (refl, stop_kept a)
   kept_of_kind (Some Deadhead) a = (refl, deadhead_kept a)
@@ -149,10 +176,10 @@ module _ (old : Declared) (row : Row) (new : Declared) (are : AreAllNames old.na
   kept_of_kind (Some Trip) a = (refl, trip_kept a)
 
   -- a record that adds something keeps its rules
-  pub kept_by : Adds old row new → AreKept (rules old.names row)
-  kept_by a = kept_of_kind (kind_of (field_of row 0)) (adds_by_kind old row new a)
+  pub kept_by : Adds version old row new → AreKept (rules version old.names row)
+  kept_by a = kept_of_kind (kind_of (field_of row 0)) (adds_by_kind version old row new a)
 
-  names_of_kind : (kind : Option Kind) → AddsOfKind kind old row new → AreAllNames new.names
+  names_of_kind : (kind : Option Kind) → AddsOfKind kind version old row new → AreAllNames new.names
   names_of_kind None a = absurd a
   names_of_kind (Some Stop) a = subst (λ (d : Declared). AreAllNames d.names) (sym a.added)
       (record { stops = All-push IsName old.names.stops a.name are.stops a.new_name.name; layers = are.layers })
@@ -162,18 +189,19 @@ module _ (old : Declared) (row : Row) (new : Declared) (are : AreAllNames old.na
   names_of_kind (Some Trip) a =
       subst (λ (d : Declared). AreAllNames d.names) (sym a.added) (record { stops = are.stops; layers = are.layers })
 
-  pub all_names : Adds old row new → AreAllNames new.names
-  all_names a = names_of_kind (kind_of (field_of row 0)) (adds_by_kind old row new a)
+  pub all_names : Adds version old row new → AreAllNames new.names
+  all_names a = names_of_kind (kind_of (field_of row 0)) (adds_by_kind version old row new a)
 
 pub AreAllNames-nothing : AreAllNames nothing_yet.names
 AreAllNames-nothing = record { stops = All-nil IsName; layers = All-nil IsName }
 
 -- where a record breaks a rule, the records declare nothing
-pub breaks_refutes : (n : ℕ) (old new : Declared) (rows : List Row) (refused : Refused) → AreAllNames old.names
-    → BreaksRule n old.names rows refused → ¬ (AddAll old rows new)
-breaks_refutes n old new [] refused are breaks all = breaks
-breaks_refutes n old new (row ∷ rows) refused are (inl here) all =
-    broken_not_kept (rules old.names row) refused.why here.1 (kept_by old row all.0 are all.1)
-breaks_refutes n old new (row ∷ rows) refused are (inr later) all =
-    breaks_refutes (n + 1) all.0 new rows refused (all_names old row all.0 are all.1)
-    (subst (λ (ns : NameLists). BreaksRule (n + 1) ns rows refused) (names_after old row all.0 all.1) later.1) all.2
+pub breaks_refutes : (version : Version) (n : ℕ) (old new : Declared) (rows : List Row) (refused : Refused)
+    → AreAllNames old.names → BreaksRule version n old.names rows refused → ¬ (AddAll version old rows new)
+breaks_refutes version n old new [] refused are breaks all = breaks
+breaks_refutes version n old new (row ∷ rows) refused are (inl here) all =
+    broken_not_kept (rules version old.names row) refused.why here.1 (kept_by version old row all.0 are all.1)
+breaks_refutes version n old new (row ∷ rows) refused are (inr later) all =
+    breaks_refutes version (n + 1) all.0 new rows refused (all_names version old row all.0 are all.1)
+    (subst (λ (ns : NameLists). BreaksRule version (n + 1) ns rows refused) (names_after version old row all.0 all.1)
+    later.1) all.2

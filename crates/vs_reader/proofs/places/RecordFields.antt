@@ -1,8 +1,13 @@
 -- The fields of a record of csv.
 use Rattle.std.proofs.Common.{◌≡◌, ℕ, zero, suc, ◌≤◌, [], ◌∷◌, length, drop, Option, Some, None, Bor, refl, ap, ◌∙◌, arith}
 use Rattle.std.specs.Option.{option_map, unwrap_or}
+use Rattle.std.proofs.lemmas.List.{drop_all, drop_more}
 use Rattle.csv.specs.Records.{field_at}
+use Rattle.vs_reader.specs.declared.version.Version.{Version}
+use Rattle.vs_reader.specs.declared.version.Version.TheVariants.{One, Two}
 use Rattle.vs_reader.specs.Rows.{Field, Row, field_of}
+use Rattle.vs_reader.specs.Versions.{layer_fields}
+use Rattle.vs_reader.specs.InstanceText.{stay_fields}
 
 -- a field, or the empty one past the end
 pub field_at-or : (row : Row) (k : ℕ) → unwrap_or (field_at row k) [] ≡ field_of row k
@@ -18,22 +23,8 @@ pub field_or_empty : (row : Row) (k : ℕ) (got : Option (Bor Field)) (empty : B
 field_or_empty row k None empty is none = none ∙ ap (λ o. unwrap_or o []) is ∙ field_at-or row k
 field_or_empty row k (Some s) empty is none = ap (λ o. unwrap_or o []) is ∙ field_at-or row k
 
--- a row of seven fields
-pub seven_fields : (row : Row) (kind : Field) → field_of row 0 ≡ kind → length row ≡ 7
-    → row ≡ kind ∷ field_of row 1 ∷ field_of row 2 ∷ field_of row 3 ∷ field_of row 4 ∷ field_of row 5
-    ∷ field_of row 6 ∷ []
-seven_fields [] kind is many = absurd (omega arith)
-seven_fields (a ∷ []) kind is many = absurd (omega arith)
-seven_fields (a ∷ b ∷ []) kind is many = absurd (omega arith)
-seven_fields (a ∷ b ∷ c ∷ []) kind is many = absurd (omega arith)
-seven_fields (a ∷ b ∷ c ∷ d ∷ []) kind is many = absurd (omega arith)
-seven_fields (a ∷ b ∷ c ∷ d ∷ e ∷ []) kind is many = absurd (omega arith)
-seven_fields (a ∷ b ∷ c ∷ d ∷ e ∷ f ∷ []) kind is many = absurd (omega arith)
-seven_fields (a ∷ b ∷ c ∷ d ∷ e ∷ f ∷ g ∷ []) kind is many = ap (λ (k : Field). k ∷ b ∷ c ∷ d ∷ e ∷ f ∷ g ∷ []) is
-seven_fields (a ∷ b ∷ c ∷ d ∷ e ∷ f ∷ g ∷ h ∷ row) kind is many = absurd (omega arith)
-
--- a row of eight fields or more
-pub long_row : (row : Row) (kind : Field) → field_of row 0 ≡ kind → 8 ≤ length row
+-- a row of seven fields or more
+pub long_row : (row : Row) (kind : Field) → field_of row 0 ≡ kind → 7 ≤ length row
     → row ≡ kind ∷ field_of row 1 ∷ field_of row 2 ∷ field_of row 3 ∷ field_of row 4 ∷ field_of row 5
     ∷ field_of row 6 ∷ drop 7 row
 long_row [] kind is many = absurd (omega arith)
@@ -44,3 +35,25 @@ long_row (a ∷ b ∷ c ∷ d ∷ []) kind is many = absurd (omega arith)
 long_row (a ∷ b ∷ c ∷ d ∷ e ∷ []) kind is many = absurd (omega arith)
 long_row (a ∷ b ∷ c ∷ d ∷ e ∷ f ∷ []) kind is many = absurd (omega arith)
 long_row (a ∷ b ∷ c ∷ d ∷ e ∷ f ∷ g ∷ row) kind is many = ap (λ (k : Field). k ∷ b ∷ c ∷ d ∷ e ∷ f ∷ g ∷ row) is
+
+-- behind seven fields, a layer's record has those of its least rest
+behind_seven : (version : Version) (row : Row) → length row ≡ layer_fields version
+    → drop 7 row ≡ stay_fields version (field_of row 7)
+behind_seven One row many = drop_all 7 row (omega (arith, many))
+behind_seven Two row many =
+    drop_more row 7 [] (omega (arith, many))
+    ∙ ap (λ (fs : Row). field_of row 7 ∷ fs) (drop_all 8 row (omega (arith, many)))
+
+at_least_seven : (version : Version) (row : Row) → length row ≡ layer_fields version → 7 ≤ length row
+at_least_seven One row many = omega (arith, many)
+at_least_seven Two row many = omega (arith, many)
+
+-- the record of a layer
+pub layer_row : (version : Version) (row : Row) (kind : Field) → field_of row 0 ≡ kind
+    → length row ≡ layer_fields version
+    → row ≡ kind ∷ field_of row 1 ∷ field_of row 2 ∷ field_of row 3 ∷ field_of row 4 ∷ field_of row 5
+    ∷ field_of row 6 ∷ stay_fields version (field_of row 7)
+layer_row version row kind is many =
+    long_row row kind is (at_least_seven version row many)
+    ∙ ap (λ (fs : Row). kind ∷ field_of row 1 ∷ field_of row 2 ∷ field_of row 3 ∷ field_of row 4 ∷ field_of row 5
+    ∷ field_of row 6 ∷ fs) (behind_seven version row many)

@@ -1,13 +1,16 @@
--- The first record of a text.
-use Rattle.std.proofs.Common.{◌≡◌, Bool, true, false, eqb, ◌&&◌, List, [], ◌∷◌, length, MatchBool, sym, ap, ◌∙◌, arith}
+-- The first record of a text, and its version.
+use Rattle.std.proofs.Common.{◌≡◌, Bool, true, false, cond, eqb, ◌&&◌, List, [], ◌∷◌, length, MatchOption, Option, Some, None, refl, sym, ap, ◌∙◌, arith}
 use Rattle.std.specs.Prelude.{codes}
 use Rattle.std.specs.Str.{bytes_eq}
-use Rattle.std.proofs.lemmas.Bool.{and_parts, eqb-true, false≢true}
+use Rattle.std.proofs.lemmas.Bool.{and_parts, eqb-true}
+use Rattle.std.proofs.lemmas.Option.{same_Some}
 use Rattle.std.proofs.lemmas.Slice.Eq.{bytes_eq-Decides}
 use Rattle.csv.specs.Records.{fields_of}
 use Rattle.vs_reader.specs.declared.text_records.TextRecords.{TextRecords}
+use Rattle.vs_reader.specs.declared.version.Version.{Version}
+use Rattle.vs_reader.specs.declared.version.Version.TheVariants.{One, Two}
 use Rattle.vs_reader.specs.Rows.{Field, Row, field_of, row_of}
-use Rattle.vs_reader.specs.Kinds.{header, is_header, HasHeader}
+use Rattle.vs_reader.specs.Versions.{header, version_name, version_of, HasHeader}
 use Rattle.vs_reader.specs.Left.{GivesNext}
 
 two_fields : (row : Row) (f g : Field) → length row ≡ 2 → field_of row 0 ≡ f → field_of row 1 ≡ g → row ≡ f ∷ g ∷ []
@@ -16,26 +19,66 @@ two_fields (a ∷ []) f g two is_f is_g = absurd (omega arith)
 two_fields (a ∷ b ∷ []) f g two is_f is_g = λ i. is_f i ∷ is_g i ∷ []
 two_fields (a ∷ b ∷ c ∷ row) f g two is_f is_g = absurd (omega arith)
 
-header_from : (row : Row) → is_header row ≡ true → row ≡ header
-header_from row is =
-    let parts =
-    and_parts (eqb (length row) 2 && bytes_eq (field_of row 0) (codes "instance"))
-    (bytes_eq (field_of row 1) (codes "1")) is in
+-- a record that says a version is its header
+header_of : (row : Row) (version : Version) → version_of row ≡ Some version → row ≡ header version
+header_of row version is =
+    let begins = eqb (length row) 2 && bytes_eq (field_of row 0) (codes "instance") in
+    let one = bytes_eq (field_of row 1) (codes "1") in
+    let two = bytes_eq (field_of row 1) (codes "2") in
+    let parts = some_of begins one two version is in
     let both = and_parts (eqb (length row) 2) (bytes_eq (field_of row 0) (codes "instance")) parts.0 in
-    two_fields row (codes "instance") (codes "1") (eqb-true (length row) 2 both.0)
-    ((bytes_eq-Decides (field_of row 0) (codes "instance")).0 both.1)
-    ((bytes_eq-Decides (field_of row 1) (codes "1")).0 parts.1)
+    two_fields row (codes "instance") (version_name version) (eqb-true (length row) 2 both.0)
+    ((bytes_eq-Decides (field_of row 0) (codes "instance")).0 both.1) (named parts.1)
+  where
+    -- what a choice among the two says
+    Says : Bool → Bool → Version → Type 0
+    Says one two One = one ≡ true
+    Says one two Two = two ≡ true
+
+    some_of : (begins one two : Bool) (version : Version)
+        → cond begins (cond one (Some One) (cond two (Some Two) None)) None ≡ Some version
+        → (begins ≡ true) × Says one two version
+    some_of true true two One is = (refl, refl)
+    some_of true true two Two is = cc
+    some_of true false true One is = cc
+    some_of true false true Two is = (refl, refl)
+    some_of true false false version is = cc
+    some_of false one two version is = cc
+
+    named : Says (bytes_eq (field_of row 1) (codes "1")) (bytes_eq (field_of row 1) (codes "2")) version
+        → field_of row 1 ≡ version_name version
+    named = by version
+      where
+        by : (v : Version) → Says (bytes_eq (field_of row 1) (codes "1")) (bytes_eq (field_of row 1) (codes "2")) v
+            → field_of row 1 ≡ version_name v
+        by One says = (bytes_eq-Decides (field_of row 1) (codes "1")).0 says
+        by Two says = (bytes_eq-Decides (field_of row 1) (codes "2")).0 says
+
+version_of-header : (version : Version) → version_of (header version) ≡ Some version
+version_of-header One = refl
+version_of-header Two = refl
 
 -- what reading the first record answers
-pub header_read : (records : TextRecords) (rows : List Row) (is : Bool) → GivesNext records rows true
-    → is ≡ is_header (fields_of records.current)
-    → MatchBool is (HasHeader rows × GivesNext records rows true) (¬ (HasHeader rows))
-header_read records rows true next is =
-    (ap (λ (rs : List Row). row_of rs 0) next.1 ∙ header_from (fields_of records.current) (sym is), next)
-header_read records rows false next is = λ has.
-    let same : fields_of records.current ≡ header = ap (λ (rs : List Row). row_of rs 0) (sym next.1) ∙ has in
-    false≢true (is ∙ ap is_header same)
+pub header_read : (records : TextRecords) (rows : List Row) (said : Option Version) → GivesNext records rows true
+    → said ≡ version_of (fields_of records.current)
+    → MatchOption said ((version : Version) → ¬ (HasHeader version rows))
+    (λ version. HasHeader version rows × GivesNext records rows true)
+header_read records rows (Some version) next is = (
+  ap (λ (rs : List Row). row_of rs 0) next.1 ∙ header_of (fields_of records.current) version (sym is),
+  next,
+)
+header_read records rows None next is = λ version has.
+    let same : fields_of records.current ≡ header version = ap (λ (rs : List Row). row_of rs 0) (sym next.1) ∙ has in
+    let says : None ≡ Some version = is ∙ ap version_of same ∙ version_of-header version in
+    cc
 
-pub no_header : (rows : List Row) → rows ≡ [] → ¬ (HasHeader rows)
-no_header rows none has = let empty : [] ≡ header =
+pub no_header : (rows : List Row) → rows ≡ [] → (version : Version) → ¬ (HasHeader version rows)
+no_header rows none version has = let empty : [] ≡ header version =
     ap (λ (rs : List Row). row_of rs 0) (sym none) ∙ has in absurd (omega (arith, ap (λ (r : Row). length r) empty))
+
+-- a text has one version
+pub one_version : (rows : List Row) (version other : Version) → HasHeader version rows → HasHeader other rows
+    → version ≡ other
+one_version rows version other has also =
+    same_Some version other
+    (sym (version_of-header version) ∙ ap version_of (sym has ∙ also) ∙ version_of-header other)

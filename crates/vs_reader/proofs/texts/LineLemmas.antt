@@ -15,9 +15,12 @@ use Rattle.csv.specs.declared.parser.State.TheVariants as st
 use Rattle.vs_reader.specs.Rows.{Field, Row, IsPlain, IsPlainRow, line, lines}
 use Rattle.vs_instance.specs.Problem.{Problem}
 use Rattle.vs_reader.specs.Names.{NameLists}
-use Rattle.vs_reader.specs.Kinds.{HasHeader, header, is_result, before_result}
+use Rattle.vs_reader.specs.Versions.{HasHeader, header}
+use Rattle.vs_reader.specs.Kinds.{is_result, before_result}
 use Rattle.vs_reader.specs.InstanceText.{AddAll, nothing_yet, instance_records}
 use Rattle.vs_reader.specs.RowEnds.{row_weight, weight_of}
+use Rattle.vs_reader.specs.declared.version.Version.{Version}
+use Rattle.vs_reader.specs.declared.version.Version.TheVariants.{One, Two}
 use Rattle.vs_reader.specs.Texts.{HasRows, StandsFor, EndsInLine, state_after, is_between}
 use Rattle.vs_reader.proofs.texts.TextLemmas.{weight_of-rows}
 
@@ -507,16 +510,17 @@ strip_bom-append (a ∷ b ∷ c ∷ xs) ys many =
     ]
 
 -- a text with a header isn't short
-long_header : (rows : List Row) → HasHeader rows → 11 ≤ weight_of rows
-long_header [] begins = absurd (omega (arith, ap (λ (r : Row). length r) begins))
-long_header (row ∷ rows) begins = omega (arith, ap row_weight begins)
+long_header : (version : Version) (rows : List Row) → HasHeader version rows → 11 ≤ weight_of rows
+long_header version [] begins = absurd (omega (arith, ap (λ (r : Row). length r) begins))
+long_header One (row ∷ rows) begins = omega (arith, ap row_weight begins)
+long_header Two (row ∷ rows) begins = omega (arith, ap row_weight begins)
 
 -- lines of plain rows behind an instance text are read as these rows
-pub lines_behind : (bytes : List ℕ) (rows others : List Row) → HasRows bytes rows → HasHeader rows
-    → EndsInLine bytes → All IsPlainRow others
+pub lines_behind : (bytes : List ℕ) (rows others : List Row) (version : Version) → HasRows bytes rows
+    → HasHeader version rows → EndsInLine bytes → All IsPlainRow others
     → HasRows (bytes ++ lines others) (rows ++ others)
-lines_behind bytes rows others has begins ends plain =
-    let long : 3 ≤ length bytes = omega (arith, long_header rows begins, weight_of-rows bytes rows has) in
+lines_behind bytes rows others version has begins ends plain =
+    let long : 3 ≤ length bytes = omega (arith, long_header version rows begins, weight_of-rows bytes rows has) in
     subst (λ (bs : List ℕ). AreRecords default_config st.StartRecord bs (rows ++ others))
     (sym (strip_bom-append bytes (lines others) long))
     (records-append st.StartRecord has.0 (strip_bom bytes) has.1 (lines others) rows others refl has.2 has.3 ends
@@ -547,9 +551,9 @@ result_behind (row ∷ rows) more =
           ∙ ap (λ (rs : List Row). row ∷ rs) later
     ] refl
 
-some_header : (rows : List Row) → HasHeader rows → rows ≡ header ∷ drop 1 rows
-some_header [] begins = absurd (omega (arith, ap (λ (r : Row). length r) begins))
-some_header (row ∷ rows) begins = ap (λ (r : Row). r ∷ rows) begins
+some_header : (version : Version) (rows : List Row) → HasHeader version rows → rows ≡ header version ∷ drop 1 rows
+some_header version [] begins = absurd (omega (arith, ap (λ (r : Row). length r) begins))
+some_header version (row ∷ rows) begins = ap (λ (r : Row). r ∷ rows) begins
 
 -- the records of an instance text, and behind them rows that are none of the instance's
 pub stands_behind : (bytes read : List ℕ) (p : Problem) (names : NameLists) (before : ℕ) (rest written : List Row)
@@ -557,26 +561,30 @@ pub stands_behind : (bytes read : List ℕ) (p : Problem) (names : NameLists) (b
     → HasRows read (take before stands.rows) → EndsInLine read → All IsPlainRow written → before_result written ≡ []
     → StandsFor (read ++ lines written) p names before written
 stands_behind bytes read p names before rest written stands has ends plain begins =
+    let version = stands.text.version in
     let records = instance_records stands.rows in
     let split = result_split (drop 1 stands.rows) in
-    let all : stands.rows ≡ (header ∷ records) ++ split.0 =
-    some_header stands.rows stands.text.first ∙ ap (λ (rs : List Row). header ∷ rs) split.1 in
-    let count : length (header ∷ records) ≡ before = omega (arith, stands.text.before_is) in
-    let first : take before stands.rows ≡ header ∷ records =
-    ap (take before) all ∙ take_at (header ∷ records) split.0 before count in
+    let all : stands.rows ≡ (header version ∷ records) ++ split.0 =
+    some_header version stands.rows stands.text.first ∙ ap (λ (rs : List Row). header version ∷ rs) split.1 in
+    let count : length (header version ∷ records) ≡ before = omega (arith, stands.text.before_is) in
+    let first : take before stands.rows ≡ header version ∷ records =
+    ap (take before) all ∙ take_at (header version ∷ records) split.0 before count in
     let same : before_result (records ++ written) ≡ records =
     result_behind (drop 1 stands.rows) written ∙ ap (λ (rs : List Row). records ++ rs) begins ∙ append-nil records in
     record {
-      rows = (header ∷ records) ++ written;
-      has_rows = lines_behind read (header ∷ records) written (subst (HasRows read) first has) refl ends plain;
+      rows = (header version ∷ records) ++ written;
+      has_rows =
+          lines_behind read (header version ∷ records) written version (subst (HasRows read) first has) refl ends plain;
       text = record {
+        version = version;
         first = refl;
         declared = stands.text.declared;
         declares =
-            subst (λ (rs : List Row). AddAll nothing_yet rs stands.text.declared) (sym same) stands.text.declares;
+            subst (λ (rs : List Row). AddAll version nothing_yet rs stands.text.declared) (sym same)
+            stands.text.declares;
         makes = stands.text.makes;
         names_are = stands.text.names_are;
         before_is = stands.text.before_is ∙ ap (λ (rs : List Row). length rs + 1) (sym same);
-        rest_is = sym (drop_at (header ∷ records) written before count);
+        rest_is = sym (drop_at (header version ∷ records) written before count);
       };
     }

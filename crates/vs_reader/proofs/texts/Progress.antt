@@ -10,6 +10,7 @@ use Rattle.vs_reader.specs.declared.reading.Declarations.{Declarations}
 use Rattle.vs_reader.specs.declared.refused.Refused.{Refused}
 use Rattle.vs_reader.specs.declared.refused.Why.{Why}
 use Rattle.vs_reader.specs.declared.text_records.TextRecords.{TextRecords}
+use Rattle.vs_reader.specs.declared.version.Version.{Version}
 use Rattle.vs_reader.specs.Rows.{Row, field_of}
 use Rattle.vs_reader.specs.Names.{NameLists}
 use Rattle.vs_reader.specs.Kinds.{is_result, before_result, kind_of}
@@ -65,23 +66,25 @@ numbers_of-push is_of rows row n is =
       | false ↦ append-nil (numbers_of is_of rows)
     ]
 
--- Of all rows some are done, and a draft has what they declare; the others are left. The next record has this number.
-pub record IsProgress (rows : List Row) (number : ℕ) (draft : Draft) (records : TextRecords) : Type 0 where
+-- Of all rows some are done, and a draft has what they declare by the rules of this version; the others are left. The
+-- next record has this number.
+pub record IsProgress (version : Version) (rows : List Row) (number : ℕ) (draft : Draft) (records : TextRecords)
+    : Type 0 where
   pub done : List Row
   pub left : List Row
   pub rows_are : rows ≡ done ++ left
   pub count : number ≡ length done + 2
   pub before : (more : List Row) → before_result (done ++ more) ≡ done ++ before_result more
-  pub declares : AddAll nothing_yet done (declared_of draft)
+  pub declares : AddAll version nothing_yet done (declared_of draft)
   pub numbers : HasNumbers draft.numbers done
-  pub refuses : (more : List Row) (refused : Refused) → BreaksRule number draft.names more refused
-      → BreaksRule 2 nothing_yet.names (done ++ more) refused
+  pub refuses : (more : List Row) (refused : Refused) → BreaksRule version number draft.names more refused
+      → BreaksRule version 2 nothing_yet.names (done ++ more) refused
   pub left_are : AreLeft records left
 
-pub IsProgress-start : (rows : List Row) (draft : Draft) (records : TextRecords) → declared_of draft ≡ nothing_yet
-    → HasNumbers draft.numbers [] → AreLeft records rows
-    → IsProgress rows 2 draft records
-IsProgress-start rows draft records is numbers left = record {
+pub IsProgress-start : (version : Version) (rows : List Row) (draft : Draft) (records : TextRecords)
+    → declared_of draft ≡ nothing_yet → HasNumbers draft.numbers [] → AreLeft records rows
+    → IsProgress version rows 2 draft records
+IsProgress-start version rows draft records is numbers left = record {
   done = [];
   left = rows;
   rows_are = refl;
@@ -89,7 +92,7 @@ IsProgress-start rows draft records is numbers left = record {
   before = λ more. refl;
   declares = is;
   numbers = numbers;
-  refuses = λ more refused breaks. subst (λ (d : Declared). BreaksRule 2 d.names more refused) is breaks;
+  refuses = λ more refused breaks. subst (λ (d : Declared). BreaksRule version 2 d.names more refused) is breaks;
   left_are = left;
 }
 
@@ -98,13 +101,13 @@ before_more : (row : Row) (more : List Row) → is_result row ≡ false
     → before_result (row ∷ more) ≡ row ∷ before_result more
 before_more row more is = ap (λ (b : Bool). cond b [] (row ∷ before_result more)) is
 
-module _ (rows : List Row) (number : ℕ) (draft : Draft) (old : TextRecords)
-    (at : IsProgress rows number draft old) where
+module _ (version : Version) (rows : List Row) (number : ℕ) (draft : Draft) (old : TextRecords)
+    (at : IsProgress version rows number draft old) where
   -- one more record is done
   module _ (row : Row) (rest : List Row) (new : TextRecords) (after : Draft) (left : at.left ≡ row ∷ rest)
       (left_are : AreLeft new rest) (other : is_result row ≡ false)
-      (kept : AreKept (rules draft.names row)) (adds : AddsRecord number draft row after) where
-    pub IsProgress-more : IsProgress rows (number + 1) after new
+      (kept : AreKept (rules version draft.names row)) (adds : AddsRecord version number draft row after) where
+    pub IsProgress-more : IsProgress version rows (number + 1) after new
     IsProgress-more = record {
       done = at.done ++ row ∷ [];
       left = rest;
@@ -114,7 +117,8 @@ module _ (rows : List Row) (number : ℕ) (draft : Draft) (old : TextRecords)
           ap before_result (append_assoc at.done (row ∷ []) more) ∙ at.before (row ∷ more)
           ∙ ap (λ (rs : List Row). at.done ++ rs) (before_more row more other)
           ∙ sym (append_assoc at.done (row ∷ []) (before_result more));
-      declares = AddAll-push nothing_yet (declared_of draft) (declared_of after) at.done row at.declares adds.declared;
+      declares =
+          AddAll-push version nothing_yet (declared_of draft) (declared_of after) at.done row at.declares adds.declared;
       numbers = record {
         deadheads =
             adds.deadheads ∙ ap (with_number is_deadhead number row) at.numbers.deadheads
@@ -125,33 +129,33 @@ module _ (rows : List Row) (number : ℕ) (draft : Draft) (old : TextRecords)
             ∙ sym (numbers_of-push is_trip at.done row number at.count);
       };
       refuses = λ more refused breaks.
-          subst (λ (rs : List Row). BreaksRule 2 nothing_yet.names rs refused)
+          subst (λ (rs : List Row). BreaksRule version 2 nothing_yet.names rs refused)
           (sym (append_assoc at.done (row ∷ []) more))
           (at.refuses (row ∷ more) refused
           (inr (
             kept,
-            subst (λ (ns : NameLists). BreaksRule (number + 1) ns more refused)
-                (sym (names_after (declared_of draft) row (declared_of after) adds.declared)) breaks,
+            subst (λ (ns : NameLists). BreaksRule version (number + 1) ns more refused)
+                (sym (names_after version (declared_of draft) row (declared_of after) adds.declared)) breaks,
           )));
       left_are = left_are;
     }
 
   -- the next record breaks a rule
   pub refused_next : (row : Row) (rest : List Row) (why : Why) → at.left ≡ row ∷ rest → is_result row ≡ false
-      → BreaksFirst (rules draft.names row) why
-      → BreaksRule 2 nothing_yet.names (before_result rows) (record { row = number; why = why })
+      → BreaksFirst (rules version draft.names row) why
+      → BreaksRule version 2 nothing_yet.names (before_result rows) (record { row = number; why = why })
   refused_next row rest why left other breaks =
       let refused : Refused = record { row = number; why = why } in
       let all : before_result rows ≡ at.done ++ row ∷ before_result rest =
       ap before_result (at.rows_are ∙ ap (λ (rs : List Row). at.done ++ rs) left) ∙ at.before (row ∷ rest)
       ∙ ap (λ (rs : List Row). at.done ++ rs) (before_more row rest other) in
-      subst (λ (rs : List Row). BreaksRule 2 nothing_yet.names rs refused) (sym all)
+      subst (λ (rs : List Row). BreaksRule version 2 nothing_yet.names rs refused) (sym all)
       (at.refuses (row ∷ before_result rest) refused (inl (refl, breaks)))
 
   -- nothing is left, or a `result` record is next
   pub declared_there : (d : Declarations) (new : TextRecords) → d.draft ≡ draft → d.before + 1 ≡ number
       → GivesNext new at.left d.in_rest → before_result at.left ≡ []
-      → AreDeclared rows new d
+      → AreDeclared version rows new d
   declared_there d new draft_is before_is next none =
       let all : before_result rows ≡ at.done =
       ap before_result at.rows_are ∙ at.before at.left ∙ ap (λ (rs : List Row). at.done ++ rs) none
@@ -160,8 +164,8 @@ module _ (rows : List Row) (number : ℕ) (draft : Draft) (old : TextRecords)
         left = at.left;
         rows_are = at.rows_are ∙ ap (λ (rs : List Row). rs ++ at.left) (sym all);
         before = omega (arith, at.count, ap (λ (rs : List Row). length rs) all);
-        declares = subst (λ (f : Draft). AddAll nothing_yet (before_result rows) (declared_of f)) (sym draft_is)
-            (subst (λ (rs : List Row). AddAll nothing_yet rs (declared_of draft)) (sym all) at.declares);
+        declares = subst (λ (f : Draft). AddAll version nothing_yet (before_result rows) (declared_of f)) (sym draft_is)
+            (subst (λ (rs : List Row). AddAll version nothing_yet rs (declared_of draft)) (sym all) at.declares);
         numbers = subst (λ (f : Draft). HasNumbers f.numbers (before_result rows)) (sym draft_is)
             (subst (λ (rs : List Row). HasNumbers draft.numbers rs) (sym all) at.numbers);
         left_are = next;
@@ -176,10 +180,10 @@ ends_none records left true next result =
 ends_none records left false next result = ap before_result next
 
 -- a refusal of the next record is told at its number
-pub add_refuses : (rows : List Row) (rs : List Rule) (P : Type 0) (n : ℕ) (e : RecordError)
+pub add_refuses : (version : Version) (rows : List Row) (rs : List Rule) (P : Type 0) (n : ℕ) (e : RecordError)
     → JudgedOrMemory {X = Unit {0}} rs P (Err e)
     → ((why : Why) → BreaksFirst rs why
-    → BreaksRule 2 nothing_yet.names (before_result rows) (record { row = n; why = why }))
-    → RefusesAs (BreaksRule 2 nothing_yet.names (before_result rows)) (error_at n e)
-add_refuses rows rs P n (error.Refused why) judged refuse = refuse why judged
-add_refuses rows rs P n error.Memory judged refuse = tt
+    → BreaksRule version 2 nothing_yet.names (before_result rows) (record { row = n; why = why }))
+    → RefusesAs (BreaksRule version 2 nothing_yet.names (before_result rows)) (error_at n e)
+add_refuses version rows rs P n (error.Refused why) judged refuse = refuse why judged
+add_refuses version rows rs P n error.Memory judged refuse = tt

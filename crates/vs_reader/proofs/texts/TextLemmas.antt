@@ -14,16 +14,19 @@ use Rattle.vs_reader.specs.declared.refused.ReadError.{ReadError}
 use Rattle.vs_reader.specs.declared.refused.ReadError.TheVariants as error
 use Rattle.vs_reader.specs.declared.refused.Refused.{Refused}
 use Rattle.vs_reader.specs.declared.refused.Why.TheVariants as why
+use Rattle.vs_reader.specs.declared.version.Version.{Version}
 use Rattle.vs_reader.specs.Rows.{Row}
 use Rattle.vs_reader.specs.RowEnds.{weight_of}
 use Rattle.vs_reader.specs.Names.{NameLists, HaveCounts}
-use Rattle.vs_reader.specs.Kinds.{HasHeader, before_result}
+use Rattle.vs_reader.specs.Versions.{HasHeader}
+use Rattle.vs_reader.specs.Kinds.{before_result}
 use Rattle.vs_reader.specs.InstanceText.{Declared, AddAll, Makes, InstanceText, nothing_yet, instance_records}
-use Rattle.vs_reader.specs.Refusals.{BreaksRule, HasMisfit, IsRefusal}
+use Rattle.vs_reader.specs.Refusals.{BreaksRule, BreaksOrMisfits, HasMisfit, IsRefusal}
 use Rattle.vs_reader.specs.RecordNumbers.{HasNumbers}
 use Rattle.vs_reader.specs.Drafts.{declared_of}
 use Rattle.vs_reader.specs.Texts.{HasRows, StandsFor, IsRefused}
 use Rattle.vs_reader.specs.ReadErrors.{RefusesAs, IsRefusedError}
+use Rattle.vs_reader.proofs.texts.HeaderLemmas.{one_version}
 use Rattle.vs_reader.proofs.texts.CsvRecords.{has_records, same_records, weight_of-records, length-records}
 use Rattle.vs_reader.proofs.declaring.DeclaredLemmas.{IsSound-nothing, IsSound-AddAll, one_AddAll}
 use Rattle.vs_reader.proofs.declaring.RefusedLemmas.{AreAllNames-nothing, breaks_refutes}
@@ -60,37 +63,41 @@ length-rows bytes rows has =
     )
 
 -- rows without a header
-pub header_refused : (rows : List Row) → ¬ (HasHeader rows)
+pub header_refused : (rows : List Row) → ((version : Version) → ¬ (HasHeader version rows))
     → IsRefusal rows (record { row = 1; why = why.NoHeader })
 header_refused rows lacks = inl (lacks, refl, refl)
 
 -- rows with a header, and those after it
-module _ (rows more : List Row) (header : Row) (begins : HasHeader rows) (rows_are : rows ≡ header ∷ more) where
+module _ (version : Version) (rows more : List Row) (header : Row) (begins : HasHeader version rows)
+    (rows_are : rows ≡ header ∷ more) where
   records_are : instance_records rows ≡ before_result more
   records_are = ap instance_records rows_are
 
   -- a record breaks a rule
-  pub rule_refused : (e : ReadError) → RefusesAs (BreaksRule 2 nothing_yet.names (before_result more)) e
+  pub rule_refused : (e : ReadError) → RefusesAs (BreaksRule version 2 nothing_yet.names (before_result more)) e
       → RefusesAs (IsRefusal rows) e
   rule_refused (error.Refused refused) breaks =
       inr (
+        version,
         begins,
-        inl (subst (λ (rs : List Row). BreaksRule 2 nothing_yet.names rs refused) (sym records_are) breaks),
+        inl (subst (λ (rs : List Row). BreaksRule version 2 nothing_yet.names rs refused) (sym records_are) breaks),
       )
   rule_refused error.Memory breaks = tt
 
   -- the records declare this
-  module _ (draft : Draft) (all : AddAll nothing_yet (before_result more) (declared_of draft)) where
+  module _ (draft : Draft) (all : AddAll version nothing_yet (before_result more) (declared_of draft)) where
     -- which is no instance
     pub misfit_refused : HasNumbers draft.numbers (before_result more) → (e : ReadError)
-        → RefusesAs (λ refused. (records : List Row) → AddAll nothing_yet records (declared_of draft)
-        → HasNumbers draft.numbers records → HasMisfit records refused) e
+        → RefusesAs (λ refused. (version : Version) (records : List Row)
+        → AddAll version nothing_yet records (declared_of draft)
+        → HasNumbers draft.numbers records → HasMisfit version records refused) e
         → RefusesAs (IsRefusal rows) e
     misfit_refused numbers (error.Refused refused) misfit =
         inr (
+          version,
           begins,
-          inr (subst (λ (rs : List Row). HasMisfit rs refused) (sym records_are)
-              (misfit (before_result more) all numbers)),
+          inr (subst (λ (rs : List Row). HasMisfit version rs refused) (sym records_are)
+              (misfit version (before_result more) all numbers)),
         )
     misfit_refused numbers error.Memory misfit = tt
 
@@ -102,9 +109,10 @@ module _ (rows more : List Row) (header : Row) (begins : HasHeader rows) (rows_a
     instance_text left split p names before makes names_are before_is =
         let count : length (header ∷ before_result more) ≡ before = omega (arith, before_is) in
         record {
+          version = version;
           first = begins;
           declared = declared_of draft;
-          declares = subst (λ (rs : List Row). AddAll nothing_yet rs (declared_of draft)) (sym records_are) all;
+          declares = subst (λ (rs : List Row). AddAll version nothing_yet rs (declared_of draft)) (sym records_are) all;
           makes = makes;
           names_are = names_are;
           before_is = before_is ∙ ap (λ (rs : List Row). length rs + 1) (sym records_are);
@@ -118,9 +126,15 @@ pub one_reading : (bytes : List ℕ) (p q : Problem) (names others : NameLists) 
     → (q ≡ p) × (others ≡ names) × (b ≡ before) × (r ≡ rest)
 one_reading bytes p q names others before b rest r stands also =
     let rows = one_rows bytes stands.rows also.rows stands.has_rows also.has_rows in
+    let version : also.text.version ≡ stands.text.version =
+    one_version stands.rows also.text.version stands.text.version
+    (subst (HasHeader also.text.version) rows also.text.first) stands.text.first in
     let same : also.text.declared ≡ stands.text.declared =
-    one_AddAll nothing_yet also.text.declared stands.text.declared (instance_records stands.rows) IsSound-nothing
-    (subst (λ (rs : List Row). AddAll nothing_yet (instance_records rs) also.text.declared) rows also.text.declares)
+    one_AddAll stands.text.version nothing_yet also.text.declared stands.text.declared (instance_records stands.rows)
+    IsSound-nothing
+    (subst (λ (v : Version). AddAll v nothing_yet (instance_records stands.rows) also.text.declared) version
+    (subst (λ (rs : List Row). AddAll also.text.version nothing_yet (instance_records rs) also.text.declared) rows
+    also.text.declares))
     stands.text.declares in
     let b_is : b ≡ before =
     also.text.before_is ∙ ap (λ (rs : List Row). length (instance_records rs) + 1) rows
@@ -140,9 +154,9 @@ one_reading bytes p q names others before b rest r stands also =
     )
 
 -- what is declared isn't an instance where its parts have a misfit
-misfit_refutes : (records : List Row) (refused : Refused) (misfit : HasMisfit records refused) (p : Problem)
-    → ¬ (Makes misfit.declared p)
-misfit_refutes records refused misfit p makes =
+misfit_refutes : (version : Version) (records : List Row) (refused : Refused)
+    (misfit : HasMisfit version records refused) (p : Problem) → ¬ (Makes misfit.declared p)
+misfit_refutes version records refused misfit p makes =
     let parts = misfit.parts_are in
     let same : p ≡ problem_of misfit.parts =
     makes.problem
@@ -164,29 +178,36 @@ pub refused_none : (bytes : List ℕ) (refused : Refused) (p : Problem) (names :
     (rest : List Row) → IsRefused bytes refused → ¬ (StandsFor bytes p names before rest)
 refused_none bytes refused p names before rest is stands =
     let rows = one_rows bytes is.rows stands.rows is.has_rows stands.has_rows in
+    let first = subst (HasHeader stands.text.version) rows stands.text.first in
     let declares =
-    subst (λ (rs : List Row). AddAll nothing_yet (instance_records rs) stands.text.declared) rows
+    subst (λ (rs : List Row). AddAll stands.text.version nothing_yet (instance_records rs) stands.text.declared) rows
     stands.text.declares in
     elim is.refusal [
-      | inl lacks ↦ lacks.0 (subst HasHeader rows stands.text.first)
-      | inr begins ↦ elim begins.1 [
-        | inl breaks ↦
-            breaks_refutes 2 nothing_yet stands.text.declared
-            (instance_records is.rows) refused AreAllNames-nothing breaks declares
-        | inr misfit ↦
-            misfit_refutes (instance_records is.rows) refused misfit p
-            (subst (λ (d : Declared). Makes d p)
-            (one_AddAll nothing_yet stands.text.declared misfit.declared
-            (instance_records is.rows) IsSound-nothing declares misfit.declares) stands.text.makes)
-      ]
+      | inl lacks ↦ lacks.0 stands.text.version first
+      | inr begins ↦
+          let same = one_version is.rows stands.text.version begins.0 first begins.1 in
+          refuted begins.0 begins.2
+          (subst (λ (v : Version). AddAll v nothing_yet (instance_records is.rows) stands.text.declared) same declares)
     ]
+  where
+    refuted : (version : Version) → BreaksOrMisfits version (instance_records is.rows) refused
+        → AddAll version nothing_yet (instance_records is.rows) stands.text.declared → ⊥
+    refuted version (inl breaks) declares =
+        breaks_refutes version 2 nothing_yet stands.text.declared
+        (instance_records is.rows) refused AreAllNames-nothing breaks declares
+    refuted version (inr misfit) declares =
+        misfit_refutes version (instance_records is.rows) refused misfit p
+        (subst (λ (d : Declared). Makes d p)
+        (one_AddAll version nothing_yet stands.text.declared misfit.declared
+        (instance_records is.rows) IsSound-nothing declares misfit.declares) stands.text.makes)
 
 -- a text has as many names as its instance has stops, layers and trips
 pub stands_counts : (bytes : List ℕ) (p : Problem) (names : NameLists) (before : ℕ) (rest : List Row)
     → StandsFor bytes p names before rest → HaveCounts p names
 stands_counts bytes p names before rest stands =
     let t = stands.text in
-    let sound = IsSound-AddAll nothing_yet t.declared (instance_records stands.rows) IsSound-nothing t.declares in
+    let sound =
+    IsSound-AddAll t.version nothing_yet t.declared (instance_records stands.rows) IsSound-nothing t.declares in
     record {
       stops = ap (λ (n : NameLists). length n.stops) t.names_are ∙ sym (ap (λ (q : Problem). q.stops) t.makes.problem);
       layers = ap (λ (n : NameLists). length n.layers) t.names_are ∙ sym sound.each_layer

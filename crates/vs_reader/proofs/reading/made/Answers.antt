@@ -15,7 +15,7 @@ new-requires c =
     }) c.args.draft.names c.stops.ensures.count c.requires.few c.requires.sound
 
 pub returns-in-Err-Misfit-clause-refused : goal.returns-in-Err-Misfit-clause-refused
-returns-in-Err-Misfit-clause-refused c = λ records all numbers. record {
+returns-in-Err-Misfit-clause-refused c = λ version records all numbers. record {
   declared = declared_of c.args.draft;
   declares = all;
   parts = record {

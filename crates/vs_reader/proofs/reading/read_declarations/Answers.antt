@@ -17,15 +17,15 @@ pub loop-number-init : goal.loop-number-init
 loop-number-init c = record {
   sound = subst IsSound (sym c.new-draft.ensures.declared) IsSound-nothing;
   progress =
-      λ rows left. IsProgress-start rows c.new-draft.result c.args.records.now c.new-draft.ensures.declared
-      c.new-draft.ensures.numbers left;
+      λ rows left. IsProgress-start c.args.version rows c.new-draft.result c.args.records.now
+      c.new-draft.ensures.declared c.new-draft.ensures.numbers left;
 }
 
 pub returns-then-not-found : goal.returns-then-not-found
 returns-then-not-found c = λ rows left.
     let at = c.loop-number.invariant.progress rows left in
     let next = c.in_ok-found.ensures at.left at.left_are in
-    declared_there rows c.loop-number.number c.loop-number.draft c.loop-number.records at
+    declared_there c.args.version rows c.loop-number.number c.loop-number.draft c.loop-number.records at
     (record {
       draft = c.loop-number.draft;
       before = c.loop-number.number - 1;
@@ -47,27 +47,29 @@ returns-in-Err c = λ rows left.
     let row = fields_of c.next.new.self.current in
     let other : is_result row ≡ false = sym c.is_result.ensures ∙ c.if-is_result.false in
     rw c.refused_at.ensures
-    (add_refuses rows (rules c.loop-number.draft.names row)
-    (AddsRecord c.loop-number.number c.loop-number.draft row c.add.new.self) c.loop-number.number c.in-Err.e
+    (add_refuses c.args.version rows (rules c.args.version c.loop-number.draft.names row)
+    (AddsRecord c.args.version c.loop-number.number c.loop-number.draft row c.add.new.self) c.loop-number.number
+    c.in-Err.e
     c.in-Err.ensures
-    (λ why breaks. refused_next rows c.loop-number.number c.loop-number.draft c.loop-number.records at row next.0
-    why next.1 other breaks))
+    (λ why breaks. refused_next c.args.version rows c.loop-number.number c.loop-number.draft c.loop-number.records at
+    row next.0 why next.1 other breaks))
 
 pub loop-number-preserved : goal.loop-number-preserved
 loop-number-preserved c =
     let row = fields_of c.next.new.self.current in
     let other : is_result row ≡ false = sym c.is_result.ensures ∙ c.if-is_result.false in
-    let added : AreKept (rules c.loop-number.draft.names row)
-    × AddsRecord c.loop-number.number c.loop-number.draft row c.add.new.self = c.in_default.ensures in
+    let added : AreKept (rules c.args.version c.loop-number.draft.names row)
+    × AddsRecord c.args.version c.loop-number.number c.loop-number.draft row c.add.new.self = c.in_default.ensures in
     record {
-      sound = IsSound-Adds (declared_of c.loop-number.draft)
+      sound = IsSound-Adds c.args.version (declared_of c.loop-number.draft)
           (declared_of c.add.new.self) row c.loop-number.invariant.sound added.1.declared;
       progress = λ rows left.
           let at = c.loop-number.invariant.progress rows left in
           let next =
           subst (λ (b : Bool). GivesNext c.next.new.self at.left b) c.if-not-found.false
           (c.in_ok-found.ensures at.left at.left_are) in
-          IsProgress-more rows c.loop-number.number c.loop-number.draft c.loop-number.records at row next.0
+          IsProgress-more c.args.version rows c.loop-number.number c.loop-number.draft c.loop-number.records at row
+          next.0
           c.next.new.self c.add.new.self next.1 next.2 other added.0 added.1;
     }
 
