@@ -1,5 +1,5 @@
 use Rattle.std.proofs.Common.{◌+◌, ◌*◌}
-use Rattle.trial_crew.proofs.turns.+add_at_once+fn-add_at_once-join+arg2.Given as goal
+use Rattle.trial_turn.proofs.turns.+add_at_once+fn-add_at_once-join+arg2.Given as goal
 
 abbrev pub decreases-add_at_once : goal.decreases-add_at_once
 decreases-add_at_once g l = 2 * l.seats

@@ -2,7 +2,7 @@ use Rattle.std.proofs.Common.{◌+◌, length, ap, ◌∙◌, arith}
 use Rattle.vs_turn.specs.Seats.{SeatModel}
 use Rattle.vs_turn.specs.Tickets.{without_highest, only_highest}
 use Rattle.vs_turn.proofs.CallerLemmas.{length-tickets_from, without_highest-all, only_highest-all}
-use Rattle.trial_crew.proofs.turns.split_off.Goals as goal
+use Rattle.trial_turn.proofs.turns.split_off.Goals as goal
 
 pub split-requires-clause-two : goal.split-requires-clause-two
 split-requires-clause-two c =

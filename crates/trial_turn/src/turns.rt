@@ -4,7 +4,7 @@ ghost use Rattle.std.specs.Prelude.{◌≡◌, ◌+◌, ◌≤◌, true, [], ◌
 ghost use Rattle.std.specs.Thread.{IsSync};
 ghost use Rattle.vs_turn.specs.Calls.{has_ticket};
 ghost use Rattle.vs_turn.specs.Seats.{IsNew};
-ghost use Rattle.trial_crew.specs.Tallies.{HasMade};
+ghost use Rattle.trial_turn.specs.Tallies.{HasMade};
 ghost use Rattle.vs_turn.specs.Tickets.{all_tickets};
 
 mod tally;

@@ -5,11 +5,11 @@ use Rattle.std.specs.Prelude.{is_ok, if◌then◌else◌}
 use Rattle.vs_turn.specs.Calls.{has_ticket, GoOn, new_calls}
 use Rattle.vs_turn.proofs.CallerLemmas.{adds_none, adds_one, new_calls-none, new_calls-one}
 use Rattle.vs_turn.specs.Seats.{SeatModel}
-use Rattle.trial_crew.specs.Tallies.{amounts_after}
-use Rattle.trial_crew.specs.declared.turns.tally.Tally.{Tally}
-use Rattle.trial_crew.proofs.turns.add_once.Given.{Over}
-use Rattle.trial_crew.proofs.turns.add_once.Goals as goal
-use Rattle.trial_crew.proofs.turns.add_once.Goals.{After-is_ok-added}
+use Rattle.trial_turn.specs.Tallies.{amounts_after}
+use Rattle.trial_turn.specs.declared.turns.tally.Tally.{Tally}
+use Rattle.trial_turn.proofs.turns.add_once.Given.{Over}
+use Rattle.trial_turn.proofs.turns.add_once.Goals as goal
+use Rattle.trial_turn.proofs.turns.add_once.Goals.{After-is_ok-added}
 
 abbrev entries : List (ℕ × ℕ) → List (List ℕ)
 entries amounts = map (λ a. a.0 ∷ a.1 ∷ []) amounts

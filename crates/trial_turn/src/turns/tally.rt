@@ -1,6 +1,6 @@
 //! A value to share: a number to start with, and amounts that were added, each by its maker.
 ghost use Rattle.std.specs.Prelude.{◌≡◌, is_ok};
-ghost use Rattle.trial_crew.specs.Tallies.{amounts_after};
+ghost use Rattle.trial_turn.specs.Tallies.{amounts_after};
 
 use std::alloc::{AllocFailed, Global};
 use vs_turn::Kept;
