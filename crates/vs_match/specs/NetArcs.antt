@@ -99,7 +99,8 @@ pub record IsRestWaitArc (p : Problem) (l : ℕ) (points : List Point) (a : Arc)
   pub cost : a.cost ≡ pos 0
   pub room : a.room ≡ (layer_of p l).fleet
 
--- from the depot, where a vehicle rested, to a departure that it reaches just in time
+-- from the depot, where a vehicle rested, to a departure that it reaches just in time: what its pull-out costs, without
+-- what a vehicle costs for the day
 pub record IsRestOutArc (p : Problem) (l : ℕ) (points : List Point) (a : Arc) : Type 0 where
   pub until : Event
   pub by : Way

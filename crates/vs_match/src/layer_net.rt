@@ -37,7 +37,8 @@ impl Model for LayerNet {
     ghost view = { λ n. record { graph = n.net; kinds = n.kinds.items; points = n.points.items } };
 
     ghost invariant = { λ n. IsIndexed
-        (record { graph = n.net; kinds = n.kinds.items; points = n.points.items }) n.trip_arcs.items };
+        (record { graph = n.net; kinds = n.kinds.items; points = n.points.items })
+        n.trip_arcs.items };
 }
 
 impl LayerNet {

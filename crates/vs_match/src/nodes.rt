@@ -76,7 +76,8 @@ fn push_points(
 ) -> Result<(), Memory>
     requires layer { l.0 < length instance.now.layers }
     requires may_run { MayRun instance.now l.0 i.0 }
-    ensures adds { OnOk result (Adds (OfTrip instance.now l.0 i.0) points.old.items points.new.items) }
+    ensures adds { OnOk result
+        (Adds (OfTrip instance.now l.0 i.0) points.old.items points.new.items) }
     ensures few { OnOk result (length points.new.items ≤ length points.old.items + 3) }
 {
     prove!(i.0 < instance.trips());
@@ -114,7 +115,8 @@ fn push_line(
 ) -> Result<(), Memory>
     requires layer { l.0 < length instance.now.layers }
     requires stop { departure.now.stop.0 < instance.now.stops }
-    ensures adds { OnOk result (Adds (IsLineOf instance.now l.0 departure.now) points.old.items points.new.items) }
+    ensures adds { OnOk result
+        (Adds (IsLineOf instance.now l.0 departure.now) points.old.items points.new.items) }
     ensures few { OnOk result (length points.new.items ≤ length points.old.items + 1) }
 {
     if let Some(way) = way_after_rest(instance, l, departure) {

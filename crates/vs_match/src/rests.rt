@@ -90,9 +90,11 @@ fn rest_in(instance: &Instance, l: LayerNo, line: &[StopNode], since: &StopNode)
     requires stop { since.now.stop.0 < instance.now.stops }
     requires minute { since.now.minute < TWO_DAYS }
     requires line { IsRising line.now }
-    ensures { MatchOption result ((x : LayerArc) → ¬ (IsRestInFrom instance.now l.0 line.now since.now x))
+    ensures { MatchOption result
+        ((x : LayerArc) → ¬ (IsRestInFrom instance.now l.0 line.now since.now x))
         (IsRestInFrom instance.now l.0 line.now since.now) }
 {
+    // for the proof: the layers of an instance are within its limits
     prove!(l.0 < instance.layers());
     let layer = instance.layer(l);
     let stay = layer.stay?;

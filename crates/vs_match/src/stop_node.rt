@@ -19,7 +19,8 @@ pub struct StopNode {
 /// The stop_nodes at a stop, by minute.
 pub fn at_stop(stop_nodes: &[StopNode], stop: StopNo) -> &[StopNode]
     requires { AllPairs IsStopNodeBefore stop_nodes.now }
-    ensures same { (s : StopNode) → Contains result.now s ↔ (Contains stop_nodes.now s × (s.stop ≡ stop)) }
+    ensures same { (s : StopNode)
+        → Contains result.now s ↔ (Contains stop_nodes.now s × (s.stop ≡ stop)) }
     ensures rising { IsRising result.now }
     ensures few { length result.now ≤ length stop_nodes.now }
 {
@@ -35,7 +36,8 @@ pub fn by_stop(
     stops: u32,
 ) -> Result<Vec<&[StopNode]>, Memory>
     requires { AllPairs IsStopNodeBefore stop_nodes.now }
-    ensures { IfOk result (λ groups. AreByStop stops stop_nodes.now (map (λ g. g.now) groups.items)) }
+    ensures { IfOk result (λ groups.
+        AreByStop stops stop_nodes.now (map (λ g. g.now) groups.items)) }
 {
     let mut groups = Vec::with_capacity(alloc, stops as usize)?;
     for stop in 0..stops {
