@@ -29,7 +29,7 @@ returns c =
     record {
       sets = ap (λ (s : List LayerSet). with_set s trip left) kept;
       ahead = ap (λ (s : List LayerSet). sets_along (with_set s trip left)
-            (reverse c.note_right.new.self.ahead.items)) kept
+          (reverse c.note_right.new.self.ahead.items)) kept
           ∙ ap (λ (cs : List Change). sets_along (with_set sets trip left) (reverse cs)) noted
           ∙ ahead_on_left sets trip left right whole ahead c.index-whole.ensures
           ∙ ap (λ (r : LayerSet). with_set sets trip r ∷ sets_along sets (reverse ahead)) right_is;
