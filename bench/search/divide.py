@@ -21,7 +21,7 @@ PARTS = {
     "search_times::time_agree": "agree",
     "search_times::time_work": "work at the root",
 }
-PRICES = ("vs_circ::centring::raise", "vs_circ::gaps::bring_near", "vs_circ::space", "vs_circ::price_tables")
+PRICES = ("vs_ship::centring::raise", "vs_ship::gaps::bring_near", "vs_ship::space", "vs_circ::price_tables")
 
 
 class Program:

@@ -1,11 +1,9 @@
-//! Tests of turns, trees of cases, crews of workers and the document of a search, with threads that meet.
+//! Tests of trees of cases, crews of workers and the document of a search, with threads that meet.
 #![tactic(auto)]
 
 #[cfg(test)]
 mod crews;
 #[cfg(test)]
 mod trees;
-#[cfg(test)]
-mod turns;
 #[cfg(test)]
 mod writing;

@@ -1,6 +1,8 @@
 //! Searches of one trip that may be run in two layers, call by call.
 
-ghost use Rattle.std.specs.Prelude.{◌≡◌, ◌≤◌, length, IfOk};
+ghost use Rattle.std.specs.Prelude.{◌≡◌, ◌≤◌, [], length, IfOk};
+ghost use Rattle.vs_tree.specs.History.{IsAmong};
+ghost use Rattle.vs_tree.specs.Search.{state};
 
 mod prices;
 pub mod root;
@@ -12,7 +14,7 @@ use trial_fixtures::instance_of;
 use trial_fixtures::texts::{STOPS, TWO_LAYERS};
 use vs_instance::Instance;
 use vs_tree::{Claim, Report, Take, Tree};
-use worked::{ask, finished, split, taken_again};
+use worked::{answer, finished, split, taken_again};
 
 /// The instance of one trip and two layers.
 pub fn one_trip(alloc: Global) -> Result<Instance, Fail>
@@ -26,12 +28,18 @@ pub fn one_trip(alloc: Global) -> Result<Instance, Fail>
 }
 
 /// What a search reports that is over, and what worker 0 is told then.
+fn told_then(alloc: Global, tree: &mut Tree) -> Result<(Report, Take), Fail>
+    requires workers { tree.old.opening.workers ≡ 2 }
+    requires stays { ¬ (IsAmong 0 (state tree.old).gone) }
+{
+    let report = tree.report();
+    Ok((report, answer(alloc, tree, 0)?))
+}
+
 fn told_at_the_end(alloc: Global) -> Result<(Report, Take), Fail> {
     let instance = one_trip(alloc)?;
     let mut tree = finished(alloc, &instance)?;
-    let report = tree.report();
-    let told = ask(alloc, &mut tree, 0)?;
-    Ok((report, told.take))
+    told_then(alloc, &mut tree)
 }
 
 #[test]
@@ -48,25 +56,37 @@ fn are_done_once_both_leaves_are_closed(rt: HostRuntime) -> Result<(), Fail> {
     Ok(())
 }
 
+/// How many leaves were finished when one was given back, and once the other one was closed; and what worker 0 is told.
+fn told_again(alloc: Global) -> Result<(u32, u32, Take), Fail> {
+    let instance = one_trip(alloc)?;
+    taken_again(alloc, &instance)
+}
+
 #[test]
 fn give_a_leaf_again_that_was_given_back(rt: HostRuntime) -> Result<(), Fail> {
-    let instance = one_trip(rt.alloc())?;
-    let (before, after, take) = taken_again(rt.alloc(), &instance)?;
     let known = Some(500);
-    assert_eq!(rt; (before, after), (1, 2));
-    assert_eq!(rt; take, Take::Node { leaf: 2, known });
+    let wanted = (1, 2, Take::Node { leaf: 2, known });
+    assert_eq!(rt; told_again(rt.alloc())?, wanted);
     Ok(())
 }
 
-/// What worker 0 is told after the split of the root, with a budget of so many leaves, and then worker 1.
+/// What worker 0 is told of a search in which both may ask, and then worker 1.
+fn both_told(alloc: Global, tree: &mut Tree) -> Result<(Take, Take), Fail>
+    requires workers { tree.old.opening.workers ≡ 2 }
+    requires none_gone { (state tree.old).gone ≡ [] }
+{
+    let first = answer(alloc, tree, 0)?;
+    let second = answer(alloc, tree, 1)?;
+    Ok((first, second))
+}
+
+/// What they are told after the split of the root, with a budget of so many leaves.
 fn told_of(alloc: Global, budget: u32) -> Result<(Take, Take), Fail>
     requires { budget ≤ 5 }
 {
     let instance = one_trip(alloc)?;
     let mut tree = split(alloc, &instance, budget)?;
-    let first = ask(alloc, &mut tree, 0)?;
-    let second = ask(alloc, &mut tree, 1)?;
-    Ok((first.take, second.take))
+    both_told(alloc, &mut tree)
 }
 
 #[test]

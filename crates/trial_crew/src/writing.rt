@@ -1,6 +1,6 @@
 //! The documents of searches, byte for byte.
 
-ghost use Rattle.std.specs.Prelude.{◌≡◌, length};
+ghost use Rattle.std.specs.Prelude.{◌≡◌, length, IfOk};
 ghost use Rattle.vs_reader.specs.Names.{HaveCounts};
 
 use crate::trees::worked::finished;
@@ -10,6 +10,7 @@ use trial_fixtures::texts::{LAYER, STOPS, TRIPS, TWO_LAYERS, ZERO_TABLE};
 use trial_fixtures::{documented, input_of, joined};
 use vs_cert::write;
 use vs_check::{Verdict, check};
+use vs_instance::Instance;
 use vs_plan::greedy;
 use vs_reader::Input;
 use vs_tree::Tree;
@@ -23,16 +24,38 @@ const HEADS: [(bool, &str); 2] = [
     ),
 ];
 
-/// The document of a search of two trips that has worked on no leaf.
-fn begun(alloc: Global, with_plan: bool) -> Result<Vec<u8>, Fail> {
-    let input = input_of(alloc, &joined(alloc, &[STOPS, LAYER, TRIPS])?)?;
+/// A search that has worked on no leaf.
+fn start(alloc: Global, instance: &Instance, with_plan: bool) -> Result<Tree, Fail>
+    ensures { IfOk result (λ tree. tree.opening.problem ≡ instance.now) }
+{
     let first = if with_plan {
-        greedy(alloc, &input.instance)?
+        greedy(alloc, instance)?
     } else {
         None
     };
-    let tree = Tree::start(alloc, input.instance, 5, 2, first)?;
+    Ok(Tree::start(alloc, instance.copy(alloc)?, 5, 2, first)?)
+}
+
+/// The instance that these parts of a text stand for, with its names.
+fn read(alloc: Global, parts: &[&str]) -> Result<Input, Fail>
+    ensures { IfOk result (λ input. HaveCounts input.instance input.names) }
+{
+    let text = joined(alloc, parts)?;
+    input_of(alloc, &text)
+}
+
+/// The document of such a search.
+fn document_of_begun(alloc: Global, input: &Input, with_plan: bool) -> Result<Vec<u8>, Fail>
+    requires { HaveCounts input.now.instance input.now.names }
+{
+    let tree = start(alloc, &input.instance, with_plan)?;
     Ok(write(alloc, &tree, &input.names)?)
+}
+
+/// The same for two trips.
+fn begun(alloc: Global, with_plan: bool) -> Result<Vec<u8>, Fail> {
+    let input = read(alloc, &[STOPS, LAYER, TRIPS])?;
+    document_of_begun(alloc, &input, with_plan)
 }
 
 #[test]
@@ -62,19 +85,27 @@ fn document_of_finished(alloc: Global, input: &Input) -> Result<Vec<u8>, Fail>
     Ok(write(alloc, &tree, &input.names)?)
 }
 
-/// The document of that search, and whether it holds.
-fn split(alloc: Global) -> Result<(Vec<u8>, Verdict), Fail> {
-    let input = input_of(alloc, &joined(alloc, &[STOPS, TWO_LAYERS])?)?;
-    let written = document_of_finished(alloc, &input)?;
+/// The same of its text.
+fn written(alloc: Global) -> Result<Vec<u8>, Fail> {
+    let input = read(alloc, &[STOPS, TWO_LAYERS])?;
+    document_of_finished(alloc, &input)
+}
+
+/// Whether it holds.
+fn verdict(alloc: Global) -> Result<Verdict, Fail> {
     let (instance, document) = documented(alloc, &[STOPS, TWO_LAYERS, SPLIT])?;
-    let verdict = check(alloc, &instance, &document)?;
-    Ok((written, verdict))
+    Ok(check(alloc, &instance, &document)?)
 }
 
 #[test]
 fn have_a_table_for_each_leaf(rt: HostRuntime) -> Result<(), Fail> {
-    let (written, verdict) = split(rt.alloc())?;
-    assert_eq!(rt; written.as_slice(), SPLIT.as_bytes());
-    assert_eq!(rt; verdict, Verdict::Yes);
+    assert_eq!(rt; written(rt.alloc())?.as_slice(), SPLIT.as_bytes());
+    Ok(())
+}
+
+#[test]
+fn hold_where_each_leaf_has_a_table(rt: HostRuntime) -> Result<(), Fail> {
+    let judged = verdict(rt.alloc())?;
+    assert_eq!(rt; judged, Verdict::Yes);
     Ok(())
 }

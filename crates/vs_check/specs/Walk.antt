@@ -1,5 +1,5 @@
 -- How a tree is gone over row by row: where each trip may be run at the row at hand, and at the parts to come.
-use Rattle.std.specs.Prelude.{◌≡◌, ◌⊎◌, ℕ, List, [], ◌∷◌, ◌++◌, reverse, MatchBool, Option, Some, None, slice_get}
+use Rattle.std.specs.Prelude.{◌≡◌, ◌⊎◌, ℕ, true, false, List, [], ◌∷◌, ◌++◌, reverse, MatchBool, Option, Some, None, slice_get}
 use Rattle.vs_types.specs.declared.layer_set.LayerSet.{LayerSet}
 use Rattle.vs_types.specs.declared.numbers.TripNo.{TripNo}
 use Rattle.vs_instance.specs.Firsts.{first, when}
@@ -26,6 +26,18 @@ sets_along sets (change ∷ changes) =
 -- those of the parts that come behind the one at hand
 abbrev pub sets_ahead : Walk → List (List LayerSet)
 sets_ahead walk = sets_along walk.sets.items (reverse walk.ahead.items)
+
+-- what a split puts ahead: its end, where its trip gets its layers of before, and first of all its right part
+abbrev pub end_of : TripNo → LayerSet → Change
+end_of trip whole = record { trip = trip; layers = whole; begins_part = false }
+
+abbrev pub right_part : TripNo → LayerSet → Change
+right_part trip right = record { trip = trip; layers = right; begins_part = true }
+
+-- this change comes first of all that is ahead
+pub record HasAhead (change : Change) (old new : Walk) : Type 0 where
+  pub sets : new.sets ≡ old.sets
+  pub ahead : new.ahead.items ≡ old.ahead.items ++ change ∷ []
 
 -- the left part of a split is at hand, and its right part comes next
 pub record IsOnLeft (trip : TripNo) (left : LayerSet) (old new : Walk) : Type 0 where

@@ -31,7 +31,7 @@ pub(crate) struct Walk {
 impl Walk {
     ghost use Rattle.std.specs.Prelude.{◌≡◌, [], IfOk, OnOk};
     ghost use Rattle.vs_instance.specs.Restriction.{permitted_sets, set_of};
-    ghost use Rattle.vs_check.specs.Walk.{IsBehindPart, IsOnLeft};
+    ghost use Rattle.vs_check.specs.Walk.{HasAhead, IsBehindPart, IsOnLeft, end_of, right_part};
 
     /// At the root, where each trip may be run in its permitted layers.
     pub(crate) fn new(alloc: Global, instance: &Instance) -> Result<Walk, Memory>
@@ -65,17 +65,36 @@ impl Walk {
         ensures { OnOk result (IsOnLeft trip left self.old self.new) }
     {
         let whole = self.sets[trip.0 as usize];
+        let right = whole.minus(left);
+        self.note_end(trip, whole)?;
+        self.note_right(trip, right)?;
+        self.sets[trip.0 as usize] = left;
+        Ok(())
+    }
+
+    /// Puts ahead the end of a split of this trip, which has these layers again then.
+    fn note_end(&mut self, trip: TripNo, whole: LayerSet) -> Result<(), Memory>
+        requires { trip.0 < length self.old.sets.items }
+        ensures { OnOk result (HasAhead (end_of trip whole) self.old self.new) }
+    {
         self.ahead.push(Change {
             trip,
             layers: whole,
             begins_part: false,
         })?;
+        Ok(())
+    }
+
+    /// Puts ahead the right part of a split of this trip, which may be run in these layers there.
+    fn note_right(&mut self, trip: TripNo, right: LayerSet) -> Result<(), Memory>
+        requires { trip.0 < length self.old.sets.items }
+        ensures { OnOk result (HasAhead (right_part trip right) self.old self.new) }
+    {
         self.ahead.push(Change {
             trip,
-            layers: whole.minus(left),
+            layers: right,
             begins_part: true,
         })?;
-        self.sets[trip.0 as usize] = left;
         Ok(())
     }
 

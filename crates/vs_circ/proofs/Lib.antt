@@ -1,4 +1,3 @@
-pub mod balance
 pub mod shipping
 pub mod low
 pub mod prices

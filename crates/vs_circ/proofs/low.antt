@@ -10,3 +10,4 @@ pub mod Least
 pub mod Covered
 pub mod Stuck
 pub mod Worth
+pub mod Costs

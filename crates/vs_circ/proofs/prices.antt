@@ -4,12 +4,4 @@ pub mod Holding
 pub mod NodeLimits
 pub mod Passes
 pub mod Entries
-pub mod Pushed
-pub mod Overwritten
-pub mod Found
-pub mod ClosedGaps
-pub mod NearPrices
-pub mod Mirrored
-pub mod SignRules
-pub mod Centred
 pub mod OfNodes

@@ -1,8 +1,4 @@
--- Units sent along paths.
-pub mod Paths
-pub mod Carrying
-pub mod Sending
-pub mod Shipping
+-- Units before and after they are sent.
 pub mod Preparing
 pub mod SmallArcs
 pub mod Settling
@@ -12,5 +8,3 @@ pub mod Covering
 pub mod Fixing
 pub mod Relaxed
 pub mod Running
-pub mod Keeping
-pub mod Listing

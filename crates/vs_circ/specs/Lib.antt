@@ -3,6 +3,5 @@ pub mod LayerPrices
 pub mod Circulations
 pub mod PricedFlows
 pub mod Laws
-pub mod Works
 pub mod shipping
 pub mod node_prices

@@ -9,7 +9,7 @@ use Rattle.vs_match.specs.LayerGraph.{LayerGraph, IsArcOfTrip, kind_of}
 use Rattle.vs_match.specs.Decomposition.{vehicles_of}
 use Rattle.vs_path.specs.Residual.{price_at}
 use Rattle.vs_circ.specs.declared.circ.LayerPrices.{LayerPrices}
-use Rattle.vs_circ.specs.shipping.Balance.{gained}
+use Rattle.vs_ship.specs.Balance.{gained}
 use Rattle.vs_circ.specs.node_prices.NodePrices.{AreMovePrices, IsEmptyMove}
 use Rattle.vs_circ.specs.Offers.{offer_of}
 

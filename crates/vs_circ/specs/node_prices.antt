@@ -2,6 +2,3 @@
 pub mod NodePrices
 pub mod Leeways
 pub mod PriceTables
-pub mod Gaps
-pub mod Mirror
-pub mod Centring

@@ -10,21 +10,17 @@ ghost use Rattle.vs_match.specs.declared.layer_net.TheConstants.{MAX_ARC_COST};
 ghost use Rattle.vs_circ.specs.Circulations.{IsFixed};
 ghost use Rattle.vs_circ.specs.Offers.{AreMust};
 ghost use Rattle.vs_circ.specs.shipping.Prepared.{HasSmallArcs};
-ghost use Rattle.vs_circ.specs.shipping.Shipments.{IsDrained};
+ghost use Rattle.vs_ship.specs.Shipments.{IsDrained};
 ghost use Rattle.vs_circ.specs.shipping.Supplied.{AreRun, AreStuckPrices, HasStuckUnits, IsSupplied};
-ghost use Rattle.vs_circ.specs.Works.{IsReadyFor, IsSpaceFor};
+ghost use Rattle.vs_ship.specs.Works.{IsReadyFor, IsSpaceFor};
 
 use crate::circ::FixedFlow;
-use crate::draining::drain;
-use crate::preparing::clear;
-use crate::price_tables::ray_prices;
-use crate::shipment::Shipment;
-use crate::space::Space;
+use crate::price_tables::{layer_prices, ray_prices};
 use crate::supplying::{must_on, supply};
-use crate::work::{Kept, Work};
 use std::alloc::Global;
 use vs_layer::{Arc, Flow};
 use vs_match::LayerNet;
+use vs_ship::{Kept, Shipment, Space, Work, clear, drain};
 use vs_types::Memory;
 
 /// A least circulation that runs exactly these trips, or prices that show that there is none.
@@ -78,7 +74,7 @@ fn covered(
 {
     let flow = run_too(alloc, net, must, &shipment.flow)?;
     space.take_near(&shipment.prices);
-    let prices = space.layer_prices(alloc, net, must.len())?;
+    let prices = layer_prices(alloc, net, must.len(), space)?;
     let cost = cost_of(net, &flow);
     Ok(FixedFlow::Covered { flow, prices, cost })
 }

@@ -9,16 +9,13 @@ ghost use Rattle.vs_circ.specs.node_prices.Leeways.{passing, limits_of, spare, A
 
 use vs_layer::{Arc, Net};
 use vs_match::{ArcKind, LayerNet, MAX_ARC_COST};
+use vs_ship::MAX_NODE_PRICE;
 
 /// How far at most the price for leaving or entering a trip is moved, in 1/1000 of a cost unit.
 pub(crate) const MAX_LEEWAY: u64 = 70_000_000_000_000_000;
 
-/// The greatest price of a node, either way, from which the prices of a layer are made, in 1/1000 of a cost unit: what
-/// a path costs at most that comes to no node twice.
-pub(crate) const MAX_NODE_PRICE: i64 = 480_240_000_000_000_000;
-
 /// Which prices of a layer are moved away from those of the nodes.
-#[derive(Clone, Copy, Debug, PartialEq, Eq)]
+#[derive(Clone, Copy)]
 pub(crate) enum Side {
     /// Those for leaving trips fall, as far as trips can still be entered at the prices of the nodes.
     Leaving,

@@ -2,24 +2,17 @@
 //! ray that shows that there is none.
 #![tactic(auto)]
 
-mod centring;
 mod circ;
-mod draining;
 mod fixing;
-mod gaps;
 mod laws;
 mod leeways;
-mod mirror;
 mod misfits;
 mod preparing;
 mod price_tables;
 mod relaxing;
 mod running;
 mod settling;
-mod shipment;
-mod space;
 mod supplying;
-mod work;
 
 pub use circ::{Circ, FixedFlow, LayerPrices};
 pub use fixing::fixed;
@@ -27,4 +20,4 @@ pub use laws::{covered_circulations, least_circulations, stuck_trips};
 pub use relaxing::relaxed;
 pub use running::runs;
 pub use vs_instance::{MAX_MULTIPLIER, MAX_PRICE};
-pub use work::Work;
+pub use vs_ship::Work;

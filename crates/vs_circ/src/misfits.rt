@@ -3,17 +3,37 @@
 ghost use Rattle.std.specs.Prelude.{◌≡◌, length};
 ghost use Rattle.vs_layer.specs.Graph.{IsNet};
 ghost use Rattle.vs_path.specs.Residual.{AllWithin};
-ghost use Rattle.vs_circ.specs.declared.shipment.TheConstants.{MAX_FIRST_PRICE};
+ghost use Rattle.vs_ship.specs.declared.shipment.TheConstants.{MAX_FIRST_PRICE};
+ghost use Rattle.vs_ship.specs.Works.{IsReadyFor};
 ghost use Rattle.vs_circ.specs.shipping.Prepared.{AreSmallOffers, HasSmallArcs};
 
-use crate::preparing::{are_first_prices, loss_on, offered_cost, offered_room, suiting};
+use crate::preparing::{offered_cost, offered_room};
 use vs_instance::MAX_TRIPS;
 use vs_match::{ArcKind, LayerNet};
+use vs_ship::{Kept, are_first_prices, loss_on, suiting};
 use vs_types::TripNo;
+
+/// Lets a call begin with the units and prices that the last call left or with those that the one before it did,
+/// whichever need fewer changes. Where multipliers swing to and fro, that is the call before.
+pub(crate) fn recall(net: &LayerNet, offers: &[Option<i64>], kept: &mut Kept)
+    requires arcs { HasSmallArcs net.now }
+    requires offers { AreSmallOffers offers.now }
+    requires kept { IsReadyFor net.now.graph kept.old }
+    ensures kept { IsReadyFor net.now.graph kept.new }
+{
+    let shipment = &kept.shipment;
+    let last = misfits(net, offers, &shipment.flow.units, &shipment.prices);
+    let before = misfits(net, offers, &kept.before.units, &kept.before.prices);
+    if before < last {
+        kept.exchange();
+    } else {
+        kept.before.take(&kept.shipment);
+    }
+}
 
 /// How many trips change from being run to not being run, or the other way, where a call with these offers begins with
 /// these units and prices. It decides only how long the call takes.
-pub(crate) fn misfits(net: &LayerNet, offers: &[Option<i64>], units: &[u32], prices: &[i64]) -> u32
+fn misfits(net: &LayerNet, offers: &[Option<i64>], units: &[u32], prices: &[i64]) -> u32
     requires arcs { HasSmallArcs net.now }
     requires offers { AreSmallOffers offers.now }
     requires units { length units.now ≡ length net.now.graph.arcs }

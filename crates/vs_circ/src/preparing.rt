@@ -1,19 +1,14 @@
 //! Costs, rooms and units of the arcs before units are sent.
 
-ghost use Rattle.std.specs.Prelude.{◌≡◌, ℕ, ◌<◌, ◌≤◌, ◌↔◌, ◌≤ℤ◌, ◌<ℤ◌, ◌+ℤ◌, ◌-ℤ◌, pos, IfSome, IsTrue, MatchBool, MatchOption, length, slice_index};
-ghost use Rattle.vs_layer.specs.Graph.{arc_of};
-ghost use Rattle.vs_instance.specs.declared.limits.TheConstants.{MAX_FLEET};
-ghost use Rattle.vs_match.specs.LayerGraph.{IsLabelled};
-ghost use Rattle.vs_path.specs.Residual.{AllWithin, IsWithin, price_at};
-ghost use Rattle.vs_path.specs.declared.residual.TheConstants.{MAX_STEP_COST, MAX_SEARCH_NODES};
-ghost use Rattle.vs_circ.specs.Offers.{offer_of};
-ghost use Rattle.vs_circ.specs.shipping.Prepared.{AreSmallOffers, AreOfferedCosts, AreOfferedRooms, HasSmallArcs, AllSuit, DoSuit, HasGain, IsLeftBy, offered_cost, offered_room, worth_less, AreNone, HasNoGain, passed_along};
-ghost use Rattle.vs_circ.specs.shipping.Shipments.{CanShip, IsSized};
+ghost use Rattle.std.specs.Prelude.{◌≡◌, ◌≤◌, ◌≤ℤ◌, pos, length};
+ghost use Rattle.vs_path.specs.declared.residual.TheConstants.{MAX_SEARCH_NODES};
+ghost use Rattle.vs_circ.specs.shipping.Prepared.{AreSmallOffers, AreOfferedCosts, AreOfferedRooms, HasSmallArcs, offered_cost, offered_room};
+ghost use Rattle.vs_ship.specs.Leaving.{IsLeftBy};
+ghost use Rattle.vs_ship.specs.Shipments.{CanShip, IsSized};
 
-use crate::shipment::{MAX_FIRST_PRICE, Shipment};
-use vs_layer::{Arc, Net};
+use vs_layer::Arc;
 use vs_match::{ArcKind, LayerNet, MAX_ARC_COST};
-use vs_path::Costs;
+use vs_ship::{Shipment, fit, leave};
 
 /// The room of an arc that takes as many units as there are.
 pub(crate) const UNLIMITED: u32 = 4_294_967_295;
@@ -64,125 +59,6 @@ pub(crate) fn offer_arcs(net: &LayerNet, offers: &[Option<i64>], cost: &mut [i64
         cost[k as usize] = offered_cost(offers, kind, arc);
         room[k as usize] = offered_room(offers, kind, arc);
     }
-}
-
-/// The units that suit an arc on which a unit more costs so much, no more than it carries where
-/// any number does. None where it would carry more than the net lets it.
-pub(crate) fn suiting(loss: i64, room: u32, most: u32, units: u32) -> Option<u32>
-    ensures { MatchOption result ((most < room) × (loss <ℤ pos 0)) (DoSuit loss room most) }
-{
-    if loss > 0 {
-        Some(0)
-    } else if loss == 0 {
-        Some(units.min(room).min(most))
-    } else if room <= most {
-        Some(room)
-    } else {
-        None
-    }
-}
-
-/// What a unit more on an arc costs by the prices of the nodes.
-pub(crate) fn loss_on(arc: Arc, cost: i64, prices: &[i64]) -> i64
-    requires from { arc.from < length prices.now }
-    requires to { arc.to < length prices.now }
-    requires cost { IsWithin MAX_STEP_COST cost }
-    requires prices { AllWithin MAX_FIRST_PRICE prices.now }
-    ensures { result ≡ (cost +ℤ price_at prices.now arc.from) -ℤ price_at prices.now arc.to }
-{
-    cost + prices[arc.from as usize] - prices[arc.to as usize]
-}
-
-/// Gives each arc units that suit it. False where an arc would carry more than the net lets it.
-fn suit(net: &Net, costs: &Costs, prices: &[i64], units: &mut [u32]) -> bool
-    requires each_node { length prices.now ≡ net.now.nodes }
-    requires units { length units.old ≡ length net.now.arcs }
-    requires cost_size { length costs.now.cost.items ≡ length net.now.arcs }
-    requires room_size { length costs.now.room.items ≡ length net.now.arcs }
-    requires cost { AllWithin MAX_STEP_COST costs.now.cost.items }
-    requires prices { AllWithin MAX_FIRST_PRICE prices.now }
-    ensures { MatchBool result
-        (AllSuit net.now costs.now.cost.items costs.now.room.items prices.now units.new)
-        (HasGain net.now costs.now.cost.items costs.now.room.items prices.now) }
-{
-    for k in 0..net.arcs() {
-        let arc = net.arc(k);
-        let loss = loss_on(arc, costs.cost[k as usize], prices);
-        let room = costs.room[k as usize];
-        let Some(n) = suiting(loss, room, arc.room, units[k as usize]) else {
-            return false;
-        };
-        units[k as usize] = n;
-    }
-    true
-}
-
-/// Whether units can be sent from these prices on.
-pub(crate) fn are_first_prices(prices: &[i64]) -> bool
-    ensures { IsTrue result ↔ AllWithin MAX_FIRST_PRICE prices.now }
-{
-    for price in prices {
-        if *price < -MAX_FIRST_PRICE || MAX_FIRST_PRICE < *price {
-            return false;
-        }
-    }
-    true
-}
-
-/// Sets each number to 0.
-pub(crate) fn clear(numbers: &mut [i64])
-    ensures { AreNone numbers.new }
-{
-    for number in numbers.iter_mut() {
-        *number = 0;
-    }
-}
-
-/// Takes units from where an arc begins to where it ends.
-fn pass(surplus: &mut [i64], arc: Arc, n: u32)
-    requires from { arc.from < length surplus.old }
-    requires to { arc.to < length surplus.old }
-    requires few { n ≤ MAX_FLEET }
-    requires within { AllWithin MAX_FIRST_PRICE surplus.old }
-    ensures { surplus.new ≡ passed_along surplus.old arc n }
-{
-    if n == 0 {
-        return;
-    }
-    let n = i64::from(n);
-    surplus[arc.from as usize] -= n;
-    surplus[arc.to as usize] += n;
-}
-
-/// What units leave at the nodes.
-pub(crate) fn leave(net: &Net, units: &[u32], surplus: &mut [i64])
-    requires each_arc { length units.now ≡ length net.now.arcs }
-    requires each_node { length surplus.old ≡ net.now.nodes }
-    requires few { (k : ℕ) → k < length net.now.arcs → slice_index units.now k ≤ MAX_FLEET }
-    ensures { IsLeftBy net.now units.now surplus.new }
-{
-    clear(surplus);
-    for k in 0..net.arcs() {
-        pass(surplus, net.arc(k), units[k as usize]);
-    }
-}
-
-/// Gives each arc units that suit it, at these prices where that can be, else at prices of 0.
-fn fit(net: &Net, costs: &Costs, prices: &mut [i64], units: &mut [u32])
-    requires each_node { length prices.old ≡ net.now.nodes }
-    requires units { length units.old ≡ length net.now.arcs }
-    requires cost_size { length costs.now.cost.items ≡ length net.now.arcs }
-    requires room_size { length costs.now.room.items ≡ length net.now.arcs }
-    requires cost { AllWithin MAX_STEP_COST costs.now.cost.items }
-    requires no_gain { HasNoGain net.now costs.now.cost.items costs.now.room.items }
-    ensures first { AllWithin MAX_FIRST_PRICE prices.new }
-    ensures suit { AllSuit net.now costs.now.cost.items costs.now.room.items prices.new units.new }
-{
-    if are_first_prices(prices) && suit(net, costs, prices, units) {
-        return;
-    }
-    clear(prices);
-    let _ = suit(net, costs, prices, units);
 }
 
 /// Makes a shipment ready for offers, whatever units and prices it has: no step gains anything,

@@ -9,19 +9,47 @@ ghost use Rattle.vs_circ.specs.node_prices.NodePrices.{AreMovePrices, HasMovePri
 ghost use Rattle.vs_circ.specs.LayerPrices.{AreHolding};
 ghost use Rattle.vs_circ.specs.PricedFlows.{PaysNoLess};
 ghost use Rattle.vs_circ.specs.node_prices.Leeways.{AreFewLeeways, shifted};
+ghost use Rattle.vs_ship.specs.Works.{IsSpaceFor};
 ghost use Rattle.vs_circ.specs.node_prices.PriceTables.{AreEntries, IsEntry, IsTableOf, base_price};
 
 use crate::circ::LayerPrices;
-use crate::leeways::{MAX_LEEWAY, MAX_NODE_PRICE, Side, set_entering, set_leaving};
+use crate::leeways::{MAX_LEEWAY, Side, set_entering, set_leaving};
 use std::alloc::Global;
 use vs_instance::MAX_TRIPS;
 use vs_match::LayerNet;
+use vs_ship::{MAX_NODE_PRICE, Space};
 use vs_types::{Memory, TripNo};
+
+/// Prices of a layer, with entries for so many trips, from the prices of the nodes that the space has.
+pub(crate) fn layer_prices(
+    alloc: Global,
+    net: &LayerNet,
+    trips: usize,
+    space: &mut Space,
+) -> Result<LayerPrices, Memory>
+    requires of_layer { (p : Problem) × (l : ℕ) × IsInstance p × IsLawful p l net.now
+        × (length p.trips ≡ trips) }
+    requires prices { HasMovePrices net.now space.old.prices.items }
+    requires space { IsSpaceFor net.now.graph.nodes space.old }
+    ensures holding { IfOk result (λ given. (p : Problem) (l : ℕ) → IsInstance p
+        → IsLawful p l net.now → length p.trips ≡ trips → AreHolding p l false given) }
+    ensures pays { IfOk result (PaysNoLess net.now trips space.old.prices.items) }
+    ensures same { space.new.prices ≡ space.old.prices }
+{
+    prices_with_leeways(
+        alloc,
+        net,
+        trips,
+        &space.prices,
+        &mut space.entering,
+        &mut space.leaving,
+    )
+}
 
 /// Prices of a layer, with entries for so many trips, from prices of the nodes. They hold, and each trip pays no less
 /// by them: they are the mean of those with the least prices for leaving trips, and of those with the greatest ones
 /// for entering trips. The last two slices, with a number for each node, are space to work in.
-pub(crate) fn layer_prices(
+fn prices_with_leeways(
     alloc: Global,
     net: &LayerNet,
     trips: usize,

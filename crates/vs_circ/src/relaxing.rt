@@ -9,25 +9,24 @@ ghost use Rattle.vs_match.specs.LawfulNets.{IsLawful};
 ghost use Rattle.vs_path.specs.declared.residual.TheConstants.{MAX_STEP_COST};
 ghost use Rattle.vs_path.specs.Labels.{IsSmall};
 ghost use Rattle.vs_path.specs.Residual.{AllWithin, HasSignRule, IsWithin};
-ghost use Rattle.vs_circ.specs.node_prices.Centring.{AreSettled};
+ghost use Rattle.vs_ship.specs.Centring.{AreSettled};
 ghost use Rattle.vs_circ.specs.Circulations.{IsLeastCirculation};
 ghost use Rattle.vs_circ.specs.Offers.{AreOffers};
 ghost use Rattle.vs_circ.specs.shipping.Settled.{IsSettled};
-ghost use Rattle.vs_circ.specs.shipping.Shipments.{residual_of};
+ghost use Rattle.vs_ship.specs.Shipments.{residual_of};
 ghost use Rattle.vs_circ.specs.shipping.Values.{worth_of_units};
-ghost use Rattle.vs_circ.specs.Works.{IsKeptFor, IsReadyFor, IsSpaceFor};
+ghost use Rattle.vs_ship.specs.Works.{IsKeptFor, IsReadyFor, IsSpaceFor};
 
-use crate::centring::centre;
 use crate::circ::Circ;
+use crate::misfits::recall;
+use crate::price_tables::layer_prices;
 use crate::settling::settle;
-use crate::shipment::Shipment;
-use crate::space::Space;
-use crate::work::{Kept, Work};
 use std::alloc::Global;
 use std::mem::swap;
 use vs_layer::{Flow, Net};
 use vs_match::LayerNet;
 use vs_path::Residual;
+use vs_ship::{Kept, Shipment, Space, Work, centre};
 use vs_types::Memory;
 
 /// A circulation of offered trips whose cost less their multipliers is the least, with prices that
@@ -63,7 +62,7 @@ fn relaxed_from(
         → IsLeastCirculation p l net.now offers.now c) }
 {
     let graph = net.net();
-    kept.recall(net, offers);
+    recall(net, offers, kept);
     kept.turn(alloc, graph)?;
     settle(
         net,
@@ -125,7 +124,7 @@ fn circ_of(
 {
     let sent: &[u32] = &shipment.flow.units;
     let units = Vec::from_slice(alloc, sent)?;
-    let prices = space.layer_prices(alloc, net, offers.len())?;
+    let prices = layer_prices(alloc, net, offers.len(), space)?;
     let cost: &[i64] = &shipment.costs.cost;
     let value = worth_of(cost, sent);
     Ok(Circ {

@@ -10,14 +10,14 @@ ghost use Rattle.vs_path.specs.declared.residual.TheConstants.{MAX_SEARCH_NODES,
 ghost use Rattle.vs_path.specs.Residual.{AllWithin};
 ghost use Rattle.vs_circ.specs.Circulations.{RunLeast, RunTrip};
 ghost use Rattle.vs_circ.specs.Offers.{AreOffers};
-ghost use Rattle.vs_circ.specs.Works.{IsReadyFor};
+ghost use Rattle.vs_ship.specs.Works.{IsReadyFor};
 
 use crate::fixing::cost_of;
-use crate::gaps::bring_near;
+use crate::misfits::recall;
 use crate::settling::settle;
-use crate::work::{Kept, Work};
 use std::alloc::Global;
 use vs_match::LayerNet;
+use vs_ship::{Kept, Work, bring_near};
 use vs_types::{Memory, TripNo};
 
 /// The greatest price of a node, either way, that is kept for the next call, in 1/1000 of a cost unit: somewhat more
@@ -55,7 +55,7 @@ fn run_from(net: &LayerNet, offers: &[Option<i64>], kept: &mut Kept, answer: &mu
     ensures least { (p : Problem) (l : LayerNo) → IsInstance p → IsLawful p l.0 net.now
         → AreOffers p l.0 offers.now → RunLeast p l net.now offers.now answer.new result }
 {
-    kept.recall(net, offers);
+    recall(net, offers, kept);
     settle(
         net,
         offers,

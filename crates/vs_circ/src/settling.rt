@@ -9,13 +9,12 @@ ghost use Rattle.vs_path.specs.declared.residual.TheConstants.{MAX_SEARCH_NODES}
 ghost use Rattle.vs_path.specs.Loads.{lists_in};
 ghost use Rattle.vs_circ.specs.Offers.{AreOffers};
 ghost use Rattle.vs_circ.specs.shipping.Settled.{IsSettled};
-ghost use Rattle.vs_circ.specs.shipping.Shipments.{IsSized};
+ghost use Rattle.vs_ship.specs.Shipments.{IsSized};
 
-use crate::draining::drain;
 use crate::preparing::prepare;
-use crate::shipment::Shipment;
 use vs_match::LayerNet;
 use vs_path::{Loads, Search};
+use vs_ship::{Shipment, drain};
 
 /// Makes the units of a shipment a circulation of offered trips, with prices at which nobody gains
 /// by another one. Which units and prices it has decides how long that takes.

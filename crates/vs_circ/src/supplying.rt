@@ -8,12 +8,12 @@ ghost use Rattle.vs_match.specs.LawfulNets.{IsLawful};
 ghost use Rattle.vs_match.specs.LayerGraph.{kind_of};
 ghost use Rattle.vs_path.specs.declared.residual.TheConstants.{MAX_SEARCH_NODES};
 ghost use Rattle.vs_circ.specs.PricedFlows.{must_on, must_units};
-ghost use Rattle.vs_circ.specs.shipping.Shipments.{IsSized};
+ghost use Rattle.vs_ship.specs.Shipments.{IsSized};
 ghost use Rattle.vs_circ.specs.shipping.Supplied.{IsSupplied};
 
-use crate::preparing::{clear, leave, offer_arcs};
-use crate::shipment::Shipment;
+use crate::preparing::offer_arcs;
 use vs_match::{ArcKind, LayerNet};
+use vs_ship::{Shipment, clear, leave};
 
 /// A unit on the arc of a trip that has to run, and none on any other arc.
 pub(crate) fn must_on(must: &[bool], kind: ArcKind) -> u32

@@ -1,6 +1,6 @@
 pub mod Adding
-pub mod EventLists
-pub mod StayLists
+pub mod PointLists
+pub mod StopNodeLists
 pub mod Places
 pub mod AtStop
 pub mod ByStop

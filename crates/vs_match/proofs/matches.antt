@@ -2,6 +2,7 @@ pub mod Sweeping
 pub mod Deadheading
 pub mod PulledOut
 pub mod WaitedAt
+pub mod RestedAt
 pub mod TripsRun
 pub mod TripIndexes
 pub mod WholeNet

@@ -2,7 +2,7 @@
 use Rattle.std.specs.Prelude.{ℕ, ◌⊎◌, ◌↔◌, List, Contains, AllPairs}
 use Rattle.vs_layer.specs.declared.arc.Arc.{Arc}
 use Rattle.vs_instance.specs.Problem.{Problem}
-use Rattle.vs_match.specs.declared.event.Event.{Event}
+use Rattle.vs_match.specs.declared.event.Point.{Point}
 use Rattle.vs_match.specs.declared.arc_kind.LayerArc.{LayerArc}
 use Rattle.vs_match.specs.declared.matching.Matching.{Matching}
 use Rattle.vs_match.specs.NetArcs.{IsArcOf, IsArcBefore}
@@ -16,8 +16,8 @@ abbrev pub Adds : {X : Type 0} → (X → Type 0) → List X → List X → Type
 Adds {X} Such old new = (x : X) → Contains new x ↔ (Contains old x ⊎ Such x)
 
 -- the arcs of layer l's net by this matching, in order
-pub record AreArcs (p : Problem) (l : ℕ) (matching : Matching) (events : List Event)
+pub record AreArcs (p : Problem) (l : ℕ) (matching : Matching) (points : List Point)
     (arcs : List LayerArc) : Type 0 where
-  pub only : (x : LayerArc) → Contains arcs x → IsArcOf p l matching events x.kind (arc_in x)
-  pub every : (x : LayerArc) → IsArcOf p l matching events x.kind (arc_in x) → Contains arcs x
+  pub only : (x : LayerArc) → Contains arcs x → IsArcOf p l matching points x.kind (arc_in x)
+  pub every : (x : LayerArc) → IsArcOf p l matching points x.kind (arc_in x) → Contains arcs x
   pub ordered : AllPairs (λ x y. IsArcBefore (arc_in x) x.kind (arc_in y) y.kind) arcs

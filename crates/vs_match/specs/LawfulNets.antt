@@ -5,17 +5,21 @@ use Rattle.vs_layer.specs.Graph.{IsNet, arc_of}
 use Rattle.vs_instance.specs.Problem.{Problem}
 use Rattle.vs_instance.specs.Ways.{layer_of}
 use Rattle.vs_match.specs.declared.event.Event.{Event}
+use Rattle.vs_match.specs.declared.event.Point.{Point}
 use Rattle.vs_match.specs.declared.arc_kind.ArcKind.{ArcKind}
-use Rattle.vs_match.specs.declared.arc_kind.ArcKind.TheVariants.{Trip, Waiting, Deadhead, PullOut, PullIn, Return}
+use Rattle.vs_match.specs.declared.arc_kind.ArcKind.TheVariants.{Trip, Waiting, Deadhead, PullOut, PullIn, RestIn, RestWait, RestOut, Return}
 use Rattle.vs_match.specs.declared.layer_net.TheConstants.{MAX_ARC_COST}
-use Rattle.vs_match.specs.Events.{MayRun, HasPlace, last_node}
+use Rattle.vs_match.specs.Events.{MayRun, HasPlace, HasLine, last_node}
 use Rattle.vs_match.specs.NetArcs.{IsTripArc, IsReturnArc}
 use Rattle.vs_match.specs.LayerGraph.{LayerGraph, IsLabelled, IsArcOfTrip, kind_of}
 use Rattle.vs_match.specs.WalkLaw.{HasWalkLaw}
 
--- the node stands for some event
-abbrev pub IsBetween : List Event → ℕ → Type 0
-IsBetween events v = (e : Event) × HasPlace events v e
+-- the node stands for some event, or for some minute of the depot line
+abbrev pub IsAtStop : List Point → ℕ → Type 0
+IsAtStop points v = (e : Event) × HasPlace points v e
+
+abbrev pub IsOnLine : List Point → ℕ → Type 0
+IsOnLine points v = (minute : ℕ) × HasLine points v minute
 
 -- an arc that every vehicle of the layer may take at once, and that costs nothing less than nothing
 pub record IsFreeArc (p : Problem) (l : ℕ) (a : Arc) : Type 0 where
@@ -24,20 +28,23 @@ pub record IsFreeArc (p : Problem) (l : ℕ) (a : Arc) : Type 0 where
   pub room : a.room ≡ (layer_of p l).fleet
 
 -- where an arc of this kind begins and ends, and what it takes and costs
-abbrev pub IsLawfulArc : Problem → ℕ → List Event → ArcKind → Arc → Type 0
-IsLawfulArc p l events (Trip i) a = IsTripArc p l events i.0 a
-IsLawfulArc p l events Waiting a = IsBetween events a.from × IsBetween events a.to × IsFreeArc p l a
-IsLawfulArc p l events Deadhead a = IsBetween events a.from × IsBetween events a.to × IsFreeArc p l a
-IsLawfulArc p l events PullOut a = (a.from ≡ 0) × IsBetween events a.to × IsFreeArc p l a
-IsLawfulArc p l events PullIn a = IsBetween events a.from × (a.to ≡ last_node events) × IsFreeArc p l a
-IsLawfulArc p l events Return a = IsReturnArc p l events a
+abbrev pub IsLawfulArc : Problem → ℕ → List Point → ArcKind → Arc → Type 0
+IsLawfulArc p l points (Trip i) a = IsTripArc p l points i.0 a
+IsLawfulArc p l points Waiting a = IsAtStop points a.from × IsAtStop points a.to × IsFreeArc p l a
+IsLawfulArc p l points Deadhead a = IsAtStop points a.from × IsAtStop points a.to × IsFreeArc p l a
+IsLawfulArc p l points PullOut a = (a.from ≡ 0) × IsAtStop points a.to × IsFreeArc p l a
+IsLawfulArc p l points PullIn a = IsAtStop points a.from × (a.to ≡ last_node points) × IsFreeArc p l a
+IsLawfulArc p l points RestIn a = IsAtStop points a.from × IsOnLine points a.to × IsFreeArc p l a
+IsLawfulArc p l points RestWait a = IsOnLine points a.from × IsOnLine points a.to × IsFreeArc p l a
+IsLawfulArc p l points RestOut a = IsOnLine points a.from × IsAtStop points a.to × IsFreeArc p l a
+IsLawfulArc p l points Return a = IsReturnArc p l points a
 
 -- a net of layer l in which each trip that the layer may run has one arc, and in which the walks are the connections
 pub record IsLawful (p : Problem) (l : ℕ) (n : LayerGraph) : Type 0 where
   pub layer : l < length p.layers
   pub net : IsNet n.graph
   pub labelled : IsLabelled n
-  pub arcs : (k : ℕ) → k < length n.graph.arcs → IsLawfulArc p l n.events (kind_of n k) (arc_of n.graph k)
+  pub arcs : (k : ℕ) → k < length n.graph.arcs → IsLawfulArc p l n.points (kind_of n k) (arc_of n.graph k)
   pub each_trip : (i : ℕ) → MayRun p l i → (k : ℕ) × IsArcOfTrip n.kinds i k
   pub one_arc : (i j k : ℕ) → IsArcOfTrip n.kinds i j → IsArcOfTrip n.kinds i k → j ≡ k
   pub walks : HasWalkLaw p l n

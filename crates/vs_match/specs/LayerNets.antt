@@ -8,7 +8,7 @@ use Rattle.vs_match.specs.LawfulNets.{IsLawful}
 
 -- what stands past the end of the nets
 abbrev pub no_net : LayerGraph
-no_net = record { graph = record { nodes = 0; arcs = [] }; kinds = []; events = [] }
+no_net = record { graph = record { nodes = 0; arcs = [] }; kinds = []; points = [] }
 
 abbrev pub net_at : List LayerGraph → ℕ → LayerGraph
 net_at nets l = slice_index_or nets l no_net

@@ -5,12 +5,14 @@ pub mod LayerGraph
 pub mod WalkLaw
 pub mod Sizes
 pub mod TripEnds
-pub mod Stays
+pub mod TripPoints
+pub mod StopNodes
 pub mod Nodes
 pub mod Adds
 pub mod Parts
 pub mod ArcsOf
 pub mod Sweep
+pub mod RestMoves
 pub mod TripIndex
 pub mod Keys
 pub mod LawfulNets

@@ -21,5 +21,5 @@ IsTripIndex kinds index = (i : ℕ) → IsTripAt kinds i (slice_index_or index i
 -- a labelled net of few nodes, with an index of its trips
 pub record IsIndexed (n : LayerGraph) (index : List (Option ℕ)) : Type 0 where
   pub labelled : IsLabelled n
-  pub few : n.graph.nodes ≤ 2 * MAX_TRIPS + 2
+  pub few : n.graph.nodes ≤ 3 * MAX_TRIPS + 2
   pub trips : IsTripIndex n.kinds index

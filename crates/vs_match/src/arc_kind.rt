@@ -19,6 +19,13 @@ pub enum ArcKind {
     PullOut,
     /// It comes back to its depot.
     PullIn,
+    /// It comes back to its depot between two trips, and rests there until the first minute of the depot line at which
+    /// its stay is over.
+    RestIn,
+    /// It rests on, until the next minute of the depot line.
+    RestWait,
+    /// It leaves its depot again for a departure.
+    RestOut,
     /// From the depot's end to its beginning: as many vehicles as are used.
     Return,
 }

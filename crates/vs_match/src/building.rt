@@ -15,6 +15,7 @@ use crate::matching::Matching;
 use crate::nodes::{Nodes, nodes_of};
 use crate::pulls::{push_pull_ins, push_pull_outs};
 use crate::rates::fleet;
+use crate::rests::{push_rest_ins, push_rest_outs, push_rest_waits};
 use crate::sorting::{by_ends, put_in_order};
 use crate::trip_arcs::push_trips;
 use crate::waiting::push_waiting;
@@ -37,7 +38,7 @@ pub fn build(
 {
     let nodes = nodes_of(alloc, instance, l)?;
     let arcs = arcs_of(alloc, instance, l, matching, &nodes)?;
-    LayerNet::new(alloc, instance.trips(), nodes.events, &arcs)
+    LayerNet::new(alloc, instance.trips(), nodes.points, &arcs)
 }
 
 /// The arcs of a layer's net, in order.
@@ -51,7 +52,7 @@ fn arcs_of(
     requires layer { l.0 < length instance.now.layers }
     requires nodes { AreNodes instance.now l.0 nodes.now }
     ensures arcs { IfOk result (λ arcs.
-        AreArcs instance.now l.0 matching nodes.now.events.items arcs.items) }
+        AreArcs instance.now l.0 matching nodes.now.points.items arcs.items) }
     ensures few { IfOk result (λ arcs. length arcs.items ≤ MAX_ARCS) }
 {
     let mut arcs = Vec::with_capacity(alloc, most_deadheads(instance, nodes))?;
@@ -60,7 +61,10 @@ fn arcs_of(
     push_deadheads(instance, l, matching, nodes, &mut arcs)?;
     push_pull_outs(instance, l, nodes, &mut arcs)?;
     push_pull_ins(instance, l, nodes, &mut arcs)?;
-    arcs.push(return_arc(instance, l, nodes.events.len() as u32 + 1))?;
+    push_rest_ins(instance, l, nodes, &mut arcs)?;
+    push_rest_waits(instance, l, nodes, &mut arcs)?;
+    push_rest_outs(instance, l, nodes, &mut arcs)?;
+    arcs.push(return_arc(instance, l, nodes.points.len() as u32 + 1))?;
     let mut ordered = by_ends(alloc, &arcs)?;
     put_in_order(&mut ordered);
     Ok(ordered)

@@ -1,8 +1,8 @@
 //! The deadheads of a layer's net: from each arrival to its match at every other stop.
 
 ghost use Rattle.std.specs.Prelude.{◌≡◌, ◌≢◌, ℕ, ◌+◌, ◌*◌, ◌<◌, ◌≤◌, ◌↔◌, All, IsTrue, OnOk, length, map, slice_index_or, take};
-ghost use Rattle.vs_match.specs.declared.stay.Stay.{Stay};
-ghost use Rattle.vs_match.specs.Stays.{IsRising, AreByStop};
+ghost use Rattle.vs_match.specs.declared.stop_node.StopNode.{StopNode};
+ghost use Rattle.vs_match.specs.StopNodes.{IsRising, AreByStop};
 ghost use Rattle.vs_match.specs.Nodes.{AreNodes};
 ghost use Rattle.vs_match.specs.Adds.{Adds};
 ghost use Rattle.vs_match.specs.Parts.{IsDeadhead, IsDeadheadFrom};
@@ -13,7 +13,7 @@ use crate::arc_kind::{ArcKind, LayerArc};
 use crate::matching::{LayerMatching, Matching};
 use crate::nodes::Nodes;
 use crate::rates::{fleet, rate};
-use crate::stay::{Stay, at_stop, by_stop};
+use crate::stop_node::{StopNode, at_stop, by_stop};
 use vs_instance::{Instance, MAX_METRES, MAX_MINUTES, MAX_STOPS, MAX_TRIPS, TWO_DAYS, Way};
 use vs_types::{LayerNo, Memory, StopNo};
 
@@ -28,7 +28,7 @@ pub fn push_deadheads(
     requires layer { l.0 < length instance.now.layers }
     requires nodes { AreNodes instance.now l.0 nodes.now }
     ensures adds { OnOk result
-        (Adds (IsDeadhead instance.now l.0 matching nodes.now.events.items)
+        (Adds (IsDeadhead instance.now l.0 matching nodes.now.points.items)
         arcs.old.items arcs.new.items) }
     ensures few { OnOk result
         (length arcs.new.items ≤ length arcs.old.items + MAX_STOPS * (MAX_STOPS * MAX_TRIPS)) }
@@ -46,7 +46,7 @@ fn push_from(
     instance: &Instance,
     by: LayerMatching,
     nodes: &Nodes,
-    departures: &[&[Stay]],
+    departures: &[&[StopNode]],
     from: StopNo,
     arcs: &mut Vec<LayerArc>,
 ) -> Result<(), Memory>
@@ -56,7 +56,7 @@ fn push_from(
     requires departures { AreByStop instance.now.stops nodes.now.departures.items
         (map (λ g. g.now) departures.now) }
     ensures adds { OnOk result
-        (Adds (IsDeadheadFrom instance.now by.l.0 by.matching nodes.now.events.items from.0)
+        (Adds (IsDeadheadFrom instance.now by.l.0 by.matching nodes.now.points.items from.0)
         arcs.old.items arcs.new.items) }
     ensures few { OnOk result
         (length arcs.new.items ≤ length arcs.old.items + MAX_STOPS * MAX_TRIPS) }
@@ -82,8 +82,8 @@ fn push_matches(
     instance: &Instance,
     by: LayerMatching,
     way: Way,
-    arrivals: &[Stay],
-    departures: &[Stay],
+    arrivals: &[StopNode],
+    departures: &[StopNode],
     arcs: &mut Vec<LayerArc>,
 ) -> Result<(), Memory>
     requires layer { by.l.0 < length instance.now.layers }
@@ -111,12 +111,12 @@ fn push_matches(
 }
 
 /// The place of the first departure from this minute on, none of which stands before place `from`.
-fn first_from(departures: &[Stay], from: usize, minute: u32) -> usize
+fn first_from(departures: &[StopNode], from: usize, minute: u32) -> usize
     requires from { from ≤ length departures.now }
     requires earlier { All (λ s. s.minute < minute) (take from departures.now) }
     ensures place { from ≤ result × result ≤ length departures.now }
     ensures earlier { All (λ s. s.minute < minute) (take result departures.now) }
-    ensures first { (d : Stay) → result < length departures.now
+    ensures first { (d : StopNode) → result < length departures.now
         → minute ≤ (slice_index_or departures.now result d).minute }
 {
     let mut place = from;
@@ -128,11 +128,11 @@ fn first_from(departures: &[Stay], from: usize, minute: u32) -> usize
 
 /// Whether the deadhead from arrival k to its match remains: by latest first match only where the next arrival is
 /// too late for it.
-fn is_kept(matching: Matching, way: Way, arrivals: &[Stay], k: usize, until: &Stay) -> bool
+fn is_kept(matching: Matching, way: Way, arrivals: &[StopNode], k: usize, until: &StopNode) -> bool
     requires of_arrivals { k < length arrivals.now }
     requires rising { IsRising arrivals.now }
     requires minutes { All (λ s. s.minute < TWO_DAYS) arrivals.now × way.minutes ≤ MAX_MINUTES }
-    ensures { (d : Stay) → IsTrue result
+    ensures { (d : StopNode) → IsTrue result
         ↔ IsKept matching arrivals.now way (slice_index_or arrivals.now k d) until.now }
 {
     match matching {
@@ -143,7 +143,13 @@ fn is_kept(matching: Matching, way: Way, arrivals: &[Stay], k: usize, until: &St
     }
 }
 
-fn deadhead_arc(instance: &Instance, l: LayerNo, way: Way, since: &Stay, until: &Stay) -> LayerArc
+fn deadhead_arc(
+    instance: &Instance,
+    l: LayerNo,
+    way: Way,
+    since: &StopNode,
+    until: &StopNode,
+) -> LayerArc
     requires layer { l.0 < length instance.now.layers }
     requires in_time { since.now.minute ≤ until.now.minute × until.now.minute < TWO_DAYS }
     requires metres { way.metres ≤ MAX_METRES }

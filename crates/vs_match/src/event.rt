@@ -1,6 +1,7 @@
-//! The events that a net's nodes stand for, and those of a trip.
+//! The events of a trip, and the points in space and time that a net's nodes stand for.
 
 ghost use Rattle.std.specs.Prelude.{◌≡◌, ◌<◌, length};
+ghost use Rattle.vs_match.specs.Events.{point_of};
 ghost use Rattle.vs_match.specs.TripEnds.{event_at};
 
 use vs_instance::Instance;
@@ -12,6 +13,29 @@ pub struct Event {
     /// Minutes from 0:00 of the first day, 0 to 2,879.
     pub minute: u32,
     pub stop: StopNo,
+}
+
+impl Event {
+    /// The same as a point.
+    pub fn point(self) -> Point
+        ensures { result ≡ point_of self }
+    {
+        Point {
+            minute: self.minute,
+            stop: Some(self.stop),
+        }
+    }
+}
+
+/// What a node of a layer's net between the first and the last stands for: an event at a stop, or a minute in the
+/// depot at which a vehicle that rests there may leave, which is one of the depot line. Points are ordered by minute;
+/// at one minute the depot comes first, and then the stops.
+#[derive(Clone, Copy, Debug, PartialEq, Eq, PartialOrd, Ord)]
+pub struct Point {
+    /// Minutes from 0:00 of the first day, 0 to 2,879.
+    pub minute: u32,
+    /// None in the depot.
+    pub stop: Option<StopNo>,
 }
 
 /// One of the two events of a trip.

@@ -3,11 +3,13 @@
 ghost use Rattle.std.specs.Prelude.{◌≡◌, ◌+◌, ◌*◌, ◌<◌, ◌≤◌, All, IfOk, length, map, option_map};
 ghost use Rattle.vs_layer.specs.Graph.{AllRight};
 ghost use Rattle.vs_match.specs.Adds.{arc_in};
-ghost use Rattle.vs_match.specs.LayerGraph.{IsLabelled, kind_of, place_of};
+ghost use Rattle.vs_match.specs.Events.{point_at};
+ghost use Rattle.vs_match.specs.Sizes.{line_points};
+ghost use Rattle.vs_match.specs.LayerGraph.{IsLabelled, kind_of, line_of, place_of};
 ghost use Rattle.vs_match.specs.TripIndex.{IsBelow, IsTripAt, IsTripIndex};
 
 use crate::arc_kind::{ArcKind, LayerArc};
-use crate::event::Event;
+use crate::event::Point;
 use std::alloc::{AllocError, Global};
 use std::marker::Model;
 use vs_instance::MAX_TRIPS;
@@ -22,7 +24,7 @@ pub const MAX_ARC_COST: i64 = 20_000_000_000_000;
 pub struct LayerNet {
     net: Net,
     kinds: Vec<ArcKind>,
-    events: Vec<Event>,
+    points: Vec<Point>,
     trip_arcs: Vec<Option<u32>>,
 }
 
@@ -32,37 +34,37 @@ impl Model for LayerNet {
 
     ghost Value = { LayerGraph };
 
-    ghost view = { λ n. record { graph = n.net; kinds = n.kinds.items; events = n.events.items } };
+    ghost view = { λ n. record { graph = n.net; kinds = n.kinds.items; points = n.points.items } };
 
     ghost invariant = { λ n. IsIndexed
-        (record { graph = n.net; kinds = n.kinds.items; events = n.events.items }) n.trip_arcs.items };
+        (record { graph = n.net; kinds = n.kinds.items; points = n.points.items }) n.trip_arcs.items };
 }
 
 impl LayerNet {
-    /// The net of these arcs and of nodes for these events between the first and the last.
+    /// The net of these arcs and of nodes for these points between the first and the last.
     pub(crate) fn new(
         alloc: Global,
         trips: u32,
-        events: Vec<Event>,
+        points: Vec<Point>,
         arcs: &[LayerArc],
     ) -> Result<LayerNet, Memory>
-        requires few_events { length events.items ≤ 2 * MAX_TRIPS }
+        requires few_points { length points.items ≤ 3 * MAX_TRIPS }
         requires some_arc { 0 < length arcs.now }
         requires few_arcs { length arcs.now ≤ MAX_ARCS }
-        requires right { AllRight (length events.items + 2) (map arc_in arcs.now) }
+        requires right { AllRight (length points.items + 2) (map arc_in arcs.now) }
         requires of_trips { All (λ arc. IsBelow trips arc.kind) arcs.now }
         ensures graph { IfOk result (λ net.
-            net.graph ≡ record { nodes = length events.items + 2; arcs = map arc_in arcs.now }) }
+            net.graph ≡ record { nodes = length points.items + 2; arcs = map arc_in arcs.now }) }
         ensures kinds { IfOk result (λ net. net.kinds ≡ map (λ arc. arc.kind) arcs.now) }
-        ensures events { IfOk result (λ net. net.events ≡ events.items) }
+        ensures points { IfOk result (λ net. net.points ≡ points.items) }
     {
-        let net = net_of(alloc, events.len() as u32 + 2, arcs)?;
+        let net = net_of(alloc, points.len() as u32 + 2, arcs)?;
         let kinds = kinds_of(alloc, arcs)?;
         let trip_arcs = trip_index(alloc, trips, &kinds)?;
         Ok(LayerNet {
             net,
             kinds,
-            events,
+            points,
             trip_arcs,
         })
     }
@@ -71,7 +73,7 @@ impl LayerNet {
     pub fn net(&self) -> &Net
         ensures graph { result.now ≡ self.now.graph }
         ensures labelled { IsLabelled self.now }
-        ensures few { self.now.graph.nodes ≤ 2 * MAX_TRIPS + 2 }
+        ensures few { self.now.graph.nodes ≤ 3 * MAX_TRIPS + 2 }
     {
         &self.net
     }
@@ -94,14 +96,47 @@ impl LayerNet {
         }
     }
 
-    /// The stop and the minute of a node. None exactly for the first and the last node.
+    /// The stop and the minute of a node. None exactly for the first node, the last node and those of the depot line.
     pub fn place(&self, node: u32) -> Option<(StopNo, u32)>
         requires { node < self.now.graph.nodes }
         ensures { result ≡ option_map (λ e. (e.stop, e.minute)) (place_of self.now node) }
     {
+        let point = self.point(node)?;
+        Some((point.stop?, point.minute))
+    }
+
+    /// The minute of a node of the depot line, at which a vehicle that rests in the depot may leave. None exactly for
+    /// every other node.
+    pub fn line(&self, node: u32) -> Option<u32>
+        requires { node < self.now.graph.nodes }
+        ensures { result ≡ line_of self.now node }
+    {
+        let point = self.point(node)?;
+        match point.stop {
+            Some(_stop) => None,
+            None => Some(point.minute),
+        }
+    }
+
+    /// How many nodes are on the depot line.
+    pub(crate) fn line_count(&self) -> u32
+        ensures { result ≡ line_points self.now.points }
+    {
+        let mut count = 0;
+        for point in &self.points {
+            if point.stop.is_none() {
+                count += 1;
+            }
+        }
+        count
+    }
+
+    /// What a node stands for. None exactly for the first and the last node.
+    fn point(&self, node: u32) -> Option<Point>
+        ensures { result ≡ point_at self.now.points node }
+    {
         let k = (node as usize).checked_sub(1)?;
-        let event = self.events.get(k)?;
-        Some((event.stop, event.minute))
+        self.points.get(k).copied()
     }
 }
 

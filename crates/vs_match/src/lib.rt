@@ -1,5 +1,6 @@
 //! The time-space net of a layer, by first match or latest first match: its nodes are the departures and arrivals
-//! of the layer's trips, and its waiting and deadhead arcs lead to exactly the trips that connect.
+//! of the layer's trips and the minutes at which rested vehicles leave the depot, and its arcs for waiting, driving
+//! and resting lead to exactly the trips that connect.
 #![tactic(auto)]
 
 mod arc_kind;
@@ -12,9 +13,10 @@ mod matching;
 mod nodes;
 mod pulls;
 mod rates;
+mod rests;
 mod sizes;
 mod sorting;
-mod stay;
+mod stop_node;
 mod trip_arcs;
 mod waiting;
 

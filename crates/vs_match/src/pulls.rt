@@ -9,7 +9,7 @@ ghost use Rattle.vs_match.specs.ArcsOf.{pull_out_of, pull_in_of};
 use crate::arc_kind::{ArcKind, LayerArc};
 use crate::nodes::Nodes;
 use crate::rates::{fixed_and_rate, fleet, rate};
-use crate::stay::Stay;
+use crate::stop_node::StopNode;
 use vs_instance::{Instance, MAX_METRES, MAX_MINUTES, MAX_TRIPS, Way};
 use vs_types::{LayerNo, Memory};
 
@@ -23,7 +23,7 @@ pub fn push_pull_outs(
     requires layer { l.0 < length instance.now.layers }
     requires nodes { AreNodes instance.now l.0 nodes.now }
     ensures adds { OnOk result
-        (Adds (IsPullOut instance.now l.0 nodes.now.events.items) arcs.old.items arcs.new.items) }
+        (Adds (IsPullOut instance.now l.0 nodes.now.points.items) arcs.old.items arcs.new.items) }
     ensures few { OnOk result (length arcs.new.items ≤ length arcs.old.items + MAX_TRIPS) }
 {
     prove!(l.0 < instance.layers());
@@ -48,12 +48,12 @@ pub fn push_pull_ins(
     requires layer { l.0 < length instance.now.layers }
     requires nodes { AreNodes instance.now l.0 nodes.now }
     ensures adds { OnOk result
-        (Adds (IsPullIn instance.now l.0 nodes.now.events.items) arcs.old.items arcs.new.items) }
+        (Adds (IsPullIn instance.now l.0 nodes.now.points.items) arcs.old.items arcs.new.items) }
     ensures few { OnOk result (length arcs.new.items ≤ length arcs.old.items + MAX_TRIPS) }
 {
     prove!(l.0 < instance.layers());
     let depot = instance.layer(l).depot;
-    let last = nodes.events.len() as u32 + 1;
+    let last = nodes.points.len() as u32 + 1;
     for arrival in &nodes.arrivals {
         if let Some(way) = instance.way(arrival.stop, depot) {
             arcs.push(pull_in_arc(instance, l, last, way, arrival))?;
@@ -62,7 +62,7 @@ pub fn push_pull_ins(
     Ok(())
 }
 
-fn pull_out_arc(instance: &Instance, l: LayerNo, way: Way, until: &Stay) -> LayerArc
+fn pull_out_arc(instance: &Instance, l: LayerNo, way: Way, until: &StopNode) -> LayerArc
     requires layer { l.0 < length instance.now.layers }
     requires way { way.minutes ≤ MAX_MINUTES × way.metres ≤ MAX_METRES }
     ensures { result ≡ pull_out_of instance.now l.0 way until.now }
@@ -76,7 +76,7 @@ fn pull_out_arc(instance: &Instance, l: LayerNo, way: Way, until: &Stay) -> Laye
     }
 }
 
-fn pull_in_arc(instance: &Instance, l: LayerNo, last: u32, way: Way, since: &Stay) -> LayerArc
+fn pull_in_arc(instance: &Instance, l: LayerNo, last: u32, way: Way, since: &StopNode) -> LayerArc
     requires layer { l.0 < length instance.now.layers }
     requires way { way.minutes ≤ MAX_MINUTES × way.metres ≤ MAX_METRES }
     ensures { result ≡ pull_in_of instance.now l.0 last way since.now }

@@ -1,11 +1,14 @@
-//! What minutes, metres and vehicles of a layer cost, and how many vehicles it has.
+//! What minutes, metres and vehicles of a layer cost, how many vehicles it has, and how they leave after a rest.
 
-ghost use Rattle.std.specs.Prelude.{◌≡◌, ◌+◌, ◌*◌, ◌<◌, ◌≤◌, length};
+ghost use Rattle.std.specs.Prelude.{◌≡◌, ◌+◌, ◌*◌, ◌<◌, ◌≤◌, MatchOption, length};
 ghost use Rattle.vs_instance.specs.Pieces.{rated};
 ghost use Rattle.vs_instance.specs.Ways.{layer_of};
+ghost use Rattle.vs_instance.specs.declared.way.Way.{Way};
+ghost use Rattle.vs_match.specs.Events.{IsWayAfterRest};
 ghost use Rattle.vs_match.specs.NetArcs.{at_scale};
 
-use vs_instance::{Instance, Layer, MAX_METRES, MAX_PER_METRE, MAX_PER_MINUTE, TWO_DAYS};
+use crate::event::Event;
+use vs_instance::{Instance, Layer, MAX_METRES, MAX_PER_METRE, MAX_PER_MINUTE, TWO_DAYS, Way};
 use vs_types::{LayerNo, SCALE};
 
 /// What so many minutes and metres cost at the rates of a layer, in cost units.
@@ -51,4 +54,23 @@ pub fn fleet(instance: &Instance, l: LayerNo) -> u32
 {
     prove!(l.0 < instance.layers());
     instance.layer(l).fleet as u32
+}
+
+/// The way of a vehicle of a layer that rested in its depot to an event. None exactly where the layer has no stay,
+/// where there is no such way, or where the vehicle would have to leave before minute 0.
+pub fn way_after_rest(instance: &Instance, l: LayerNo, until: &Event) -> Option<Way>
+    requires layer { l.0 < length instance.now.layers }
+    requires stop { until.now.stop.0 < instance.now.stops }
+    ensures { MatchOption result ((w : Way) → ¬ (IsWayAfterRest instance.now l.0 until.now w))
+        (IsWayAfterRest instance.now l.0 until.now) }
+{
+    prove!(l.0 < instance.layers());
+    let layer = instance.layer(l);
+    let _stay = layer.stay?;
+    let way = instance.way(layer.depot, until.stop)?;
+    if way.minutes <= until.minute {
+        Some(way)
+    } else {
+        None
+    }
 }

@@ -17,6 +17,10 @@ pub struct NetCounts {
     pub pull_outs: u32,
     pub pull_ins: u32,
     pub trips: u32,
+    /// How many nodes are on the depot line.
+    pub line: u32,
+    /// How many arcs lead into the depot for a rest.
+    pub rests: u32,
 }
 
 /// How large a layer's net is.
@@ -24,13 +28,16 @@ pub fn counts(net: &LayerNet) -> NetCounts
     ensures { result ≡ counts_of net.now }
 {
     let graph = net.net();
+    let line = net.line_count();
     let mut counts = NetCounts {
-        nodes: graph.nodes() - 2,
+        nodes: graph.nodes() - 2 - line,
         waiting: 0,
         deadheads: 0,
         pull_outs: 0,
         pull_ins: 0,
         trips: 0,
+        line,
+        rests: 0,
     };
     for k in 0..graph.arcs() {
         count(&mut counts, net.kind(k));
@@ -49,7 +56,8 @@ fn count(counts: &mut NetCounts, kind: ArcKind)
         ArcKind::Deadhead => counts.deadheads += 1,
         ArcKind::PullOut => counts.pull_outs += 1,
         ArcKind::PullIn => counts.pull_ins += 1,
-        ArcKind::Return => {}
+        ArcKind::RestIn => counts.rests += 1,
+        ArcKind::RestWait | ArcKind::RestOut | ArcKind::Return => {}
     }
 }
 

@@ -9,7 +9,7 @@ ghost use Rattle.vs_match.specs.Adds.{Adds, arc_in};
 ghost use Rattle.vs_match.specs.Parts.{IsTrip};
 
 use crate::arc_kind::{ArcKind, LayerArc};
-use crate::event::{Event, TripEnd};
+use crate::event::{Point, TripEnd};
 use crate::nodes::{Nodes, node_of};
 use crate::rates::rate;
 use vs_instance::{Instance, MAX_TRIPS};
@@ -25,7 +25,7 @@ pub fn push_trips(
     requires layer { l.0 < length instance.now.layers }
     requires nodes { AreNodes instance.now l.0 nodes.now }
     ensures adds { OnOk result
-        (Adds (IsTrip instance.now l.0 nodes.now.events.items) arcs.old.items arcs.new.items) }
+        (Adds (IsTrip instance.now l.0 nodes.now.points.items) arcs.old.items arcs.new.items) }
     ensures few { OnOk result (length arcs.new.items ≤ length arcs.old.items + MAX_TRIPS) }
 {
     for i in 0..instance.trips() {
@@ -42,15 +42,17 @@ fn trip_arc(instance: &Instance, l: LayerNo, nodes: &Nodes, i: TripNo) -> LayerA
     requires nodes { AreNodes instance.now l.0 nodes.now }
     requires may_run { MayRun instance.now l.0 i.0 }
     ensures kind { result.kind ≡ Trip i }
-    ensures arc { IsTripArc instance.now l.0 nodes.now.events.items i.0 (arc_in result) }
+    ensures arc { IsTripArc instance.now l.0 nodes.now.points.items i.0 (arc_in result) }
 {
     prove!(i.0 < instance.trips());
     let trip = instance.trip(i);
     let departure = TripEnd::Departure.event(instance, i);
     let arrival = TripEnd::Arrival.event(instance, i);
-    let events: &[Event] = &nodes.events;
-    let from = node_of(events, &departure);
-    let to = node_of(events, &arrival);
+    let start = departure.point();
+    let end = arrival.point();
+    let points: &[Point] = &nodes.points;
+    let from = node_of(points, &start);
+    let to = node_of(points, &end);
     LayerArc {
         from,
         to,

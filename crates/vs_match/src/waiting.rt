@@ -9,7 +9,7 @@ ghost use Rattle.vs_match.specs.ArcsOf.{waiting_of};
 use crate::arc_kind::{ArcKind, LayerArc};
 use crate::nodes::Nodes;
 use crate::rates::{fleet, rate};
-use crate::stay::Stay;
+use crate::stop_node::StopNode;
 use vs_instance::{Instance, MAX_TRIPS, TWO_DAYS};
 use vs_types::{LayerNo, Memory};
 
@@ -23,8 +23,8 @@ pub fn push_waiting(
     requires layer { l.0 < length instance.now.layers }
     requires nodes { AreNodes instance.now l.0 nodes.now }
     ensures adds { OnOk result
-        (Adds (IsWaiting instance.now l.0 nodes.now.events.items) arcs.old.items arcs.new.items) }
-    ensures few { OnOk result (length arcs.new.items ≤ length arcs.old.items + 2 * MAX_TRIPS) }
+        (Adds (IsWaiting instance.now l.0 nodes.now.points.items) arcs.old.items arcs.new.items) }
+    ensures few { OnOk result (length arcs.new.items ≤ length arcs.old.items + 3 * MAX_TRIPS) }
 {
     prove!(l.0 < instance.layers());
     for k in 1..nodes.all.len() {
@@ -37,7 +37,7 @@ pub fn push_waiting(
     Ok(())
 }
 
-fn waiting_arc(instance: &Instance, l: LayerNo, since: &Stay, until: &Stay) -> LayerArc
+fn waiting_arc(instance: &Instance, l: LayerNo, since: &StopNode, until: &StopNode) -> LayerArc
     requires layer { l.0 < length instance.now.layers }
     requires in_time { since.now.minute ≤ until.now.minute × until.now.minute < TWO_DAYS }
     ensures { result ≡ waiting_of instance.now l.0 since.now until.now }

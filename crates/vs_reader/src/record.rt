@@ -12,7 +12,7 @@ use csv::ByteRecord;
 use std::alloc::AllocFailed;
 
 /// Why a record adds nothing.
-#[derive(Clone, Copy, Debug, PartialEq, Eq)]
+#[derive(Clone, Copy)]
 pub enum RecordError {
     /// It breaks a rule.
     Refused(Why),

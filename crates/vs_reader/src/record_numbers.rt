@@ -9,7 +9,7 @@ use std::alloc::Global;
 use vs_instance::{Misfit, Place};
 
 /// The numbers of the records that declare deadheads, layers and trips, each in order.
-#[derive(Debug, Drop)]
+#[derive(Drop)]
 pub struct RecordNumbers {
     pub deadheads: Vec<u32>,
     pub layers: Vec<u32>,

@@ -23,7 +23,7 @@ use vs_instance::{Deadhead, Layer, MAX_LAYERS, MAX_STOPS, MAX_TRIPS, Trip};
 use vs_types::{LayerNo, LayerSet, StopNo};
 
 /// The stops that a deadhead leads from and to.
-#[derive(Clone, Copy, Debug, PartialEq, Eq)]
+#[derive(Clone, Copy)]
 pub struct Ends {
     pub from: StopNo,
     pub to: StopNo,

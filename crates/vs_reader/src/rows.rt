@@ -72,7 +72,7 @@ fn start_of(ends: &[u32], k: usize) -> usize
 }
 
 /// Rows that are being put together, record by record. After an error they are of no more use.
-#[derive(Debug, Drop)]
+#[derive(Drop)]
 pub struct RowBuilder {
     pub bytes: Vec<u8>,
     pub field_ends: Vec<u32>,

@@ -5,7 +5,7 @@ use vs_cases::Claim;
 use vs_types::{LayerSet, TripNo};
 
 /// What a worker of a search has in hand.
-#[derive(Clone, Copy, Debug, PartialEq, Eq)]
+#[derive(Clone, Copy)]
 pub enum Hand {
     Idle,
     /// A leaf, and whether the worker offered a plan since it took it.

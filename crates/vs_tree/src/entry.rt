@@ -6,7 +6,7 @@ ghost use Rattle.vs_tree.specs.Free.{IsFirstOf, IsNotAfter};
 use vs_prices::Bound;
 
 /// A free leaf, with what its table is worth there.
-#[derive(Clone, Copy, Debug, PartialEq, Eq)]
+#[derive(Clone, Copy)]
 pub struct Entry {
     pub worth: Bound,
     pub leaf: u32,

@@ -25,7 +25,7 @@ pub struct Log {
 }
 
 /// How many steps, tables and accepted plans there may be.
-#[derive(Clone, Copy, Debug)]
+#[derive(Clone, Copy)]
 pub struct Rooms {
     pub steps: u32,
     pub tables: u32,

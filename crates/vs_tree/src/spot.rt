@@ -29,7 +29,7 @@ pub enum Spot {
 }
 
 /// How a spot came: the parent was split, and here the trip is run in these layers.
-#[derive(Clone, Copy, Debug, PartialEq, Eq)]
+#[derive(Clone, Copy)]
 pub struct Cut {
     pub parent: u32,
     pub trip: TripNo,

@@ -73,6 +73,26 @@ fn two_leaves(alloc: Global, instance: &Instance) -> Result<Tree, Fail>
     Ok(tree)
 }
 
+/// What the search of that tree reports, by two workers that pass the gate.
+fn reported<R: Threads + Wait + Sync>(
+    rt: &R,
+    alloc: Global,
+    instance: &Instance,
+    tree: Tree,
+    gate: &Meeting,
+) -> Result<Report, Fail>
+    requires problem { tree.opening.problem ≡ instance.now }
+    requires workers { tree.opening.workers ≡ 2 }
+    requires none_held { NoneIsHeld (state tree) }
+    requires none_gone { (state tree).gone ≡ [] }
+{
+    let nets = layer_nets(alloc, instance)?;
+    match run(rt, alloc, instance, &nets, tree, 2, gate) {
+        Ok(tree) => Ok(tree.report()),
+        Err(_) => Err(Fail::new("memory")),
+    }
+}
+
 /// What two workers report that meet at the gate, of a search whose root is split.
 fn searched_by_two<R: Threads + Wait + Sync>(
     rt: &R,
@@ -80,21 +100,21 @@ fn searched_by_two<R: Threads + Wait + Sync>(
     gate: &Meeting,
 ) -> Result<Report, Fail> {
     let instance = one_trip(alloc)?;
-    let nets = layer_nets(alloc, &instance)?;
     let tree = two_leaves(alloc, &instance)?;
-    match run(rt, alloc, &instance, &nets, tree, 2, gate) {
-        Ok(tree) => Ok(tree.report()),
-        Err(_) => Err(Fail::new("memory")),
-    }
+    reported(rt, alloc, &instance, tree, gate)
+}
+
+/// How many of them passed the gate with the other, and what they report.
+fn met<R: Threads + Wait + Sync>(rt: &R, alloc: Global) -> Result<(u32, Report), Fail> {
+    let gate = Meeting::new();
+    let report = searched_by_two(rt, alloc, &gate)?;
+    Ok((gate.met.load(Ordering::SeqCst), report))
 }
 
 #[test]
 fn two_workers_meet(rt: HostRuntime) -> Result<(), Fail> {
-    let gate = Meeting::new();
-    let report = searched_by_two(&rt, rt.alloc(), &gate)?;
-    assert_eq!(rt; gate.met.load(Ordering::SeqCst), 2);
-    assert_eq!(rt; report.claim, Claim::Optimal);
-    assert_eq!(rt; report.cost, Some(500));
-    assert_eq!(rt; report.bound, Some(500));
+    let (met, report) = met(&rt, rt.alloc())?;
+    let told = (met, report.claim, report.cost, report.bound);
+    assert_eq!(rt; told, (2, Claim::Optimal, Some(500), Some(500)));
     Ok(())
 }

@@ -80,11 +80,22 @@ fn shared_by_two<R: Wait>(rt: &R, alloc: Global, instance: &Instance) -> Result<
     Ok((tree, found))
 }
 
+/// The steps of that search, and how many of them the second seat found.
+fn steps_of<R: Wait>(rt: &R, alloc: Global, instance: &Instance) -> Result<(Vec<Step>, usize), Fail>
+    requires { length instance.now.trips ≡ 1 }
+{
+    let (tree, found) = shared_by_two(rt, alloc, instance)?;
+    Ok((tree.history().to_vec(alloc)?, found))
+}
+
+fn steps<R: Wait>(rt: &R, alloc: Global) -> Result<(Vec<Step>, usize), Fail> {
+    let instance = one_trip(alloc)?;
+    steps_of(rt, alloc, &instance)
+}
+
 #[test]
 fn a_seat_finds_the_steps_of_another(rt: HostRuntime) -> Result<(), Fail> {
-    let alloc = rt.alloc();
-    let instance = one_trip(alloc)?;
-    let (tree, found) = shared_by_two(&rt, alloc, &instance)?;
+    let (steps, found) = steps(&rt, rt.alloc())?;
     assert_eq!(rt; found, 2);
     let took = Step::Took { worker: 0, leaf: 0 };
     let split = Step::Split {
@@ -94,6 +105,6 @@ fn a_seat_finds_the_steps_of_another(rt: HostRuntime) -> Result<(), Fail> {
         trip: TripNo(0),
         left: LayerSet::only(LayerNo(0)),
     };
-    assert_eq!(rt; tree.history(), [took, split].as_slice());
+    assert_eq!(rt; steps.as_slice(), [took, split].as_slice());
     Ok(())
 }

@@ -31,8 +31,8 @@ fn full_table(alloc: Global, instance: &Instance) -> Result<Table, Fail>
 
 /// What a worker was told that asked for a leaf, and its buffers then.
 #[derive(Drop)]
-pub struct Told {
-    pub take: Take,
+struct Told {
+    take: Take,
     sets: Vec<LayerSet>,
     table: Table,
 }
@@ -60,7 +60,7 @@ fn is_idle(tree: &Tree, w: u32) -> bool
 }
 
 /// Asks for a leaf, for a worker that gave none back.
-pub fn ask(alloc: Global, tree: &mut Tree, w: u32) -> Result<Told, Fail>
+fn ask(alloc: Global, tree: &mut Tree, w: u32) -> Result<Told, Fail>
     requires worker { w ≤ 1 }
     requires workers { tree.old.opening.workers ≡ 2 }
     requires stays { ¬ (IsAmong w (state tree.old).gone) }
@@ -77,6 +77,18 @@ pub fn ask(alloc: Global, tree: &mut Tree, w: u32) -> Result<Told, Fail>
     let mut table = Table::zero(alloc, tree.instance())?;
     let take = tree.take(w, &mut sets, &mut table);
     Ok(Told { take, sets, table })
+}
+
+/// What a worker is told that asks for a leaf and gave none back.
+pub fn answer(alloc: Global, tree: &mut Tree, w: u32) -> Result<Take, Fail>
+    requires worker { w ≤ 1 }
+    requires workers { tree.old.opening.workers ≡ 2 }
+    requires stays { ¬ (IsAmong w (state tree.old).gone) }
+    ensures opening { OnOk result (tree.new.opening ≡ tree.old.opening) }
+    ensures gone { OnOk result ((state tree.new).gone ≡ (state tree.old).gone) }
+{
+    let told = ask(alloc, tree, w)?;
+    Ok(told.take)
 }
 
 /// A search in which worker 0 took the root and split it with the table of zeros: on the left the trip is run in the
@@ -226,6 +238,6 @@ pub fn taken_again(alloc: Global, instance: &Instance) -> Result<(u32, u32, Take
     let before = tree.report().finished;
     close_left(alloc, &mut tree, instance, &lower)?;
     let after = tree.report().finished;
-    let again = ask(alloc, &mut tree, 0)?;
-    Ok((before, after, again.take))
+    let again = answer(alloc, &mut tree, 0)?;
+    Ok((before, after, again))
 }

@@ -11,7 +11,7 @@ use Rattle.vs_match.specs.declared.arc_kind.ArcKind.{ArcKind}
 use Rattle.vs_match.specs.declared.arc_kind.ArcKind.TheVariants.{Return}
 use Rattle.vs_match.specs.LayerGraph.{LayerGraph, kind_of}
 use Rattle.vs_path.specs.Residual.{price_at}
-use Rattle.vs_circ.specs.shipping.Balance.{gained}
+use Rattle.vs_ship.specs.Balance.{gained}
 use Rattle.vs_circ.specs.Circulations.{paid_on, paid_by_units}
 use Rattle.vs_circ.specs.PricedFlows.{arc_pays}
 use Rattle.vs_circ.proofs.low.Reindexing.{for_units, for_units-by_number, over_range}

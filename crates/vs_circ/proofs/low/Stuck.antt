@@ -12,7 +12,7 @@ use Rattle.vs_match.specs.declared.arc_kind.ArcKind.TheVariants.{Trip, Waiting, 
 use Rattle.vs_match.specs.LawfulNets.{IsLawful}
 use Rattle.vs_match.specs.LayerGraph.{LayerGraph, kind_at, kind_of}
 use Rattle.vs_path.specs.Residual.{price_at}
-use Rattle.vs_circ.specs.shipping.Balance.{gained}
+use Rattle.vs_ship.specs.Balance.{gained}
 use Rattle.vs_match.proofs.CallerLemmas.{circulation_decomposes}
 use Rattle.vs_circ.specs.declared.circ.LayerPrices.{LayerPrices}
 use Rattle.vs_circ.specs.LayerPrices.{shown_of_trips, trip_pays}

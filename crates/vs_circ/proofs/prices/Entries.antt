@@ -9,7 +9,8 @@ use Rattle.vs_match.specs.LawfulNets.{IsLawful}
 use Rattle.vs_path.specs.Residual.{AllWithin, IsWithin, price_at}
 use Rattle.vs_circ.specs.declared.leeways.Side.{Side}
 use Rattle.vs_circ.specs.declared.leeways.Side.TheVariants.{Leaving, Entering}
-use Rattle.vs_circ.specs.declared.leeways.TheConstants.{MAX_LEEWAY, MAX_NODE_PRICE}
+use Rattle.vs_circ.specs.declared.leeways.TheConstants.{MAX_LEEWAY}
+use Rattle.vs_ship.specs.declared.gaps.TheConstants.{MAX_NODE_PRICE}
 use Rattle.vs_circ.specs.LayerPrices.{IsPrice}
 use Rattle.vs_circ.specs.node_prices.Leeways.{passing, shifted}
 use Rattle.vs_circ.specs.node_prices.PriceTables.{IsEntry, base_price}

@@ -13,7 +13,7 @@ use Rattle.vs_match.specs.LawfulNets.{IsLawful}
 use Rattle.vs_path.specs.Residual.{AllWithin, price_at}
 use Rattle.vs_circ.specs.declared.circ.LayerPrices.{LayerPrices}
 use Rattle.vs_circ.specs.declared.leeways.Side.TheVariants.{Leaving, Entering}
-use Rattle.vs_circ.specs.declared.leeways.TheConstants.{MAX_NODE_PRICE}
+use Rattle.vs_ship.specs.declared.gaps.TheConstants.{MAX_NODE_PRICE}
 use Rattle.vs_circ.specs.LayerPrices.{AreHolding, IsPrice}
 use Rattle.vs_circ.specs.node_prices.Leeways.{AreLeeways}
 use Rattle.vs_circ.specs.node_prices.PriceTables.{IsTableOf}

@@ -18,18 +18,17 @@ use Rattle.vs_match.specs.LawfulNets.{IsLawful, IsLawfulArc}
 use Rattle.vs_match.specs.LayerGraph.{LayerGraph, IsArcOfTrip, kind_of}
 use Rattle.vs_path.specs.declared.step.Step.TheVariants.{Forward, Back}
 use Rattle.vs_path.specs.Residual.{HasSignRule, price_at}
-use Rattle.vs_circ.specs.declared.shipment.Shipment.{Shipment}
-use Rattle.vs_circ.specs.shipping.Balance.{gained}
+use Rattle.vs_ship.specs.declared.shipment.Shipment.{Shipment}
+use Rattle.vs_ship.specs.Balance.{gained}
 use Rattle.vs_circ.specs.Circulations.{CoverExactly}
 use Rattle.vs_circ.specs.node_prices.NodePrices.{IsEmptyMove}
 use Rattle.vs_circ.specs.Offers.{AreMust, MustRun}
-use Rattle.vs_circ.specs.shipping.Prepared.{offered_room, worth_less}
+use Rattle.vs_circ.specs.shipping.Prepared.{offered_room}
+use Rattle.vs_ship.specs.Suiting.{worth_less}
 use Rattle.vs_circ.specs.PricedFlows.{IsPricedFlow, end_node, last_arc, must_on, must_units}
-use Rattle.vs_circ.specs.shipping.Shipments.{IsDrained, residual_of}
+use Rattle.vs_ship.specs.Shipments.{IsDrained, residual_of}
 use Rattle.vs_circ.specs.shipping.Supplied.{AreRun, IsGreater, IsSupplied}
-use Rattle.vs_circ.proofs.balance.Conserved.{conserved, last-most}
-use Rattle.vs_circ.proofs.balance.Sums.{gained-both}
-use Rattle.vs_circ.proofs.balance.Weighed.{weighed-none}
+use Rattle.vs_ship.proofs.CallerLemmas.{conserved, last-most, gained-both, weighed-none}
 use Rattle.vs_circ.proofs.low.LawfulArcs.{last_inside, last_kind, return_arc, return_from}
 use Rattle.vs_circ.proofs.low.Stuck.{must_unit}
 use Rattle.vs_circ.proofs.shipping.Settling.{empty_room}

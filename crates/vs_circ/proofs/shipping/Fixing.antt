@@ -12,22 +12,21 @@ use Rattle.vs_instance.specs.Instance.{IsInstance}
 use Rattle.vs_match.specs.LawfulNets.{IsLawful}
 use Rattle.vs_match.specs.LayerGraph.{LayerGraph}
 use Rattle.vs_path.specs.Residual.{AllWithin, HasSignRule, IsResidual, IsWithin, price_at}
-use Rattle.vs_circ.specs.declared.leeways.TheConstants.{MAX_NODE_PRICE}
+use Rattle.vs_ship.specs.declared.gaps.TheConstants.{MAX_NODE_PRICE}
 use Rattle.vs_circ.specs.declared.circ.FixedFlow.TheVariants.{Covered, Short}
 use Rattle.vs_circ.specs.declared.circ.LayerPrices.{LayerPrices}
-use Rattle.vs_circ.specs.declared.shipment.Shipment.{Shipment}
+use Rattle.vs_ship.specs.declared.shipment.Shipment.{Shipment}
 use Rattle.vs_circ.specs.Circulations.{IsFixed}
-use Rattle.vs_circ.specs.node_prices.Gaps.{AreNear}
+use Rattle.vs_ship.specs.Gaps.{AreNear}
 use Rattle.vs_circ.specs.LayerPrices.{AreHolding}
 use Rattle.vs_circ.specs.node_prices.NodePrices.{HasMovePrices}
 use Rattle.vs_circ.specs.Offers.{AreMust}
 use Rattle.vs_circ.specs.PricedFlows.{IsPricedFlow, IsStuckAt, PaysNoLess}
-use Rattle.vs_circ.specs.shipping.Shipments.{IsDrained, excess, residual_of}
+use Rattle.vs_ship.specs.Shipments.{IsDrained, excess, residual_of}
 use Rattle.vs_circ.specs.shipping.Supplied.{AreRun, AreStuckPrices, HasStuckUnits, IsSupplied}
-use Rattle.vs_circ.proofs.balance.Weights.{is_in, is_in-from, is_in-to, one_where}
+use Rattle.vs_ship.proofs.CallerLemmas.{is_in, is_in-from, is_in-to, one_where, sign-near}
 use Rattle.vs_circ.proofs.low.Covered.{covered_circulations}
 use Rattle.vs_circ.proofs.low.Stuck.{stuck_trips}
-use Rattle.vs_circ.proofs.prices.SignRules.{sign-near}
 use Rattle.vs_circ.proofs.shipping.Covering.{covers, covers-priced}
 use Rattle.vs_circ.proofs.shipping.Stuck.{stuck-at}
 

@@ -3,7 +3,7 @@ use Rattle.std.proofs.Common.{◌≡◌, ◌<◌, ◌≤◌, ◌^◌, ℕ, List,
 use Rattle.std.proofs.lemmas.Int.{ints}
 use Rattle.std.proofs.lemmas.Bool.{cases_lt}
 use Rattle.std.proofs.lemmas.List.{get_or_past}
-use Rattle.vs_instance.specs.declared.limits.TheConstants.{MAX_FLEET}
+use Rattle.vs_instance.specs.declared.limits.TheConstants.{MAX_FLEET, MAX_MULTIPLIER}
 use Rattle.vs_layer.specs.declared.arc.Arc.{Arc}
 use Rattle.vs_layer.specs.Graph.{Graph, arc_of}
 use Rattle.vs_match.specs.declared.arc_kind.ArcKind.{ArcKind}
@@ -13,12 +13,14 @@ use Rattle.vs_match.specs.LayerGraph.{LayerGraph, kind_of}
 use Rattle.vs_path.specs.declared.step.Step.TheVariants.{Forward, Back}
 use Rattle.vs_path.specs.declared.residual.TheConstants.{MAX_STEP_COST, MAX_SEARCH_NODES}
 use Rattle.vs_path.specs.Residual.{HasSignRule, IsWithin, AllWithin}
-use Rattle.vs_circ.specs.declared.shipment.Shipment.{Shipment}
-use Rattle.vs_circ.specs.declared.shipment.TheConstants.{MAX_FIRST_PRICE}
-use Rattle.vs_instance.specs.declared.limits.TheConstants.{MAX_MULTIPLIER}
+use Rattle.vs_ship.specs.declared.shipment.Shipment.{Shipment}
+use Rattle.vs_ship.specs.declared.shipment.TheConstants.{MAX_FIRST_PRICE}
 use Rattle.vs_circ.specs.Offers.{offer_of, paid}
-use Rattle.vs_circ.specs.shipping.Shipments.{CanShip, IsSized, residual_of}
-use Rattle.vs_circ.specs.shipping.Prepared.{AllSuit, AreOfferedCosts, AreOfferedRooms, AreSmallOffers, HasNoGain, HasSmallArcs, IsLeftBy, offered_cost, offered_room, room_if}
+use Rattle.vs_ship.specs.Shipments.{CanShip, IsSized, residual_of}
+use Rattle.vs_circ.specs.shipping.Prepared.{AreOfferedCosts, AreOfferedRooms, AreSmallOffers, HasSmallArcs, offered_cost, offered_room, room_if}
+use Rattle.vs_ship.specs.Suiting.{AllSuit, HasNoGain}
+use Rattle.vs_ship.specs.Leaving.{IsLeftBy}
+use Rattle.vs_ship.proofs.CallerLemmas.{suit-signs}
 
 -- what a trip is paid is within 0 and 10^14
 paid-within : (offer : Option ℤ) → IfSome offer (λ m. (pos 0 ≤ℤ m) × (m ≤ℤ MAX_MULTIPLIER))
@@ -102,15 +104,6 @@ module _ (n : LayerGraph) (offers : List (Option ℤ)) (arcs : HasSmallArcs n) w
       (λ i is. omega (arith, arcs.trip i k within is)) in
       let is = costs k within in
       omega (arith, ints, no_gain, is)
-
--- where the units suit the arcs, no step gains anything
-pub suit-signs : (g : Graph) (s : Shipment)
-    → AllSuit g s.costs.cost.items s.costs.room.items s.prices.items s.flow.units.items
-    → HasSignRule (residual_of g s) s.prices.items
-suit-signs g s suit (Forward k) open_ =
-    let more = (suit k open_.arc).more open_.room in omega (arith, ints, more)
-suit-signs g s suit (Back k) open_ =
-    let less = (suit k open_.arc).less open_.room in omega (arith, ints, less)
 
 pub suit-can : (n : LayerGraph) (offers : List (Option ℤ)) (s : Shipment) → HasSmallArcs n → n.graph.nodes ≤
     MAX_SEARCH_NODES

@@ -7,15 +7,15 @@ use Rattle.vs_instance.specs.Instance.{IsInstance}
 use Rattle.vs_match.specs.LawfulNets.{IsLawful}
 use Rattle.vs_match.specs.LayerGraph.{LayerGraph}
 use Rattle.vs_circ.specs.declared.circ.Circ.{Circ}
-use Rattle.vs_circ.specs.declared.shipment.Shipment.{Shipment}
-use Rattle.vs_circ.specs.node_prices.Centring.{AreSettled}
+use Rattle.vs_ship.specs.declared.shipment.Shipment.{Shipment}
+use Rattle.vs_ship.specs.Centring.{AreSettled}
 use Rattle.vs_circ.specs.Circulations.{IsLeastCirculation}
 use Rattle.vs_circ.specs.LayerPrices.{AreHolding}
 use Rattle.vs_circ.specs.node_prices.NodePrices.{HasMovePrices}
 use Rattle.vs_circ.specs.Offers.{AreOffers}
 use Rattle.vs_circ.specs.PricedFlows.{IsPricedFlow, KeepsOffers, PaysNoLess}
 use Rattle.vs_circ.specs.shipping.Settled.{IsSettled}
-use Rattle.vs_circ.specs.shipping.Shipments.{residual_of}
+use Rattle.vs_ship.specs.Shipments.{residual_of}
 use Rattle.vs_circ.specs.shipping.Values.{worth_of_units}
 use Rattle.vs_circ.proofs.low.Least.{least_circulations}
 use Rattle.vs_circ.proofs.low.Worth.{worth-is}

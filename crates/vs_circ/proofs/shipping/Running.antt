@@ -9,7 +9,7 @@ use Rattle.vs_instance.specs.Problem.{Problem}
 use Rattle.vs_instance.specs.Instance.{IsInstance}
 use Rattle.vs_match.specs.LawfulNets.{IsLawful}
 use Rattle.vs_match.specs.LayerGraph.{LayerGraph}
-use Rattle.vs_circ.specs.declared.shipment.Shipment.{Shipment}
+use Rattle.vs_ship.specs.declared.shipment.Shipment.{Shipment}
 use Rattle.vs_circ.specs.Circulations.{IsLeastFlow, RunLeast, RunTrip, paid_by_units}
 use Rattle.vs_circ.specs.Offers.{AreOffers, IsOffered, multipliers_of}
 use Rattle.vs_circ.specs.shipping.Settled.{IsSettled}

@@ -15,18 +15,16 @@ use Rattle.vs_match.specs.LawfulNets.{IsLawful, IsLawfulArc}
 use Rattle.vs_match.specs.LayerGraph.{LayerGraph, IsArcOfTrip, kind_of}
 use Rattle.vs_path.specs.declared.step.Step.TheVariants.{Forward, Back}
 use Rattle.vs_path.specs.Residual.{HasSignRule, price_at}
-use Rattle.vs_circ.specs.declared.shipment.Shipment.{Shipment}
-use Rattle.vs_circ.specs.shipping.Balance.{gained, weighed}
+use Rattle.vs_ship.specs.declared.shipment.Shipment.{Shipment}
+use Rattle.vs_ship.specs.Balance.{gained, weighed}
 use Rattle.vs_circ.specs.node_prices.NodePrices.{IsEmptyMove}
 use Rattle.vs_circ.specs.Offers.{offer_of, paid}
-use Rattle.vs_circ.specs.shipping.Prepared.{AreOfferedCosts, AreOfferedRooms, offered_cost, offered_room, room_if, worth_less}
+use Rattle.vs_circ.specs.shipping.Prepared.{AreOfferedCosts, AreOfferedRooms, offered_cost, offered_room, room_if}
+use Rattle.vs_ship.specs.Suiting.{worth_less}
 use Rattle.vs_circ.specs.PricedFlows.{IsPricedFlow, KeepsOffers, last_arc, end_node}
 use Rattle.vs_circ.specs.shipping.Settled.{IsOfOffers, IsSettled}
-use Rattle.vs_circ.specs.shipping.Shipments.{CanShip, IsDrained, IsSized, IsStuck, residual_of}
-use Rattle.vs_circ.proofs.balance.Weighed.{weighed-none}
-use Rattle.vs_circ.proofs.balance.Conserved.{conserved, last-most}
-use Rattle.vs_circ.proofs.balance.Cuts.{cut-gain, cut-weighed}
-use Rattle.vs_circ.proofs.balance.Weights.{one_where, is_in}
+use Rattle.vs_ship.specs.Shipments.{CanShip, IsDrained, IsSized, IsStuck, residual_of}
+use Rattle.vs_ship.proofs.CallerLemmas.{weighed-none, conserved, last-most, cut-gain, cut-weighed, one_where, is_in}
 use Rattle.vs_circ.proofs.low.LawfulArcs.{last_inside, last_kind, return_arc, return_from}
 use Rattle.vs_circ.proofs.shipping.SmallArcs.{small_arcs}
 

@@ -12,15 +12,13 @@ use Rattle.vs_match.specs.LawfulNets.{IsLawful}
 use Rattle.vs_match.specs.LayerGraph.{LayerGraph, kind_of}
 use Rattle.vs_path.specs.declared.step.Step.TheVariants.{Forward}
 use Rattle.vs_path.specs.Residual.{IsOpen, price_at}
-use Rattle.vs_circ.specs.declared.shipment.Shipment.{Shipment}
-use Rattle.vs_circ.specs.shipping.Balance.{gained, weighed}
+use Rattle.vs_ship.specs.declared.shipment.Shipment.{Shipment}
+use Rattle.vs_ship.specs.Balance.{gained, weighed}
 use Rattle.vs_circ.specs.node_prices.NodePrices.{AreMovePrices, IsEmptyMove}
 use Rattle.vs_circ.specs.shipping.Prepared.{AreOfferedRooms, offered_room}
 use Rattle.vs_circ.specs.PricedFlows.{IsStuckAt, end_node, last_arc, must_units, vehicle_price}
-use Rattle.vs_circ.specs.shipping.Shipments.{CanShip, IsStuck, residual_of}
-use Rattle.vs_circ.proofs.balance.Gained.{arc_gain}
-use Rattle.vs_circ.proofs.balance.Cuts.{cut-arc_gain, cut-gain, cut-weighed}
-use Rattle.vs_circ.proofs.balance.Weights.{is_in, is_in-from, is_in-to, one_where, passed}
+use Rattle.vs_ship.specs.Shipments.{CanShip, IsStuck, residual_of}
+use Rattle.vs_ship.proofs.CallerLemmas.{arc_gain, cut-arc_gain, cut-gain, cut-weighed, is_in, is_in-from, is_in-to, one_where, passed}
 use Rattle.vs_circ.proofs.low.LawfulArcs.{last_inside, last_kind, return_arc, return_from}
 use Rattle.vs_circ.proofs.shipping.Settling.{empty_room}
 

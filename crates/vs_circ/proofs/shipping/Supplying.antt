@@ -16,18 +16,18 @@ use Rattle.vs_match.specs.LawfulNets.{IsLawful}
 use Rattle.vs_match.specs.LayerGraph.{LayerGraph, kind_at, kind_of}
 use Rattle.vs_path.specs.declared.residual.TheConstants.{MAX_SEARCH_NODES}
 use Rattle.vs_path.specs.declared.residual.Costs.{Costs}
-use Rattle.vs_circ.specs.declared.shipment.Shipment.{Shipment}
-use Rattle.vs_circ.specs.shipping.Prepared.{AreNone, AreOfferedCosts, AreOfferedRooms, AllSuit, IsLeftBy, offered_cost}
+use Rattle.vs_ship.specs.declared.shipment.Shipment.{Shipment}
+use Rattle.vs_circ.specs.shipping.Prepared.{AreOfferedCosts, AreOfferedRooms, offered_cost}
+use Rattle.vs_ship.specs.Suiting.{AllSuit}
+use Rattle.vs_ship.specs.Leaving.{AreNone, IsLeftBy}
 use Rattle.vs_circ.specs.PricedFlows.{must_on, must_units}
-use Rattle.vs_circ.specs.shipping.Shipments.{CanShip, IsSized, Ships, excess}
+use Rattle.vs_ship.specs.Shipments.{CanShip, IsSized, Ships, excess}
 use Rattle.vs_circ.specs.shipping.Supplied.{IsSupplied}
-use Rattle.vs_circ.proofs.balance.Sums.{excess-weighed, gained-none, gained-≤, has_excess}
-use Rattle.vs_circ.proofs.balance.Weights.{one_where}
-use Rattle.vs_circ.proofs.balance.InOrder.{total-range_suc}
+use Rattle.vs_ship.proofs.CallerLemmas.{excess-weighed, gained-none, gained-≤, has_excess, one_where, total-range_suc, suit-signs}
 use Rattle.vs_circ.proofs.low.Reindexing.{over_range, total-same}
 use Rattle.vs_circ.proofs.low.TripArcs.{arc_or_none, at_trip, at_trip-arc, at_trip-none, on_trip, on_trips, total-by_trip}
 use Rattle.vs_circ.proofs.low.UnitBlocks.{arcs_inside}
-use Rattle.vs_circ.proofs.shipping.Preparing.{costs-within, rooms-within, suit-signs}
+use Rattle.vs_circ.proofs.shipping.Preparing.{costs-within, rooms-within}
 use Rattle.vs_circ.proofs.shipping.SmallArcs.{small_arcs}
 
 -- where no trip is offered, an arc costs what it costs

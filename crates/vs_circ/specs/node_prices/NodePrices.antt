@@ -6,7 +6,7 @@ use Rattle.vs_match.specs.declared.arc_kind.ArcKind.{ArcKind}
 use Rattle.vs_match.specs.declared.arc_kind.ArcKind.TheVariants.{Waiting, Deadhead, PullOut, PullIn}
 use Rattle.vs_match.specs.LayerGraph.{LayerGraph, kind_of}
 use Rattle.vs_path.specs.Residual.{AllWithin, price_at}
-use Rattle.vs_circ.specs.declared.leeways.TheConstants.{MAX_NODE_PRICE}
+use Rattle.vs_ship.specs.declared.gaps.TheConstants.{MAX_NODE_PRICE}
 
 -- a vehicle moves without passengers: it waits, drives, or leaves its depot or comes back
 abbrev pub IsEmptyMove : ArcKind → Type 0

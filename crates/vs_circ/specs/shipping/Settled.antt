@@ -4,10 +4,10 @@ use Rattle.vs_layer.specs.Circulation.{IsCirculation}
 use Rattle.vs_match.specs.LayerGraph.{LayerGraph}
 use Rattle.vs_path.specs.declared.residual.TheConstants.{MAX_STEP_COST, MAX_SEARCH_PRICE}
 use Rattle.vs_path.specs.Residual.{AllWithin, HasSignRule}
-use Rattle.vs_circ.specs.declared.shipment.Shipment.{Shipment}
+use Rattle.vs_ship.specs.declared.shipment.Shipment.{Shipment}
 use Rattle.vs_circ.specs.shipping.Prepared.{AreOfferedCosts, AreOfferedRooms}
 use Rattle.vs_circ.specs.PricedFlows.{IsPricedFlow, KeepsOffers}
-use Rattle.vs_circ.specs.shipping.Shipments.{AreInRoom, IsSized, residual_of}
+use Rattle.vs_ship.specs.Shipments.{AreInRoom, IsSized, residual_of}
 
 -- the arcs cost and take what they do where these trips are offered, and none carries more
 pub record IsOfOffers (n : LayerGraph) (offers : List (Option ℤ)) (s : Shipment) : Type 0 where

@@ -4,11 +4,11 @@ use Rattle.vs_instance.specs.declared.limits.TheConstants.{MAX_TRIPS}
 use Rattle.vs_match.specs.LayerGraph.{LayerGraph, kind_of}
 use Rattle.vs_path.specs.Residual.{price_at}
 use Rattle.vs_path.specs.Search.{IsIn}
-use Rattle.vs_circ.specs.declared.shipment.Shipment.{Shipment}
-use Rattle.vs_circ.specs.shipping.Balance.{IsBalanced, gained, weighed}
+use Rattle.vs_ship.specs.declared.shipment.Shipment.{Shipment}
+use Rattle.vs_ship.specs.Balance.{IsBalanced, gained, weighed}
 use Rattle.vs_circ.specs.shipping.Prepared.{AreOfferedCosts, AreOfferedRooms}
 use Rattle.vs_circ.specs.PricedFlows.{must_on, must_units}
-use Rattle.vs_circ.specs.shipping.Shipments.{CanShip, IsStuck, excess}
+use Rattle.vs_ship.specs.Shipments.{CanShip, IsStuck, excess}
 
 -- Units can be sent that the trips that have to run leave at the nodes. No trip is offered, and no arc can come to
 -- carry more units than there are trips.

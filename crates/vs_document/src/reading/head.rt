@@ -14,7 +14,7 @@ use vs_cases::Claim;
 use vs_reader::Input;
 
 /// The first four rows of a document.
-#[derive(Clone, Copy, Debug, PartialEq, Eq)]
+#[derive(Clone, Copy)]
 pub struct Head {
     pub claim: Claim,
     /// From 0 to `MAX_COST` cost units. None where there is no plan.

@@ -9,7 +9,7 @@ use vs_reader::Names;
 use vs_types::{LayerNo, TripNo};
 
 /// What a row of prices is likely to name. It is compared first.
-#[derive(Clone, Copy, Debug, PartialEq, Eq)]
+#[derive(Clone, Copy)]
 pub struct Likely {
     pub layer: LayerNo,
     pub trip: TripNo,

@@ -15,7 +15,7 @@ use vs_reader::{Input, Rows};
 use vs_types::{LayerNo, LayerSet, TripNo};
 
 /// What a row says.
-#[derive(Debug, Drop)]
+#[derive(Drop)]
 pub enum Said {
     Claim(Claim),
     /// In cost units. None for `none`.

@@ -69,8 +69,8 @@ module _ (p : Problem) (inst : IsInstance p) (l : LayerNo) (n : LayerGraph) (law
       → slice_index units k ≤ 1
   carries_≤ units i k circulation is =
       let within : k < length n.graph.arcs = omega (arith, is.0, lawful.labelled.each_arc) in
-      let arc : IsTripArc p l.0 n.events i (arc_of n.graph k) =
-      subst (λ (t : ArcKind). IsLawfulArc p l.0 n.events t (arc_of n.graph k)) is.1 (lawful.arcs k within) in
+      let arc : IsTripArc p l.0 n.points i (arc_of n.graph k) =
+      subst (λ (t : ArcKind). IsLawfulArc p l.0 n.points t (arc_of n.graph k)) is.1 (lawful.arcs k within) in
       omega (arith, circulation.rooms k within, arc.room)
 
   -- blocks are a circulation that runs the same trips at the same cost

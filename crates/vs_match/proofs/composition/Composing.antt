@@ -7,7 +7,7 @@ use Rattle.vs_instance.specs.Instance.{IsInstance}
 use Rattle.vs_instance.specs.Ways.{layer_of}
 use Rattle.vs_instance.specs.Plan.{LayerBlock}
 use Rattle.vs_match.specs.declared.arc_kind.ArcKind.{ArcKind}
-use Rattle.vs_match.specs.declared.arc_kind.ArcKind.TheVariants.{Trip, Waiting, Deadhead, PullOut, PullIn, Return}
+use Rattle.vs_match.specs.declared.arc_kind.ArcKind.TheVariants.{Trip, Waiting, Deadhead, PullOut, PullIn, RestIn, RestWait, RestOut, Return}
 use Rattle.vs_match.specs.LawfulNets.{IsLawful, IsLawfulArc}
 use Rattle.vs_match.specs.LayerGraph.{LayerGraph, kind_of}
 use Rattle.vs_match.specs.Aggregation.{AreLayerBlocks, Compose}
@@ -25,7 +25,7 @@ module _ (p : Problem) (l : LayerNo) (n : LayerGraph) (lawful : IsLawful p l.0 n
 
   -- no arc is taken more often than it has room
   rooms : (k : ℕ) (t : ArcKind) → k < length n.graph.arcs → kind_of n k ≡ t
-      → IsLawfulArc p l.0 n.events t (arc_of n.graph k)
+      → IsLawfulArc p l.0 n.points t (arc_of n.graph k)
       → taken rounds.arcs k ≤ (arc_of n.graph k).room
   rooms k (Trip i) within is arc =
       let once = list.at_most_once i.0 arc.may_run.0 in
@@ -35,6 +35,9 @@ module _ (p : Problem) (l : LayerNo) (n : LayerGraph) (lawful : IsLawful p l.0 n
   rooms k Deadhead within is arc = room_for_all k arc.2.room
   rooms k PullOut within is arc = room_for_all k arc.2.room
   rooms k PullIn within is arc = room_for_all k arc.2.room
+  rooms k RestIn within is arc = room_for_all k arc.2.room
+  rooms k RestWait within is arc = room_for_all k arc.2.room
+  rooms k RestOut within is arc = room_for_all k arc.2.room
   rooms k Return within is arc = room_for_all k arc.room
 
   -- the units of the rounds

@@ -34,8 +34,8 @@ module _ (p : Problem) (l : LayerNo) (n : LayerGraph) (lawful : IsLawful p l.0 n
   record TripRun (i : TripNo) : Type 0 where
     u : ℕ
     v : ℕ
-    departs : HasPlace n.events u (departure p i.0)
-    arrives : HasPlace n.events v (arrival p i.0)
+    departs : HasPlace n.points u (departure p i.0)
+    arrives : HasPlace n.points v (arrival p i.0)
     run : Runs u v (i ∷ []) (trip_piece p l.0 i.0)
 
   -- a trip that the layer may run has one
@@ -44,7 +44,7 @@ module _ (p : Problem) (l : LayerNo) (n : LayerGraph) (lawful : IsLawful p l.0 n
       let found = lawful.each_trip i.0 may in
       let k = found.0 in
       let within : k < length n.graph.arcs = omega (arith, found.1.0, lawful.labelled.each_arc) in
-      let arc = subst (λ t. IsLawfulArc p l.0 n.events t (arc_of n.graph k)) found.1.1 (lawful.arcs k within) in
+      let arc = subst (λ t. IsLawfulArc p l.0 n.points t (arc_of n.graph k)) found.1.1 (lawful.arcs k within) in
       record {
         u = (arc_of n.graph k).from;
         v = (arc_of n.graph k).to;
@@ -61,8 +61,8 @@ module _ (p : Problem) (l : LayerNo) (n : LayerGraph) (lawful : IsLawful p l.0 n
   record ChainRun (i : TripNo) (rest : List TripNo) : Type 0 where
     u : ℕ
     v : ℕ
-    departs : HasPlace n.events u (departure p i.0)
-    arrives : HasPlace n.events v (arrival p (last_trip i rest).0)
+    departs : HasPlace n.points u (departure p i.0)
+    arrives : HasPlace n.points v (arrival p (last_trip i rest).0)
     run : Runs u v (i ∷ rest) (trips_cost p l (i ∷ rest) + links_cost p l (i ∷ rest))
 
   -- trips that connect have one
@@ -81,9 +81,9 @@ module _ (p : Problem) (l : LayerNo) (n : LayerGraph) (lawful : IsLawful p l.0 n
       let trip = trip_run i (chain.0, chain.1) in
       let after = chain_run j rest chain.3 in
       let may = first_of_chain p l j rest chain.3 in
-      let link = link_taken p l.0 i.0 j.0 chain.2 in
+      let link = link_taken p l i j chain.2 in
       let walk =
-      least_list n.graph (λ ks. IsWalk n trip.v ks after.u) (link_piece p l.0 i.0 j.0) _ link.costs
+      least_list n.graph (λ ks. IsWalk n trip.v ks after.u) (link_piece p l.0 i.0 j.0) link.cost link.is
       (lawful.walks.links i.0 j.0 trip.v after.u (chain.0, chain.1) may trip.arrives after.departs) in
       let between : Runs trip.v after.u [] (cost_of (link_piece p l.0 i.0 j.0)) = record {
         arcs = walk.0;
@@ -109,7 +109,7 @@ module _ (p : Problem) (l : LayerNo) (n : LayerGraph) (lawful : IsLawful p l.0 n
 
   -- a block, from the depot's beginning to its end
   pub block_run : (trips : List TripNo) → IsInstance p → IsBlock p l trips
-      → Runs 0 (last_node n.events) trips (block_cost p l trips)
+      → Runs 0 (last_node n.points) trips (block_cost p l trips)
   block_run [] inst block = absurd (omega (arith, block.some_trip))
   block_run (i ∷ rest) inst block =
       let chain = chain_of_block p l (i ∷ rest) block in
@@ -129,21 +129,21 @@ module _ (p : Problem) (l : LayerNo) (n : LayerGraph) (lawful : IsLawful p l.0 n
         is_run = idle_way_out p l.0 n lawful way_out.0 run.u way_out.1;
         cost_is = way_out.2;
       } in
-      let after : Runs run.v (last_node n.events) [] (cost_of (in_piece p l.0 z.0)) = record {
+      let after : Runs run.v (last_node n.points) [] (cost_of (in_piece p l.0 z.0)) = record {
         arcs = way_in.0;
         is_run = idle_way_in p l.0 n lawful way_in.0 run.v way_in.1;
         cost_is = way_in.2;
       } in
       let all =
-      run_then p l.0 n lawful 0 run.u (last_node n.events) [] ((i ∷ rest) ++ []) _ _ before
-      (run_then p l.0 n lawful run.u run.v (last_node n.events) (i ∷ rest) [] _ _ run.run after) in
+      run_then p l.0 n lawful 0 run.u (last_node n.points) [] ((i ∷ rest) ++ []) _ _ before
+      (run_then p l.0 n lawful run.u run.v (last_node n.points) (i ∷ rest) [] _ _ run.run after) in
       let same = ap (λ (k : ℕ). cost_of (in_piece p l.0 k)) last_is in
       let pieces = cost_of (out_piece p l.0 i.0)
       + ((trips_cost p l (i ∷ rest) + links_cost p l (i ∷ rest)) + cost_of (in_piece p l.0 z.0)) in
       let cost : pieces ≡ block_cost p l (i ∷ rest) =
       omega (arith, same, blocks_cost_their_pieces p l (i ∷ rest) inst block) in
-      subst (Runs 0 (last_node n.events) (i ∷ rest)) cost
-      (subst (λ (ts : List TripNo). Runs 0 (last_node n.events) ts pieces) (append-nil (i ∷ rest)) all)
+      subst (Runs 0 (last_node n.points) (i ∷ rest)) cost
+      (subst (λ (ts : List TripNo). Runs 0 (last_node n.points) ts pieces) (append-nil (i ∷ rest)) all)
 
   -- rounds from the first node back to it, one for each block
   pub record Rounds (blocks : List LayerBlock) : Type 0 where
@@ -172,12 +172,12 @@ module _ (p : Problem) (l : LayerNo) (n : LayerGraph) (lawful : IsLawful p l.0 n
 
   -- a block's round before others
   round_then : (b : LayerBlock) (blocks : List LayerBlock) → b.0 ≡ l
-      → Runs 0 (last_node n.events) b.1 (block_cost p l b.1) → Rounds blocks → Rounds (b ∷ blocks)
+      → Runs 0 (last_node n.points) b.1 (block_cost p l b.1) → Rounds blocks → Rounds (b ∷ blocks)
   round_then b blocks of_layer run rest =
       let r = last p l.0 n lawful in
       let arc = last_arc p l.0 n lawful in
       let path = run.is_run.leads in
-      let back : Leads n.graph (λ k. Unit {0}) (last_node n.events) (r ∷ rest.arcs) 0 = (
+      let back : Leads n.graph (λ k. Unit {0}) (last_node n.points) (r ∷ rest.arcs) 0 = (
         last-within p l.0 n lawful,
         tt,
         arc.from,
@@ -186,8 +186,8 @@ module _ (p : Problem) (l : LayerNo) (n : LayerGraph) (lawful : IsLawful p l.0 n
       record {
         arcs = run.arcs ++ r ∷ rest.arcs;
         closed =
-            leads-append n.graph (λ k. Unit {0}) run.arcs (r ∷ rest.arcs) 0 (last_node n.events) 0
-            (any_arc run.arcs 0 (last_node n.events) path) back;
+            leads-append n.graph (λ k. Unit {0}) run.arcs (r ∷ rest.arcs) 0 (last_node n.points) 0
+            (any_arc run.arcs 0 (last_node n.points) path) back;
         cost_is =
             let total = sum_by-cons (λ (c : LayerBlock). block_cost p c.0 c.1) b blocks in
             let own = ap (λ (m : LayerNo). block_cost p m b.1) of_layer in
@@ -216,12 +216,12 @@ module _ (p : Problem) (l : LayerNo) (n : LayerGraph) (lawful : IsLawful p l.0 n
               | inl same ↦
                   let own = taken-own r k rest.arcs same in
                   let none =
-                  taken-last n.graph run.arcs 0 (last_node n.events) k path
+                  taken-last n.graph run.arcs 0 (last_node n.points) k path
                   (omega (arith, last-is p l.0 n lawful, same)) in
                   omega (arith, count, own, none, rest.few k)
               | inr apart ↦
                   let other = taken-other r k rest.arcs apart in
-                  let once = taken-once n.graph lawful.net run.arcs 0 (last_node n.events) k path in
+                  let once = taken-once n.graph lawful.net run.arcs 0 (last_node n.points) k path in
                   omega (arith, count, other, once, rest.few k)
             ];
         returns =
@@ -229,7 +229,7 @@ module _ (p : Problem) (l : LayerNo) (n : LayerGraph) (lawful : IsLawful p l.0 n
               arith,
               taken-append run.arcs (r ∷ rest.arcs) r,
               taken-own r r rest.arcs refl,
-              taken-last n.graph run.arcs 0 (last_node n.events) r path (last-is p l.0 n lawful),
+              taken-last n.graph run.arcs 0 (last_node n.points) r path (last-is p l.0 n lawful),
               rest.returns,
             );
       }

@@ -9,7 +9,7 @@ use Rattle.vs_types.specs.declared.numbers.TripNo.{TripNo}
 use Rattle.vs_instance.specs.Problem.{Problem}
 use Rattle.vs_instance.specs.BlockPieces.{cost_of}
 use Rattle.vs_match.specs.declared.arc_kind.ArcKind.{ArcKind}
-use Rattle.vs_match.specs.declared.arc_kind.ArcKind.TheVariants.{Trip, Waiting, Deadhead, PullOut, PullIn, Return}
+use Rattle.vs_match.specs.declared.arc_kind.ArcKind.TheVariants.{Trip, Waiting, Deadhead, PullOut, PullIn, RestIn, RestWait, RestOut, Return}
 use Rattle.vs_match.specs.NetArcs.{at_scale}
 use Rattle.vs_match.specs.Events.{last_node}
 use Rattle.vs_match.specs.LawfulNets.{IsLawful, IsLawfulArc}
@@ -42,15 +42,21 @@ IsIdle Waiting = Unit {0}
 IsIdle Deadhead = Unit {0}
 IsIdle PullOut = Unit {0}
 IsIdle PullIn = Unit {0}
+IsIdle RestIn = Unit {0}
+IsIdle RestWait = Unit {0}
+IsIdle RestOut = Unit {0}
 IsIdle Return = ⊥
 
--- an arc for waiting or driving is such one
+-- an arc for waiting, driving or resting is such one
 idle_move : (t : ArcKind) → IsMove t → IsIdle t
 idle_move (Trip i) moves = moves
 idle_move Waiting moves = tt
 idle_move Deadhead moves = tt
 idle_move PullOut moves = tt
 idle_move PullIn moves = tt
+idle_move RestIn moves = tt
+idle_move RestWait moves = tt
+idle_move RestOut moves = tt
 idle_move Return moves = moves
 
 -- a kind names its trip
@@ -97,22 +103,22 @@ module _ (p : Problem) (l : ℕ) (n : LayerGraph) (lawful : IsLawful p l n) wher
   idle_way_out (k ∷ ks) v out =
       let first = idle_arc k out.0 (subst IsIdle (sym out.1) tt) in
       let rest = idle_walk ks (arc_of n.graph k).to v out.2 in
-      let arc = subst (λ (t : ArcKind). IsLawfulArc p l n.events t (arc_of n.graph k)) out.1 (lawful.arcs k out.0) in
+      let arc = subst (λ (t : ArcKind). IsLawfulArc p l n.points t (arc_of n.graph k)) out.1 (lawful.arcs k out.0) in
       subst (λ (w : ℕ). IsRun w v [] (k ∷ ks)) arc.0
       (run-append (arc_of n.graph k).from (arc_of n.graph k).to v [] [] (k ∷ []) ks first rest)
 
   -- nor does a way in
-  pub idle_way_in : (ks : List ℕ) (u : ℕ) → IsWayIn n u ks → IsRun u (last_node n.events) [] ks
+  pub idle_way_in : (ks : List ℕ) (u : ℕ) → IsWayIn n u ks → IsRun u (last_node n.points) [] ks
   idle_way_in ks u way_in =
       let k = way_in.last in
       let first = idle_walk way_in.walk u (arc_of n.graph k).from way_in.is_walk in
       let rest = idle_arc k way_in.of_net (subst IsIdle (sym way_in.pull_in) tt) in
       let arc =
-      subst (λ (t : ArcKind). IsLawfulArc p l n.events t (arc_of n.graph k)) way_in.pull_in
+      subst (λ (t : ArcKind). IsLawfulArc p l n.points t (arc_of n.graph k)) way_in.pull_in
       (lawful.arcs k way_in.of_net) in
       let all =
       run-append u (arc_of n.graph k).from (arc_of n.graph k).to [] [] way_in.walk (k ∷ []) first rest in
-      subst (IsRun u (last_node n.events) []) (sym way_in.is)
+      subst (IsRun u (last_node n.points) []) (sym way_in.is)
       (subst (λ (w : ℕ). IsRun u w [] (way_in.walk ++ k ∷ [])) arc.1 all)
 
   -- a trip's arc

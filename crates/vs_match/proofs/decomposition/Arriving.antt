@@ -333,11 +333,11 @@ module _ (g : Graph) (net : IsNet g) (units : List ℕ) (circulates : IsCirculat
     -- nobody stands before the last node
     gone : (u : ℕ) → u + 1 < g.nodes → paths_at stands u ≡ []
     gone u inner =
-        let stays = under.standing u inner in
+        let stop_nodes = under.standing u inner in
         let out = ap (λ (d : List ℕ). units_out g d u) all_done in
         let come = ap (λ (d : List ℕ). units_in g d u) all_done in
         let kept = circulates.conserved u (omega (arith, inner)) in
-        nil_from_length (paths_at stands u) (omega (arith, stays, out, come, kept))
+        nil_from_length (paths_at stands u) (omega (arith, stop_nodes, out, come, kept))
 
     last_node_within : g.nodes - 1 < length stands
     last_node_within = let two = net.nodes in let same = under.each_node in omega (arith, two, same)

@@ -19,9 +19,9 @@ use Rattle.vs_instance.specs.Instance.{IsInstance}
 use Rattle.vs_instance.specs.Blocks.{IsBlock, block_cost}
 use Rattle.vs_instance.specs.Plan.{LayerBlock, plan_cost, times_run, all_trips}
 use Rattle.vs_match.specs.declared.arc_kind.ArcKind.{ArcKind}
-use Rattle.vs_match.specs.declared.arc_kind.ArcKind.TheVariants.{Trip, Waiting, Deadhead, PullOut, PullIn, Return}
+use Rattle.vs_match.specs.declared.arc_kind.ArcKind.TheVariants.{Trip, Waiting, Deadhead, PullOut, PullIn, RestIn, RestWait, RestOut, Return}
 use Rattle.vs_match.specs.Decomposition.{Decompose}
-use Rattle.vs_match.specs.Events.{arrival}
+use Rattle.vs_match.specs.Events.{arrival, point_of}
 use Rattle.vs_match.specs.LawfulNets.{IsLawful, IsLawfulArc}
 use Rattle.vs_match.specs.LayerGraph.{LayerGraph, IsArcOfTrip, kind_at, kind_of}
 use Rattle.vs_match.specs.NetArcs.{rank, trip_number}
@@ -82,12 +82,15 @@ module _ (p : Problem) (is : IsInstance p) (l : LayerNo) (n : LayerGraph) (lawfu
   g = n.graph
 
   -- no arc costs less than nothing
-  no_loss : (kind : ArcKind) (a : Arc) → IsLawfulArc p l.0 n.events kind a → pos 0 ≤ℤ a.cost
+  no_loss : (kind : ArcKind) (a : Arc) → IsLawfulArc p l.0 n.points kind a → pos 0 ≤ℤ a.cost
   no_loss (Trip i) a arc = let cost = arc.cost in subst (λ (x : ℤ). pos 0 ≤ℤ x) (sym cost) (omega (arith, ints))
   no_loss Waiting a arc = arc.2.no_gain
   no_loss Deadhead a arc = arc.2.no_gain
   no_loss PullOut a arc = arc.2.no_gain
   no_loss PullIn a arc = arc.2.no_gain
+  no_loss RestIn a arc = arc.2.no_gain
+  no_loss RestWait a arc = arc.2.no_gain
+  no_loss RestOut a arc = arc.2.no_gain
   no_loss Return a arc = let cost = arc.cost in subst (λ (x : ℤ). pos 0 ≤ℤ x) (sym cost) (omega (arith, ints))
 
   -- what an arc costs, as a whole number
@@ -182,6 +185,9 @@ module _ (p : Problem) (is : IsInstance p) (l : LayerNo) (n : LayerGraph) (lawfu
     count_at j within Deadhead e = sym (none_at j Deadhead e (omega arith))
     count_at j within PullOut e = sym (none_at j PullOut e (omega arith))
     count_at j within PullIn e = sym (none_at j PullIn e (omega arith))
+    count_at j within RestIn e = sym (none_at j RestIn e (omega arith))
+    count_at j within RestWait e = sym (none_at j RestWait e (omega arith))
+    count_at j within RestOut e = sym (none_at j RestOut e (omega arith))
     count_at j within Return e = sym (none_at j Return e (omega arith))
 
     -- a path runs the trip as often as it takes its arc
@@ -215,8 +221,8 @@ module _ (p : Problem) (is : IsInstance p) (l : LayerNo) (n : LayerGraph) (lawfu
     not_last same =
         let within : k < length g.arcs = let each = lawful.labelled.each_arc in omega (arith, own.0, each) in
         let arc =
-        subst (λ (t : ArcKind). IsLawfulArc p l.0 n.events t (arc_of g k)) own.1 (lawful.arcs k within) in
-        let to = (inside p is l n lawful (arc_of g k).to (arrival p i, arc.to)).0 in
+        subst (λ (t : ArcKind). IsLawfulArc p l.0 n.points t (arc_of g k)) own.1 (lawful.arcs k within) in
+        let to = (inside p is l n lawful (arc_of g k).to (point_of (arrival p i), arc.to)).0 in
         let back = (lawful.net.each_arc k within).goes_on.to_first (omega (arith, within, same)) in
         omega (arith, to, back)
 

@@ -12,7 +12,7 @@ use Rattle.vs_layer.specs.Walks.{IsLeastCost, path_cost}
 use Rattle.vs_instance.specs.declared.way.Way.{Way}
 use Rattle.vs_instance.specs.Problem.{Problem}
 use Rattle.vs_instance.specs.Ways.{trip_of, layer_of, way_out, way_in, way_between, Connects, HasPullOut, HasPullIn, Permitted}
-use Rattle.vs_instance.specs.Pieces.{rated, out_piece, link_piece, in_piece}
+use Rattle.vs_instance.specs.Pieces.{rated, out_piece, rest_piece, no_more_than, link_piece, in_piece}
 use Rattle.vs_instance.specs.Blocks.{IsBlock}
 use Rattle.vs_instance.proofs.CallerLemmas.{IsChain, last_trip, last_of-is}
 use Rattle.vs_match.specs.NetArcs.{at_scale}
@@ -38,14 +38,20 @@ module _ (p : Problem) (l i : ℕ) where
   pub connects_of_piece : (j c : ℕ) → link_piece p l i j ≡ Some c → Connects p i j
   connects_of_piece j c is = by_way (way_between p i j) is
     where
+      by_time : (w : Way) (t : Bool) → nat_le ((trip_of p i).end + w.minutes) (trip_of p j).start ≡ t
+          → option_map (no_more_than (rest_piece p l i j)) (if t then Some
+          (rated p l ((trip_of p j).start - (trip_of p i).end) w.metres) else None) ≡ Some c
+          → (trip_of p i).end + w.minutes ≤ (trip_of p j).start
+      by_time w true early some = leb-true _ _ early
+      by_time w false late none = absurd (none-some c none)
+
       by_way : (o : Option Way)
-          → option_and_then
+          → option_map (no_more_than (rest_piece p l i j)) (option_and_then
           (λ w. if nat_le ((trip_of p i).end + w.minutes) (trip_of p j).start then Some
-          (rated p l ((trip_of p j).start - (trip_of p i).end) w.metres) else None) o ≡ Some c
+          (rated p l ((trip_of p j).start - (trip_of p i).end) w.metres) else None) o) ≡ Some c
           → IsSomeAnd o (λ w. (trip_of p i).end + w.minutes ≤ (trip_of p j).start)
       by_way None none = absurd (none-some c none)
-      by_way (Some w) some =
-          leb-true _ _ (in_time_of (nat_le ((trip_of p i).end + w.minutes) (trip_of p j).start) _ c some)
+      by_way (Some w) some = by_time w (nat_le ((trip_of p i).end + w.minutes) (trip_of p j).start) refl some
 
   pub pull_in_of_piece : (c : ℕ) → in_piece p l i ≡ Some c → HasPullIn p l i
   pull_in_of_piece c is = by_way (way_in p l i) is

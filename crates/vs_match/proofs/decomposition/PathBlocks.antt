@@ -6,6 +6,7 @@ use Rattle.std.proofs.lemmas.Int.{ints}
 use Rattle.std.proofs.lemmas.List.Sums.{sum_by-cons}
 use Rattle.vs_types.specs.declared.numbers.LayerNo.{LayerNo}
 use Rattle.vs_types.specs.declared.numbers.TripNo.{TripNo}
+use Rattle.vs_layer.specs.declared.arc.Arc.{Arc}
 use Rattle.vs_layer.specs.Graph.{Graph, arc_of}
 use Rattle.vs_layer.specs.Walks.{Leads, path_cost}
 use Rattle.vs_instance.specs.Problem.{Problem}
@@ -16,13 +17,13 @@ use Rattle.vs_instance.specs.Blocks.{IsBlock, block_cost}
 use Rattle.vs_instance.specs.BlockPieces.{cost_of, links_between}
 use Rattle.vs_instance.proofs.CallerLemmas.{IsChain, last_trip, last_of-is, trips_cost, links_cost, blocks_cost_their_pieces}
 use Rattle.vs_match.specs.declared.arc_kind.ArcKind.{ArcKind}
-use Rattle.vs_match.specs.declared.arc_kind.ArcKind.TheVariants.{Trip, Waiting, Deadhead, PullOut, PullIn, Return}
-use Rattle.vs_match.specs.Events.{departure, arrival, MayRun, HasPlace, last_node}
+use Rattle.vs_match.specs.declared.arc_kind.ArcKind.TheVariants.{Trip, Waiting, Deadhead, PullOut, PullIn, RestIn, RestWait, RestOut, Return}
+use Rattle.vs_match.specs.Events.{departure, arrival, MayRun, HasPlace, last_node, point_of}
 use Rattle.vs_match.specs.LayerGraph.{LayerGraph, kind_of}
-use Rattle.vs_match.specs.LawfulNets.{IsLawful, IsLawfulArc, IsBetween}
+use Rattle.vs_match.specs.LawfulNets.{IsLawful, IsLawfulArc}
 use Rattle.vs_match.specs.Underway.{IsOnward, trips_at, trips_of}
 use Rattle.vs_match.specs.WalkLaw.{IsMove, IsWalk, IsWayOut, IsWayIn}
-use Rattle.vs_match.proofs.events.Places.{placed}
+use Rattle.vs_match.proofs.events.Places.{IsBetween, placed, between_at_stop, between_on_line}
 use Rattle.vs_match.proofs.walks.WaitingChains.{leads-append, path_cost-append}
 use Rattle.vs_match.proofs.decomposition.Moves.{paid_of, pull_out_of_piece, connects_of_piece, pull_in_of_piece, block_of_chain}
 
@@ -33,14 +34,14 @@ module _ (p : Problem) (is : IsInstance p) (l : LayerNo) (n : LayerGraph) (lawfu
   abbrev last : ℕ
   last = n.graph.nodes - 1
 
-  -- a node for an event is neither the first nor the last
-  pub inside : (v : ℕ) → IsBetween n.events v → (0 < v) × (v < last)
+  -- a node for a point is neither the first nor the last
+  pub inside : (v : ℕ) → IsBetween n.points v → (0 < v) × (v < last)
   inside v (e, at) =
-      let x = placed n.events v e at in
+      let x = placed n.points v e at in
       let nodes = lawful.labelled.each_node in
       (omega (arith, x.node), omega (arith, x.node, x.within, nodes))
 
-  last_is : last_node n.events ≡ last
+  last_is : last_node n.points ≡ last
   last_is = let nodes = lawful.labelled.each_node in omega (arith, nodes)
 
   -- onward arcs go forward
@@ -52,9 +53,30 @@ module _ (p : Problem) (is : IsInstance p) (l : LayerNo) (n : LayerGraph) (lawfu
       let right = lawful.net.each_arc k (omega (arith, onward)) in
       omega (arith, right.to)
 
-  arc_by : (kind : ArcKind) (k : ℕ) → IsOnward g k → kind_of n k ≡ kind → IsLawfulArc p l.0 n.events kind (arc_of g k)
+  arc_by : (kind : ArcKind) (k : ℕ) → IsOnward g k → kind_of n k ≡ kind → IsLawfulArc p l.0 n.points kind (arc_of g k)
   arc_by kind k onward e =
-      subst (λ (t : ArcKind). IsLawfulArc p l.0 n.events t (arc_of g k)) e (lawful.arcs k (omega (arith, onward)))
+      subst (λ (t : ArcKind). IsLawfulArc p l.0 n.points t (arc_of g k)) e (lawful.arcs k (omega (arith, onward)))
+
+  -- a move leads from a node for a point to another one
+  move_ends : (kind : ArcKind) (a : Arc) → IsMove kind → IsLawfulArc p l.0 n.points kind a
+      → IsBetween n.points a.from × IsBetween n.points a.to
+  move_ends (Trip i) a moves arc = absurd moves
+  move_ends Waiting a moves arc = (between_at_stop n.points a.from arc.0, between_at_stop n.points a.to arc.1)
+  move_ends Deadhead a moves arc = (between_at_stop n.points a.from arc.0, between_at_stop n.points a.to arc.1)
+  move_ends PullOut a moves arc = absurd moves
+  move_ends PullIn a moves arc = absurd moves
+  move_ends RestIn a moves arc = (between_at_stop n.points a.from arc.0, between_on_line n.points a.to arc.1)
+  move_ends RestWait a moves arc = (between_on_line n.points a.from arc.0, between_on_line n.points a.to arc.1)
+  move_ends RestOut a moves arc = (between_on_line n.points a.from arc.0, between_at_stop n.points a.to arc.1)
+  move_ends Return a moves arc = absurd moves
+
+  from_inside : (kind : ArcKind) (k : ℕ) → IsOnward g k → kind_of n k ≡ kind → IsMove kind
+      → IsBetween n.points (arc_of g k).from
+  from_inside kind k onward e moves = (move_ends kind (arc_of g k) moves (arc_by kind k onward e)).0
+
+  leads_inside : (kind : ArcKind) (k : ℕ) → IsOnward g k → kind_of n k ≡ kind → IsMove kind
+      → IsBetween n.points (arc_of g k).to
+  leads_inside kind k onward e moves = (move_ends kind (arc_of g k) moves (arc_by kind k onward e)).1
 
   -- nothing goes on from the last node
   ends : (ks : List ℕ) (u : ℕ) → u ≡ last → Leads g (IsOnward g) u ks last → ks ≡ []
@@ -82,19 +104,23 @@ module _ (p : Problem) (is : IsInstance p) (l : LayerNo) (n : LayerGraph) (lawfu
 
   -- the way from node u to the end, after trip i, whose arrival is at node s, and a walk from there
   abbrev Follows : List ℕ → Type 0
-  Follows ks = (walk : List ℕ) (i : TripNo) (s u : ℕ) → MayRun p l.0 i.0 → HasPlace n.events s (arrival p i.0)
-      → IsBetween n.events u → IsWalk n s walk u → Leads g (IsOnward g) u ks last
+  Follows ks = (walk : List ℕ) (i : TripNo) (s u : ℕ) → MayRun p l.0 i.0 → HasPlace n.points s (arrival p i.0)
+      → IsBetween n.points u → IsWalk n s walk u → Leads g (IsOnward g) u ks last
       → IsRest i (path_cost g walk +ℤ path_cost g ks) (trips_of n.kinds ks)
 
   -- a trip is the next one
   rest_trip : (k : ℕ) (ks : List ℕ) (j : TripNo) → kind_of n k ≡ Trip j → Follows ks → (walk : List ℕ) (i : TripNo)
-      (s u : ℕ) → MayRun p l.0 i.0 → HasPlace n.events s (arrival p i.0) → IsWalk n s walk u
+      (s u : ℕ) → MayRun p l.0 i.0 → HasPlace n.points s (arrival p i.0) → IsWalk n s walk u
       → Leads g (IsOnward g) u (k ∷ ks) last
       → IsRest i (path_cost g walk +ℤ path_cost g (k ∷ ks)) (j ∷ trips_of n.kinds ks)
   rest_trip k ks j e after walk i s u may at is_walk leads =
       let arc = arc_by (Trip j) k leads.1 e in
-      let from = subst (λ (v : ℕ). HasPlace n.events v (departure p j.0)) leads.2 arc.from in
-      let next = after [] j (arc_of g k).to (arc_of g k).to arc.may_run arc.to (arrival p j.0, arc.to) refl leads.3 in
+      let from = subst (λ (v : ℕ). HasPlace n.points v (departure p j.0)) leads.2 arc.from in
+      let next = after [] j (arc_of g k).to (arc_of g k).to arc.may_run arc.to (
+        point_of
+            (arrival p j.0),
+        arc.to,
+      ) refl leads.3 in
       let link =
       paid_of g (λ (ws : List ℕ). IsWalk n s ws u) (link_piece p l.0 i.0 j.0)
       (lawful.walks.links i.0 j.0 s u may arc.may_run at from) walk is_walk in
@@ -113,7 +139,7 @@ module _ (p : Problem) (is : IsInstance p) (l : LayerNo) (n : LayerGraph) (lawfu
 
   -- a pull-in ends it
   rest_in : (k : ℕ) (ks : List ℕ) → kind_of n k ≡ PullIn → (walk : List ℕ) (i : TripNo) (s u : ℕ)
-      → MayRun p l.0 i.0 → HasPlace n.events s (arrival p i.0) → IsWalk n s walk u
+      → MayRun p l.0 i.0 → HasPlace n.points s (arrival p i.0) → IsWalk n s walk u
       → Leads g (IsOnward g) u (k ∷ ks) last → ks ≡ [] → IsRest i (path_cost g walk +ℤ path_cost g (k ∷ ks)) []
   rest_in k ks e walk i s u may at is_walk leads none =
       let back =
@@ -138,8 +164,8 @@ module _ (p : Problem) (is : IsInstance p) (l : LayerNo) (n : LayerGraph) (lawfu
 
   -- a move is walked on, for the rest
   rest_move : (k : ℕ) (ks : List ℕ) (kind : ArcKind) → IsMove kind → kind_of n k ≡ kind → Follows ks
-      → IsBetween n.events (arc_of g k).to → (walk : List ℕ) (i : TripNo) (s u : ℕ)
-      → MayRun p l.0 i.0 → HasPlace n.events s (arrival p i.0) → IsWalk n s walk u
+      → IsBetween n.points (arc_of g k).to → (walk : List ℕ) (i : TripNo) (s u : ℕ)
+      → MayRun p l.0 i.0 → HasPlace n.points s (arrival p i.0) → IsWalk n s walk u
       → Leads g (IsOnward g) u (k ∷ ks) last
       → IsRest i (path_cost g walk +ℤ path_cost g (k ∷ ks)) (trips_of n.kinds ks)
   rest_move k ks kind moves e after to walk i s u may at is_walk leads =
@@ -149,15 +175,15 @@ module _ (p : Problem) (is : IsInstance p) (l : LayerNo) (n : LayerGraph) (lawfu
       subst (λ (c : ℤ). IsRest i c (trips_of n.kinds ks)) (cost_on walk ks k) next
 
   rest_by : (k : ℕ) (ks : List ℕ) → Follows ks → (kind : ArcKind) → kind_of n k ≡ kind
-      → (walk : List ℕ) (i : TripNo) (s u : ℕ) → MayRun p l.0 i.0 → HasPlace n.events s (arrival p i.0)
-      → IsBetween n.events u → IsWalk n s walk u → Leads g (IsOnward g) u (k ∷ ks) last
+      → (walk : List ℕ) (i : TripNo) (s u : ℕ) → MayRun p l.0 i.0 → HasPlace n.points s (arrival p i.0)
+      → IsBetween n.points u → IsWalk n s walk u → Leads g (IsOnward g) u (k ∷ ks) last
       → IsRest i (path_cost g walk +ℤ path_cost g (k ∷ ks)) (trips_at kind ++ trips_of n.kinds ks)
   rest_by k ks after (Trip j) e walk i s u may at here is_walk leads =
       rest_trip k ks j e after walk i s u may at is_walk leads
   rest_by k ks after Waiting e walk i s u may at here is_walk leads =
-      rest_move k ks Waiting tt e after (arc_by Waiting k leads.1 e).1 walk i s u may at is_walk leads
+      rest_move k ks Waiting tt e after (leads_inside Waiting k leads.1 e tt) walk i s u may at is_walk leads
   rest_by k ks after Deadhead e walk i s u may at here is_walk leads =
-      rest_move k ks Deadhead tt e after (arc_by Deadhead k leads.1 e).1 walk i s u may at is_walk leads
+      rest_move k ks Deadhead tt e after (leads_inside Deadhead k leads.1 e tt) walk i s u may at is_walk leads
   rest_by k ks after PullOut e walk i s u may at here is_walk leads =
       let arc = arc_by PullOut k leads.1 e in
       absurd (omega (arith, arc.0, leads.2, (inside u here).0))
@@ -166,6 +192,12 @@ module _ (p : Problem) (is : IsInstance p) (l : LayerNo) (n : LayerGraph) (lawfu
       let none = ends ks (arc_of g k).to (arc.1 ∙ last_is) leads.3 in
       subst (λ (js : List ℕ). IsRest i (path_cost g walk +ℤ path_cost g (k ∷ ks)) (trips_of n.kinds js)) (sym none)
       (rest_in k ks e walk i s u may at is_walk leads none)
+  rest_by k ks after RestIn e walk i s u may at here is_walk leads =
+      rest_move k ks RestIn tt e after (leads_inside RestIn k leads.1 e tt) walk i s u may at is_walk leads
+  rest_by k ks after RestWait e walk i s u may at here is_walk leads =
+      rest_move k ks RestWait tt e after (leads_inside RestWait k leads.1 e tt) walk i s u may at is_walk leads
+  rest_by k ks after RestOut e walk i s u may at here is_walk leads =
+      rest_move k ks RestOut tt e after (leads_inside RestOut k leads.1 e tt) walk i s u may at is_walk leads
   rest_by k ks after Return e walk i s u may at here is_walk leads =
       let arc = arc_by Return k leads.1 e in
       absurd (omega (arith, arc.to, forward k leads.1))
@@ -182,7 +214,7 @@ module _ (p : Problem) (is : IsInstance p) (l : LayerNo) (n : LayerGraph) (lawfu
 
   -- the way from node u to the end, after pull-out o and a walk from where it leads
   abbrev Starts : List ℕ → Type 0
-  Starts ks = (walk : List ℕ) (o u : ℕ) → o < length g.arcs → kind_of n o ≡ PullOut → IsBetween n.events u
+  Starts ks = (walk : List ℕ) (o u : ℕ) → o < length g.arcs → kind_of n o ≡ PullOut → IsBetween n.points u
       → IsWalk n (arc_of g o).to walk u → Leads g (IsOnward g) u ks last
       → IsServed (path_cost g (o ∷ walk) +ℤ path_cost g ks) (trips_of n.kinds ks)
 
@@ -193,10 +225,14 @@ module _ (p : Problem) (is : IsInstance p) (l : LayerNo) (n : LayerGraph) (lawfu
       → IsServed (path_cost g (o ∷ walk) +ℤ path_cost g (k ∷ ks)) (j ∷ trips_of n.kinds ks)
   start_trip k ks j e walk o u of_net out is_walk leads =
       let arc = arc_by (Trip j) k leads.1 e in
-      let from = subst (λ (v : ℕ). HasPlace n.events v (departure p j.0)) leads.2 arc.from in
+      let from = subst (λ (v : ℕ). HasPlace n.points v (departure p j.0)) leads.2 arc.from in
       let rest = trips_of n.kinds ks in
       let next =
-      rest_of ks [] j (arc_of g k).to (arc_of g k).to arc.may_run arc.to (arrival p j.0, arc.to) refl leads.3 in
+      rest_of ks [] j (arc_of g k).to (arc_of g k).to arc.may_run arc.to (
+        point_of
+            (arrival p j.0),
+        arc.to,
+      ) refl leads.3 in
       let first =
       paid_of g (IsWayOut n u) (out_piece p l.0 j.0) (lawful.walks.outs j.0 u arc.may_run from) (o ∷ walk)
       (of_net, out, is_walk) in
@@ -213,7 +249,7 @@ module _ (p : Problem) (is : IsInstance p) (l : LayerNo) (n : LayerGraph) (lawfu
       (block, omega (arith, ints, pieces, trips, piece, back, cost, paid, later))
 
   start_move : (k : ℕ) (ks : List ℕ) (kind : ArcKind) → IsMove kind → kind_of n k ≡ kind → Starts ks
-      → IsBetween n.events (arc_of g k).to → (walk : List ℕ) (o u : ℕ) → o < length g.arcs
+      → IsBetween n.points (arc_of g k).to → (walk : List ℕ) (o u : ℕ) → o < length g.arcs
       → kind_of n o ≡ PullOut → IsWalk n (arc_of g o).to walk u → Leads g (IsOnward g) u (k ∷ ks) last
       → IsServed (path_cost g (o ∷ walk) +ℤ path_cost g (k ∷ ks)) (trips_of n.kinds ks)
   start_move k ks kind moves e after to walk o u of_net out is_walk leads =
@@ -223,15 +259,15 @@ module _ (p : Problem) (is : IsInstance p) (l : LayerNo) (n : LayerGraph) (lawfu
       subst (λ (c : ℤ). IsServed c (trips_of n.kinds ks)) (cost_on (o ∷ walk) ks k) next
 
   start_by : (k : ℕ) (ks : List ℕ) → Starts ks → (kind : ArcKind) → kind_of n k ≡ kind → (walk : List ℕ) (o u : ℕ)
-      → o < length g.arcs → kind_of n o ≡ PullOut → IsBetween n.events u → IsWalk n (arc_of g o).to walk u
+      → o < length g.arcs → kind_of n o ≡ PullOut → IsBetween n.points u → IsWalk n (arc_of g o).to walk u
       → Leads g (IsOnward g) u (k ∷ ks) last
       → IsServed (path_cost g (o ∷ walk) +ℤ path_cost g (k ∷ ks)) (trips_at kind ++ trips_of n.kinds ks)
   start_by k ks after (Trip j) e walk o u of_net out here is_walk leads =
       start_trip k ks j e walk o u of_net out is_walk leads
   start_by k ks after Waiting e walk o u of_net out here is_walk leads =
-      start_move k ks Waiting tt e after (arc_by Waiting k leads.1 e).1 walk o u of_net out is_walk leads
+      start_move k ks Waiting tt e after (leads_inside Waiting k leads.1 e tt) walk o u of_net out is_walk leads
   start_by k ks after Deadhead e walk o u of_net out here is_walk leads =
-      start_move k ks Deadhead tt e after (arc_by Deadhead k leads.1 e).1 walk o u of_net out is_walk leads
+      start_move k ks Deadhead tt e after (leads_inside Deadhead k leads.1 e tt) walk o u of_net out is_walk leads
   start_by k ks after PullOut e walk o u of_net out here is_walk leads =
       let arc = arc_by PullOut k leads.1 e in
       absurd (omega (arith, arc.0, leads.2, (inside u here).0))
@@ -240,6 +276,12 @@ module _ (p : Problem) (is : IsInstance p) (l : LayerNo) (n : LayerGraph) (lawfu
       let none = ends ks (arc_of g k).to (arc.1 ∙ last_is) leads.3 in
       subst (λ (js : List ℕ). IsServed (path_cost g (o ∷ walk) +ℤ path_cost g (k ∷ ks)) (trips_of n.kinds js))
       (sym none) tt
+  start_by k ks after RestIn e walk o u of_net out here is_walk leads =
+      start_move k ks RestIn tt e after (leads_inside RestIn k leads.1 e tt) walk o u of_net out is_walk leads
+  start_by k ks after RestWait e walk o u of_net out here is_walk leads =
+      start_move k ks RestWait tt e after (leads_inside RestWait k leads.1 e tt) walk o u of_net out is_walk leads
+  start_by k ks after RestOut e walk o u of_net out here is_walk leads =
+      start_move k ks RestOut tt e after (leads_inside RestOut k leads.1 e tt) walk o u of_net out is_walk leads
   start_by k ks after Return e walk o u of_net out here is_walk leads =
       let arc = arc_by Return k leads.1 e in
       absurd (omega (arith, arc.to, forward k leads.1))
@@ -254,18 +296,29 @@ module _ (p : Problem) (is : IsInstance p) (l : LayerNo) (n : LayerGraph) (lawfu
       → IsServed (path_cost g (k ∷ ks)) (trips_at kind ++ trips_of n.kinds ks)
   served_by k ks (Trip i) e leads =
       let arc = arc_by (Trip i) k leads.1 e in
-      absurd (omega (arith, leads.2, (inside (arc_of g k).from (departure p i.0, arc.from)).0))
+      absurd (omega (arith, leads.2, (inside (arc_of g k).from (point_of (departure p i.0), arc.from)).0))
   served_by k ks Waiting e leads =
-      absurd (omega (arith, leads.2, (inside (arc_of g k).from (arc_by Waiting k leads.1 e).0).0))
+      absurd (omega (arith, leads.2, (inside (arc_of g k).from (from_inside Waiting k leads.1 e tt)).0))
   served_by k ks Deadhead e leads =
-      absurd (omega (arith, leads.2, (inside (arc_of g k).from (arc_by Deadhead k leads.1 e).0).0))
+      absurd (omega (arith, leads.2, (inside (arc_of g k).from (from_inside Deadhead k leads.1 e tt)).0))
   served_by k ks PullOut e leads =
       let arc = arc_by PullOut k leads.1 e in
       let nothing : path_cost g (k ∷ []) +ℤ path_cost g ks ≡ path_cost g (k ∷ ks) = omega (arith, ints) in
       subst (λ (c : ℤ). IsServed c (trips_of n.kinds ks)) nothing
-      (start_of ks [] k (arc_of g k).to leads.0 e arc.1 refl leads.3)
+      (start_of ks [] k (arc_of g k).to leads.0 e (between_at_stop n.points (arc_of g k).to arc.1) refl leads.3)
   served_by k ks PullIn e leads =
-      absurd (omega (arith, leads.2, (inside (arc_of g k).from (arc_by PullIn k leads.1 e).0).0))
+      absurd (omega (
+        arith,
+        leads.2,
+        (inside (arc_of g k).from (between_at_stop n.points (arc_of g k).from
+            (arc_by PullIn k leads.1 e).0)).0,
+      ))
+  served_by k ks RestIn e leads =
+      absurd (omega (arith, leads.2, (inside (arc_of g k).from (from_inside RestIn k leads.1 e tt)).0))
+  served_by k ks RestWait e leads =
+      absurd (omega (arith, leads.2, (inside (arc_of g k).from (from_inside RestWait k leads.1 e tt)).0))
+  served_by k ks RestOut e leads =
+      absurd (omega (arith, leads.2, (inside (arc_of g k).from (from_inside RestOut k leads.1 e tt)).0))
   served_by k ks Return e leads =
       let arc = arc_by Return k leads.1 e in
       absurd (omega (arith, arc.to, forward k leads.1))

@@ -93,7 +93,7 @@ module _ (g : Graph) (net : IsNet g) where
         → 0 < length (paths_at stands v)
     some_stands reached =
         let inner : v + 1 < g.nodes = omega (arith, forward k onward, within_nodes k onward) in
-        let stays = under.standing v inner in
+        let stop_nodes = under.standing v inner in
         let come = all_in units done v reached in
         let kept = circulates.conserved v (omega (arith, inner)) in
         let more = out_more done k v of_net under.each_arc in
@@ -101,7 +101,7 @@ module _ (g : Graph) (net : IsNet g) where
         let left =
         sums-le (λ j. eqb (arc_of g j).from v) (λ j. get_or (one_more done k) j 0) (λ j. get_or units j 0)
         (length g.arcs) (λ j within at. more_within j within) in
-        omega (arith, stays, come, kept, more, here, left)
+        omega (arith, stop_nodes, come, kept, more, here, left)
 
     module _ (here : List Path) (path : Path) (is : paths_at stands v ≡ here ++ path ∷ []) where
       abbrev after : List (List Path)

@@ -11,14 +11,15 @@ use Rattle.vs_instance.specs.Problem.{Problem}
 use Rattle.vs_instance.specs.Ways.{way, no_trip}
 use Rattle.vs_instance.specs.Instance.{IsInstance}
 use Rattle.vs_match.specs.declared.event.Event.{Event}
+use Rattle.vs_match.specs.declared.event.Point.{Point}
 use Rattle.vs_match.specs.declared.nodes.Nodes.{Nodes}
-use Rattle.vs_match.specs.declared.stay.Stay.{Stay}
+use Rattle.vs_match.specs.declared.stop_node.StopNode.{StopNode}
 use Rattle.vs_match.specs.declared.arc_kind.LayerArc.{LayerArc}
 use Rattle.vs_match.specs.declared.matching.Matching.{Matching}
 use Rattle.vs_match.specs.declared.matching.Matching.TheVariants.{First, Latest}
-use Rattle.vs_match.specs.Events.{DepartsAt, ArrivesAt, IsEvent, HasPlace}
+use Rattle.vs_match.specs.Events.{DepartsAt, ArrivesAt, IsEvent, HasPlace, point_of}
 use Rattle.vs_match.specs.Matches.{IsMatch, IsFirstMatch}
-use Rattle.vs_match.specs.Stays.{event_of}
+use Rattle.vs_match.specs.StopNodes.{event_of}
 use Rattle.vs_match.specs.Nodes.{AreNodes}
 use Rattle.vs_match.specs.Adds.{Adds}
 use Rattle.vs_match.specs.Parts.{IsDeadhead, IsDeadheadFrom, IsDeadheadTo}
@@ -31,8 +32,8 @@ use Rattle.vs_match.proofs.walks.WalkBounds.{first_of_match}
 use Rattle.vs_match.proofs.walks.WaitingChains.{same_stop}
 
 -- these are the nodes at a stop, of those
-abbrev pub AreAt : StopNo → List Stay → List Stay → Type 0
-AreAt stop stays here = (s : Stay) → Contains here s ↔ (Contains stays s × (s.stop ≡ stop))
+abbrev pub AreAt : StopNo → List StopNode → List StopNode → Type 0
+AreAt stop stop_nodes here = (s : StopNode) → Contains here s ↔ (Contains stop_nodes s × (s.stop ≡ stop))
 
 pub departs_within : (p : Problem) → IsInstance p → (l : ℕ) (e : Event) → DepartsAt p l e → (e.minute < TWO_DAYS)
     × (e.stop.0 < p.stops)
@@ -49,37 +50,38 @@ arrives_within p is l e (i, may, at) =
     (omega (arith, trip.end, ap (λ (x : Event). x.minute) at), omega (arith, trip.to, ap (λ (x : Event). x.stop.0) at))
 
 module _ (p : Problem) (l : ℕ) (nodes : Nodes) (are : AreNodes p l nodes) where
-  abbrev events : List Event
-  events = nodes.events.items
+  abbrev points : List Point
+  points = nodes.points.items
 
   module _ (matching : Matching) (w : Way) (k s : StopNo) (apart : k.0 ≢ s.0) (way_is : way p k.0 s.0 ≡ Some w)
-      (arrivals departures : List Stay)
+      (arrivals departures : List StopNode)
       (from : AreAt k nodes.arrivals.items arrivals) (to : AreAt s nodes.departures.items departures) where
     -- the node of an arrival at the one stop, and of a departure at the other
-    arrival_there : (e : Event) → ArrivesAt p l e → e.stop ≡ k → (x : Stay) × Contains arrivals x × (event_of x ≡ e)
+    arrival_there : (e : Event) → ArrivesAt p l e → e.stop ≡ k → (x : StopNode) × Contains arrivals x × (event_of x ≡ e)
     arrival_there e arrives at =
-        let v = has_node events e (are.events.every e (inr arrives)) in
-        let x : Stay = record { stop = e.stop; minute = e.minute; node = v.0 } in
+        let v = has_node points (point_of e) (are.points.every (point_of e) (inr arrives)) in
+        let x : StopNode = record { stop = e.stop; minute = e.minute; node = v.0 } in
         (x, (from x).1 (are.arrivals.every x v.1 arrives, at), refl)
 
-    departure_there : (e : Event) → DepartsAt p l e → e.stop ≡ s → (x : Stay) × Contains departures x × (event_of x ≡ e)
+    departure_there : (e : Event) → DepartsAt p l e → e.stop ≡ s
+        → (x : StopNode) × Contains departures x × (event_of x ≡ e)
     departure_there e departs at =
-        let v = has_node events e (are.events.every e (inl departs)) in
-        let x : Stay = record { stop = e.stop; minute = e.minute; node = v.0 } in
+        let v = has_node points (point_of e) (are.points.every (point_of e) (inl departs)) in
+        let x : StopNode = record { stop = e.stop; minute = e.minute; node = v.0 } in
         (x, (to x).1 (are.departures.every x v.1 departs, at), refl)
 
-    arrives_at : (a : Stay) → Contains arrivals a
-        → (HasPlace events a.node (event_of a) × ArrivesAt p l (event_of a)) × (a.stop ≡ k)
+    arrives_at : (a : StopNode) → Contains arrivals a
+        → (HasPlace points a.node (event_of a) × ArrivesAt p l (event_of a)) × (a.stop ≡ k)
     arrives_at a has = let both = (from a).0 has in (are.arrivals.only a both.0, both.1)
 
-    departs_at : (b : Stay) → Contains departures b
-        → (HasPlace events b.node (event_of b) × DepartsAt p l (event_of b)) × (b.stop ≡ s)
+    departs_at : (b : StopNode) → Contains departures b
+        → (HasPlace points b.node (event_of b) × DepartsAt p l (event_of b)) × (b.stop ≡ s)
     departs_at b has = let both = (to b).0 has in (are.departures.only b both.0, both.1)
 
-    way_of : (a b : Stay) → a.stop ≡ k → b.stop ≡ s → way p a.stop.0 b.stop.0 ≡ Some w
+    way_of : (a b : StopNode) → a.stop ≡ k → b.stop ≡ s → way p a.stop.0 b.stop.0 ≡ Some w
     way_of a b at at' = ap (λ (x : StopNo). way p x.0 b.stop.0) at ∙ ap (λ (x : StopNo). way p k.0 x.0) at' ∙ way_is
 
-    first_match : (a b : Stay) → Contains arrivals a → IsFirstFrom departures (a.minute + w.minutes) b
+    first_match : (a b : StopNode) → Contains arrivals a → IsFirstFrom departures (a.minute + w.minutes) b
         → IsFirstMatch p l w (event_of a) (event_of b)
     first_match a b has first =
         let x = arrives_at a has in
@@ -96,7 +98,7 @@ module _ (p : Problem) (l : ℕ) (nodes : Nodes) (are : AreNodes p l nodes) wher
               omega (arith, minute, first.first z.0 z.1 (omega (arith, minute, late)));
         }
 
-    match_of : (m : Matching) (a b : Stay) → Contains arrivals a → IsFirstFrom departures (a.minute + w.minutes) b
+    match_of : (m : Matching) (a b : StopNode) → Contains arrivals a → IsFirstFrom departures (a.minute + w.minutes) b
         → IsKept m arrivals w a b
         → IsMatch p l m w (event_of a) (event_of b)
     match_of First a b has first kept = first_match a b has first
@@ -110,12 +112,12 @@ module _ (p : Problem) (l : ℕ) (nodes : Nodes) (are : AreNodes p l nodes) wher
 
     -- a match is a deadhead
     to_deadhead : (x : LayerArc) → IsMatched p l matching w arrivals departures x
-        → IsDeadheadTo p l matching events k.0 s.0 x
+        → IsDeadheadTo p l matching points k.0 s.0 x
     to_deadhead x m =
         let a = arrives_at m.since m.arrives in
         let b = departs_at m.until m.first.departs in
-        let P : ℕ → Type 0 = λ v. HasPlace events v (event_of m.since) in
-        let Q : ℕ → Type 0 = λ v. HasPlace events v (event_of m.until) in
+        let P : ℕ → Type 0 = λ v. HasPlace points v (event_of m.since) in
+        let Q : ℕ → Type 0 = λ v. HasPlace points v (event_of m.until) in
         record {
           kind = ap (λ (y : LayerArc). y.kind) m.is;
           arc = record {
@@ -132,10 +134,10 @@ module _ (p : Problem) (l : ℕ) (nodes : Nodes) (are : AreNodes p l nodes) wher
           reaches = ap (λ (z : StopNo). z.0) b.1;
         }
 
-    first_from : (a b : Event) (u v : ℕ) → HasPlace events v b → b.stop ≡ s → IsFirstMatch p l w a b
+    first_from : (a b : Event) (u v : ℕ) → HasPlace points v b → b.stop ≡ s → IsFirstMatch p l w a b
         → IsFirstFrom departures (a.minute + w.minutes) (record { stop = b.stop; minute = b.minute; node = v })
     first_from a b u v at there first =
-        let x : Stay = record { stop = b.stop; minute = b.minute; node = v } in
+        let x : StopNode = record { stop = b.stop; minute = b.minute; node = v } in
         record {
           departs = (to x).1 (are.departures.every x at first.departs, there);
           in_time = first.in_time;
@@ -163,7 +165,7 @@ module _ (p : Problem) (l : ℕ) (nodes : Nodes) (are : AreNodes p l nodes) wher
         ]
 
     -- a deadhead is a match
-    from_deadhead : (x : LayerArc) → IsDeadheadTo p l matching events k.0 s.0 x
+    from_deadhead : (x : LayerArc) → IsDeadheadTo p l matching points k.0 s.0 x
         → IsMatched p l matching w arrivals departures x
     from_deadhead x d =
         let arc = d.arc in
@@ -177,8 +179,8 @@ module _ (p : Problem) (l : ℕ) (nodes : Nodes) (are : AreNodes p l nodes) wher
         let P : Way → Type 0 = λ v. IsMatch p l matching v arc.since arc.until in
         let matched = subst P by arc.matched in
         let first' = first_of_match p l matching w arc.since arc.until matched in
-        let since : Stay = record { stop = arc.since.stop; minute = arc.since.minute; node = x.from } in
-        let until : Stay = record { stop = arc.until.stop; minute = arc.until.minute; node = x.to } in
+        let since : StopNode = record { stop = arc.since.stop; minute = arc.since.minute; node = x.from } in
+        let until : StopNode = record { stop = arc.until.stop; minute = arc.until.minute; node = x.to } in
         let cost = arc.cost ∙ ap (λ (v : Way). (deadhead_of p l v since until).cost) by in
         record {
           since = since;
@@ -190,30 +192,30 @@ module _ (p : Problem) (l : ℕ) (nodes : Nodes) (are : AreNodes p l nodes) wher
         }
 
     pub matches_are : (old new : List LayerArc) → Adds (IsMatched p l matching w arrivals departures) old new
-        → Adds (IsDeadheadTo p l matching events k.0 s.0) old new
+        → Adds (IsDeadheadTo p l matching points k.0 s.0) old new
     matches_are old new adds =
         adds-as (IsMatched p l matching w arrivals departures)
-        (IsDeadheadTo p l matching events k.0 s.0) old new adds to_deadhead from_deadhead
+        (IsDeadheadTo p l matching points k.0 s.0) old new adds to_deadhead from_deadhead
 
   -- no deadhead from a stop without an arrival, to the stop itself, or where there is no way
-  pub none_from : (matching : Matching) (k : StopNo) (arrivals : List Stay) → AreAt k nodes.arrivals.items arrivals
+  pub none_from : (matching : Matching) (k : StopNo) (arrivals : List StopNode) → AreAt k nodes.arrivals.items arrivals
       → length arrivals ≡ 0
-      → (x : LayerArc) → ¬ (IsDeadheadFrom p l matching events k.0 x)
+      → (x : LayerArc) → ¬ (IsDeadheadFrom p l matching points k.0 x)
   none_from matching k arrivals from none x d =
       let arc = d.arc in
       let first = first_of_match p l matching arc.by arc.since arc.until arc.matched in
-      let since : Stay = record { stop = arc.since.stop; minute = arc.since.minute; node = x.from } in
+      let since : StopNode = record { stop = arc.since.stop; minute = arc.since.minute; node = x.from } in
       let has = (from since).1 (are.arrivals.every since arc.from first.arrives, same_stop arc.since.stop k d.leaves) in
       omega (arith, has.1, none)
 
   pub none_itself : (matching : Matching) (k s : ℕ) → k ≡ s → (x : LayerArc)
-      → ¬ (IsDeadheadTo p l matching events k s x)
+      → ¬ (IsDeadheadTo p l matching points k s x)
   none_itself matching k s same x d =
       (first_of_match p l matching d.arc.by d.arc.since d.arc.until d.arc.matched).apart
       (d.leaves ∙ same ∙ sym d.reaches)
 
   pub none_without : (matching : Matching) (k s : ℕ) → ((w : Way) → ¬ (way p k s ≡ Some w)) → (x : LayerArc)
-      → ¬ (IsDeadheadTo p l matching events k s x)
+      → ¬ (IsDeadheadTo p l matching points k s x)
   none_without matching k s none x d =
       none d.arc.by
       (sym (ap (λ (n : ℕ). way p n s) d.leaves) ∙ sym (ap (λ (n : ℕ). way p d.arc.since.stop.0 n) d.reaches)
@@ -221,10 +223,10 @@ module _ (p : Problem) (l : ℕ) (nodes : Nodes) (are : AreNodes p l nodes) wher
 
   -- the deadheads to all stops, and from all stops
   pub from_all : IsInstance p → (matching : Matching) (k : ℕ) (old new : List LayerArc)
-      → Adds (Upto (IsDeadheadTo p l matching events k) p.stops) old new
-      → Adds (IsDeadheadFrom p l matching events k) old new
+      → Adds (Upto (IsDeadheadTo p l matching points k) p.stops) old new
+      → Adds (IsDeadheadFrom p l matching points k) old new
   from_all is matching k old new adds =
-      adds-as (Upto (IsDeadheadTo p l matching events k) p.stops) (IsDeadheadFrom p l matching events k) old new adds
+      adds-as (Upto (IsDeadheadTo p l matching points k) p.stops) (IsDeadheadFrom p l matching points k) old new adds
       (λ x (s, within, d). record { kind = d.kind; arc = d.arc; leaves = d.leaves })
       (λ x d.
       let first = first_of_match p l matching d.arc.by d.arc.since d.arc.until d.arc.matched in (
@@ -240,10 +242,10 @@ module _ (p : Problem) (l : ℕ) (nodes : Nodes) (are : AreNodes p l nodes) wher
       ))
 
   pub all_deadheads : IsInstance p → (matching : Matching) (old new : List LayerArc)
-      → Adds (Upto (IsDeadheadFrom p l matching events) p.stops) old new
-      → Adds (IsDeadhead p l matching events) old new
+      → Adds (Upto (IsDeadheadFrom p l matching points) p.stops) old new
+      → Adds (IsDeadhead p l matching points) old new
   all_deadheads is matching old new adds =
-      adds-as (Upto (IsDeadheadFrom p l matching events) p.stops) (IsDeadhead p l matching events) old new adds
+      adds-as (Upto (IsDeadheadFrom p l matching points) p.stops) (IsDeadhead p l matching points) old new adds
       (λ x (k, within, d). (d.kind, d.arc))
       (λ x (kind, arc).
       let first = first_of_match p l matching arc.by arc.since arc.until arc.matched in (
@@ -258,14 +260,14 @@ module _ (p : Problem) (l : ℕ) (nodes : Nodes) (are : AreNodes p l nodes) wher
       ))
 
   -- nodes at a stop have minutes of the two days
-  pub arrivals_within : IsInstance p → (k : StopNo) (arrivals : List Stay) → AreAt k nodes.arrivals.items arrivals
+  pub arrivals_within : IsInstance p → (k : StopNo) (arrivals : List StopNode) → AreAt k nodes.arrivals.items arrivals
       → All (λ s. s.minute < TWO_DAYS) arrivals
   arrivals_within is k arrivals from j d within =
       let s = get_or arrivals j d in
       let has = ((from s).0 (j, within, get_or_default arrivals j s d within)).0 in
       (arrives_within p is l (event_of s) (are.arrivals.only s has).1).0
 
-  pub departures_within : IsInstance p → (k : StopNo) (departures : List Stay)
+  pub departures_within : IsInstance p → (k : StopNo) (departures : List StopNode)
       → AreAt k nodes.departures.items departures → All (λ s. s.minute < TWO_DAYS) departures
   departures_within is k departures to j d within =
       let s = get_or departures j d in

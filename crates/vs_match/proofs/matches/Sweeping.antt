@@ -8,8 +8,8 @@ use Rattle.vs_instance.specs.Problem.{Problem}
 use Rattle.vs_instance.specs.declared.way.Way.{Way}
 use Rattle.vs_match.specs.declared.matching.Matching.{Matching}
 use Rattle.vs_match.specs.declared.matching.Matching.TheVariants.{Latest}
-use Rattle.vs_match.specs.declared.stay.Stay.{Stay}
-use Rattle.vs_match.specs.Stays.{IsRising}
+use Rattle.vs_match.specs.declared.stop_node.StopNode.{StopNode}
+use Rattle.vs_match.specs.StopNodes.{IsRising}
 use Rattle.vs_match.specs.Sweep.{IsKept, IsFirstFrom, IsMatched}
 use Rattle.vs_match.specs.ArcsOf.{deadhead_of}
 use Rattle.vs_match.specs.declared.arc_kind.LayerArc.{LayerArc}
@@ -17,20 +17,22 @@ use Rattle.vs_match.specs.Adds.{Adds}
 use Rattle.vs_match.proofs.events.Adding.{Upto, adds-as}
 
 -- minutes at places that come no later are no later
-pub minutes-≤ : (stays : List Stay) → IsRising stays → (j k : ℕ) (d : Stay) → j ≤ k → k < length stays
-    → (get_or stays j d).minute ≤ (get_or stays k d).minute
-minutes-≤ stays rising j k d le within =
+pub minutes-≤ : (stop_nodes : List StopNode) → IsRising stop_nodes → (j k : ℕ) (d : StopNode) → j ≤ k
+    → k < length stop_nodes
+    → (get_or stop_nodes j d).minute ≤ (get_or stop_nodes k d).minute
+minutes-≤ stop_nodes rising j k d le within =
     elim (cases_eq j k) [
-      | inl same ↦ omega (arith, ap (λ (n : ℕ). (get_or stays n d).minute) same)
+      | inl same ↦ omega (arith, ap (λ (n : ℕ). (get_or stop_nodes n d).minute) same)
       | inr other ↦ omega (arith, rising j k d (omega (arith, le, other)) within)
     ]
 
 -- the minute of an item is that of its place
-pub minute-at : (stays : List Stay) (c d : Stay) (has : Contains stays c) → (get_or stays has.0 d).minute ≡ c.minute
-minute-at stays c d has = ap (λ (s : Stay). s.minute) (get_or_default stays has.0 d c has.1 ∙ has.2)
+pub minute-at : (stop_nodes : List StopNode) (c d : StopNode) (has : Contains stop_nodes c)
+    → (get_or stop_nodes has.0 d).minute ≡ c.minute
+minute-at stop_nodes c d has = ap (λ (s : StopNode). s.minute) (get_or_default stop_nodes has.0 d c has.1 ∙ has.2)
 
-module _ (arrivals : List Stay) (rising : IsRising arrivals) (w : Way) (k : ℕ) (within : k < length arrivals)
-    (d b : Stay) where
+module _ (arrivals : List StopNode) (rising : IsRising arrivals) (w : Way) (k : ℕ) (within : k < length arrivals)
+    (d b : StopNode) where
   -- the last arrival has none after it
   pub last_kept : k + 1 ≡ length arrivals → IsKept Latest arrivals w (get_or arrivals k d) b
   last_kept last c has early =
@@ -65,21 +67,21 @@ module _ (arrivals : List Stay) (rising : IsRising arrivals) (w : Way) (k : ℕ)
       ]
 
 -- the match of arrival k
-pub record OfArrival (p : Problem) (l : ℕ) (matching : Matching) (w : Way) (arrivals departures : List Stay) (k : ℕ)
+pub record OfArrival (p : Problem) (l : ℕ) (matching : Matching) (w : Way) (arrivals departures : List StopNode) (k : ℕ)
     (x : LayerArc) : Type 0 where
-  pub until : Stay
+  pub until : StopNode
   pub within : k < length arrivals
-  pub first : (d : Stay) → IsFirstFrom departures ((get_or arrivals k d).minute + w.minutes) until
-  pub kept : (d : Stay) → IsKept matching arrivals w (get_or arrivals k d) until
-  pub is : (d : Stay) → x ≡ deadhead_of p l w (get_or arrivals k d) until
+  pub first : (d : StopNode) → IsFirstFrom departures ((get_or arrivals k d).minute + w.minutes) until
+  pub kept : (d : StopNode) → IsKept matching arrivals w (get_or arrivals k d) until
+  pub is : (d : StopNode) → x ≡ deadhead_of p l w (get_or arrivals k d) until
 
 -- the departures before this place are too early for the arrivals from number k on
-abbrev pub AreEarly : Way → List Stay → List Stay → ℕ → ℕ → Type 0
-AreEarly w arrivals departures k place = (j m : ℕ) (d : Stay) → j < place → k ≤ m → m < length arrivals
+abbrev pub AreEarly : Way → List StopNode → List StopNode → ℕ → ℕ → Type 0
+AreEarly w arrivals departures k place = (j m : ℕ) (d : StopNode) → j < place → k ≤ m → m < length arrivals
     → (get_or departures j d).minute < (get_or arrivals m d).minute + w.minutes
 
 -- the first departure after these
-pub first_departure : (departures : List Stay) → IsRising departures → (minute place : ℕ) (d : Stay)
+pub first_departure : (departures : List StopNode) → IsRising departures → (minute place : ℕ) (d : StopNode)
     → place < length departures
     → All (λ s. s.minute < minute) (take place departures) → minute ≤ (get_or departures place d).minute
     → IsFirstFrom departures minute (get_or departures place d)
@@ -90,24 +92,24 @@ first_departure departures rising minute place d within early late = record {
     | inl before ↦
         let front : has.0 < length (take place departures) =
         omega (arith, length-take place departures, before, within) in
-        let minute' = ap (λ (s : Stay). s.minute) (get_or-take place departures has.0 d before) in
+        let minute' = ap (λ (s : StopNode). s.minute) (get_or-take place departures has.0 d before) in
         absurd (omega (arith, early has.0 d front, minute', minute-at departures c d has, in_time))
     | inr after ↦ omega (arith, minute-at departures c d has, minutes-≤ departures rising place has.0 d after has.1)
   ];
 }
 
 -- there is none after these
-pub no_departure : (departures : List Stay) (minute place : ℕ) → length departures ≤ place
+pub no_departure : (departures : List StopNode) (minute place : ℕ) → length departures ≤ place
     → All (λ s. s.minute < minute) (take place departures)
-    → (b : Stay) → IsFirstFrom departures minute b → ⊥
+    → (b : StopNode) → IsFirstFrom departures minute b → ⊥
 no_departure departures minute place past early b first =
     let has = first.departs in
     let front : has.0 < length (take place departures) = omega (arith, length-take place departures, has.1, past) in
-    let minute' = ap (λ (s : Stay). s.minute) (get_or-take place departures has.0 b (omega (arith, has.1, past))) in
+    let minute' = ap (λ (s : StopNode). s.minute) (get_or-take place departures has.0 b (omega (arith, has.1, past))) in
     omega (arith, early has.0 b front, minute', minute-at departures b b has, first.in_time)
 
 -- two first departures have one minute, and so are one
-pub same_departure : (departures : List Stay) → IsRising departures → (minute : ℕ) (a b : Stay)
+pub same_departure : (departures : List StopNode) → IsRising departures → (minute : ℕ) (a b : StopNode)
     → IsFirstFrom departures minute a → IsFirstFrom departures minute b → a ≡ b
 same_departure departures rising minute a b first second =
     let x = first.departs in
@@ -126,7 +128,7 @@ same_departure departures rising minute a b first second =
     ]
 
 -- all of them together
-pub are_matches : (p : Problem) (l : ℕ) (matching : Matching) (w : Way) (arrivals departures : List Stay)
+pub are_matches : (p : Problem) (l : ℕ) (matching : Matching) (w : Way) (arrivals departures : List StopNode)
     (old new : List LayerArc)
     → Adds (Upto (OfArrival p l matching w arrivals departures) (length arrivals)) old new
     → Adds (IsMatched p l matching w arrivals departures) old new
@@ -143,22 +145,23 @@ are_matches p l matching w arrivals departures old new adds =
     })
     (λ x m.
     let has = m.arrives in
-    let at = λ (d : Stay). get_or_default arrivals has.0 d m.since has.1 ∙ has.2 in (
+    let at = λ (d : StopNode). get_or_default arrivals has.0 d m.since has.1 ∙ has.2 in (
       has.0,
       has.1,
       record {
         until = m.until;
         within = has.1;
-        first = λ d. let P : Stay → Type 0 =
+        first = λ d. let P : StopNode → Type 0 =
             λ a. IsFirstFrom departures (a.minute + w.minutes) m.until in subst P (sym (at d)) m.first;
-        kept = λ d. let P : Stay → Type 0 = λ a. IsKept matching arrivals w a m.until in subst P (sym (at d)) m.kept;
-        is = λ d. m.is ∙ ap (λ (a : Stay). deadhead_of p l w a m.until) (sym (at d));
+        kept = λ d. let P : StopNode → Type 0 = λ a. IsKept matching arrivals w a m.until in subst P (sym
+            (at d)) m.kept;
+        is = λ d. m.is ∙ ap (λ (a : StopNode). deadhead_of p l w a m.until) (sym (at d));
       },
     ))
 
-module _ (p : Problem) (l : ℕ) (matching : Matching) (w : Way) (arrivals departures : List Stay)
+module _ (p : Problem) (l : ℕ) (matching : Matching) (w : Way) (arrivals departures : List StopNode)
     (rising : IsRising arrivals) (rising' : IsRising departures)
-    (k : ℕ) (within : k < length arrivals) (d : Stay) where
+    (k : ℕ) (within : k < length arrivals) (d : StopNode) where
   -- when a vehicle that arrives with arrival k is there
   abbrev there : ℕ
   there = (get_or arrivals k d).minute + w.minutes
@@ -167,45 +170,45 @@ module _ (p : Problem) (l : ℕ) (matching : Matching) (w : Way) (arrivals depar
       → All (λ s. s.minute < there) (take place departures)
   early_take place le early j e inside =
       let before : j < place = omega (arith, inside, length-take place departures) in
-      let at = ap (λ (s : Stay). s.minute) (get_or-take place departures j e before) in
-      let own = ap (λ (s : Stay). s.minute) (get_or_default arrivals k e d within) in
+      let at = ap (λ (s : StopNode). s.minute) (get_or-take place departures j e before) in
+      let own = ap (λ (s : StopNode). s.minute) (get_or_default arrivals k e d within) in
       omega (arith, at, own, early j k e before (omega arith) within)
 
   pub early_more : (place : ℕ) → place ≤ length departures → All (λ s. s.minute < there) (take place departures)
       → AreEarly w arrivals departures (k + 1) place
   early_more place le early j m e before after inside =
       let front : j < length (take place departures) = omega (arith, length-take place departures) in
-      let at = ap (λ (s : Stay). s.minute) (get_or-take place departures j e before) in
-      let own = ap (λ (s : Stay). s.minute) (get_or_default arrivals k e d within) in
+      let at = ap (λ (s : StopNode). s.minute) (get_or-take place departures j e before) in
+      let own = ap (λ (s : StopNode). s.minute) (get_or_default arrivals k e d within) in
       omega (arith, at, own, early j e front, minutes-≤ arrivals rising k m e (omega arith) inside)
 
   -- the match of arrival k, once it is found and kept
-  pub of_arrival : (b : Stay) → IsFirstFrom departures there b → IsKept matching arrivals w (get_or arrivals k d) b
+  pub of_arrival : (b : StopNode) → IsFirstFrom departures there b → IsKept matching arrivals w (get_or arrivals k d) b
       → OfArrival p l matching w arrivals departures k (deadhead_of p l w (get_or arrivals k d) b)
   of_arrival b first kept = record {
     until = b;
     within = within;
-    first = λ e. let P : Stay → Type 0 =
+    first = λ e. let P : StopNode → Type 0 =
         λ a. IsFirstFrom departures (a.minute + w.minutes) b in subst P (get_or_default arrivals k d e within) first;
-    kept = λ e. let P : Stay → Type 0 =
+    kept = λ e. let P : StopNode → Type 0 =
         λ a. IsKept matching arrivals w a b in subst P (get_or_default arrivals k d e within) kept;
-    is = λ e. ap (λ (a : Stay). deadhead_of p l w a b) (get_or_default arrivals k d e within);
+    is = λ e. ap (λ (a : StopNode). deadhead_of p l w a b) (get_or_default arrivals k d e within);
   }
 
   -- there is no other
-  pub only_arrival : (b : Stay) → IsFirstFrom departures there b → (x : LayerArc)
+  pub only_arrival : (b : StopNode) → IsFirstFrom departures there b → (x : LayerArc)
       → OfArrival p l matching w arrivals departures k x
       → deadhead_of p l w (get_or arrivals k d) b ≡ x
   only_arrival b first x of =
-      ap (λ (c : Stay). deadhead_of p l w (get_or arrivals k d) c)
+      ap (λ (c : StopNode). deadhead_of p l w (get_or arrivals k d) c)
       (same_departure departures rising' there b of.until first (of.first d)) ∙ sym (of.is d)
 
   -- a match that there is was kept
-  pub kept_of : (b : Stay) → IsFirstFrom departures there b → (x : LayerArc)
+  pub kept_of : (b : StopNode) → IsFirstFrom departures there b → (x : LayerArc)
       → OfArrival p l matching w arrivals departures k x
       → IsKept matching arrivals w (get_or arrivals k d) b
   kept_of b first x of =
-      let P : Stay → Type 0 = λ c. IsKept matching arrivals w (get_or arrivals k d) c in
+      let P : StopNode → Type 0 = λ c. IsKept matching arrivals w (get_or arrivals k d) c in
       subst P (same_departure departures rising' there of.until b (of.first d) first) (of.kept d)
 
   -- there is no match

@@ -13,8 +13,9 @@ use Rattle.vs_instance.specs.Problem.{Problem}
 use Rattle.vs_instance.specs.Ways.{way, layer_of}
 use Rattle.vs_instance.specs.Pieces.{rated}
 use Rattle.vs_match.specs.declared.event.Event.{Event}
+use Rattle.vs_match.specs.declared.event.Point.{Point}
 use Rattle.vs_match.specs.declared.arc_kind.ArcKind.{ArcKind}
-use Rattle.vs_match.specs.declared.arc_kind.ArcKind.TheVariants.{Trip, Waiting, Deadhead, PullOut, PullIn, Return}
+use Rattle.vs_match.specs.declared.arc_kind.ArcKind.TheVariants.{Trip, Waiting, Deadhead, PullOut, PullIn, RestIn, RestWait, RestOut, Return}
 use Rattle.vs_match.specs.declared.arc_kind.LayerArc.{LayerArc}
 use Rattle.vs_match.specs.declared.matching.Matching.{Matching}
 use Rattle.vs_match.specs.contracts.arc_kind.ArcKindPartialEq.TheImpl as equality
@@ -29,22 +30,22 @@ use Rattle.vs_match.proofs.events.Places.{same_event}
 use Rattle.vs_match.proofs.walks.WalkBounds.{first_of_match}
 
 -- arcs of a layer with the same ends and kind have the same cost and room
-pub same_cost : (p : Problem) (l : ℕ) (matching : Matching) (events : List Event) (kind : ArcKind) (a b : Arc)
-    → IsArcOf p l matching events kind a
-    → IsArcOf p l matching events kind b → a.from ≡ b.from → a.to ≡ b.to → (a.cost ≡ b.cost) × (a.room ≡ b.room)
-same_cost p l matching events (Trip i) a b x y from to = (x.cost ∙ sym y.cost, x.room ∙ sym y.room)
-same_cost p l matching events Waiting a b x y from to =
+pub same_cost : (p : Problem) (l : ℕ) (matching : Matching) (points : List Point) (kind : ArcKind) (a b : Arc)
+    → IsArcOf p l matching points kind a
+    → IsArcOf p l matching points kind b → a.from ≡ b.from → a.to ≡ b.to → (a.cost ≡ b.cost) × (a.room ≡ b.room)
+same_cost p l matching points (Trip i) a b x y from to = (x.cost ∙ sym y.cost, x.room ∙ sym y.room)
+same_cost p l matching points Waiting a b x y from to =
     let since =
-    same_event events b.from x.since y.since (subst (λ (v : ℕ). HasPlace events v x.since) from x.from) y.from in
-    let until = same_event events b.to x.until y.until (subst (λ (v : ℕ). HasPlace events v x.until) to x.to) y.to in (
+    same_event points b.from x.since y.since (subst (λ (v : ℕ). HasPlace points v x.since) from x.from) y.from in
+    let until = same_event points b.to x.until y.until (subst (λ (v : ℕ). HasPlace points v x.until) to x.to) y.to in (
       x.cost ∙ ap (λ (e : Event). at_scale ((layer_of p l).per_minute * (x.until.minute - e.minute))) since
           ∙ ap (λ (e : Event). at_scale ((layer_of p l).per_minute * (e.minute - y.since.minute))) until ∙ sym y.cost,
       x.room ∙ sym y.room,
     )
-same_cost p l matching events Deadhead a b x y from to =
+same_cost p l matching points Deadhead a b x y from to =
     let since =
-    same_event events b.from x.since y.since (subst (λ (v : ℕ). HasPlace events v x.since) from x.from) y.from in
-    let until = same_event events b.to x.until y.until (subst (λ (v : ℕ). HasPlace events v x.until) to x.to) y.to in
+    same_event points b.from x.since y.since (subst (λ (v : ℕ). HasPlace points v x.since) from x.from) y.from in
+    let until = same_event points b.to x.until y.until (subst (λ (v : ℕ). HasPlace points v x.until) to x.to) y.to in
     let first = first_of_match p l matching x.by x.since x.until x.matched in
     let second = first_of_match p l matching y.by y.since y.until y.matched in
     let by = some-same x.by y.by (sym first.way_is ∙ ap (λ (e : Event). way p e.stop.0 x.until.stop.0) since
@@ -54,20 +55,32 @@ same_cost p l matching events Deadhead a b x y from to =
           ∙ ap (λ (w : Way). at_scale (rated p l (y.until.minute - y.since.minute) w.metres)) by ∙ sym y.cost,
       x.room ∙ sym y.room,
     )
-same_cost p l matching events PullOut a b x y from to =
-    let until = same_event events b.to x.until y.until (subst (λ (v : ℕ). HasPlace events v x.until) to x.to) y.to in
+same_cost p l matching points PullOut a b x y from to =
+    let until = same_event points b.to x.until y.until (subst (λ (v : ℕ). HasPlace points v x.until) to x.to) y.to in
     let by = some-same x.by y.by
     (sym x.way_is ∙ ap (λ (e : Event). way p (layer_of p l).depot.0 e.stop.0) until ∙ y.way_is) in (
       x.cost ∙ ap (λ (w : Way). at_scale ((layer_of p l).fixed + rated p l w.minutes w.metres)) by ∙ sym y.cost,
       x.room ∙ sym y.room,
     )
-same_cost p l matching events PullIn a b x y from to =
+same_cost p l matching points PullIn a b x y from to =
     let since =
-    same_event events b.from x.since y.since (subst (λ (v : ℕ). HasPlace events v x.since) from x.from) y.from in
+    same_event points b.from x.since y.since (subst (λ (v : ℕ). HasPlace points v x.since) from x.from) y.from in
     let by = some-same x.by y.by
     (sym x.way_is ∙ ap (λ (e : Event). way p e.stop.0 (layer_of p l).depot.0) since ∙ y.way_is) in
     (x.cost ∙ ap (λ (w : Way). at_scale (rated p l w.minutes w.metres)) by ∙ sym y.cost, x.room ∙ sym y.room)
-same_cost p l matching events Return a b x y from to = (x.cost ∙ sym y.cost, x.room ∙ sym y.room)
+same_cost p l matching points RestIn a b x y from to =
+    let since =
+    same_event points b.from x.since y.since (subst (λ (v : ℕ). HasPlace points v x.since) from x.from) y.from in
+    let by = some-same x.by y.by
+    (sym x.way_is ∙ ap (λ (e : Event). way p e.stop.0 (layer_of p l).depot.0) since ∙ y.way_is) in
+    (x.cost ∙ ap (λ (w : Way). at_scale (rated p l w.minutes w.metres)) by ∙ sym y.cost, x.room ∙ sym y.room)
+same_cost p l matching points RestWait a b x y from to = (x.cost ∙ sym y.cost, x.room ∙ sym y.room)
+same_cost p l matching points RestOut a b x y from to =
+    let until = same_event points b.to x.until y.until (subst (λ (v : ℕ). HasPlace points v x.until) to x.to) y.to in
+    let by = some-same x.by y.by
+    (sym x.after.way_is ∙ ap (λ (e : Event). way p (layer_of p l).depot.0 e.stop.0) until ∙ y.after.way_is) in
+    (x.cost ∙ ap (λ (w : Way). at_scale (rated p l w.minutes w.metres)) by ∙ sym y.cost, x.room ∙ sym y.room)
+same_cost p l matching points Return a b x y from to = (x.cost ∙ sym y.cost, x.room ∙ sym y.room)
 
 abbrev pub rest_cmp : LayerArc → LayerArc → Ordering
 rest_cmp a b = ordering_then (int_cmp a.cost b.cost) (nat_cmp a.room b.room)
@@ -105,9 +118,9 @@ same_rest a b cost room =
     ap (λ (c : ℤ). ordering_then (int_cmp c b.cost) (nat_cmp a.room b.room)) cost
     ∙ ap (λ (n : ℕ). ordering_then (int_cmp b.cost b.cost) (nat_cmp n b.room)) room ∙ tied_itself rest_cmp-total b
 
-module _ (p : Problem) (l : ℕ) (matching : Matching) (events : List Event) where
+module _ (p : Problem) (l : ℕ) (matching : Matching) (points : List Point) where
   abbrev IsOne : LayerArc → Type 0
-  IsOne x = IsArcOf p l matching events x.kind (arc_in x)
+  IsOne x = IsArcOf p l matching points x.kind (arc_in x)
 
   -- two arcs with the same ends are told apart by their kinds
   kinds_differ : (a b : LayerArc) → IsOne a → IsOne b → a.from ≡ b.from → a.to ≡ b.to
@@ -126,9 +139,9 @@ module _ (p : Problem) (l : ℕ) (matching : Matching) (events : List Event) whe
             | inl number ↦ inr (same.1, number)
             | inr tied ↦
                 let kind = kind_of_rank a.kind b.kind same.1 tied.0 in
-                let as_b : IsArcOf p l matching events b.kind (arc_in a) =
-                subst (λ (t : ArcKind). IsArcOf p l matching events t (arc_in a)) kind one in
-                let rest = same_cost p l matching events b.kind (arc_in a) (arc_in b) as_b one' from to in
+                let as_b : IsArcOf p l matching points b.kind (arc_in a) =
+                subst (λ (t : ArcKind). IsArcOf p l matching points t (arc_in a)) kind one in
+                let rest = same_cost p l matching points b.kind (arc_in a) (arc_in b) as_b one' from to in
                 let no : Equal ≡ Less = sym (same_rest a b rest.0 rest.1) ∙ tied.1 in cc
           ]
       | inr down ↦

@@ -13,10 +13,10 @@ use Rattle.vs_instance.specs.Pieces.{rated, trip_piece}
 use Rattle.vs_instance.proofs.CallerLemmas.{layer_of-IsLayer, way-within, rated-below}
 use Rattle.vs_match.specs.declared.event.Event.{Event}
 use Rattle.vs_match.specs.declared.arc_kind.ArcKind.{ArcKind}
-use Rattle.vs_match.specs.declared.arc_kind.ArcKind.TheVariants.{Trip, Waiting, Deadhead, PullOut, PullIn, Return}
+use Rattle.vs_match.specs.declared.arc_kind.ArcKind.TheVariants.{Trip, Waiting, Deadhead, PullOut, PullIn, RestIn, RestWait, RestOut, Return}
 use Rattle.vs_match.specs.declared.layer_net.TheConstants.{MAX_ARC_COST}
 use Rattle.vs_match.specs.declared.matching.Matching.{Matching}
-use Rattle.vs_match.specs.Events.{departure, arrival, MayRun, IsEvent, HasPlace}
+use Rattle.vs_match.specs.Events.{departure, arrival, MayRun, IsEvent, HasPlace, point_of}
 use Rattle.vs_match.specs.NetArcs.{IsArcOf, IsTripArc, IsArcBefore, at_scale}
 use Rattle.vs_match.specs.LayerGraph.{LayerGraph, IsNetOf, IsArcOfTrip, kind_of}
 use Rattle.vs_match.specs.LawfulNets.{IsLawful, IsLawfulArc, IsFreeArc}
@@ -38,10 +38,10 @@ module _ (p : Problem) (is : IsInstance p) (l : ℕ) (within : l < length p.laye
   ends_within e (inr (i, may, at)) =
       omega (arith, ap (λ (x : Event). x.minute) at, (is.trips i no_trip may.0).end)
 
-  event_within : (v : ℕ) (e : Event) → HasPlace n.events v e → e.minute < TWO_DAYS
+  event_within : (v : ℕ) (e : Event) → HasPlace n.points v e → e.minute < TWO_DAYS
   event_within v e at =
-      let x = placed n.events v e at in
-      ends_within e (net.events.only e (x.k, x.within, x.event e))
+      let x = placed n.points v (point_of e) at in
+      ends_within e (net.points.only (point_of e) (x.k, x.within, x.point (point_of e)))
 
   -- an arc that costs so much is a free one
   free : (a : Arc) (c : ℕ) → a.cost ≡ at_scale c → c ≤ 20000000000 → a.room ≡ (layer_of p l).fleet → IsFreeArc p l a
@@ -52,7 +52,7 @@ module _ (p : Problem) (is : IsInstance p) (l : ℕ) (within : l < length p.laye
   }
 
   -- the arcs by their kinds
-  lawful_arc : (kind : ArcKind) (a : Arc) → IsArcOf p l matching n.events kind a → IsLawfulArc p l n.events kind a
+  lawful_arc : (kind : ArcKind) (a : Arc) → IsArcOf p l matching n.points kind a → IsLawfulArc p l n.points kind a
   lawful_arc (Trip i) a arc = arc
   lawful_arc Waiting a arc =
       let until = event_within a.to arc.until arc.to in
@@ -88,20 +88,38 @@ module _ (p : Problem) (is : IsInstance p) (l : ℕ) (within : l < length p.laye
         arc.to,
         free a (rated p l arc.by.minutes arc.by.metres) arc.cost (omega (arith, rate)) arc.room,
       )
+  lawful_arc RestIn a arc =
+      let by = way-within p is arc.since.stop.0 (layer_of p l).depot.0 arc.by arc.way_is in
+      let rate = rated-below p is l arc.by.minutes arc.by.metres within (omega (arith, by.minutes)) by.metres in (
+        (arc.since, arc.from),
+        (arc.until, arc.to),
+        free a (rated p l arc.by.minutes arc.by.metres) arc.cost (omega (arith, rate)) arc.room,
+      )
+  lawful_arc RestWait a arc =
+      ((arc.since, arc.from), (arc.until, arc.to), free a 0 arc.cost (omega arith) arc.room)
+  lawful_arc RestOut a arc =
+      let by = way-within p is (layer_of p l).depot.0 arc.until.stop.0 arc.by arc.after.way_is in
+      let rate = rated-below p is l arc.by.minutes arc.by.metres within (omega (arith, by.minutes)) by.metres in (
+        (arc.until.minute - arc.by.minutes, arc.from),
+        (arc.until, arc.to),
+        free a (rated p l arc.by.minutes arc.by.metres) arc.cost (omega (arith, rate)) arc.room,
+      )
   lawful_arc Return a arc = arc
 
   -- each trip that the layer may run has an arc
   arc_of_each : (i : ℕ) → MayRun p l i → (k : ℕ) × IsArcOfTrip n.kinds i k
   arc_of_each i may =
-      let u = has_node n.events (departure p i) (net.events.every (departure p i) (inl (i, may, refl))) in
-      let v = has_node n.events (arrival p i) (net.events.every (arrival p i) (inr (i, may, refl))) in
+      let u = has_node n.points (point_of (departure p i)) (net.points.every (point_of (departure p i)) (inl
+      (i, may, refl))) in
+      let v = has_node n.points (point_of (arrival p i)) (net.points.every (point_of (arrival p i)) (inr
+      (i, may, refl))) in
       let found = net.every (Trip (record { 0 = i })) (arc_of_trip p l i u.0 v.0)
       (record { may_run = may; from = u.1; to = v.1; cost = refl; room = refl }) in
       (found.0, (omega (arith, found.1, net.kinds), found.2))
 
-  trip_arc : (i k : ℕ) → IsArcOfTrip n.kinds i k → IsTripArc p l n.events i (arc_of n.graph k)
+  trip_arc : (i k : ℕ) → IsArcOfTrip n.kinds i k → IsTripArc p l n.points i (arc_of n.graph k)
   trip_arc i k is' =
-      subst (λ (t : ArcKind). IsArcOf p l matching n.events t (arc_of n.graph k)) is'.1
+      subst (λ (t : ArcKind). IsArcOf p l matching n.points t (arc_of n.graph k)) is'.1
       (net.only k (omega (arith, is'.0, net.kinds)))
 
   -- no arc of a trip stands before another
@@ -109,9 +127,11 @@ module _ (p : Problem) (is : IsInstance p) (l : ℕ) (within : l < length p.laye
   not_before i j k first second less =
       let a = trip_arc i j first in
       let b = trip_arc i k second in
-      let from = same_node n.events net.events.ordered (arc_of n.graph j).from (arc_of n.graph k).from (departure p i)
+      let from = same_node n.points net.points.ordered (arc_of n.graph j).from (arc_of n.graph k).from (point_of
+      (departure p i))
       a.from b.from in
-      let to = same_node n.events net.events.ordered (arc_of n.graph j).to (arc_of n.graph k).to (arrival p i)
+      let to = same_node n.points net.points.ordered (arc_of n.graph j).to (arc_of n.graph k).to (point_of
+      (arrival p i))
       a.to b.to in
       let before = net.ordered j k less (omega (arith, second.0, net.kinds)) in
       let P : ArcKind → Type 0 = λ t. IsArcBefore (arc_of n.graph j) (kind_of n j) (arc_of n.graph k) t in

@@ -5,7 +5,7 @@ use Rattle.std.proofs.lemmas.List.{get_or_default}
 use Rattle.vs_layer.specs.declared.arc.Arc.{Arc}
 use Rattle.vs_layer.specs.Graph.{Graph, arc_of}
 use Rattle.vs_instance.specs.Lagrangian.{total}
-use Rattle.vs_circ.proofs.balance.Costs.{cost-in_order, cost_on, sum-fits, total-range_next}
+use Rattle.vs_circ.proofs.low.Costs.{cost-in_order, cost_on, sum-fits, total-range_next}
 use Rattle.vs_circ.proofs.fixing.cost_of.Goals as goal
 
 pub loop-k-preserved : goal.loop-k-preserved

@@ -1,7 +1,7 @@
 use Rattle.std.proofs.Common.{◌≡◌, ◌≤ℤ◌, ◌*◌, map, pos}
 use Rattle.std.specs.List.{range_with_len}
 use Rattle.vs_instance.specs.Lagrangian.{total}
-use Rattle.vs_circ.proofs.balance.Costs.{cost_on}
+use Rattle.vs_circ.proofs.low.Costs.{cost_on}
 use Rattle.vs_circ.proofs.fixing.cost_of.Given as goal
 
 -- what the units of the arcs so far cost

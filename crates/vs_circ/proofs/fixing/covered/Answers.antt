@@ -1,7 +1,7 @@
 use Rattle.std.proofs.Common.{ℤ, List, sym, subst, to_z, of_z, FitsSigned, rules, ◌∙◌}
 use mir.Syntax.{w128}
 use Rattle.std.proofs.lemmas.Int.{to_z-of_z}
-use Rattle.vs_circ.specs.node_prices.Gaps.{AreNear}
+use Rattle.vs_ship.specs.Gaps.{AreNear}
 use Rattle.vs_circ.proofs.shipping.Fixing.{covered-fixed, near-moves}
 use Rattle.vs_circ.proofs.shipping.SmallArcs.{small_arcs}
 use Rattle.vs_circ.proofs.fixing.covered.Goals as goal

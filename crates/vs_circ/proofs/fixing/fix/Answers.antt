@@ -1,6 +1,6 @@
 use Rattle.std.proofs.Common.{ℕ, sym, subst}
 use Rattle.vs_layer.specs.Graph.{Graph}
-use Rattle.vs_circ.specs.shipping.Shipments.{IsStuck, Ships}
+use Rattle.vs_ship.specs.Shipments.{IsStuck, Ships}
 use Rattle.vs_circ.specs.shipping.Supplied.{HasStuckUnits}
 use Rattle.vs_circ.proofs.shipping.Supplying.{supplied-on}
 use Rattle.vs_circ.proofs.fixing.fix.Goals as goal

@@ -1,7 +1,7 @@
 use Rattle.std.proofs.Common.{◌≡◌, ◌∙◌, ℤ, List, length, true, sym, subst}
 use Rattle.std.proofs.lemmas.List.{with_items_is}
 use Rattle.vs_path.specs.Residual.{AllWithin}
-use Rattle.vs_circ.specs.declared.leeways.TheConstants.{MAX_NODE_PRICE}
+use Rattle.vs_ship.specs.declared.gaps.TheConstants.{MAX_NODE_PRICE}
 use Rattle.vs_circ.specs.node_prices.NodePrices.{AreMovePrices}
 use Rattle.vs_circ.specs.PricedFlows.{PaysNoLess}
 use Rattle.vs_circ.proofs.shipping.Fixing.{short-fixed, stuck-by_prices, stuck-within}

@@ -5,7 +5,7 @@ use Rattle.vs_layer.specs.Graph.{Graph, arc_of}
 use Rattle.vs_match.specs.declared.arc_kind.ArcKind.{ArcKind}
 use Rattle.vs_match.specs.LayerGraph.{kind_of}
 use Rattle.vs_circ.specs.shipping.Prepared.{offered_cost, offered_room}
-use Rattle.vs_circ.proofs.prices.Overwritten.{done-more}
+use Rattle.vs_ship.proofs.CallerLemmas.{done-more}
 use Rattle.vs_circ.proofs.preparing.offer_arcs.Goals as goal
 
 pub loop-k-preserved : goal.loop-k-preserved

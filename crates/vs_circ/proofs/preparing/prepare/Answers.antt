@@ -3,8 +3,10 @@ use Rattle.std.proofs.lemmas.List.{with_items_is}
 use Rattle.std.specs.Vec.{with_items}
 use Rattle.vs_layer.specs.Graph.{Graph}
 use Rattle.vs_path.specs.Residual.{AllWithin}
-use Rattle.vs_circ.specs.declared.shipment.TheConstants.{MAX_FIRST_PRICE}
-use Rattle.vs_circ.specs.shipping.Prepared.{AllSuit, AreOfferedCosts, AreOfferedRooms, IsLeftBy}
+use Rattle.vs_ship.specs.declared.shipment.TheConstants.{MAX_FIRST_PRICE}
+use Rattle.vs_circ.specs.shipping.Prepared.{AreOfferedCosts, AreOfferedRooms}
+use Rattle.vs_ship.specs.Suiting.{AllSuit}
+use Rattle.vs_ship.specs.Leaving.{IsLeftBy}
 use Rattle.vs_circ.proofs.shipping.Preparing.{suit-can}
 use Rattle.vs_circ.proofs.preparing.prepare.Goals as goal
 

@@ -3,7 +3,7 @@ use Rattle.std.proofs.lemmas.Int.{ints, to_z-of_z}
 use Rattle.vs_layer.specs.declared.arc.Arc.{Arc}
 use Rattle.vs_layer.specs.Graph.{Graph, arc_of}
 use Rattle.vs_path.specs.Residual.{IsWithin, price_at}
-use Rattle.vs_circ.specs.declared.leeways.TheConstants.{MAX_NODE_PRICE}
+use Rattle.vs_ship.specs.declared.gaps.TheConstants.{MAX_NODE_PRICE}
 use Rattle.vs_circ.specs.node_prices.Leeways.{passing, shifted}
 use Rattle.vs_circ.proofs.prices.Entries.{base-within, entry-of-arc}
 use Rattle.vs_circ.proofs.price_tables.entry_of.Goals as goal

@@ -1,7 +1,7 @@
 use Rattle.std.proofs.Common.{pos, get_or, arith}
 use Rattle.std.proofs.lemmas.Int.{ints}
 use Rattle.vs_circ.specs.shipping.Values.{worth_on}
-use Rattle.vs_circ.proofs.balance.Leaving.{total-more}
+use Rattle.vs_ship.proofs.CallerLemmas.{total-more}
 use Rattle.vs_circ.proofs.low.Worth.{worth-word}
 use Rattle.vs_circ.proofs.relaxing.worth_of.Goals as goal
 

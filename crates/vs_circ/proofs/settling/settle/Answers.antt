@@ -2,9 +2,9 @@ use Rattle.std.proofs.Common.{◌≡◌, ℕ, ℤ, [], sym, subst, arith, Option
 use Rattle.std.proofs.lemmas.Int.{ints}
 use Rattle.vs_layer.specs.Graph.{Graph}
 use Rattle.vs_path.specs.declared.residual.Costs.{Costs}
-use Rattle.vs_circ.specs.shipping.Balance.{gained, weighed}
+use Rattle.vs_ship.specs.Balance.{gained, weighed}
 use Rattle.vs_circ.specs.shipping.Prepared.{AreOfferedCosts, AreOfferedRooms}
-use Rattle.vs_circ.specs.shipping.Shipments.{IsDrained, IsStuck, Ships}
+use Rattle.vs_ship.specs.Shipments.{IsDrained, IsStuck, Ships}
 use Rattle.vs_circ.proofs.shipping.SmallArcs.{small_arcs}
 use Rattle.vs_circ.proofs.shipping.Settling.{is-settled, not-stuck}
 use Rattle.vs_circ.proofs.settling.settle.Goals as goal

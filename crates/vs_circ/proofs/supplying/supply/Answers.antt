@@ -2,7 +2,8 @@ use Rattle.std.proofs.Common.{◌≡◌, ◌∙◌, ℕ, ℤ, List, [], length, 
 use Rattle.std.proofs.lemmas.List.{with_items_is}
 use Rattle.vs_layer.specs.Graph.{Graph}
 use Rattle.vs_match.specs.LayerGraph.{kind_at}
-use Rattle.vs_circ.specs.shipping.Prepared.{AreNone, AreOfferedCosts, AreOfferedRooms, IsLeftBy}
+use Rattle.vs_circ.specs.shipping.Prepared.{AreOfferedCosts, AreOfferedRooms}
+use Rattle.vs_ship.specs.Leaving.{AreNone, IsLeftBy}
 use Rattle.vs_circ.specs.PricedFlows.{must_units}
 use Rattle.vs_circ.proofs.low.Stuck.{must_unit}
 use Rattle.vs_circ.proofs.shipping.SmallArcs.{small_arcs}

@@ -2,7 +2,7 @@ use Rattle.std.proofs.Common.{◌+◌, ◌<◌, get_or, length, sym, ap, arith, 
 use Rattle.std.proofs.lemmas.Bool.{lt-ltb, ltb-true, eq-eqb}
 use Rattle.std.proofs.lemmas.List.{get_or_default}
 use Rattle.vs_match.specs.declared.matching.Matching.{Matching}
-use Rattle.vs_match.specs.declared.stay.Stay.{Stay}
+use Rattle.vs_match.specs.declared.stop_node.StopNode.{StopNode}
 use Rattle.vs_match.specs.Sweep.{IsKept}
 use Rattle.vs_match.proofs.matches.Sweeping.{last_kept, next_late, next_in_time}
 use Rattle.vs_match.proofs.deadheads.is_kept.Goals as goal
@@ -26,7 +26,7 @@ returns-else-k-arrivals c = λ d.
     let Kept : Matching → Type 0 = λ m. IsKept m xs w (get_or xs k d) b in
     let more : k + 1 < length xs = omega (arith, c.requires.of_arrivals, c.if-k-arrivals.false) in
     let minute =
-    ap (λ (s : Stay). s.minute)
+    ap (λ (s : StopNode). s.minute)
     (get_or_default xs (k + 1) d (record { stop = record { 0 = 0 }; minute = 0; node = 0 }) more) in (
       λ late. subst Kept (sym c.in-Latest.is)
           (next_late xs c.requires.rising w k c.requires.of_arrivals d b more

@@ -9,7 +9,7 @@ use Rattle.vs_match.proofs.deadheads.push_deadheads.Given as goal
 abbrev pub invariant-loop-stop : goal.invariant-loop-stop
 invariant-loop-stop l = record {
   adds : Adds
-      (Upto (IsDeadheadFrom l.instance l.fn.l.0 l.fn.matching l.nodes.events.items) l.stop) l.initial.arcs.items
+      (Upto (IsDeadheadFrom l.instance l.fn.l.0 l.fn.matching l.nodes.points.items) l.stop) l.initial.arcs.items
       l.arcs.items;
   few : length l.arcs.items ≤ length l.initial.arcs.items + l.stop * (MAX_STOPS * MAX_TRIPS);
 }

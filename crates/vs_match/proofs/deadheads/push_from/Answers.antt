@@ -1,7 +1,7 @@
 use Rattle.std.proofs.Common.{◌≡◌, ℕ, ◌<◌, ◌∙◌, sym, ap, subst, arith, List, [], length, get_or, Bor, Vec, Global}
 use Rattle.std.proofs.lemmas.Bool.{eqb-true, eqb-false, not-true, not-false}
 use Rattle.std.proofs.lemmas.Option.{none-some}
-use Rattle.vs_match.specs.declared.stay.Stay.{Stay}
+use Rattle.vs_match.specs.declared.stop_node.StopNode.{StopNode}
 use Rattle.vs_match.specs.declared.arc_kind.LayerArc.{LayerArc}
 use Rattle.vs_match.specs.Adds.{Adds}
 use Rattle.vs_match.specs.Parts.{IsDeadheadFrom, IsDeadheadTo}
@@ -12,7 +12,7 @@ use Rattle.vs_match.proofs.deadheads.push_from.Goals as goal
 use Rattle.vs_match.proofs.deadheads.push_from.Goals.{then-ne+in-Some+in_ok-push_matches, then-ne+in_default, else-ne}
 
 -- what is found past the last stop
-abbrev nowhere : Bor (List Stay)
+abbrev nowhere : Bor (List StopNode)
 nowhere = record { ref_ptr = (0, 0); now = [] }
 
 pub returns-then-is_empty-clause-adds : goal.returns-then-is_empty-clause-adds
@@ -22,7 +22,7 @@ returns-then-is_empty-clause-adds c =
     rw (← c.deref.ensures.value) c.at_stop-arrivals.ensures.same in
     let none = eqb-true _ 0 (sym c.is_empty.ensures ∙ c.if-is_empty.true) in
     adds-none
-    (IsDeadheadFrom p c.args.by.l.0 c.args.by.matching c.args.nodes.now.events.items c.args.from.0)
+    (IsDeadheadFrom p c.args.by.l.0 c.args.by.matching c.args.nodes.now.points.items c.args.from.0)
     c.args.arcs.now.items
     (none_from p c.args.by.l.0 c.args.nodes.now c.requires.nodes c.args.by.matching c.args.from
     c.at_stop-arrivals.result.now from none)
@@ -59,7 +59,7 @@ loop-to-preserved c =
     let s = c.loop-to.to in
     let old = c.args.arcs.now.items in
     let before = c.loop-to.arcs.items in
-    let To = IsDeadheadTo p l c.args.by.matching nodes.events.items k in
+    let To = IsDeadheadTo p l c.args.by.matching nodes.points.items k in
     let from : AreAt c.args.from nodes.arrivals.items c.at_stop-arrivals.result.now =
     rw (← c.deref.ensures.value) c.at_stop-arrivals.ensures.same in
     elim c.if-ne.branch [
@@ -106,7 +106,7 @@ returns-clause-adds c =
     omega (arith, c.loop-to.auto.to-end, c.loop-to-test.false, c.stops-to-end.ensures.count) in
     let P : ℕ → Type 0 =
     λ n. Adds
-    (Upto (IsDeadheadTo p c.args.by.l.0 c.args.by.matching c.args.nodes.now.events.items c.args.from.0) n)
+    (Upto (IsDeadheadTo p c.args.by.l.0 c.args.by.matching c.args.nodes.now.points.items c.args.from.0) n)
     c.args.arcs.now.items c.loop-to.arcs.items in
     from_all p c.args.by.l.0 c.args.nodes.now c.requires.nodes c.stops-to-end.ensures.instance c.args.by.matching
     c.args.from.0 c.args.arcs.now.items c.loop-to.arcs.items

@@ -9,7 +9,7 @@ use Rattle.vs_match.proofs.deadheads.push_from.Given as goal
 abbrev pub invariant-loop-to : goal.invariant-loop-to
 invariant-loop-to l = record {
   adds : Adds
-      (Upto (IsDeadheadTo l.instance l.by.l.0 l.by.matching l.nodes.events.items l.from.0) l.to) l.initial.arcs.items
+      (Upto (IsDeadheadTo l.instance l.by.l.0 l.by.matching l.nodes.points.items l.from.0) l.to) l.initial.arcs.items
       l.arcs.items;
   few : length l.arcs.items ≤ length l.initial.arcs.items + l.to * MAX_TRIPS;
 }

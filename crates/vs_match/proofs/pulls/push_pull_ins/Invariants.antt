@@ -8,7 +8,7 @@ use Rattle.vs_match.proofs.pulls.push_pull_ins.Given as goal
 abbrev pub invariant-loop-arrival : goal.invariant-loop-arrival
 invariant-loop-arrival l = record {
   adds : Adds
-      (Upto (OfArrived l.instance l.l.0 l.nodes.events.items l.nodes.arrivals.items) l.arrival-index)
+      (Upto (OfArrived l.instance l.l.0 l.nodes.points.items l.nodes.arrivals.items) l.arrival-index)
       l.initial.arcs.items l.arcs.items;
   few : length l.arcs.items ≤ length l.initial.arcs.items + l.arrival-index;
 }

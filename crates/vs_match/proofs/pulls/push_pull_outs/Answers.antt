@@ -3,10 +3,10 @@ use Rattle.std.proofs.lemmas.Option.{none-some}
 use Rattle.vs_instance.specs.declared.layer.Layer.{Layer}
 use Rattle.vs_instance.specs.declared.way.Way.{Way}
 use Rattle.vs_instance.specs.Ways.{way, layer_of, no_layer}
-use Rattle.vs_match.specs.declared.stay.Stay.{Stay}
+use Rattle.vs_match.specs.declared.stop_node.StopNode.{StopNode}
 use Rattle.vs_match.specs.declared.arc_kind.LayerArc.{LayerArc}
 use Rattle.vs_match.specs.ArcsOf.{pull_out_of}
-use Rattle.vs_match.specs.Stays.{event_of}
+use Rattle.vs_match.specs.StopNodes.{event_of}
 use Rattle.vs_match.specs.Adds.{Adds}
 use Rattle.vs_match.proofs.events.Adding.{Upto, upto-one, upto-skip}
 use Rattle.vs_match.proofs.walks.ClosedWays.{some-same}
@@ -15,8 +15,8 @@ use Rattle.vs_match.proofs.matches.PulledOut.{AtPlace, same_at, at_place, OfDepa
 use Rattle.vs_match.proofs.pulls.push_pull_outs.Goals as goal
 use Rattle.vs_match.proofs.pulls.push_pull_outs.Goals.{in-Some+then-way-departure+in_ok-push, in-Some+else-way-departure, in_default}
 
-abbrev no_stay : Stay
-no_stay = record { stop = record { 0 = 0 }; minute = 0; node = 0 }
+abbrev no_stop_node : StopNode
+no_stop_node = record { stop = record { 0 = 0 }; minute = 0; node = 0 }
 
 pub way-requires : goal.way-requires
 way-requires c =
@@ -24,14 +24,14 @@ way-requires c =
     let list = c.deref-departure-items.ensures.value in
     let depot = (c.layers.ensures.instance.layers c.args.l.0 no_layer c.requires.layer).depot in
     let k = c.loop-departure.departure-index in
-    let s = get_or c.args.nodes.now.departures.items k no_stay in
+    let s = get_or c.args.nodes.now.departures.items k no_stop_node in
     let within : k < length c.args.nodes.now.departures.items =
     omega (arith, c.loop-departure-test.true, ap length list) in
-    let at = at_place c.args.nodes.now.departures.items k no_stay within in
+    let at = at_place c.args.nodes.now.departures.items k no_stop_node within in
     let stop =
     (departs_within p c.layers.ensures.instance c.args.l.0 (event_of s)
     (c.requires.nodes.departures.only s (k, at.0, at.1)).1).1 in
-    let read = ap (λ (xs : List Stay). (get_or xs k no_stay).stop.0) list in
+    let read = ap (λ (xs : List StopNode). (get_or xs k no_stop_node).stop.0) list in
     record {
       from = omega (arith, depot, ap (λ (x : Layer). x.depot.0) c.layer.ensures);
       to =
@@ -43,16 +43,17 @@ loop-departure-preserved c =
     let p = c.args.instance.now in
     let l = c.args.l.0 in
     let k = c.loop-departure.departure-index in
-    let stays = c.args.nodes.now.departures.items in
+    let stop_nodes = c.args.nodes.now.departures.items in
     let list = c.deref-departure-items.ensures.value in
     let old = c.args.arcs.now.items in
     let before = c.loop-departure.arcs.items in
-    let From = OfDeparture p l stays in
-    let s = get_or c.deref-departure-items.result.now k no_stay in
-    let read : get_or stays k no_stay ≡ s = ap (λ (xs : List Stay). get_or xs k no_stay) (sym list) in
-    let within : k < length stays = omega (arith, c.loop-departure-test.true, ap length list) in
-    let P : Stay → Type 0 = λ x. AtPlace stays k x in
-    let at : AtPlace stays k s = subst P read (at_place stays k no_stay within) in
+    let From = OfDeparture p l stop_nodes in
+    let s = get_or c.deref-departure-items.result.now k no_stop_node in
+    let read : get_or stop_nodes k no_stop_node ≡ s = ap (λ (xs : List StopNode). get_or xs k no_stop_node)
+    (sym list) in
+    let within : k < length stop_nodes = omega (arith, c.loop-departure-test.true, ap length list) in
+    let P : StopNode → Type 0 = λ x. AtPlace stop_nodes k x in
+    let at : AtPlace stop_nodes k s = subst P read (at_place stop_nodes k no_stop_node within) in
     let depot = ap (λ (x : Layer). x.depot.0) c.layer.ensures in
     let found = c.way.ensures ∙ ap (λ (n : ℕ). way p n s.stop.0) depot in
     elim c.match-way.branch [
@@ -62,7 +63,7 @@ loop-departure-preserved c =
           ap (λ (v : Vec LayerArc Global). v.items) w.arcs-is ∙ w.in_ok-push.ensures.items
           ∙ ap (λ (y : LayerArc). before ++ y ∷ []) w.pull_out_arc.ensures in
           let of : From k x = record {
-            stay = s;
+            stop_node = s;
             by = w.in-Some.way;
             at = at;
             way_is = sym found ∙ w.in-Some.is;
@@ -72,7 +73,7 @@ loop-departure-preserved c =
           record {
             adds = rw items
                 (upto-one From k old before x c.loop-departure.invariant.adds of
-                (λ y of'. only_out p l stays k x y of of'));
+                (λ y of'. only_out p l stop_nodes k x y of of'));
             few = rw items (omega (arith, c.loop-departure.invariant.few, length-append before (x ∷ [])));
           }
       | in-Some+else-way-departure w ↦
@@ -80,15 +81,15 @@ loop-departure-preserved c =
           record {
             adds = rw same (upto-skip From k old before c.loop-departure.invariant.adds
                 (λ x of.
-                let stay = same_at stays k of.stay s of.at at in
+                let stop_node = same_at stop_nodes k of.stop_node s of.at at in
                 let by = some-same of.by w.in-Some.way
-                (sym of.way_is ∙ ap (λ (y : Stay). way p (layer_of p l).depot.0 y.stop.0) stay ∙ sym found
+                (sym of.way_is ∙ ap (λ (y : StopNode). way p (layer_of p l).depot.0 y.stop.0) stop_node ∙ sym found
                 ∙ w.in-Some.is) in
                 omega (
                   arith,
                   of.in_time,
                   w.if-way-departure.false,
-                  ap (λ (y : Stay). y.minute) stay,
+                  ap (λ (y : StopNode). y.minute) stop_node,
                   ap (λ (y : Way). y.minutes) by,
                 )));
             few = rw same (omega (arith, c.loop-departure.invariant.few));
@@ -98,10 +99,10 @@ loop-departure-preserved c =
           record {
             adds = rw same (upto-skip From k old before c.loop-departure.invariant.adds
                 (λ x of.
-                let stay = same_at stays k of.stay s of.at at in
+                let stop_node = same_at stop_nodes k of.stop_node s of.at at in
                 none-some of.by
                 (sym w.in_default.is ∙ found
-                ∙ sym (ap (λ (y : Stay). way p (layer_of p l).depot.0 y.stop.0) stay) ∙ of.way_is)));
+                ∙ sym (ap (λ (y : StopNode). way p (layer_of p l).depot.0 y.stop.0) stop_node) ∙ of.way_is)));
             few = rw same (omega (arith, c.loop-departure.invariant.few));
           }
     ]
@@ -109,8 +110,8 @@ loop-departure-preserved c =
 pub returns-clause-adds : goal.returns-clause-adds
 returns-clause-adds c =
     let p = c.args.instance.now in
-    let stays = c.args.nodes.now.departures.items in
-    let all : c.loop-departure.departure-index ≡ length stays =
+    let stop_nodes = c.args.nodes.now.departures.items in
+    let all : c.loop-departure.departure-index ≡ length stop_nodes =
     omega (
       arith,
       c.loop-departure.auto.departure-index-end,
@@ -118,7 +119,8 @@ returns-clause-adds c =
       ap length c.deref-departure-items.ensures.value,
     ) in
     let P : ℕ → Type 0 =
-    λ n. Adds (Upto (OfDeparture p c.args.l.0 stays) n) c.args.arcs.now.items c.loop-departure.arcs.items in
-    pull_outs_are p c.args.l.0 c.args.nodes.now.events.items stays c.requires.nodes.departures c.args.arcs.now.items
+    λ n. Adds (Upto (OfDeparture p c.args.l.0 stop_nodes) n) c.args.arcs.now.items c.loop-departure.arcs.items in
+    pull_outs_are p c.args.l.0 c.args.nodes.now.points.items stop_nodes c.requires.nodes.departures
+    c.args.arcs.now.items
     c.loop-departure.arcs.items
     (subst P all c.loop-departure.invariant.adds)

@@ -2,19 +2,24 @@ use Rattle.std.proofs.Common.{◌≡◌, ℕ, ◌-◌, ◌∙◌, List, [], leng
 use Rattle.std.proofs.lemmas.List.{take_all}
 use Rattle.vs_layer.specs.Graph.{Graph}
 use Rattle.vs_match.specs.declared.arc_kind.ArcKind.{ArcKind}
-use Rattle.vs_match.specs.Sizes.{counts_from}
+use Rattle.vs_match.specs.Sizes.{counts_from, stop_points, line_points}
+use Rattle.vs_match.proofs.matches.Counting.{stops_and_line}
 use Rattle.vs_match.proofs.sizes.counts.Goals as goal
 
 pub loop-k-init : goal.loop-k-init
 loop-k-init c =
-    let nodes : c.nodes.result - 2 ≡ length c.args.net.now.events =
+    let points = c.args.net.now.points in
+    let nodes : c.nodes.result - 2 - c.line_count-line.result ≡ stop_points points =
     omega (
       arith,
+      c.line_count-line.ensures,
+      stops_and_line points,
       c.nodes.ensures.count,
       ap (λ (g : Graph). g.nodes) c.net-graph.ensures.graph,
       c.net-graph.ensures.labelled.each_node,
     ) in
-    ap (λ (n : ℕ). counts_from n []) nodes
+    ap (λ (n : ℕ). counts_from n c.line_count-line.result []) nodes
+    ∙ ap (λ (n : ℕ). counts_from (stop_points points) n []) c.line_count-line.ensures
 
 pub returns : goal.returns
 returns c =
@@ -29,5 +34,5 @@ returns c =
       c.net-graph.ensures.labelled.each_arc,
     ) in
     c.loop-k.invariant
-    ∙ ap (λ (ks : List ArcKind). counts_from (length n.events) ks)
+    ∙ ap (λ (ks : List ArcKind). counts_from (stop_points n.points) (line_points n.points) ks)
     (ap (λ (k : ℕ). take k n.kinds) all ∙ take_all (length n.kinds) n.kinds (omega arith))

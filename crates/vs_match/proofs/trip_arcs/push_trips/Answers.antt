@@ -14,10 +14,10 @@ loop-i-preserved c =
     let p = c.args.instance.now in
     let l = c.args.l.0 in
     let i = c.loop-i.i in
-    let events = c.args.nodes.now.events.items in
+    let points = c.args.nodes.now.points.items in
     let old = c.args.arcs.now.items in
     let before = c.loop-i.arcs.items in
-    let From = OfTripNo p l events in
+    let From = OfTripNo p l points in
     elim c.if-has.branch [
       | then-has+in_ok-push w ↦
           let items : c.if-has.arcs.items ≡ before ++ w.trip_arc.result ∷ [] =
@@ -25,7 +25,7 @@ loop-i-preserved c =
           let of : From i w.trip_arc.result = (w.trip_arc.ensures.kind, w.trip_arc.ensures.arc) in
           record {
             adds = rw items (upto-one From i old before w.trip_arc.result c.loop-i.invariant.adds of
-                (λ x of'. only_trip p l events c.requires.nodes.events.ordered i w.trip_arc.result x of of'));
+                (λ x of'. only_trip p l points c.requires.nodes.points.ordered i w.trip_arc.result x of of'));
             few = rw items (omega (arith, c.loop-i.invariant.few, length-append before (w.trip_arc.result ∷ [])));
           }
       | else-has w ↦
@@ -45,6 +45,6 @@ returns-clause-adds c =
     omega (arith, c.loop-i.auto.i-end, c.loop-i-test.false, c.trips-i-end.ensures.count) in
     let P : ℕ → Type 0 =
     λ n. Adds
-    (Upto (OfTripNo p c.args.l.0 c.args.nodes.now.events.items) n) c.args.arcs.now.items c.loop-i.arcs.items in
-    trips_are p c.args.l.0 c.args.nodes.now.events.items c.args.arcs.now.items c.loop-i.arcs.items
+    (Upto (OfTripNo p c.args.l.0 c.args.nodes.now.points.items) n) c.args.arcs.now.items c.loop-i.arcs.items in
+    trips_are p c.args.l.0 c.args.nodes.now.points.items c.args.arcs.now.items c.loop-i.arcs.items
     (subst P all c.loop-i.invariant.adds)

@@ -1,10 +1,10 @@
 use Rattle.std.proofs.Common.{◌≡◌, ℕ, ◌+◌, ◌-◌, ◌<◌, ◌∙◌, sym, ap, subst, refl, length, length-append, arith, ◌∷◌, [], ◌++◌, Vec, Global}
 use Rattle.std.proofs.lemmas.Bool.{eqb-true, false≢true, eq-eqb}
 use Rattle.vs_types.specs.declared.numbers.StopNo.{StopNo}
-use Rattle.vs_match.specs.declared.stay.Stay.{Stay}
+use Rattle.vs_match.specs.declared.stop_node.StopNode.{StopNode}
 use Rattle.vs_match.specs.declared.arc_kind.LayerArc.{LayerArc}
 use Rattle.vs_match.specs.ArcsOf.{waiting_of}
-use Rattle.vs_match.specs.Stays.{event_of}
+use Rattle.vs_match.specs.StopNodes.{event_of}
 use Rattle.vs_match.proofs.events.Adding.{upto-one, upto-skip, upto-none}
 use Rattle.vs_match.proofs.matches.Deadheading.{event_within}
 use Rattle.vs_match.proofs.matches.PulledOut.{AtPlace, same_at}
@@ -15,15 +15,15 @@ use Rattle.vs_match.proofs.waiting.push_waiting.Goals.{then-eq+in_ok-push, else-
 
 pub waiting_arc-requires-clause-in_time : goal.waiting_arc-requires-clause-in_time
 waiting_arc-requires-clause-in_time c =
-    let stays = c.args.nodes.now.all.items in
+    let stop_nodes = c.args.nodes.now.all.items in
     let since = c.index.result.now in
     let until = c.index-in-loop-k.result.now in
-    let within : c.loop-k.k < length stays = omega (arith, c.loop-k-test.true, c.len-k-end.ensures) in
-    let at : AtPlace stays (c.loop-k.k - 1) since = (omega (arith, within), sym c.index.ensures) in
-    let at' : AtPlace stays c.loop-k.k until = (within, sym c.index-in-loop-k.ensures) in
+    let within : c.loop-k.k < length stop_nodes = omega (arith, c.loop-k-test.true, c.len-k-end.ensures) in
+    let at : AtPlace stop_nodes (c.loop-k.k - 1) since = (omega (arith, within), sym c.index.ensures) in
+    let at' : AtPlace stop_nodes c.loop-k.k until = (within, sym c.index-in-loop-k.ensures) in
     let same = same_stop _ _ (eqb-true since.stop.0 until.stop.0 (sym c.eq.ensures ∙ c.if-eq.true)) in
     let later =
-    at_stop_later c.args.instance.now c.args.l.0 c.args.nodes.now.events.items c.requires.nodes.events stays
+    at_stop_later c.args.instance.now c.args.l.0 c.args.nodes.now.points.items c.requires.nodes.points stop_nodes
     c.requires.nodes.all
     (c.loop-k.k - 1) c.loop-k.k since until at at' same (omega (arith, c.loop-k.auto.k)) in
     let event = (c.requires.nodes.all.only until (c.loop-k.k, within, at'.1)).1 in
@@ -88,8 +88,8 @@ loop-k-preserved c =
                 let one = same_at all (k - 1) since of.since at (subst P firsts of.at) in
                 let two = same_at all k until of.until at' of.at_next in
                 let stops =
-                ap (λ (s : Stay). s.stop.0) one ∙ ap (λ (s : StopNo). s.0) of.same
-                ∙ sym (ap (λ (s : Stay). s.stop.0) two) in
+                ap (λ (s : StopNode). s.stop.0) one ∙ ap (λ (s : StopNo). s.0) of.same
+                ∙ sym (ap (λ (s : StopNode). s.stop.0) two) in
                 false≢true (sym w.if-eq.false ∙ c.eq.ensures ∙ eq-eqb since.stop.0 until.stop.0 stops)));
             few = rw same (omega (arith, c.loop-k.invariant.few));
             within = omega (arith, within);
@@ -101,7 +101,7 @@ returns-clause-adds c =
     let p = c.args.instance.now in
     let nodes = c.requires.nodes in
     let old = c.args.arcs.now.items in
-    waiting_is p c.args.l.0 c.args.nodes.now.events.items nodes.events c.args.nodes.now.all.items nodes.all old
+    waiting_is p c.args.l.0 c.args.nodes.now.points.items nodes.points c.args.nodes.now.all.items nodes.all old
     c.loop-k.arcs.items
     (waiting_past p c.args.l.0 c.args.nodes.now.all.items c.loop-k.k old c.loop-k.arcs.items
     (omega (arith, c.loop-k-test.false, c.len-k-end.ensures))

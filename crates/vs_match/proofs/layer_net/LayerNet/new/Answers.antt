@@ -36,14 +36,14 @@ invariant_of-result c =
     record {
       labelled = record {
         each_arc = ap length c.in_ok-kinds.ensures ∙ length-map c.args.arcs.now kind ∙ sym arcs;
-        each_node = omega (arith, ap (λ (g : Graph). g.nodes) c.in_ok-net.ensures, c.len.ensures, c.args.events.ok.0);
+        each_node = omega (arith, ap (λ (g : Graph). g.nodes) c.in_ok-net.ensures, c.len.ensures, c.args.points.ok.0);
       };
       few = omega (
         arith,
         ap (λ (g : Graph). g.nodes) c.in_ok-net.ensures,
         c.len.ensures,
-        c.args.events.ok.0,
-        c.requires.few_events,
+        c.args.points.ok.0,
+        c.requires.few_points,
       );
       trips = subst P c.deref.ensures.value c.in_ok-trip_arcs.ensures;
     }

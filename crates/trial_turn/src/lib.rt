@@ -1,0 +1,5 @@
+//! Tests of turns: threads that hold one by turns, what each finds then, and how it waits.
+#![tactic(auto)]
+
+#[cfg(test)]
+mod turns;

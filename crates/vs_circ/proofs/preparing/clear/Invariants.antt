@@ -1,5 +1,0 @@
-use Rattle.std.proofs.Common.{◌≡◌, ℕ, ◌<◌, pos, get_or}
-use Rattle.vs_circ.proofs.preparing.clear.Given as goal
-
-abbrev pub invariant-loop-number : goal.invariant-loop-number
-invariant-loop-number l = (i : ℕ) → i < l.number-index → get_or l.numbers i (pos 0) ≡ pos 0

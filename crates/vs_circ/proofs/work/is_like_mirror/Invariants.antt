@@ -1,5 +1,0 @@
-use Rattle.std.proofs.Common.{◌-◌, length}
-use Rattle.vs_circ.proofs.work.is_like_mirror.Given as goal
-
-abbrev pub decreases-loop-k : goal.decreases-loop-k
-decreases-loop-k l = length l.net.arcs - l.k

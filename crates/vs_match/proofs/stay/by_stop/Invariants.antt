@@ -1,7 +1,0 @@
-use Rattle.std.proofs.Common.{map}
-use Rattle.vs_match.specs.Stays.{AreByStop}
-use Rattle.vs_match.proofs.stay.by_stop.Given as goal
-
--- the stops so far
-abbrev pub invariant-loop-stop : goal.invariant-loop-stop
-invariant-loop-stop l = AreByStop l.stop l.stays (map (λ g. g.now) l.groups.items)

@@ -1,0 +1,4 @@
+pub mod balance
+pub mod shipping
+pub mod prices
+pub mod CallerLemmas

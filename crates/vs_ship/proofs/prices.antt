@@ -1,0 +1,8 @@
+pub mod Pushed
+pub mod Overwritten
+pub mod Found
+pub mod ClosedGaps
+pub mod NearPrices
+pub mod Mirrored
+pub mod SignRules
+pub mod Centred
