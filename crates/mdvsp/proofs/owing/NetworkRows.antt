@@ -1,6 +1,7 @@
 -- Rows that are written layer by layer.
 use Rattle.std.proofs.Common.{◌≡◌, ℕ, ◌+◌, List, [], ◌∷◌, ◌++◌, length, Result, Ok, Err, OnOk, refl, sym, ap, ◌∙◌, subst, add-one, append_assoc, append-nil}
 use Rattle.vs_instance.specs.Problem.{Problem}
+use Rattle.vs_instance.specs.Ways.{layer_of}
 use Rattle.vs_match.specs.declared.matching.Matching.{Matching}
 use Rattle.vs_match.specs.declared.matching.Matching.TheVariants.{First, Latest}
 use Rattle.vs_match.specs.declared.sizes.NetCounts.{NetCounts}
@@ -37,14 +38,14 @@ one_layer_more p names l old new have more = record {
 pub net_written : {A E : Type 0} (p : Problem) (layer : Field) (l : ℕ) (matching : Matching) (full : ℕ)
     (old new : List ℕ) (net : LayerGraph) (counts : NetCounts) (r : Result A E) → IsNetOf p l matching net
     → counts ≡ counts_of net
-    → OnOk r (new ≡ old ++ line (size_row layer (matching_field matching) counts full))
+    → OnOk r (new ≡ old ++ line (size_row layer (matching_field matching) counts full (layer_of p l).stay))
     → OnOk r (WritesNet p layer l matching full old new)
 net_written p layer l matching full old new net counts (Ok a) is_net are wrote = record {
-  row = size_row layer (matching_field matching) counts full;
+  row = size_row layer (matching_field matching) counts full (layer_of p l).stay;
   is_row = record {
     net = net;
     is_net = is_net;
-    row_is = ap (λ (c : NetCounts). size_row layer (matching_field matching) c full) are;
+    row_is = ap (λ (c : NetCounts). size_row layer (matching_field matching) c full (layer_of p l).stay) are;
   };
   text_is = wrote;
 }
