@@ -134,7 +134,11 @@ fn cost_nothing_while_their_vehicle_rests(rt: HostRuntime) -> Result<(), Fail> {
     for (stops, layer, cost) in RESTING {
         let text = [stops, layer, NOON_TRIPS, OPEN_HEAD, BLOCK, ZERO_TABLE, END];
         let (instance, document) = documented(rt.alloc(), &text)?;
-        assert_eq!(rt; judge(rt.alloc(), &instance, &document.plan), Ok(cost), "{layer}");
+        assert_eq!(rt;
+            judge(rt.alloc(), &instance, &document.plan),
+            Ok(cost),
+            "{layer}"
+        );
     }
     Ok(())
 }

@@ -8,7 +8,8 @@ use std::sync::Wait;
 use std::test::Fail;
 use std::thread::Threads;
 use trial_fixtures::texts::{
-    BLOCK, END, LAYER, LONG_TRIPS, NOON_HEAD, NOON_TABLE, NOON_TRIPS, RESTING_LAYER, RESTING_STOPS, STOPS, TABLE, TRIPS,
+    BLOCK, END, LAYER, LONG_TRIPS, NOON_HEAD, NOON_TABLE, NOON_TRIPS, RESTING_LAYER, RESTING_STOPS,
+    STOPS, TABLE, TRIPS,
 };
 
 /// Six trips: four from D to P, and two from Q to D.
