@@ -115,8 +115,8 @@ fn write_sizes(
     text.end_row()
 }
 
-/// Adds what there is in a net for rests, where the layer has a least rest: how many nodes stand for its depot during the
-/// day, and how many arcs lead back to it.
+/// Adds what there is in a net for rests, where the layer has a least rest: how many nodes stand for its depot during
+/// the day, and how many arcs lead back to it.
 fn write_rests(text: &mut Text, counts: NetCounts, stay: Option<u64>) -> Result<(), Memory>
     ensures { OnOk result (text.new ≡ text.old ++ more_fields (rest_fields stay counts)) }
 {

@@ -159,8 +159,8 @@ fn write_runs(
     Ok(())
 }
 
-/// Writes the row of the trip at a place of a block, which counts from 0, and before it the one of a rest, where the vehicle
-/// rests between the trip before and this one.
+/// Writes the row of the trip at a place of a block, which counts from 0, and before it the one of a rest, where the
+/// vehicle rests between the trip before and this one.
 fn write_next(
     text: &mut Text,
     instance: &Instance,
@@ -186,8 +186,8 @@ fn write_next(
     write_run(text, instance, names, k, next)
 }
 
-/// Writes the row of a rest, with when the vehicle is back in its depot and when it leaves again; nothing where it doesn't
-/// rest.
+/// Writes the row of a rest, with when the vehicle is back in its depot and when it leaves again; nothing where it
+/// doesn't rest.
 fn write_rest(text: &mut Text, k: usize, times: Option<(u32, u32)>) -> Result<(), Memory>
     requires number { k < usize.MAX }
     requires minutes { IfSome times (λ t. (t.0 < 6000) × (t.1 < 6000)) }

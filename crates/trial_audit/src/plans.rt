@@ -118,7 +118,7 @@ fn cost_something_or_have_a_first_fault(rt: HostRuntime) -> Result<(), Fail> {
     Ok(())
 }
 
-/// The stops and the layer of an instance, and what it costs that one vehicle runs a trip in the morning and one at noon.
+/// The stops and the layer of an instance, and what one vehicle costs that runs a trip in the morning and one at noon.
 const RESTING: [(&str, &str, i64); 4] = [
     // The ways from and to the depot: 40 minutes with the trips' 60.
     (RESTING_STOPS, RESTING_LAYER, 1100),

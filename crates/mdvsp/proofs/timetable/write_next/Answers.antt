@@ -22,12 +22,13 @@ returns c =
     let i = c.index-ended.result.now in
     let j = c.index-next.result.now in
     let ended : i ≡ trip_at trips (c.args.place - 1) =
-    c.index-ended.ensures ∙ get_or_default trips (c.args.place - 1) i (record { 0 = 0 }) (omega (arith, c.requires.place)) in
+    c.index-ended.ensures
+    ∙ get_or_default trips (c.args.place - 1) i (record { 0 = 0 }) (omega (arith, c.requires.place)) in
     let next : j ≡ trip_at trips c.args.place =
     c.index-next.ensures ∙ get_or_default trips c.args.place j (record { 0 = 0 }) (omega (arith, c.requires.place)) in
     let Written : TripNo → TripNo → Type 0 = λ a b.
     OnOk c.write_run.result (c.write_run.new.text ≡ c.args.text.now ++ lines (next_rows p names c.args.k l a b)) in
     subst (Written (trip_at trips (c.args.place - 1))) next
     (subst (λ (a : TripNo). Written a j) ended
-    (rested_run p names c.args.k l c.args.text.now c.write_rest.new.text c.write_run.new.text i j c.rest_times-times.result
-    c.write_run.result c.rest_times-times.ensures c.in_ok-write_rest.ensures c.write_run.ensures))
+    (rested_run p names c.args.k l c.args.text.now c.write_rest.new.text c.write_run.new.text i j
+    c.rest_times-times.result c.write_run.result c.rest_times-times.ensures c.in_ok-write_rest.ensures c.write_run.ensures))
