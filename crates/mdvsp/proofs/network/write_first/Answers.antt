@@ -7,5 +7,5 @@ use Rattle.mdvsp.proofs.network.write_first.Goals as goal
 pub returns : goal.returns
 returns c =
     net_written c.args.instance.now c.args.layer.now c.args.l.0 First c.args.full _ _ c.in_ok-net.net c.counts.result
-    c.layer-stay.result.now.stay c.write_sizes.result c.in_ok-net.ensures.net c.counts.ensures
-    (ap (λ (y : Layer). y.stay) c.layer-stay.ensures) c.write_sizes.ensures
+    c.layer.result.now.stay c.write_sizes.result c.in_ok-net.ensures.net c.counts.ensures
+    (ap (λ (y : Layer). y.stay) c.layer.ensures) c.write_sizes.ensures
