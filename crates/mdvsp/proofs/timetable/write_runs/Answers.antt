@@ -1,7 +1,7 @@
 use Rattle.std.proofs.Common.{ℕ, List, ◌++◌, sym, ap, ◌∙◌, arith}
 use Rattle.vs_types.specs.declared.numbers.TripNo.{TripNo}
 use Rattle.vs_reader.specs.Rows.{line}
-use Rattle.vs_document.proofs.CallerLemmas.{lines-map, wrote_more, wrote_all}
+use Rattle.vs_rows.proofs.CallerLemmas.{lines-map, wrote_more, wrote_all}
 use Rattle.mdvsp.specs.Timetable.{run_row}
 use Rattle.mdvsp.proofs.timetable.write_runs.Goals as goal
 
