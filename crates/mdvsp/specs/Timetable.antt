@@ -8,8 +8,8 @@ use Rattle.vs_instance.specs.Ways.{trip_of}
 use Rattle.vs_instance.specs.Blocks.{block_cost, pull_in_minute, pull_out_minute, rest_times}
 use Rattle.vs_instance.specs.Plan.{LayerBlock}
 use Rattle.vs_plan.specs.Blocks.{blocks_of}
-use Rattle.vs_document.specs.declared.document.Document.{Document}
-use Rattle.vs_document.specs.Fields.{time_field}
+use Rattle.vs_rows.specs.declared.document.Document.{Document}
+use Rattle.vs_rows.specs.Fields.{time_field}
 use Rattle.vs_reader.specs.Names.{NameLists, name_of}
 use Rattle.vs_reader.specs.Rows.{Row}
 

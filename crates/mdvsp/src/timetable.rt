@@ -5,7 +5,7 @@ ghost use Rattle.vs_instance.specs.Blocks.{IsBlock};
 ghost use Rattle.vs_instance.specs.Plan.{IsPlan};
 ghost use Rattle.vs_plan.specs.Blocks.{CanBeJudged, blocks_of, pair_of, pairs_of};
 ghost use Rattle.mdvsp.specs.Cases.{CheckText};
-ghost use Rattle.vs_document.specs.Fields.{time_field};
+ghost use Rattle.vs_rows.specs.Fields.{time_field};
 ghost use Rattle.vs_reader.specs.Names.{HaveCounts, name_of};
 ghost use Rattle.vs_reader.specs.Rows.{fields, line, lines};
 ghost use Rattle.mdvsp.specs.Answered.{IsOwedFor};

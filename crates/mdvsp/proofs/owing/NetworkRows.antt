@@ -9,7 +9,7 @@ use Rattle.vs_match.specs.LayerGraph.{LayerGraph, IsNetOf}
 use Rattle.vs_match.specs.Sizes.{counts_of, full_count_of}
 use Rattle.vs_reader.specs.Names.{NameLists, name_of}
 use Rattle.vs_reader.specs.Rows.{Field, Row, line, lines}
-use Rattle.vs_document.proofs.CallerLemmas.{more_rows}
+use Rattle.vs_rows.proofs.CallerLemmas.{more_rows}
 use Rattle.mdvsp.specs.declared.answer.Answer.{Answer}
 use Rattle.mdvsp.specs.declared.status.Status.TheVariants.{Done}
 use Rattle.mdvsp.specs.Answered.{HasSizes}

@@ -1,7 +1,7 @@
 -- A row that is written in parts: its first fields, some more, one that ends it, or others behind that.
 use Rattle.std.proofs.Common.{◌≡◌, ℕ, List, [], ◌∷◌, ◌++◌, refl, sym, ap, ◌∙◌, append_assoc}
 use Rattle.vs_reader.specs.Rows.{Field, fields, line, more_fields}
-use Rattle.vs_document.proofs.CallerLemmas.{join-cons, one_more_field, some_more_fields, ended_row}
+use Rattle.vs_rows.proofs.CallerLemmas.{join-cons, one_more_field, some_more_fields, ended_row}
 
 pub row_in_parts : (old first second third : List ℕ) (kind : Field) (left more : List Field) (last : Field)
     → first ≡ old ++ fields (kind ∷ left) → second ≡ first ++ more_fields more → third ≡ second ++ 44 ∷ last
