@@ -26,8 +26,9 @@ rest_minutes p l i j instance within = by (rest_piece p l.0 i.0 j.0) refl
 
     by : (rest : Option ℕ) → rest_piece p l.0 i.0 j.0 ≡ rest → Few (goes_by_depot p l i j)
     by None none =
-        let less : ℕ → Bool = λ r. option_map_or (ltb r) (direct_piece p l.0 i.0 j.0) false in
-        let straight : goes_by_depot p l i j ≡ false = ap (λ (o : Option ℕ). option_map_or less o false) none in
+        let straight : goes_by_depot p l i j ≡ false =
+        ap (λ (o : Option ℕ). option_map_or (λ r. option_map_or (ltb r) (direct_piece p l.0 i.0 j.0) false) o false)
+        none in
         rw straight tt
     by (Some rest) some =
         let r = rest_taken p l.0 i.0 j.0 rest some in
