@@ -16,7 +16,7 @@ use Rattle.vs_tree.specs.StateTree.{IsTreeOf}
 use Rattle.vs_cases.specs.Tree as tree
 use Rattle.vs_cert.specs.StateDocument.{IsDocumentOf, first_times, known_blocks, tables_named}
 use Rattle.vs_cert.specs.TreeText.{prices_of_number}
-use Rattle.vs_document.specs.declared.document.Document.{Document}
+use Rattle.vs_rows.specs.declared.document.Document.{Document}
 use Rattle.mdvsp.specs.Budgets.{budget_of}
 use Rattle.mdvsp.specs.Laws.{HasGreedyPlan, IsZeroTable}
 use Rattle.mdvsp.specs.SolveAnswer.{IsGreedyPlan, SolveAnswer}

@@ -10,7 +10,7 @@ use Rattle.vs_prices.specs.declared.bound.Bound.{Bound}
 use Rattle.vs_prices.specs.declared.bound.Bound.TheVariants.{AtLeast, NoPlan}
 use Rattle.vs_cases.specs.declared.claim.Claim.{Claim}
 use Rattle.vs_cases.specs.declared.claim.Claim.TheVariants.{Optimal, Infeasible, StillOpen}
-use Rattle.vs_document.specs.declared.document.Document.{Document}
+use Rattle.vs_rows.specs.declared.document.Document.{Document}
 use Rattle.vs_prices.specs.declared.table.Table.{Table}
 use Rattle.vs_cases.specs.Claims.{claim_found}
 use Rattle.vs_prices.specs.Worth.{IsWorth}

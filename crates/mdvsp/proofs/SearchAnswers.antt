@@ -13,9 +13,9 @@ use Rattle.vs_tree.specs.Sound.{IsOpening}
 use Rattle.vs_tree.specs.Takes.{IsOver}
 use Rattle.vs_node.specs.WorkedHistory.{AreWorked}
 use Rattle.vs_node.proofs.CallerLemmas.{worked_searches_reach_the_start}
-use Rattle.vs_document.specs.DocumentText.{HasText}
+use Rattle.vs_rows.specs.DocumentText.{HasText}
 use Rattle.vs_cert.specs.StateDocument.{IsDocumentOf}
-use Rattle.vs_document.specs.declared.document.Document.{Document}
+use Rattle.vs_rows.specs.declared.document.Document.{Document}
 use Rattle.vs_answer.specs.Answers.{IsAnswer, ReachesStart}
 use Rattle.vs_answer.specs.Laws.{EachReachesTheStart}
 use Rattle.vs_answer.proofs.CallerLemmas.{bounds_reach_the_start, finished_searches_answer}

@@ -9,8 +9,8 @@ use Rattle.mdvsp.specs.declared.status.Status.TheVariants.{Done, BadInput, Write
 use Rattle.vs_words.specs.declared.command.Command.{Command}
 use Rattle.mdvsp.specs.Outcome.{Told}
 use Rattle.vs_instance.specs.Problem.{Problem}
-use Rattle.vs_document.specs.declared.document.Document.{Document}
-use Rattle.vs_document.specs.DocumentRows.{document_rows}
+use Rattle.vs_rows.specs.declared.document.Document.{Document}
+use Rattle.vs_rows.specs.DocumentRows.{document_rows}
 use Rattle.vs_reader.specs.Names.{NameLists}
 use Rattle.mdvsp.specs.SolveAnswer.{SolveAnswer}
 use Rattle.mdvsp.specs.declared.case.CaseError.{CaseError}

@@ -5,8 +5,8 @@ use Rattle.vs_reader.specs.Names.{NameLists}
 use Rattle.vs_reader.specs.Rows.{Row}
 use Rattle.vs_reader.specs.Texts.{StandsFor}
 use Rattle.vs_document.specs.DocumentRefusals.{AreRefused}
-use Rattle.vs_document.specs.DocumentText.{DocumentText}
-use Rattle.vs_document.specs.declared.document.Document.{Document}
+use Rattle.vs_rows.specs.DocumentText.{DocumentText}
+use Rattle.vs_rows.specs.declared.document.Document.{Document}
 use Rattle.vs_document.specs.declared.refused.DocWhy.{DocWhy}
 
 -- the bytes stand for an instance, whatever follows its records

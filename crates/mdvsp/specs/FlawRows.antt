@@ -11,7 +11,7 @@ use Rattle.vs_check.specs.declared.flaw.Flaw.{Flaw}
 use Rattle.vs_check.specs.declared.flaw.Flaw.TheVariants as flaw
 use Rattle.vs_reader.specs.Rows.{Field, Row}
 use Rattle.vs_reader.specs.Names.{NameLists}
-use Rattle.vs_document.specs.DocumentRows.{claim_field, number_field}
+use Rattle.vs_rows.specs.DocumentRows.{claim_field, number_field}
 use Rattle.vs_reader.specs.Names.{name_of}
 
 abbrev pub layer_field : NameLists → LayerNo → Field

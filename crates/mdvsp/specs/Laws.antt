@@ -8,7 +8,7 @@ use Rattle.vs_prices.specs.declared.bound.Bound.TheVariants.{AtLeast}
 use Rattle.vs_prices.specs.declared.table.Table.{Table}
 use Rattle.vs_prices.specs.Table.{AreZeros, Fits}
 use Rattle.vs_prices.specs.Worth.{IsWorth}
-use Rattle.vs_document.specs.declared.document.Document.{Document}
+use Rattle.vs_rows.specs.declared.document.Document.{Document}
 use Rattle.vs_reader.specs.Rows.{Row}
 use Rattle.vs_words.specs.declared.command.Command.{Command}
 use Rattle.vs_words.specs.declared.command.Effort.{Effort}

@@ -1,6 +1,7 @@
 -- The rows that tell how large the nets of each layer are.
-use Rattle.std.specs.Prelude.{◌≡◌, ℕ, zero, suc, List, [], ◌∷◌, ◌++◌, length, codes, decimal}
+use Rattle.std.specs.Prelude.{◌≡◌, ℕ, zero, suc, List, [], ◌∷◌, ◌++◌, length, Option, Some, None, codes, decimal}
 use Rattle.vs_instance.specs.Problem.{Problem}
+use Rattle.vs_instance.specs.Ways.{layer_of}
 use Rattle.vs_match.specs.declared.matching.Matching.{Matching}
 use Rattle.vs_match.specs.declared.matching.Matching.TheVariants.{First, Latest}
 use Rattle.vs_match.specs.declared.sizes.NetCounts.{NetCounts}
@@ -18,15 +19,21 @@ abbrev pub count_fields : NetCounts → List Field
 count_fields c = decimal c.nodes ∷ decimal c.waiting ∷ decimal c.deadheads ∷ decimal c.pull_outs ∷ decimal c.pull_ins
     ∷ decimal c.trips ∷ []
 
--- `network`, LAYER, the name of the net, the counts, FULL
-abbrev pub size_row : Field → Field → NetCounts → ℕ → Row
-size_row layer net counts full = codes "network" ∷ layer ∷ net ∷ count_fields counts ++ decimal full ∷ []
+-- LINE, RESTS, where the layer has a least rest: so in each row of a text of version 2, and in none of one of version 1
+abbrev pub rest_fields : Option ℕ → NetCounts → List Field
+rest_fields None c = []
+rest_fields (Some stay) c = decimal c.line ∷ decimal c.rests ∷ []
+
+-- `network`, LAYER, the name of the net, the counts, FULL, and what is told of rests
+abbrev pub size_row : Field → Field → NetCounts → ℕ → Option ℕ → Row
+size_row layer net counts full stay =
+    codes "network" ∷ layer ∷ net ∷ count_fields counts ++ decimal full ∷ rest_fields stay counts
 
 -- the row tells the size of layer l's net by this matching, beside a count of pairs of its trips
 pub record IsNetRow (p : Problem) (layer : Field) (l : ℕ) (matching : Matching) (full : ℕ) (row : Row) : Type 0 where
   pub net : LayerGraph
   pub is_net : IsNetOf p l matching net
-  pub row_is : row ≡ size_row layer (matching_field matching) (counts_of net) full
+  pub row_is : row ≡ size_row layer (matching_field matching) (counts_of net) full (layer_of p l).stay
 
 -- with the layer's name, and how many ordered pairs of its trips connect
 abbrev pub IsSizeRow : Problem → NameLists → ℕ → Matching → Row → Type 0

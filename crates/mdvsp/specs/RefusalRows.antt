@@ -3,7 +3,7 @@ use Rattle.std.specs.Prelude.{ℕ, ◌+◌, List, [], ◌∷◌, codes, decimal}
 use Rattle.vs_instance.specs.declared.misfit.Misfit.{Misfit}
 use Rattle.vs_instance.specs.declared.misfit.Misfit.TheVariants.{Range, SelfDeadhead, DeadheadTwice, EndNotAfterStart, NotClosed, LongerMinutes, LongerMetres}
 use Rattle.vs_instance.specs.declared.misfit.Field.{Field as RangeField}
-use Rattle.vs_instance.specs.declared.misfit.Field.TheVariants.{Fleet, Fixed, PerMinute, PerMetre, Minutes, Metres}
+use Rattle.vs_instance.specs.declared.misfit.Field.TheVariants.{Fleet, Fixed, PerMinute, PerMetre, Stay, Minutes, Metres}
 use Rattle.vs_reader.specs.declared.refused.Refused.{Refused}
 use Rattle.vs_reader.specs.declared.refused.Why.{Why}
 use Rattle.vs_reader.specs.declared.refused.Why.TheVariants as why
@@ -50,6 +50,7 @@ range_name Fleet = codes "fleet"
 range_name Fixed = codes "fixed"
 range_name PerMinute = codes "per_minute"
 range_name PerMetre = codes "per_metre"
+range_name Stay = codes "stay"
 range_name Minutes = codes "minutes"
 range_name Metres = codes "metres"
 

@@ -7,9 +7,9 @@ use Rattle.vs_tree.specs.History.{FullStep, IsHistory, Opening, state_of}
 use Rattle.vs_tree.specs.Sound.{IsOpening, IsPlanOf}
 use Rattle.vs_tree.specs.Takes.{IsOver}
 use Rattle.vs_node.specs.WorkedHistory.{AreWorked}
-use Rattle.vs_document.specs.DocumentText.{HasText}
+use Rattle.vs_rows.specs.DocumentText.{HasText}
 use Rattle.vs_cert.specs.StateDocument.{IsDocumentOf}
-use Rattle.vs_document.specs.declared.document.Document.{Document}
+use Rattle.vs_rows.specs.declared.document.Document.{Document}
 use Rattle.vs_answer.specs.Answers.{IsAnswer, ReachesStart}
 
 -- the greedy rule's plan, where it gives one

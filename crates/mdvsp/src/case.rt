@@ -3,7 +3,7 @@
 ghost use Rattle.std.specs.Prelude.{◌≡◌, ◌≤◌, length, IfErr, IfOk};
 ghost use Rattle.vs_reader.specs.Texts.{StandsFor};
 ghost use Rattle.vs_document.specs.Form.{IsReadFor};
-ghost use Rattle.vs_document.specs.Reading.{IsInput};
+ghost use Rattle.vs_rows.specs.RowForms.{IsInput};
 ghost use Rattle.mdvsp.specs.Cases.{CheckText};
 ghost use Rattle.mdvsp.specs.Answered.{RefusesCase, case_error};
 ghost use Rattle.mdvsp.specs.Outcome.{input_limit};

@@ -5,7 +5,7 @@ ghost use Rattle.vs_match.specs.declared.matching.Matching.TheVariants as Matchi
 ghost use Rattle.vs_reader.specs.Names.{HaveCounts};
 ghost use Rattle.vs_reader.specs.Rows.{fields, line, more_fields};
 ghost use Rattle.mdvsp.specs.Answered.{HasSizes, IsOwedFor};
-ghost use Rattle.mdvsp.specs.Network.{WritesLayer, WritesNet, count_fields, size_row};
+ghost use Rattle.mdvsp.specs.Network.{WritesLayer, WritesNet, count_fields, rest_fields, size_row};
 ghost use Rattle.mdvsp.specs.Outcome.{input_limit};
 
 use crate::answer::Answer;
@@ -73,7 +73,8 @@ fn write_first(
         instance.now layer.now l.0 Matching.First full text.old text.new) }
 {
     let net = first_match(alloc, instance, l)?;
-    write_sizes(text, layer, "first", counts(&net), full)
+    let stay = instance.layer(l).stay;
+    write_sizes(text, layer, "first", counts(&net), full, stay)
 }
 
 /// Writes the row of a layer's net by latest first match.
@@ -90,23 +91,40 @@ fn write_latest(
         instance.now layer.now l.0 Matching.Latest full text.old text.new) }
 {
     let net = latest_first_match(alloc, instance, l)?;
-    write_sizes(text, layer, "latest", counts(&net), full)
+    let stay = instance.layer(l).stay;
+    write_sizes(text, layer, "latest", counts(&net), full, stay)
 }
 
-/// Writes how large a net is, and how many pairs of trips connect in its layer.
+/// Writes how large a net is, how many pairs of trips connect in its layer, and what there is in it for rests where the
+/// layer has a least rest.
 fn write_sizes(
     text: &mut Text,
     layer: &str,
     net: &str,
     counts: NetCounts,
     full: u64,
+    stay: Option<u64>,
 ) -> Result<(), Memory>
-    ensures { OnOk result (text.new ≡ text.old ++ line (size_row layer.now net.now counts full)) }
+    ensures { OnOk result (text.new ≡ text.old
+        ++ line (size_row layer.now net.now counts full stay)) }
 {
     begin_sizes(text, layer, net)?;
     write_counts(text, counts)?;
     text.number(full)?;
+    write_rests(text, counts, stay)?;
     text.end_row()
+}
+
+/// Adds what there is in a net for rests, where the layer has a least rest: how many nodes stand for its depot during
+/// the day, and how many arcs lead back to it.
+fn write_rests(text: &mut Text, counts: NetCounts, stay: Option<u64>) -> Result<(), Memory>
+    ensures { OnOk result (text.new ≡ text.old ++ more_fields (rest_fields stay counts)) }
+{
+    if stay.is_none() {
+        return Ok(());
+    }
+    text.number(counts.line)?;
+    text.number(counts.rests)
 }
 
 /// Begins the row of a net with its layer and its name.

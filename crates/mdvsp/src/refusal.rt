@@ -104,6 +104,7 @@ fn range_name(field: Field) -> &'static str
         Field::Fixed => "fixed",
         Field::PerMinute => "per_minute",
         Field::PerMetre => "per_metre",
+        Field::Stay => "stay",
         Field::Minutes => "minutes",
         Field::Metres => "metres",
     }

@@ -1,22 +1,23 @@
 //! `blocks`: the timetable of a document's blocks.
 
-ghost use Rattle.std.specs.Prelude.{◌≡◌, ℕ, List, ◌+◌, ◌<◌, ◌≤◌, [], ◌∷◌, ◌++◌, All, codes, decimal, length, map, IfOk, OnOk};
+ghost use Rattle.std.specs.Prelude.{◌≡◌, ℕ, List, ◌+◌, ◌-◌, ◌<◌, ◌≤◌, [], ◌∷◌, ◌++◌, codes, decimal, length, IfOk, IfSome, OnOk};
 ghost use Rattle.vs_instance.specs.Blocks.{IsBlock};
 ghost use Rattle.vs_instance.specs.Plan.{IsPlan};
 ghost use Rattle.vs_plan.specs.Blocks.{CanBeJudged, blocks_of, pair_of, pairs_of};
 ghost use Rattle.mdvsp.specs.Cases.{CheckText};
-ghost use Rattle.vs_document.specs.Fields.{time_field};
+ghost use Rattle.vs_rows.specs.Fields.{time_field};
 ghost use Rattle.vs_reader.specs.Names.{HaveCounts, name_of};
 ghost use Rattle.vs_reader.specs.Rows.{fields, line, lines};
 ghost use Rattle.mdvsp.specs.Answered.{IsOwedFor};
 ghost use Rattle.mdvsp.specs.Outcome.{input_limit};
-ghost use Rattle.mdvsp.specs.Timetable.{run_row, timetable, vehicle_row, vehicle_rows};
+ghost use Rattle.mdvsp.specs.Timetable.{next_rows, rest_rows, run_row, run_rows, timetable, trip_at, vehicle_row, vehicle_rows};
 
 use crate::answer::Answer;
 use crate::case::{Case, CaseError, read_case};
 use crate::status::Status;
 use std::alloc::Global;
 use vs_check::Flaw;
+use vs_connect::rest_times;
 use vs_document::Text;
 use vs_instance::Instance;
 use vs_plan::{Block, PlanError, block_cost, block_times, judge};
@@ -92,7 +93,7 @@ fn write_block(
         ++ lines (vehicle_rows instance.now names.now k (pair_of block.now))) }
 {
     write_vehicle(text, instance, names, k, block)?;
-    write_runs(text, instance, names, k, &block.trips)
+    write_runs(text, instance, names, k, block)
 }
 
 /// Writes the row of a block's vehicle.
@@ -136,26 +137,73 @@ fn begin_vehicle(
     text.time(out)
 }
 
-/// Writes a row for each trip of a block, which counts from 0.
+/// Writes a row for each trip of a block, which counts from 0, and one for each rest between two of them.
 fn write_runs(
     text: &mut Text,
     instance: &Instance,
     names: &Names,
     k: usize,
-    trips: &[TripNo],
+    block: &Block,
 ) -> Result<(), Memory>
     requires number { k < usize.MAX }
-    requires trips { All (λ i. i.0 < length instance.now.trips) trips.now }
+    requires block { IsBlock instance.now block.now.layer block.now.trips.items }
     requires names { HaveCounts instance.now names.now }
     ensures { OnOk result (text.new ≡ text.old
-        ++ lines (map (run_row instance.now names.now k) trips.now)) }
+        ++ lines (run_rows instance.now names.now k block.now.layer block.now.trips.items)) }
 {
-    for i in trips {
-        write_run(text, instance, names, k, *i)?;
+    let first = block.trips[0];
+    write_run(text, instance, names, k, first)?;
+    for place in 1..block.trips.len() {
+        write_next(text, instance, names, k, block, place)?;
     }
     Ok(())
 }
 
+/// Writes the row of the trip at a place of a block, which counts from 0, and before it the one of a rest, where the
+/// vehicle rests between the trip before and this one.
+fn write_next(
+    text: &mut Text,
+    instance: &Instance,
+    names: &Names,
+    k: usize,
+    block: &Block,
+    place: usize,
+) -> Result<(), Memory>
+    requires number { k < usize.MAX }
+    requires block { IsBlock instance.now block.now.layer block.now.trips.items }
+    requires place { (1 ≤ place) × (place < length block.now.trips.items) }
+    requires names { HaveCounts instance.now names.now }
+    ensures { let trips = block.now.trips.items in OnOk result (text.new ≡ text.old
+        ++ lines (next_rows instance.now names.now k block.now.layer
+        (trip_at trips (place - 1)) (trip_at trips place))) }
+{
+    let ended = block.trips[place - 1];
+    let next = block.trips[place];
+    // for the proof: trips of an instance are within its limits
+    prove!(next.0 < instance.trips());
+    let times = rest_times(instance, block.layer, ended, next);
+    write_rest(text, k, times)?;
+    write_run(text, instance, names, k, next)
+}
+
+/// Writes the row of a rest, with when the vehicle is back in its depot and when it leaves again; nothing where it
+/// doesn't rest.
+fn write_rest(text: &mut Text, k: usize, times: Option<(u32, u32)>) -> Result<(), Memory>
+    requires number { k < usize.MAX }
+    requires minutes { IfSome times (λ t. (t.0 < 6000) × (t.1 < 6000)) }
+    ensures { OnOk result (text.new ≡ text.old ++ lines (rest_rows k times)) }
+{
+    let Some((back, out)) = times else {
+        return Ok(());
+    };
+    text.begin_row("rest")?;
+    text.number(k + 1)?;
+    text.time(back)?;
+    text.time(out)?;
+    text.end_row()
+}
+
+/// Writes the row of a trip.
 fn write_run(
     text: &mut Text,
     instance: &Instance,
@@ -168,6 +216,7 @@ fn write_run(
     requires names { HaveCounts instance.now names.now }
     ensures { OnOk result (text.new ≡ text.old ++ line (run_row instance.now names.now k i)) }
 {
+    // for the proof: trips of an instance are within its limits
     prove!(i.0 < instance.trips());
     let trip = instance.trip(i);
     text.begin_row("run")?;

@@ -4,8 +4,8 @@
 use std::alloc::Global;
 use std::test::Fail;
 use trial_fixtures::texts::{
-    END, LATE_TRIPS, LAYER, ONE_VEHICLE, OPEN_HEAD, OTHER_LAYER, STOPS, TABLE_APART, TRIPS,
-    ZERO_TABLE,
+    BLOCK, END, LATE_TRIPS, LAYER, NOON_TRIPS, ONE_VEHICLE, OPEN_HEAD, OTHER_LAYER, RESTING_LAYER,
+    RESTING_STOPS, STOPS, TABLE_APART, TRIPS, ZERO_TABLE,
 };
 use trial_fixtures::{documented, instance_of};
 use vs_plan::{PlanError, PlanFault, check_plan, greedy, judge};
@@ -114,6 +114,31 @@ fn cost_something_or_have_a_first_fault(rt: HostRuntime) -> Result<(), Fail> {
     for row in &JUDGED {
         let wanted = row.4.map_err(PlanError::Fault);
         assert_eq!(rt; judged(rt.alloc(), row)?, [wanted, wanted]);
+    }
+    Ok(())
+}
+
+/// The stops and the layer of an instance, and what one vehicle costs that runs a trip in the morning and one at noon.
+const RESTING: [(&str, &str, i64); 4] = [
+    // The ways from and to the depot: 40 minutes with the trips' 60.
+    (RESTING_STOPS, RESTING_LAYER, 1100),
+    // From 8:40 to 11:50, just long enough.
+    (RESTING_STOPS, "layer,L1,D,2,1000,1,0,190\n", 1100),
+    // All minutes from 7:50 to 12:40.
+    (RESTING_STOPS, "layer,L1,D,2,1000,1,0,191\n", 1290),
+    (STOPS, LAYER, 1290),
+];
+
+#[test]
+fn cost_nothing_while_their_vehicle_rests(rt: HostRuntime) -> Result<(), Fail> {
+    for (stops, layer, cost) in RESTING {
+        let text = [stops, layer, NOON_TRIPS, OPEN_HEAD, BLOCK, ZERO_TABLE, END];
+        let (instance, document) = documented(rt.alloc(), &text)?;
+        assert_eq!(rt;
+            judge(rt.alloc(), &instance, &document.plan),
+            Ok(cost),
+            "{layer}"
+        );
     }
     Ok(())
 }

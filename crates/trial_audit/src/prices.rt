@@ -4,7 +4,9 @@ ghost use Rattle.vs_prices.specs.Table.{Fits};
 
 use std::alloc::Global;
 use std::test::Fail;
-use trial_fixtures::texts::{END, LAYER, OPEN_HEAD, STOPS, TRIPS};
+use trial_fixtures::texts::{
+    END, LAYER, NOON_TABLE, NOON_TRIPS, OPEN_HEAD, RESTING_LAYER, RESTING_STOPS, STOPS, TRIPS,
+};
 use trial_fixtures::{documented, instance_of};
 use vs_instance::Instance;
 use vs_match::layer_nets;
@@ -142,9 +144,14 @@ fn both_ways(
     Ok([broken(instance, table), by_passes])
 }
 
-/// Where the table of this text breaks first, both ways.
-fn broken_at(alloc: Global, table: &str) -> Result<[Option<BrokenAt>; 2], Fail> {
-    let (instance, document) = documented(alloc, &[STOPS, LAYER, TRIPS, OPEN_HEAD, table, END])?;
+/// Where the table of this text breaks first, both ways, behind the stops, the layer and the trips of a timetable.
+fn broken_at(
+    alloc: Global,
+    timetable: [&str; 3],
+    table: &str,
+) -> Result<[Option<BrokenAt>; 2], Fail> {
+    let [stops, layer, trips] = timetable;
+    let (instance, document) = documented(alloc, &[stops, layer, trips, OPEN_HEAD, table, END])?;
     match document.tables.first() {
         Some(table) => both_ways(alloc, &instance, table),
         None => Err(Fail::new("no table")),
@@ -154,7 +161,28 @@ fn broken_at(alloc: Global, table: &str) -> Result<[Option<BrokenAt>; 2], Fail> 
 #[test]
 fn break_where_a_move_pays_more_than_it_costs(rt: HostRuntime) -> Result<(), Fail> {
     for (table, wanted) in BREAKS {
-        assert_eq!(rt; broken_at(rt.alloc(), table)?, [wanted, wanted], "{table}");
+        let found = broken_at(rt.alloc(), [STOPS, LAYER, TRIPS], table)?;
+        assert_eq!(rt; found, [wanted, wanted], "{table}");
+    }
+    Ok(())
+}
+
+/// The text of a table for a trip in the morning and one at noon, between which a rest costs 20, and where it breaks
+/// first.
+const RESTING_BREAKS: [(&str, Option<BrokenAt>); 2] = [
+    (NOON_TABLE, None),
+    (
+        "table,1,cost\nfleet,L1,0\nprice,L1,t1,1010000,0\nprice,L1,t2,20001,-10000\n",
+        Some(BrokenAt::Link(LAYER_1, TRIP_1, TRIP_2)),
+    ),
+];
+
+#[test]
+fn break_where_a_rest_costs_less_than_it_pays(rt: HostRuntime) -> Result<(), Fail> {
+    for (table, wanted) in RESTING_BREAKS {
+        let timetable = [RESTING_STOPS, RESTING_LAYER, NOON_TRIPS];
+        let found = broken_at(rt.alloc(), timetable, table)?;
+        assert_eq!(rt; found, [wanted, wanted], "{table}");
     }
     Ok(())
 }

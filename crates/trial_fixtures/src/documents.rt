@@ -2,7 +2,7 @@
 
 ghost use Rattle.std.specs.Prelude.{IfOk};
 ghost use Rattle.vs_document.specs.Form.{IsReadFor};
-ghost use Rattle.vs_document.specs.Reading.{IsInput};
+ghost use Rattle.vs_rows.specs.RowForms.{IsInput};
 
 use crate::reading::{input_of, joined};
 use std::alloc::Global;

@@ -4,8 +4,15 @@
 pub const STOPS: &str =
     "instance,1\nstop,D\nstop,P\nstop,Q\ndeadhead,D,P,10,0\ndeadhead,P,D,10,0\ndeadhead,D,Q,10,0\ndeadhead,Q,D,10,0\ndeadhead,P,Q,15,0\ndeadhead,Q,P,15,0\n";
 
+/// The same in version 2.
+pub const RESTING_STOPS: &str =
+    "instance,2\nstop,D\nstop,P\nstop,Q\ndeadhead,D,P,10,0\ndeadhead,P,D,10,0\ndeadhead,D,Q,10,0\ndeadhead,Q,D,10,0\ndeadhead,P,Q,15,0\ndeadhead,Q,P,15,0\n";
+
 /// Two vehicles whose depot is at D.
 pub const LAYER: &str = "layer,L1,D,2,1000,1,0\n";
+
+/// The same in version 2: they rest in the depot for 20 minutes at least.
+pub const RESTING_LAYER: &str = "layer,L1,D,2,1000,1,0,20\n";
 
 /// The same with one vehicle.
 pub const ONE_VEHICLE: &str = "layer,L1,D,1,1000,1,0\n";
@@ -15,6 +22,9 @@ pub const TRIPS: &str = "trip,t1,P,8:00,Q,8:30,0,L1\ntrip,t2,Q,8:30,P,9:00,0,L1\
 
 /// The same, where the second starts a minute too early.
 pub const LATE_TRIPS: &str = "trip,t1,P,8:00,Q,8:30,0,L1\ntrip,t2,Q,8:29,P,9:00,0,L1\n";
+
+/// The same, where the second starts at noon: long enough for a rest in the depot.
+pub const NOON_TRIPS: &str = "trip,t1,P,8:00,Q,8:30,0,L1\ntrip,t2,Q,12:00,P,12:30,0,L1\n";
 
 /// With a first trip that ends as late as a time may be.
 pub const LONG_TRIPS: &str = "trip,t1,P,8:00,Q,47:59,0,L1\ntrip,t2,Q,8:30,P,9:00,0,L1\n";
@@ -27,6 +37,12 @@ pub const BLOCK: &str = "block,L1,t1,t2\n";
 pub const TABLE: &str = "table,1,cost\nfleet,L1,0\nprice,L1,t1,1010000,0\nprice,L1,t2,0,-10000\n";
 
 pub const END: &str = "leaf,1\nend\n";
+
+/// A document in which one vehicle runs both trips and rests in between: its head and its table.
+pub const NOON_HEAD: &str = "result,1,optimal\ncost,1100\nbound,1100\nnodes,1\n";
+
+pub const NOON_TABLE: &str =
+    "table,1,cost\nfleet,L1,0\nprice,L1,t1,1010000,0\nprice,L1,t2,20000,-10000\n";
 
 /// A table of zeros.
 pub const ZERO_TABLE: &str = "table,1,cost\nfleet,L1,0\nprice,L1,t1,0,0\nprice,L1,t2,0,0\n";

@@ -18,6 +18,7 @@ const LAYER: Layer = Layer {
     fixed: 1000,
     per_minute: 1,
     per_metre: 0,
+    stay: None,
 };
 
 const TRIP: Trip = Trip {
@@ -51,6 +52,37 @@ fn keep_their_parts_and_are_copied(rt: HostRuntime) -> Result<(), Fail> {
     let read = instance_of(rt.alloc(), &[SMALL])?;
     assert_eq!(rt; is_small(&read), true);
     assert_eq!(rt; is_small(&read.copy(rt.alloc())?), true);
+    Ok(())
+}
+
+/// The stops of a text of this version, with a layer.
+fn first_layer(alloc: Global, version: &str, layer: &str) -> Result<Layer, Fail> {
+    let instance = instance_of(alloc, &[version, "stop,D\n", layer])?;
+    if instance.layers() == 0 {
+        return Err(Fail::new("no layer"));
+    }
+    Ok(*instance.layer(LayerNo(0)))
+}
+
+/// Layers of version 2, and the least rest that each says.
+const STAYS: [(&str, u64); 4] = [
+    ("layer,L1,D,2,1000,1,0,20\n", 20),
+    ("layer,L1,D,2,1000,1,0,190\n", 190),
+    ("layer,L1,D,2,1000,1,0,1\n", 1),
+    ("layer,L1,D,2,1000,1,0,0600\n", 600),
+];
+
+#[test]
+fn say_how_long_vehicles_rest(rt: HostRuntime) -> Result<(), Fail> {
+    let never = first_layer(rt.alloc(), "instance,1\n", "layer,L1,D,2,1000,1,0\n")?;
+    assert_eq!(rt; never, LAYER);
+    for (layer, stay) in STAYS {
+        let resting = Layer {
+            stay: Some(stay),
+            ..LAYER
+        };
+        assert_eq!(rt; first_layer(rt.alloc(), "instance,2\n", layer)?, resting);
+    }
     Ok(())
 }
 

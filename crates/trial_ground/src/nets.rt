@@ -3,7 +3,7 @@
 use std::alloc::Global;
 use std::test::Fail;
 use trial_fixtures::instance_of;
-use trial_fixtures::texts::{LAYER, STOPS};
+use trial_fixtures::texts::{LAYER, NOON_TRIPS, RESTING_LAYER, RESTING_STOPS, STOPS};
 use vs_layer::{Arc, Net, NetError, NetFault};
 use vs_match::{ArcKind, LayerNet, NetCounts, counts, first_match, full_count, latest_first_match};
 use vs_types::{LayerNo, TripNo};
@@ -75,6 +75,8 @@ const SIX_COUNTS: NetCounts = NetCounts {
     pull_outs: 6,
     pull_ins: 6,
     trips: 6,
+    line: 0,
+    rests: 0,
 };
 
 const NO_COUNTS: NetCounts = NetCounts {
@@ -84,6 +86,8 @@ const NO_COUNTS: NetCounts = NetCounts {
     pull_outs: 0,
     pull_ins: 0,
     trips: 0,
+    line: 0,
+    rests: 0,
 };
 
 const MATCHED: [Matched; 3] = [
@@ -166,6 +170,46 @@ fn have_their_return_alone_without_trips(rt: HostRuntime) -> Result<(), Fail> {
     assert_eq!(rt; net.kind(0), ArcKind::Return);
     assert_eq!(rt; (net.place(0), net.place(1)), (None, None));
     assert_eq!(rt; net.trip_arc(TripNo(6)), None);
+    Ok(())
+}
+
+/// How large the net of a trip in the morning and one at noon is, where vehicles may rest in between.
+const NOON_COUNTS: NetCounts = NetCounts {
+    nodes: 4,
+    waiting: 2,
+    deadheads: 0,
+    pull_outs: 2,
+    pull_ins: 2,
+    trips: 2,
+    line: 2,
+    rests: 1,
+};
+
+/// The minutes of the depot line of a net, in order.
+fn line_minutes(alloc: Global, net: &LayerNet) -> Result<Vec<u32>, Fail> {
+    let mut minutes = Vec::new(alloc);
+    for node in 0..net.net().nodes() {
+        if let Some(minute) = net.line(node) {
+            minutes.push(minute)?;
+        }
+    }
+    Ok(minutes)
+}
+
+#[test]
+fn have_a_depot_line_where_vehicles_rest(rt: HostRuntime) -> Result<(), Fail> {
+    let alloc = rt.alloc();
+    let instance = instance_of(alloc, &[RESTING_STOPS, RESTING_LAYER, NOON_TRIPS])?;
+    if instance.layers() == 0 {
+        return Err(Fail::new("no layer"));
+    }
+    let net = first_match(alloc, &instance, LayerNo(0))?;
+    assert_eq!(rt; counts(&net), NOON_COUNTS);
+    // At 7:50 and at 11:50 a vehicle leaves for the trips.
+    assert_eq!(rt;
+        line_minutes(alloc, &net)?.as_slice(),
+        [470, 710].as_slice()
+    );
     Ok(())
 }
 

@@ -18,9 +18,9 @@ fn refusal(alloc: Global, text: &[u8]) -> Option<(u64, Why)> {
 }
 
 /// A text, and the record at which it is refused, and why.
-const TEXTS: [(&[u8], u64, Why); 17] = [
+const TEXTS: [(&[u8], u64, Why); 22] = [
     (b"", 1, Why::NoHeader),
-    (b"instance,2\n", 1, Why::NoHeader),
+    (b"instance,3\n", 1, Why::NoHeader),
     (b"instance,1\nbus,D\n", 2, Why::UnknownKind),
     (b"instance,1\nstop,D\nstop,D\n", 3, Why::NameTwice),
     (b"instance,1\nstop,\0\n", 2, Why::BadName),
@@ -41,6 +41,31 @@ const TEXTS: [(&[u8], u64, Why); 17] = [
         b"instance,1\nstop,D\nlayer,L1,D,2001,1,1,0\n",
         3,
         Why::Misfit(Misfit::Range(Field::Fleet, Place::Layer(LayerNo(0)))),
+    ),
+    (
+        b"instance,1\nstop,D\nlayer,L1,D,2,1,1,0,20\n",
+        3,
+        Why::FieldCount,
+    ),
+    (
+        b"instance,2\nstop,D\nlayer,L1,D,2,1,1,0\n",
+        3,
+        Why::FieldCount,
+    ),
+    (
+        b"instance,2\nstop,D\nlayer,L1,D,2,1,1,0,\n",
+        3,
+        Why::BadNumber,
+    ),
+    (
+        b"instance,2\nstop,D\nlayer,L1,D,2,1,1,0,0\n",
+        3,
+        Why::Misfit(Misfit::Range(Field::Stay, Place::Layer(LayerNo(0)))),
+    ),
+    (
+        b"instance,2\nstop,D\nlayer,L1,D,2,1,1,0,601\n",
+        3,
+        Why::Misfit(Misfit::Range(Field::Stay, Place::Layer(LayerNo(0)))),
     ),
     (
         b"instance,1\nstop,P\nstop,Q\nstop,R\ndeadhead,P,Q,15,0\ndeadhead,Q,R,5,0\n",

@@ -7,7 +7,10 @@ use std::process::Abort;
 use std::sync::Wait;
 use std::test::Fail;
 use std::thread::Threads;
-use trial_fixtures::texts::{END, LAYER, LONG_TRIPS, STOPS, TABLE, TRIPS};
+use trial_fixtures::texts::{
+    BLOCK, END, LAYER, LONG_TRIPS, NOON_HEAD, NOON_TABLE, NOON_TRIPS, RESTING_LAYER, RESTING_STOPS,
+    STOPS, TABLE, TRIPS,
+};
 
 /// Six trips: four from D to P, and two from Q to D.
 const SIX_TRIPS: &str = "\
@@ -39,6 +42,12 @@ const NETWORKS: &[Row] = &[
         written: "network,L1,first,4,2,0,2,2,2,0\nnetwork,L1,latest,4,2,0,2,2,2,0\n",
     },
     Row {
+        case: "version 2",
+        input: &[RESTING_STOPS, RESTING_LAYER, NOON_TRIPS],
+        status: Status::Done,
+        written: "network,L1,first,4,2,0,2,2,2,1,2,1\nnetwork,L1,latest,4,2,0,2,2,2,1,2,1\n",
+    },
+    Row {
         case: "what follows isn't read",
         input: &[STOPS, LAYER, "result,\"\r\nstop"],
         status: Status::Done,
@@ -64,6 +73,13 @@ vehicle,2,L1,07:50,08:40,1050
 run,2,t1,P,08:00,Q,08:30
 ";
 
+const RESTING_PLAN: &str = "\
+vehicle,1,L1,07:50,12:40,1100
+run,1,t1,P,08:00,Q,08:30
+rest,1,08:40,11:50
+run,1,t2,Q,12:00,P,12:30
+";
+
 const OPEN: &str = "result,1,open\n";
 
 const ONE_COST: &str = "cost,1080\nbound,1080\nnodes,1\n";
@@ -83,6 +99,20 @@ const TIMETABLES: &[Row] = &[
         ],
         status: Status::Done,
         written: ONE_VEHICLE_PLAN,
+    },
+    Row {
+        case: "one vehicle that rests",
+        input: &[
+            RESTING_STOPS,
+            RESTING_LAYER,
+            NOON_TRIPS,
+            NOON_HEAD,
+            BLOCK,
+            NOON_TABLE,
+            END,
+        ],
+        status: Status::Done,
+        written: RESTING_PLAN,
     },
     Row {
         case: "two vehicles, and a cost that isn't theirs",

@@ -4,9 +4,9 @@ use crate::runs::{Row, come_out};
 use mdvsp::Status;
 use std::test::Fail;
 use trial_fixtures::texts::{
-    BLOCK, BROKEN_TABLE, END, HEAD, LATE_TRIPS, LAYER, NO_TRIP_HEAD, NO_TRIP_TABLE, ONE_VEHICLE,
-    OTHER_LAYER, SPLIT_HEAD, SPLIT_TABLE, STOPS, TABLE, TABLE_APART, TABLE_TOO_HIGH, TRIPS,
-    TRIPS_APART, TWO_LAYERS,
+    BLOCK, BROKEN_TABLE, END, HEAD, LATE_TRIPS, LAYER, NO_TRIP_HEAD, NO_TRIP_TABLE, NOON_HEAD,
+    NOON_TABLE, NOON_TRIPS, ONE_VEHICLE, OTHER_LAYER, RESTING_LAYER, RESTING_STOPS, SPLIT_HEAD,
+    SPLIT_TABLE, STOPS, TABLE, TABLE_APART, TABLE_TOO_HIGH, TRIPS, TRIPS_APART, TWO_LAYERS,
 };
 
 const DOCUMENTS: &[Row] = &[
@@ -83,6 +83,34 @@ const DOCUMENTS: &[Row] = &[
     Row {
         case: "a link broken",
         input: &[STOPS, LAYER, TRIPS, HEAD, BLOCK, BROKEN_TABLE, END],
+        status: Status::SaysNo,
+        written: "no,3,TableBroken,1,link,L1,t1,t2\n",
+    },
+    Row {
+        case: "a rest at noon",
+        input: &[
+            RESTING_STOPS,
+            RESTING_LAYER,
+            NOON_TRIPS,
+            NOON_HEAD,
+            BLOCK,
+            NOON_TABLE,
+            END,
+        ],
+        status: Status::Done,
+        written: "yes,optimal,1100,1100\n",
+    },
+    Row {
+        case: "a link that a rest makes cheaper",
+        input: &[
+            RESTING_STOPS,
+            RESTING_LAYER,
+            NOON_TRIPS,
+            NOON_HEAD,
+            BLOCK,
+            "table,1,cost\nfleet,L1,0\nprice,L1,t1,1010000,0\nprice,L1,t2,210000,-10000\n",
+            END,
+        ],
         status: Status::SaysNo,
         written: "no,3,TableBroken,1,link,L1,t1,t2\n",
     },

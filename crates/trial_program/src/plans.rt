@@ -9,9 +9,9 @@ use std::test::Fail;
 use std::thread::Threads;
 use trial_fixtures::joined;
 use trial_fixtures::texts::{
-    BLOCK, END, HALVES, LATE_TRIPS, LAYER, LONG_TRIPS, NO_TRIP_HEAD, NO_TRIP_TABLE, ONE_VEHICLE,
-    OTHER_LAYER, QUOTED_LAYER, QUOTED_STOPS, QUOTED_TRIPS, STOPS, TRIPS, TRIPS_APART, TWO_LAYERS,
-    ZERO_TABLE,
+    BLOCK, END, HALVES, LATE_TRIPS, LAYER, LONG_TRIPS, NO_TRIP_HEAD, NO_TRIP_TABLE, NOON_TRIPS,
+    ONE_VEHICLE, OTHER_LAYER, QUOTED_LAYER, QUOTED_STOPS, QUOTED_TRIPS, RESTING_LAYER,
+    RESTING_STOPS, STOPS, TRIPS, TRIPS_APART, TWO_LAYERS, ZERO_TABLE,
 };
 use vs_crew::NoGate;
 
@@ -121,6 +121,42 @@ const SEARCHED: &[Planned] = &[
         status: Status::Done,
         head: &["result,1,optimal\ncost,1080\nbound,1080\nnodes,1\nblock,L1,t1,t2\ntable,1,cost\n"],
         verdict: "yes,optimal,1080,1080\n",
+    },
+    Planned {
+        case: "a rest at noon",
+        input: &[RESTING_STOPS, RESTING_LAYER, NOON_TRIPS],
+        records: &[RESTING_STOPS, RESTING_LAYER, NOON_TRIPS],
+        words: &[],
+        status: Status::Done,
+        head: &["result,1,optimal\ncost,1100\nbound,1100\nnodes,1\nblock,L1,t1,t2\ntable,1,cost\n"],
+        verdict: "yes,optimal,1100,1100\n",
+    },
+    Planned {
+        case: "as long as a rest can be",
+        input: &[RESTING_STOPS, "layer,L1,D,2,1000,1,0,190\n", NOON_TRIPS],
+        records: &[RESTING_STOPS, "layer,L1,D,2,1000,1,0,190\n", NOON_TRIPS],
+        words: &[],
+        status: Status::Done,
+        head: &["result,1,optimal\ncost,1100\nbound,1100\n"],
+        verdict: "yes,optimal,1100,1100\n",
+    },
+    Planned {
+        case: "a minute too short for a rest",
+        input: &[RESTING_STOPS, "layer,L1,D,2,1000,1,0,191\n", NOON_TRIPS],
+        records: &[RESTING_STOPS, "layer,L1,D,2,1000,1,0,191\n", NOON_TRIPS],
+        words: &[],
+        status: Status::Done,
+        head: &["result,1,optimal\ncost,1290\nbound,1290\n"],
+        verdict: "yes,optimal,1290,1290\n",
+    },
+    Planned {
+        case: "no rest in version 1",
+        input: &[STOPS, LAYER, NOON_TRIPS],
+        records: &[STOPS, LAYER, NOON_TRIPS],
+        words: &[],
+        status: Status::Done,
+        head: &["result,1,optimal\ncost,1290\nbound,1290\n"],
+        verdict: "yes,optimal,1290,1290\n",
     },
     Planned {
         case: "late second trip",

@@ -3,7 +3,9 @@
 use crate::runs::{Row, come_out};
 use mdvsp::Status;
 use std::test::Fail;
-use trial_fixtures::texts::{BLOCK, END, HEAD, LAYER, STOPS, TABLE, TRIPS};
+use trial_fixtures::texts::{
+    BLOCK, END, HEAD, LAYER, NOON_TRIPS, RESTING_STOPS, STOPS, TABLE, TRIPS,
+};
 
 const NO_INSTANCES: &[Row] = &[
     Row {
@@ -35,6 +37,30 @@ const NO_INSTANCES: &[Row] = &[
         input: &[STOPS, "Stop,R\n"],
         status: Status::BadInput,
         written: "refused,11,2,UnknownKind\n",
+    },
+    Row {
+        case: "a version that there isn't",
+        input: &["instance,3\n"],
+        status: Status::BadInput,
+        written: "refused,1,1,NoHeader\n",
+    },
+    Row {
+        case: "version 2 without a stay",
+        input: &[RESTING_STOPS, LAYER, NOON_TRIPS],
+        status: Status::BadInput,
+        written: "refused,11,3,FieldCount\n",
+    },
+    Row {
+        case: "a stay of no minutes",
+        input: &[RESTING_STOPS, "layer,L1,D,2,1000,1,0,0\n", NOON_TRIPS],
+        status: Status::BadInput,
+        written: "refused,11,10,Range,stay\n",
+    },
+    Row {
+        case: "a stay beyond the limit",
+        input: &[RESTING_STOPS, "layer,L1,D,2,1000,1,0,601\n", NOON_TRIPS],
+        status: Status::BadInput,
+        written: "refused,11,10,Range,stay\n",
     },
     Row {
         case: "stop with a field more",

@@ -14,7 +14,7 @@ use Rattle.vs_tree.specs.StateTree.{IsTreeAt, times}
 use Rattle.vs_cases.specs.Tree.{Tree, Leaf, Split, LeafPlace, leaves, right_of, with_set}
 use Rattle.vs_tree.proofs.CallerLemmas.{one_worth, times-cons}
 use Rattle.vs_cert.specs.StateDocument.{IsDocumentOf, IsRenumbered}
-use Rattle.vs_document.specs.declared.document.Document.{Document}
+use Rattle.vs_rows.specs.declared.document.Document.{Document}
 use Rattle.vs_answer.specs.Answers.{AreWorths}
 use Rattle.vs_answer.proofs.AnswerBounds.{AreNoLess, IsOneOf}
 use Rattle.vs_answer.proofs.StateDocuments.{numbers, prices_in_state, table_at}

@@ -12,7 +12,7 @@ use Rattle.vs_tree.specs.Takes.{IsWorkLeft}
 use Rattle.vs_cases.specs.Tree.{LeafPlace, leaves}
 use Rattle.vs_tree.proofs.CallerLemmas.{histories_are_sound, times-cons}
 use Rattle.vs_cert.specs.StateDocument.{IsDocumentOf}
-use Rattle.vs_document.specs.declared.document.Document.{Document}
+use Rattle.vs_rows.specs.declared.document.Document.{Document}
 use Rattle.vs_answer.specs.Answers.{choices}
 use Rattle.vs_answer.specs.Laws.{EnoughBudgetsLeaveNothingOpen}
 use Rattle.vs_answer.proofs.AnswerCounts.{closed_at_spots, is_closed_at, one_kind}

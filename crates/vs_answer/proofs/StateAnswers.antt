@@ -19,7 +19,7 @@ use Rattle.vs_tree.specs.Takes.{IsOver, IsWorkLeft}
 use Rattle.vs_cases.specs.Tree.{leaves, splits}
 use Rattle.vs_tree.proofs.CallerLemmas.{leaf_within, histories_are_sound}
 use Rattle.vs_cert.specs.StateDocument.{IsDocumentOf}
-use Rattle.vs_document.specs.declared.document.Document.{Document}
+use Rattle.vs_rows.specs.declared.document.Document.{Document}
 use Rattle.vs_answer.specs.Answers.{AreNamedInOrder, IsAnswer, IsBoundOf, ReachesStart, count_not_below}
 use Rattle.vs_answer.specs.Laws.{BoundsReachTheStart, EachReachesTheStart, FinishedSearchesAnswer}
 use Rattle.vs_answer.proofs.AnswerBounds.{IsOneOf, lesser_is_bound, not_open, reaches_start}

@@ -29,7 +29,7 @@ use Rattle.vs_types.specs.Parts.{IsProperPart}
 use Rattle.vs_tree.proofs.CallerLemmas.{histories_are_sound, last-is, lawful_fits}
 use Rattle.vs_cert.proofs.CallerLemmas.{named_within}
 use Rattle.vs_cert.specs.StateDocument.{IsDocumentOf, IsRenumbered, first_times, known_blocks, tables_named}
-use Rattle.vs_document.specs.declared.document.Document.{Document}
+use Rattle.vs_rows.specs.declared.document.Document.{Document}
 use Rattle.vs_check.specs.HoldingDocument.{HasPlan, HoldingDocument, IsStrongLeaf}
 use Rattle.vs_answer.specs.Laws.{DocumentsOfStatesHold}
 

@@ -11,7 +11,7 @@ use Rattle.vs_prices.specs.declared.bound.Bound.TheVariants.{AtLeast, NoPlan}
 use Rattle.vs_prices.specs.declared.table.Table.{Table}
 use Rattle.vs_cases.specs.Tree.{LeafPlace, leaves, splits}
 use Rattle.vs_cases.specs.declared.claim.Claim.TheVariants.{StillOpen}
-use Rattle.vs_document.specs.declared.document.Document.{Document}
+use Rattle.vs_rows.specs.declared.document.Document.{Document}
 use Rattle.vs_check.specs.HoldingDocument.{HoldingDocument}
 
 -- the leaves of the tree of a document that holds, in order

@@ -8,7 +8,7 @@ use Rattle.vs_cases.specs.declared.claim.Claim.TheVariants.{StillOpen}
 use Rattle.vs_tree.specs.History.{FullStep, IsHistory, IsLeaf, IsLeafWorth, Opening, State, state_of}
 use Rattle.vs_tree.specs.Sound.{IsOpening}
 use Rattle.vs_tree.specs.Takes.{IsOver}
-use Rattle.vs_document.specs.declared.document.Document.{Document}
+use Rattle.vs_rows.specs.declared.document.Document.{Document}
 use Rattle.vs_cert.specs.StateDocument.{IsDocumentOf}
 use Rattle.vs_check.specs.HoldingDocument.{HoldingDocument}
 use Rattle.vs_answer.specs.Answers.{IsAnswer, ReachesStart, choices}

@@ -5,7 +5,7 @@ use Rattle.vs_reader.specs.Rows.{Row}
 use Rattle.vs_reader.specs.Texts.{EndsInLine, HasRows, StandsFor}
 use Rattle.vs_tree.specs.History.{Opening, State}
 use Rattle.vs_document.specs.ReadingBack.{ReadsAs}
-use Rattle.vs_document.specs.declared.document.Document.{Document}
+use Rattle.vs_rows.specs.declared.document.Document.{Document}
 use Rattle.vs_cert.specs.StateDocument.{IsDocumentOf}
 use Rattle.vs_cert.specs.TreeText.{IsTextOf}
 

@@ -1,6 +1,6 @@
-pub use Rattle.vs_document.specs.Shapes
-pub use Rattle.vs_document.specs.DocumentRows
-pub use Rattle.vs_document.specs.DocumentText
+pub use Rattle.vs_rows.specs.Shapes
+pub use Rattle.vs_rows.specs.DocumentRows
+pub use Rattle.vs_rows.specs.DocumentText
 pub use Rattle.vs_document.specs.Form
 pub mod StateDocument
 pub mod Numbering

@@ -9,8 +9,8 @@ use Rattle.vs_tree.specs.Report.{IsReport}
 use Rattle.vs_tree.specs.StateTree.{IsTreeOf}
 use Rattle.vs_cases.specs.Tree.{Tree, Leaf, Split}
 use Rattle.vs_tree.specs.declared.calls.Report.{Report}
-use Rattle.vs_document.specs.Shapes.{preorder}
-use Rattle.vs_document.specs.declared.document.Document.{Document}
+use Rattle.vs_rows.specs.Shapes.{preorder}
+use Rattle.vs_rows.specs.declared.document.Document.{Document}
 
 -- the numbers of the tables that the leaves name, from left to right
 abbrev pub tables_named : Tree → List ℕ

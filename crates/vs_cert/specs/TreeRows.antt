@@ -6,10 +6,10 @@ use Rattle.vs_cases.specs.Tree.{Tree}
 use Rattle.vs_tree.specs.declared.spot.Spot.{Spot}
 use Rattle.vs_tree.specs.declared.spot.Spot.TheVariants.{Inner, Free, Held, Closed}
 use Rattle.vs_cert.specs.Numbering.{with_number}
-use Rattle.vs_document.specs.Shapes.{preorder}
+use Rattle.vs_rows.specs.Shapes.{preorder}
 use Rattle.vs_cert.specs.StateDocument.{IsRenumbered, first_times, tables_named}
-use Rattle.vs_document.specs.declared.document.Shape.{Shape}
-use Rattle.vs_document.specs.declared.document.Shape.TheVariants as shape
+use Rattle.vs_rows.specs.declared.document.Shape.{Shape}
+use Rattle.vs_rows.specs.declared.document.Shape.TheVariants as shape
 
 -- the rows of the state's tree, whose leaves name the tables of these numbers by their places
 pub record AreRowsOf (o : Opening) (s : State) (numbers : List ℕ) (rows : List Shape) : Type 0 where

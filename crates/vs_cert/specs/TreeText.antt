@@ -8,10 +8,10 @@ use Rattle.vs_reader.specs.Names.{NameLists}
 use Rattle.vs_reader.specs.Rows.{lines}
 use Rattle.vs_tree.specs.History.{Opening, State}
 use Rattle.vs_tree.specs.Prices.{Prices, no_prices}
-use Rattle.vs_document.specs.DocumentRows.{DocumentRow, FleetRow, PriceRow, TableRow, document_rows, permitted_trips}
-use Rattle.vs_document.specs.DocumentText.{HasText}
+use Rattle.vs_rows.specs.DocumentRows.{DocumentRow, FleetRow, PriceRow, TableRow, document_rows, permitted_trips}
+use Rattle.vs_rows.specs.DocumentText.{HasText}
 use Rattle.vs_cert.specs.StateDocument.{IsDocumentOf}
-use Rattle.vs_document.specs.declared.document.Document.{Document}
+use Rattle.vs_rows.specs.declared.document.Document.{Document}
 
 -- the prices of the state's table of this number
 abbrev pub prices_of_number : State → ℕ → Prices

@@ -7,7 +7,7 @@ ghost use Rattle.vs_tree.specs.History.{incumbent};
 ghost use Rattle.vs_tree.specs.Search.{state};
 ghost use Rattle.vs_cert.specs.StateDocument.{known_blocks};
 ghost use Rattle.vs_cert.specs.TreeText.{IsTextOf, numbered_rows};
-ghost use Rattle.vs_document.specs.Writing.{AddsRows};
+ghost use Rattle.vs_rows.specs.Writing.{AddsRows};
 
 use crate::tree_rows::tree_rows;
 use std::alloc::Global;

@@ -23,7 +23,7 @@ use Rattle.vs_prices.specs.declared.bound.Bound.TheVariants.{AtLeast, NoPlan}
 use Rattle.vs_prices.specs.declared.broken_at.BrokenAt.{BrokenAt}
 use Rattle.vs_prices.specs.declared.broken_at.BrokenAt.TheVariants.{Fleet, PullOut, Link, PullIn}
 use Rattle.vs_prices.specs.declared.table.Table.{Table}
-use Rattle.vs_document.specs.DocumentText.{Agree}
+use Rattle.vs_rows.specs.DocumentText.{Agree}
 
 -- two functions that are the same on some numbers in a row, or on the elements of a list
 same_lists : {M : Type 0} (f g : ℕ → List M) (a n : ℕ) → ((k : ℕ) → a ≤ k → k < a + n → f k ≡ g k)

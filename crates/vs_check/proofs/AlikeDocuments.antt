@@ -20,11 +20,11 @@ use Rattle.vs_cases.specs.declared.claim.Claim.{Claim}
 use Rattle.vs_cases.proofs.CallerLemmas.{left-restricts, right-restricts}
 use Rattle.vs_document.specs.Alike.{AreAlike}
 use Rattle.vs_document.specs.Form.{Suits}
-use Rattle.vs_document.specs.DocumentText.{Agree}
-use Rattle.vs_document.specs.Shapes.{IsShapeOf, preorder}
-use Rattle.vs_document.specs.declared.document.Document.{Document}
-use Rattle.vs_document.specs.declared.document.Shape.{Shape}
-use Rattle.vs_document.specs.declared.document.Shape.TheVariants as shape
+use Rattle.vs_rows.specs.DocumentText.{Agree}
+use Rattle.vs_rows.specs.Shapes.{IsShapeOf, preorder}
+use Rattle.vs_rows.specs.declared.document.Document.{Document}
+use Rattle.vs_rows.specs.declared.document.Shape.{Shape}
+use Rattle.vs_rows.specs.declared.document.Shape.TheVariants as shape
 use Rattle.vs_check.specs.Flaws.{broken_flaws, claim_flaws, flaws_of, leaf_flaws, named_flaws, plan_flaws, shape_flaws, table_flaws, tables_flaws, tree_flaws}
 use Rattle.vs_types.specs.Parts.{is_proper_part}
 use Rattle.vs_check.specs.Laws.{AlikeDocumentsAreJudgedAlike}

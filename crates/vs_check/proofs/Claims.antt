@@ -21,7 +21,7 @@ use Rattle.vs_prices.proofs.CallerLemmas.{bounds_plans}
 use Rattle.vs_cases.proofs.CallerLemmas.{leaves_restrict, lies_in_one}
 use Rattle.vs_cases.specs.Tree.{LeafPlace, leaves}
 use Rattle.vs_cases.specs.declared.claim.Claim.TheVariants.{Optimal, Infeasible, StillOpen}
-use Rattle.vs_document.specs.declared.document.Document.{Document}
+use Rattle.vs_rows.specs.declared.document.Document.{Document}
 use Rattle.vs_check.specs.HoldingDocument.{HoldingDocument, IsStrongLeaf}
 use Rattle.vs_cases.specs.Claims.{claim_found}
 use Rattle.vs_check.specs.Laws.{HoldingDocumentsProveTheirClaims}

@@ -18,10 +18,10 @@ use Rattle.vs_prices.specs.Table.{HoldingTable}
 use Rattle.vs_prices.specs.declared.broken_at.BrokenAt.{BrokenAt}
 use Rattle.vs_prices.specs.declared.table.Table.{Table}
 use Rattle.vs_prices.proofs.CallerLemmas.{holds_nowhere_broken, nowhere_broken}
-use Rattle.vs_document.specs.declared.document.Document.{Document}
+use Rattle.vs_rows.specs.declared.document.Document.{Document}
 use Rattle.vs_check.specs.Flaws.{broken_flaws, cost_flaws, flaws_of, plan_flaws, shape_flaws, table_flaws, tables_flaws}
 use Rattle.vs_document.specs.Form.{Suits}
-use Rattle.vs_document.specs.Shapes.{IsShapeOf}
+use Rattle.vs_rows.specs.Shapes.{IsShapeOf}
 use Rattle.vs_check.specs.HoldingDocument.{HasTree, HoldingDocument}
 use Rattle.vs_cases.specs.Claims.{claim_found}
 use Rattle.vs_check.proofs.PlanFlaws.{claims_same, right_cost, same_claims}

@@ -27,10 +27,10 @@ use Rattle.vs_prices.specs.declared.broken_at.BrokenAt.{BrokenAt}
 use Rattle.vs_prices.specs.declared.broken_at.BrokenAt.TheVariants as broken
 use Rattle.vs_prices.specs.declared.table.Table.{Table}
 use Rattle.vs_prices.proofs.CallerLemmas.{all_broken}
-use Rattle.vs_document.specs.declared.document.Document.{Document}
+use Rattle.vs_rows.specs.declared.document.Document.{Document}
 use Rattle.vs_check.specs.declared.flaw.Flaw.{Flaw}
 use Rattle.vs_check.specs.declared.flaw.Flaw.TheVariants.{Plan, CostDiffers, TableBroken, BadSplit, LeafTooWeak, ClaimDiffers}
-use Rattle.vs_document.specs.Shapes.{preorder}
+use Rattle.vs_rows.specs.Shapes.{preorder}
 use Rattle.vs_cases.specs.Tree.{Tree, Leaf, Split, right_of, with_set}
 use Rattle.vs_cases.specs.Claims.{claim_found}
 use Rattle.vs_check.specs.Flaws.{IsBreakWithin, IsFaultWithin, IsFlawWithin, IsVerdictWithin, broken_flaws, cost_flaws, flaws_of, leaf_flaws, named_flaws, plan_flaws, same_claim, table_flaws, tree_flaws, verdict_of}

@@ -13,10 +13,10 @@ use Rattle.vs_instance.specs.Restriction.{IsRestriction, permitted_sets, set_of}
 use Rattle.vs_instance.proofs.CallerLemmas.{first-skip, first-stop, permitted_sets-IsRestriction}
 use Rattle.vs_cases.specs.Tree.{Tree, Leaf, Split, right_of, with_set}
 use Rattle.vs_cases.proofs.CallerLemmas.{left-restricts, right-restricts}
-use Rattle.vs_document.specs.Shapes.{IsShapeOf, preorder}
-use Rattle.vs_document.specs.declared.document.Document.{Document}
-use Rattle.vs_document.specs.declared.document.Shape.{Shape}
-use Rattle.vs_document.specs.declared.document.Shape.TheVariants as shape
+use Rattle.vs_rows.specs.Shapes.{IsShapeOf, preorder}
+use Rattle.vs_rows.specs.declared.document.Document.{Document}
+use Rattle.vs_rows.specs.declared.document.Shape.{Shape}
+use Rattle.vs_rows.specs.declared.document.Shape.TheVariants as shape
 use Rattle.vs_check.specs.Flaws.{named_flaws, shape_flaws, tree_flaws}
 use Rattle.vs_types.specs.Parts.{is_proper_part}
 use Rattle.vs_check.specs.Walk.{GoesOver, IsBehindPart, IsOnLeft, sets_ahead, sets_along}

@@ -4,8 +4,8 @@ use Rattle.vs_types.specs.declared.layer_set.LayerSet.{LayerSet}
 use Rattle.vs_types.specs.declared.numbers.TripNo.{TripNo}
 use Rattle.vs_instance.specs.Problem.{Problem}
 use Rattle.vs_instance.specs.Restriction.{set_of}
-use Rattle.vs_document.specs.declared.document.Document.{Document}
-use Rattle.vs_document.specs.declared.document.Shape.TheVariants.{Split}
+use Rattle.vs_rows.specs.declared.document.Document.{Document}
+use Rattle.vs_rows.specs.declared.document.Shape.TheVariants.{Split}
 use Rattle.vs_types.specs.Parts.{is_proper_part}
 use Rattle.vs_check.specs.Walk.{GoesOver, IsOnLeft}
 use Rattle.vs_check.specs.declared.flaw.Flaw.{Flaw}

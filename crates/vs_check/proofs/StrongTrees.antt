@@ -15,9 +15,9 @@ use Rattle.vs_prices.specs.declared.table.Table.{Table}
 use Rattle.vs_prices.proofs.CallerLemmas.{worth_is, worth_of-IsWorth}
 use Rattle.vs_cases.specs.Tree.{Tree, Leaf, Split, LeafPlace, leaves, right_of, with_set}
 use Rattle.vs_cases.proofs.CallerLemmas.{left-restricts, restriction-layers, right-restricts}
-use Rattle.vs_document.specs.Shapes.{IsShapeOf, preorder}
-use Rattle.vs_document.specs.declared.document.Shape.{Shape}
-use Rattle.vs_document.specs.declared.document.Shape.TheVariants as shape
+use Rattle.vs_rows.specs.Shapes.{IsShapeOf, preorder}
+use Rattle.vs_rows.specs.declared.document.Shape.{Shape}
+use Rattle.vs_rows.specs.declared.document.Shape.TheVariants as shape
 use Rattle.vs_check.specs.Flaws.{named_flaws, tree_flaws}
 use Rattle.vs_types.specs.Parts.{is_proper_part}
 use Rattle.vs_check.specs.HoldingDocument.{IsStrongLeaf, IsStrongTree}

@@ -6,9 +6,9 @@ use Rattle.std.proofs.lemmas.List.Elements.{All-cons, All-head, All-nil, All-tai
 use Rattle.vs_instance.specs.Problem.{Problem}
 use Rattle.vs_instance.specs.Restriction.{permitted_sets}
 use Rattle.vs_cases.specs.Tree.{Tree, Leaf, Split}
-use Rattle.vs_document.specs.Shapes.{preorder}
-use Rattle.vs_document.specs.declared.document.Document.{Document}
-use Rattle.vs_document.specs.declared.document.Shape.{Shape}
+use Rattle.vs_rows.specs.Shapes.{preorder}
+use Rattle.vs_rows.specs.declared.document.Document.{Document}
+use Rattle.vs_rows.specs.declared.document.Shape.{Shape}
 use Rattle.vs_check.specs.Flaws.{shape_flaws, tree_flaws}
 use Rattle.vs_check.specs.Trees.{joined, trees_of}
 

@@ -20,10 +20,10 @@ use Rattle.vs_prices.specs.declared.broken_at.BrokenAt.TheVariants as broken
 use Rattle.vs_prices.specs.declared.table.Table.{Table}
 use Rattle.vs_cases.specs.declared.claim.Claim.{Claim}
 use Rattle.vs_cases.specs.declared.claim.Claim.TheVariants.{Optimal, Infeasible, StillOpen}
-use Rattle.vs_document.specs.declared.document.Document.{Document}
+use Rattle.vs_rows.specs.declared.document.Document.{Document}
 use Rattle.vs_check.specs.declared.flaw.Flaw.{Flaw}
 use Rattle.vs_check.specs.declared.flaw.Flaw.TheVariants.{Plan, CostDiffers, TableBroken, BadSplit, LeafTooWeak, ClaimDiffers}
-use Rattle.vs_document.specs.Shapes.{preorder}
+use Rattle.vs_rows.specs.Shapes.{preorder}
 use Rattle.vs_check.specs.declared.verdict.Verdict.{Verdict}
 use Rattle.vs_check.specs.declared.verdict.Verdict.TheVariants.{Yes, No}
 use Rattle.vs_types.specs.Parts.{is_proper_part}

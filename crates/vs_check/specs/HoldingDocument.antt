@@ -12,8 +12,8 @@ use Rattle.vs_prices.specs.Worth.{IsWorth, Reaches}
 use Rattle.vs_cases.specs.Claims.{claim_found}
 use Rattle.vs_cases.specs.declared.claim.Claim.TheVariants.{Optimal, Infeasible}
 use Rattle.vs_cases.specs.Tree.{Tree, IsGoodTree, LeafPlace, leaves}
-use Rattle.vs_document.specs.Shapes.{preorder}
-use Rattle.vs_document.specs.declared.document.Document.{Document}
+use Rattle.vs_rows.specs.Shapes.{preorder}
+use Rattle.vs_rows.specs.declared.document.Document.{Document}
 
 -- the blocks are a plan of the printed cost, and where none is printed there are none
 abbrev pub HasPlan : Problem → Document → Type 0

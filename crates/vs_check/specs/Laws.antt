@@ -4,7 +4,7 @@ use Rattle.vs_instance.specs.Problem.{Problem}
 use Rattle.vs_instance.specs.Instance.{IsInstance}
 use Rattle.vs_document.specs.Alike.{AreAlike}
 use Rattle.vs_document.specs.Form.{Suits}
-use Rattle.vs_document.specs.declared.document.Document.{Document}
+use Rattle.vs_rows.specs.declared.document.Document.{Document}
 use Rattle.vs_check.specs.Flaws.{flaws_of}
 use Rattle.vs_check.specs.HoldingDocument.{HoldingDocument, ProvesItsClaim}
 

@@ -6,9 +6,9 @@ use Rattle.vs_instance.specs.Firsts.{first, when}
 use Rattle.vs_instance.specs.Problem.{Problem}
 use Rattle.vs_instance.specs.Restriction.{set_of}
 use Rattle.vs_cases.specs.Tree.{right_of, with_set}
-use Rattle.vs_document.specs.declared.document.Document.{Document}
-use Rattle.vs_document.specs.declared.document.Shape.{Shape}
-use Rattle.vs_document.specs.declared.document.Shape.TheVariants.{Split, Leaf}
+use Rattle.vs_rows.specs.declared.document.Document.{Document}
+use Rattle.vs_rows.specs.declared.document.Shape.{Shape}
+use Rattle.vs_rows.specs.declared.document.Shape.TheVariants.{Split, Leaf}
 use Rattle.vs_check.specs.Flaws.{named_flaws}
 use Rattle.vs_types.specs.Parts.{is_proper_part}
 use Rattle.vs_check.specs.declared.flaw.Flaw.{Flaw}

@@ -7,7 +7,7 @@ ghost use Rattle.vs_check.specs.Flaws.{plan_flaws, shape_flaws};
 ghost use Rattle.vs_check.specs.Flaws.{IsVerdictWithin, flaws_of, tables_flaws, verdict_of};
 ghost use Rattle.vs_check.specs.Walk.{GoesOver};
 ghost use Rattle.vs_document.specs.Form.{IsReadFor};
-ghost use Rattle.vs_document.specs.Shapes.{IsShapeOf};
+ghost use Rattle.vs_rows.specs.Shapes.{IsShapeOf};
 ghost use Rattle.vs_check.specs.HoldingDocument.{HoldingDocument, ProvesItsClaim};
 ghost use Rattle.vs_cases.specs.Claims.{claim_found};
 ghost use Rattle.vs_instance.specs.Firsts.{first};

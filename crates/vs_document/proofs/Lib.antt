@@ -1,7 +1,6 @@
 pub mod words
 pub mod rows
 pub mod parts
-pub mod written
 pub mod alike
 pub mod back
 pub mod CallerLemmas

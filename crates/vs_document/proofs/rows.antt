@@ -1,7 +1,4 @@
-pub mod RowsFrom
 pub mod RowKinds
-pub mod SplitLayers
-pub mod SaysOnce
 pub mod RefusedRows
 pub mod BoundBesideCost
 pub mod AcceptedRows

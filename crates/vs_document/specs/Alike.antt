@@ -3,8 +3,8 @@ use Rattle.std.specs.Prelude.{◌≡◌}
 use Rattle.std.specs.List.{AllZip}
 use Rattle.vs_instance.specs.Problem.{Problem}
 use Rattle.vs_plan.specs.Blocks.{blocks_of}
-use Rattle.vs_document.specs.declared.document.Document.{Document}
-use Rattle.vs_document.specs.DocumentText.{Agree}
+use Rattle.vs_rows.specs.declared.document.Document.{Document}
+use Rattle.vs_rows.specs.DocumentText.{Agree}
 
 -- they have the same claim, numbers, blocks and tree, and their tables agree, each with the one of its number
 pub record AreAlike (p : Problem) (d e : Document) : Type 0 where

@@ -7,7 +7,7 @@ use Rattle.vs_document.specs.declared.refused.DocWhy.{DocWhy}
 use Rattle.vs_document.specs.declared.refused.DocWhy.TheVariants.{NoResult, BadRow, OutOfOrder, TableNumber, EndsEarly, RowsAfterEnd, PriceRange}
 use Rattle.vs_document.specs.declared.refused.DocError.{DocError}
 use Rattle.vs_document.specs.declared.refused.DocError.TheVariants as error
-use Rattle.vs_document.specs.DocumentRows.{DocumentRow, Says}
+use Rattle.vs_rows.specs.DocumentRows.{DocumentRow, Says}
 use Rattle.vs_document.specs.Places.{Place, AtClaim, AtEnd, HasNumber, HasPrices, SuitsCost, behind}
 
 -- a row of good form that says this at the place

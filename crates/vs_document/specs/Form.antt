@@ -4,8 +4,8 @@ use Rattle.std.specs.Prelude.{◌≡◌, ◌<◌, ◌^◌, [], length, All, IfNo
 use Rattle.vs_instance.specs.Problem.{Problem}
 use Rattle.vs_plan.specs.Blocks.{CanBeJudged, IsOfInstance, blocks_of}
 use Rattle.vs_prices.specs.Table.{Fits}
-use Rattle.vs_document.specs.declared.document.Document.{Document}
-use Rattle.vs_document.specs.Shapes.{AreTree, IsShapeOf}
+use Rattle.vs_rows.specs.declared.document.Document.{Document}
+use Rattle.vs_rows.specs.Shapes.{AreTree, IsShapeOf}
 
 pub record IsReadFor (p : Problem) (d : Document) : Type 0 where
   pub blocks : CanBeJudged p (blocks_of d.plan)

@@ -1,23 +1,17 @@
--- What holds of every document and its text.
+-- What holds of the documents that rows stand for.
 use Rattle.std.specs.Prelude.{◌≡◌, ℕ, List, ◌++◌, take}
-use Rattle.vs_instance.specs.Instance.{IsInstance}
 use Rattle.vs_instance.specs.Problem.{Problem}
-use Rattle.vs_reader.specs.Names.{HaveCounts, NameLists}
+use Rattle.vs_reader.specs.Names.{NameLists}
 use Rattle.vs_reader.specs.NameRules.{AreNames}
 use Rattle.vs_reader.specs.Rows.{Row, lines}
 use Rattle.vs_reader.specs.Texts.{EndsInLine, HasRows, StandsFor}
 use Rattle.vs_document.specs.Alike.{AreAlike}
 use Rattle.vs_document.specs.DocumentRefusals.{AreRefused}
 use Rattle.vs_document.specs.declared.refused.DocWhy.{DocWhy}
-use Rattle.vs_document.specs.declared.document.Document.{Document}
-use Rattle.vs_document.specs.DocumentRows.{document_rows}
-use Rattle.vs_document.specs.DocumentText.{DocumentText, HasText}
+use Rattle.vs_rows.specs.declared.document.Document.{Document}
+use Rattle.vs_rows.specs.DocumentRows.{document_rows}
+use Rattle.vs_rows.specs.DocumentText.{DocumentText, HasText}
 use Rattle.vs_document.specs.ReadingBack.{ReadsAs}
-
--- the rows as which a document is written stand for it
-abbrev pub WrittenRowsStandForTheirDocument : Type 0
-WrittenRowsStandForTheirDocument = (p : Problem) (names : NameLists) (d : Document) → IsInstance p
-    → HaveCounts p names → HasText p d → DocumentText p names (document_rows p names d) d
 
 -- rows that stand for a document aren't refused
 abbrev pub DocumentsAreNotRefused : Type 0

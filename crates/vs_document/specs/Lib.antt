@@ -1,13 +1,8 @@
-pub mod Fields
-pub mod Shapes
-pub mod DocumentRows
-pub mod DocumentText
-pub mod Writing
 pub mod Places
 pub mod DocumentRefusals
 pub mod Alike
 pub mod Form
 pub mod ReadingBack
 pub mod Laws
-pub mod RowForms
+pub mod RowKinds
 pub mod Reading

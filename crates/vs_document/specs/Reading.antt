@@ -8,27 +8,21 @@ use Rattle.vs_instance.specs.HoldingTable.{price_of}
 use Rattle.vs_prices.specs.Table.{IsPrice, Fits}
 use Rattle.vs_prices.specs.declared.table.Table.{Table}
 use Rattle.vs_reader.specs.declared.input.Input.{Input}
-use Rattle.vs_reader.specs.Names.{HaveCounts}
-use Rattle.vs_reader.specs.Rows.{AreCounted, row_of}
+use Rattle.vs_reader.specs.Rows.{row_of}
 use Rattle.vs_document.specs.declared.refused.DocError.{DocError}
 use Rattle.vs_document.specs.declared.refused.DocError.TheVariants as error
 use Rattle.vs_instance.specs.Plan.{LayerBlock}
 use Rattle.vs_plan.specs.Blocks.{IsOfInstance}
-use Rattle.vs_document.specs.declared.document.Document.{Document}
-use Rattle.vs_document.specs.declared.limits.TheConstants.{MAX_COST, MAX_BOUND, MAX_FINISHED, MAX_NUMBER}
+use Rattle.vs_rows.specs.declared.document.Document.{Document}
+use Rattle.vs_rows.specs.declared.limits.TheConstants.{MAX_COST, MAX_BOUND, MAX_FINISHED, MAX_NUMBER}
 use Rattle.vs_document.specs.declared.reading.head.Head.{Head}
-use Rattle.vs_document.specs.declared.document.Shape.{Shape}
-use Rattle.vs_document.specs.declared.document.Shape.TheVariants as shape
-use Rattle.vs_document.specs.DocumentText.{DocumentText, IsBlankElsewhere}
-use Rattle.vs_document.specs.Shapes.{AreTree, IsShapeOf}
-use Rattle.vs_document.specs.DocumentRows.{DocumentRow, ClaimRow, CostRow, BoundRow, NodesRow, BlockRow, TableRow, EndRow, Says, FleetRow, PriceRow, SayAll, permitted_trips, table_rows, tables_rows, shape_row, IsBetween, IsWithin}
+use Rattle.vs_rows.specs.declared.document.Shape.{Shape}
+use Rattle.vs_rows.specs.declared.document.Shape.TheVariants as shape
+use Rattle.vs_rows.specs.DocumentText.{DocumentText, IsBlankElsewhere}
+use Rattle.vs_rows.specs.Shapes.{AreTree, IsShapeOf}
+use Rattle.vs_rows.specs.DocumentRows.{DocumentRow, ClaimRow, CostRow, BoundRow, NodesRow, BlockRow, TableRow, EndRow, Says, FleetRow, PriceRow, SayAll, permitted_trips, table_rows, tables_rows, shape_row, IsBetween, IsWithin}
 use Rattle.vs_document.specs.DocumentRefusals.{AreRefusedFrom, IsRefusal}
 use Rattle.vs_document.specs.Places.{Place, AtEnd, AtClaim, AtBlocks, InTree, PriceOf, Vehicle, Trip, InTable, prices_of}
-
--- the names are the instance's, and 32 bits count the records
-pub record IsInput (input : Input) : Type 0 where
-  pub counts : HaveCounts input.instance input.names
-  pub counted : AreCounted input.before input.rest
 
 -- of the rows from one on, which come at a place, the first that is refused is told and why
 abbrev pub IsRefusedAt : Input → ℕ → Place → DocError → Type 0

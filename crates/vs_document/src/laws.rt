@@ -1,12 +1,7 @@
-//! What holds of every document and its text.
+//! What holds of the documents that rows stand for.
 
 ghost use Rattle.vs_document.specs.Laws.{DocumentsAreNotRefused, DocumentsOfRowsAreAlike, RowsAreRefusedOnce};
-ghost use Rattle.vs_document.specs.Laws.{WrittenDocumentsAreReadBack, WrittenRowsStandForTheirDocument};
-
-/// The rows as which a document is written stand for it.
-pub fn written_rows_stand_for_their_document()
-    ensures { WrittenRowsStandForTheirDocument }
-{}
+ghost use Rattle.vs_document.specs.Laws.{WrittenDocumentsAreReadBack};
 
 /// Rows that stand for a document aren't refused.
 pub fn documents_are_not_refused()

@@ -1,7 +1,7 @@
 //! Why a text is no document.
 
 ghost use Rattle.std.specs.Prelude.{◌≡◌, ◌+◌, ◌≤◌, length};
-ghost use Rattle.vs_document.specs.Reading.{IsInput};
+ghost use Rattle.vs_rows.specs.RowForms.{IsInput};
 ghost use Rattle.vs_document.specs.declared.refused.DocError.TheVariants.{Memory};
 
 use std::alloc::{AllocError, AllocFailed};

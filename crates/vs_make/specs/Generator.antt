@@ -9,7 +9,7 @@ use Rattle.vs_make.specs.declared.grid.TheConstants.{STOPS, DEPOTS}
 use Rattle.vs_make.specs.declared.sequence.Draws.{Draws}
 use Rattle.vs_make.specs.declared.sequence.TheConstants.{MULTIPLIER, MODULUS}
 use Rattle.vs_reader.specs.Rows.{Field, Row}
-use Rattle.vs_document.specs.Fields.{numbered, time_field}
+use Rattle.vs_rows.specs.Fields.{numbered, time_field}
 
 -- Stops stand in three rows of four, numbered from 0. How far two of them are apart: the difference in x and that in y
 -- together.

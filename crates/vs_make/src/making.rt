@@ -5,13 +5,13 @@ ghost use Rattle.std.specs.Prelude.{◌≡◌, ◌<◌, ◌≤◌, [], ◌∷◌
 ghost use Rattle.std.specs.List.{range_with_len};
 ghost use Rattle.vs_make.specs.Generator.{deadhead_row, deadheads_from, depot_of, drawn_row, layer_name, layer_names, layer_row, make_rows, stop_name, stop_row, trip_row};
 ghost use Rattle.vs_reader.specs.Rows.{fields, line, lines};
-ghost use Rattle.vs_document.specs.Fields.{numbered, time_field};
+ghost use Rattle.vs_rows.specs.Fields.{numbered, time_field};
 
 use crate::grid::{DEPOTS, STOPS, depot_of, distance};
 use crate::sequence::{Draws, Sequence};
 use std::alloc::Global;
-use vs_document::Text;
 use vs_instance::{MAX_LAYERS, MAX_TRIPS};
+use vs_rows::Text;
 use vs_types::{LayerNo, LayerSet, Memory};
 
 /// The bytes of the instance of n trips.

@@ -142,7 +142,8 @@ fn read_declarations(
     records: &mut TextRecords,
 ) -> Result<Declarations, ReadError>
     requires { IsOpen records.old }
-    ensures { (rows : List Row) → AreLeft records.old rows → DeclareOrRefuse version rows records.new result }
+    ensures { (rows : List Row) → AreLeft records.old rows
+        → DeclareOrRefuse version rows records.new result }
 {
     let mut draft = Draft::new(alloc);
     for number in 2..u32::MAX {

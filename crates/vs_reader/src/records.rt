@@ -118,7 +118,8 @@ pub fn layer(version: Version, names: &Names, row: &ByteRecord) -> Result<Layer,
 
 /// The least rest that the record of a layer writes in a text of this version, in minutes.
 fn written_stay(version: Version, row: &ByteRecord) -> Result<Option<u64>, Why>
-    ensures { Judged (stay_rules version (fields_of row.now)) (StayOf version (field_of (fields_of row.now) 7)) result }
+    ensures { Judged (stay_rules version (fields_of row.now))
+        (StayOf version (field_of (fields_of row.now) 7)) result }
 {
     match version {
         Version::One => Ok(None),

@@ -17,7 +17,7 @@ use Rattle.vs_plan.specs.Blocks.{blocks_of}
 use Rattle.vs_plan.specs.PlanFaults.{faults_of}
 use Rattle.vs_plan.specs.declared.plan_fault.PlanFault.{PlanFault}
 use Rattle.vs_cases.specs.declared.claim.Claim.{Claim}
-use Rattle.vs_document.specs.DocumentRows.{claim_field, number_field}
+use Rattle.vs_rows.specs.DocumentRows.{claim_field, number_field}
 use Rattle.vs_check.specs.declared.flaw.Flaw.{Flaw}
 use Rattle.vs_check.specs.declared.flaw.Flaw.TheVariants.{Plan}
 use Rattle.vs_check.specs.Flaws.{flaws_of}

@@ -7,8 +7,8 @@ use Rattle.vs_reader.specs.Rows.{Row}
 use Rattle.vs_reader.proofs.CallerLemmas.{one_reading, refused_none}
 use Rattle.vs_document.specs.Alike.{AreAlike}
 use Rattle.vs_document.specs.DocumentRefusals.{AreRefused}
-use Rattle.vs_document.specs.DocumentText.{DocumentText}
-use Rattle.vs_document.specs.declared.document.Document.{Document}
+use Rattle.vs_rows.specs.DocumentText.{DocumentText}
+use Rattle.vs_rows.specs.declared.document.Document.{Document}
 use Rattle.vs_document.specs.declared.refused.DocWhy.{DocWhy}
 use Rattle.vs_document.proofs.CallerLemmas.{alike as alike_documents, document_not_refused, refused_once, suits-text, instance_names}
 use Rattle.vs_check.specs.Laws.{AreJudgedAlike}

@@ -2,6 +2,7 @@
 use Rattle.std.proofs.Common.{◌≡◌, ℕ, zero, suc, ◌<◌, List, [], ◌∷◌, ◌++◌, length, sym, ap, ◌∙◌, subst, arith}
 use Rattle.std.proofs.lemmas.List.{ext_get_or}
 use Rattle.vs_instance.specs.Problem.{Problem}
+use Rattle.vs_instance.specs.Ways.{layer_of}
 use Rattle.vs_layer.specs.declared.arc.Arc.{Arc}
 use Rattle.vs_layer.specs.Graph.{arc_of}
 use Rattle.vs_match.specs.declared.arc_kind.ArcKind.{ArcKind}
@@ -74,7 +75,7 @@ module _ (p : Problem) (l : ℕ) (matching : Matching) where
   one_row : (layer : Field) (full : ℕ) (r s : Row) → IsNetRow p layer l matching full r
       → IsNetRow p layer l matching full s → r ≡ s
   one_row layer full r s is also =
-      is.row_is ∙ ap (λ c. size_row layer (matching_field matching) c full)
+      is.row_is ∙ ap (λ c. size_row layer (matching_field matching) c full (layer_of p l).stay)
       (one_size is.net also.net is.is_net also.is_net)
       ∙ sym also.row_is
 

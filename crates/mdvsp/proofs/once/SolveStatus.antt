@@ -9,7 +9,7 @@ use Rattle.vs_reader.specs.Rows.{Row}
 use Rattle.vs_reader.proofs.CallerLemmas.{one_reading, refused_none}
 use Rattle.vs_cases.specs.declared.claim.Claim.{Claim}
 use Rattle.vs_cases.specs.declared.claim.Claim.TheVariants.{Optimal, Infeasible, StillOpen}
-use Rattle.vs_document.specs.declared.document.Document.{Document}
+use Rattle.vs_rows.specs.declared.document.Document.{Document}
 use Rattle.vs_answer.specs.Answers.{choices}
 use Rattle.vs_check.specs.HoldingDocument.{ProvesItsClaim}
 use Rattle.vs_answer.proofs.CallerLemmas.{enough_budgets_leave_nothing_open}

@@ -12,7 +12,7 @@ use Rattle.vs_check.specs.Flaws.{IsFlawWithin, flaws_of}
 use Rattle.vs_check.specs.declared.flaw.Flaw.TheVariants.{Plan}
 use Rattle.vs_check.proofs.CallerLemmas.{verdict_named}
 use Rattle.mdvsp.specs.Cases.{CheckText}
-use Rattle.vs_document.specs.declared.document.Document.{Document}
+use Rattle.vs_rows.specs.declared.document.Document.{Document}
 use Rattle.vs_reader.specs.Names.{NameLists, HaveCounts}
 use Rattle.vs_reader.specs.Rows.{lines}
 use Rattle.mdvsp.specs.declared.answer.Answer.{Answer}

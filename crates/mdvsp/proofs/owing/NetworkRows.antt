@@ -1,6 +1,7 @@
 -- Rows that are written layer by layer.
-use Rattle.std.proofs.Common.{◌≡◌, ℕ, ◌+◌, List, [], ◌∷◌, ◌++◌, length, Result, Ok, Err, OnOk, refl, sym, ap, ◌∙◌, subst, add-one, append_assoc, append-nil}
+use Rattle.std.proofs.Common.{◌≡◌, ℕ, ◌+◌, List, [], ◌∷◌, ◌++◌, length, Option, Result, Ok, Err, OnOk, refl, sym, ap, ◌∙◌, subst, add-one, append_assoc, append-nil}
 use Rattle.vs_instance.specs.Problem.{Problem}
+use Rattle.vs_instance.specs.Ways.{layer_of}
 use Rattle.vs_match.specs.declared.matching.Matching.{Matching}
 use Rattle.vs_match.specs.declared.matching.Matching.TheVariants.{First, Latest}
 use Rattle.vs_match.specs.declared.sizes.NetCounts.{NetCounts}
@@ -8,7 +9,7 @@ use Rattle.vs_match.specs.LayerGraph.{LayerGraph, IsNetOf}
 use Rattle.vs_match.specs.Sizes.{counts_of, full_count_of}
 use Rattle.vs_reader.specs.Names.{NameLists, name_of}
 use Rattle.vs_reader.specs.Rows.{Field, Row, line, lines}
-use Rattle.vs_document.proofs.CallerLemmas.{more_rows}
+use Rattle.vs_rows.proofs.CallerLemmas.{more_rows}
 use Rattle.mdvsp.specs.declared.answer.Answer.{Answer}
 use Rattle.mdvsp.specs.declared.status.Status.TheVariants.{Done}
 use Rattle.mdvsp.specs.Answered.{HasSizes}
@@ -35,20 +36,21 @@ one_layer_more p names l old new have more = record {
 
 -- the row of a net's counts is written
 pub net_written : {A E : Type 0} (p : Problem) (layer : Field) (l : ℕ) (matching : Matching) (full : ℕ)
-    (old new : List ℕ) (net : LayerGraph) (counts : NetCounts) (r : Result A E) → IsNetOf p l matching net
-    → counts ≡ counts_of net
-    → OnOk r (new ≡ old ++ line (size_row layer (matching_field matching) counts full))
+    (old new : List ℕ) (net : LayerGraph) (counts : NetCounts) (stay : Option ℕ) (r : Result A E)
+    → IsNetOf p l matching net → counts ≡ counts_of net → stay ≡ (layer_of p l).stay
+    → OnOk r (new ≡ old ++ line (size_row layer (matching_field matching) counts full stay))
     → OnOk r (WritesNet p layer l matching full old new)
-net_written p layer l matching full old new net counts (Ok a) is_net are wrote = record {
-  row = size_row layer (matching_field matching) counts full;
+net_written p layer l matching full old new net counts stay (Ok a) is_net are rests wrote = record {
+  row = size_row layer (matching_field matching) counts full stay;
   is_row = record {
     net = net;
     is_net = is_net;
-    row_is = ap (λ (c : NetCounts). size_row layer (matching_field matching) c full) are;
+    row_is = ap (λ (c : NetCounts). size_row layer (matching_field matching) c full stay) are
+        ∙ ap (size_row layer (matching_field matching) (counts_of net) full) rests;
   };
   text_is = wrote;
 }
-net_written p layer l matching full old new net counts (Err e) is_net are wrote = tt
+net_written p layer l matching full old new net counts stay (Err e) is_net are rests wrote = tt
 
 -- the rows of both nets of a layer are
 pub layer_written : {A E : Type 0} (p : Problem) (names : NameLists) (l : ℕ) (layer : Field) (full : ℕ)

@@ -4,7 +4,7 @@ use Rattle.vs_types.specs.declared.memory.Memory.{Memory}
 use Rattle.vs_instance.specs.Problem.{Problem}
 use Rattle.vs_cases.specs.declared.claim.Claim.{Claim}
 use Rattle.vs_cases.specs.declared.claim.Claim.TheVariants.{Optimal, Infeasible, StillOpen}
-use Rattle.vs_document.specs.declared.document.Document.{Document}
+use Rattle.vs_rows.specs.declared.document.Document.{Document}
 use Rattle.vs_check.specs.HoldingDocument.{HoldingDocument}
 use Rattle.vs_reader.specs.declared.refused.Refused.{Refused}
 use Rattle.vs_reader.specs.Names.{NameLists}
@@ -18,7 +18,7 @@ use Rattle.vs_words.specs.declared.command.Effort.{Effort}
 use Rattle.vs_words.specs.declared.command.Command.TheVariants.{Check, Solve, Network}
 use Rattle.mdvsp.specs.Answered.{HasSizes, IsDocumentOf, IsNoCase, IsOwedFor, RefusesCase, RefusesText, case_error}
 use Rattle.vs_document.specs.DocumentRefusals.{AreRefused}
-use Rattle.vs_document.specs.DocumentRows.{document_rows}
+use Rattle.vs_rows.specs.DocumentRows.{document_rows}
 use Rattle.vs_document.specs.declared.refused.DocWhy.{DocWhy}
 use Rattle.mdvsp.specs.Budgets.{budget_of}
 use Rattle.mdvsp.specs.Cases.{CheckText, SolveText}

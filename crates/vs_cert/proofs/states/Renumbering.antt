@@ -3,10 +3,10 @@ use Rattle.std.proofs.Common.{◌≡◌, ℕ, List, [], ◌∷◌, ◌++◌, ref
 use Rattle.std.specs.List.{slice_get}
 use Rattle.std.proofs.lemmas.List.{append_assoc, append-nil}
 use Rattle.vs_cases.specs.Tree.{Tree, Leaf, Split}
-use Rattle.vs_document.specs.Shapes.{preorder}
+use Rattle.vs_rows.specs.Shapes.{preorder}
 use Rattle.vs_cert.specs.StateDocument.{IsRenumbered, tables_named}
-use Rattle.vs_document.specs.declared.document.Shape.{Shape}
-use Rattle.vs_document.specs.declared.document.Shape.TheVariants as shape
+use Rattle.vs_rows.specs.declared.document.Shape.{Shape}
+use Rattle.vs_rows.specs.declared.document.Shape.TheVariants as shape
 
 -- the numbers of the tables that rows name
 abbrev pub named_in : List Shape → List ℕ

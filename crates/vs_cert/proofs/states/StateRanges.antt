@@ -16,9 +16,9 @@ use Rattle.vs_tree.specs.History.{Opening, State, incumbent, known, sets_at, spo
 use Rattle.vs_tree.specs.Report.{IsLesser, IsReached, bound_of}
 use Rattle.vs_tree.specs.Sound.{IsPlanOf, IsSound}
 use Rattle.vs_tree.proofs.CallerLemmas.{last-is}
-use Rattle.vs_document.specs.DocumentRows.{IsBetween, IsWithin}
+use Rattle.vs_rows.specs.DocumentRows.{IsBetween, IsWithin}
 use Rattle.vs_cert.specs.StateDocument.{known_blocks}
-use Rattle.vs_document.specs.declared.limits.TheConstants.{MAX_BOUND, MAX_COST}
+use Rattle.vs_rows.specs.declared.limits.TheConstants.{MAX_BOUND, MAX_COST}
 use Rattle.vs_cert.proofs.states.TreeTables.{number_fits}
 use Rattle.vs_cert.proofs.states.WorthRange.{worth_within}
 

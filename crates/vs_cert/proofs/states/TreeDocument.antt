@@ -19,15 +19,15 @@ use Rattle.vs_tree.specs.Report.{IsReport}
 use Rattle.vs_tree.specs.Sound.{IsSound}
 use Rattle.vs_tree.specs.declared.calls.Report.{Report}
 use Rattle.vs_instance.specs.declared.limits.TheConstants.{MAX_BUDGET}
-use Rattle.vs_document.specs.DocumentRows.{BlockRow, DocumentRow, EndRow, IsBetween, head_of, rows_of_document, shape_row}
-use Rattle.vs_document.specs.DocumentText.{HasText}
-use Rattle.vs_document.specs.Shapes.{IsShapeOf}
+use Rattle.vs_rows.specs.DocumentRows.{BlockRow, DocumentRow, EndRow, IsBetween, head_of, rows_of_document, shape_row}
+use Rattle.vs_rows.specs.DocumentText.{HasText}
+use Rattle.vs_rows.specs.Shapes.{IsShapeOf}
 use Rattle.vs_cert.specs.StateDocument.{IsDocumentOf, IsRenumbered, known_blocks}
 use Rattle.vs_cert.specs.TreeRows.{AreRowsOf}
 use Rattle.vs_cert.specs.TreeText.{numbered_rows, prices_of_number, prices_rows}
-use Rattle.vs_document.specs.declared.document.Document.{Document}
-use Rattle.vs_document.specs.declared.limits.TheConstants.{MAX_COST}
-use Rattle.vs_document.specs.declared.document.Shape.{Shape}
+use Rattle.vs_rows.specs.declared.document.Document.{Document}
+use Rattle.vs_rows.specs.declared.limits.TheConstants.{MAX_COST}
+use Rattle.vs_rows.specs.declared.document.Shape.{Shape}
 use Rattle.vs_cert.proofs.states.StateRanges.{blocks_of_instance, bound_fits, known_fits, no_blocks, none_known}
 use Rattle.vs_cert.proofs.states.TreeShapes.{rows_of_instance}
 use Rattle.vs_cert.proofs.states.TreeTables.{HasTables, numbers_within, some_tables, tables_rows-prices}

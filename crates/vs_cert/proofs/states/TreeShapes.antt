@@ -12,10 +12,10 @@ use Rattle.vs_instance.specs.Ways.{no_trip}
 use Rattle.vs_cases.specs.Tree.{Tree, Leaf, Split, IsGoodTree, right_of, with_set}
 use Rattle.vs_types.specs.Parts.{IsProperPart}
 use Rattle.vs_cases.proofs.CallerLemmas.{left-restricts, right-restricts}
-use Rattle.vs_document.specs.Shapes.{IsShapeOf, preorder}
+use Rattle.vs_rows.specs.Shapes.{IsShapeOf, preorder}
 use Rattle.vs_cert.specs.StateDocument.{IsRenumbered}
-use Rattle.vs_document.specs.declared.document.Shape.{Shape}
-use Rattle.vs_document.specs.declared.document.Shape.TheVariants as shape
+use Rattle.vs_rows.specs.declared.document.Shape.{Shape}
+use Rattle.vs_rows.specs.declared.document.Shape.TheVariants as shape
 
 module _ (p : Problem) (instance : IsInstance p) (numbers : List ℕ) where
   abbrev IsRow : Shape → Type 0

@@ -14,11 +14,11 @@ use Rattle.vs_tree.specs.Sound.{IsSound}
 use Rattle.vs_tree.specs.StateTree.{IsTreeAt, IsTreeOf}
 use Rattle.vs_tree.proofs.CallerLemmas.{lawful_fits}
 use Rattle.vs_cases.specs.Tree.{Tree, Leaf, Split, right_of, with_set}
-use Rattle.vs_document.specs.DocumentRows.{DocumentRow, table_rows}
+use Rattle.vs_rows.specs.DocumentRows.{DocumentRow, table_rows}
 use Rattle.vs_cert.specs.StateDocument.{first_times, tables_named}
 use Rattle.vs_cert.specs.TreeRows.{AreRowsOf}
 use Rattle.vs_cert.specs.TreeText.{prices_of_number, prices_rows}
-use Rattle.vs_document.specs.declared.document.Shape.{Shape}
+use Rattle.vs_rows.specs.declared.document.Shape.{Shape}
 
 -- what is true of numbers is true of them once each
 first_times-All : (P : ℕ → Type 0) (xs : List ℕ) → All P xs → All P (first_times xs)

@@ -12,11 +12,11 @@ use Rattle.vs_tree.specs.StateTree.{IsTreeAt, IsTreeOf}
 use Rattle.vs_cases.specs.Tree.{Tree, Leaf, Split, right_of, splits, with_set}
 use Rattle.vs_tree.proofs.CallerLemmas.{leaf_within}
 use Rattle.vs_cert.specs.Numbering.{with_number}
-use Rattle.vs_document.specs.Shapes.{preorder}
+use Rattle.vs_rows.specs.Shapes.{preorder}
 use Rattle.vs_cert.specs.StateDocument.{first_times}
 use Rattle.vs_cert.specs.TreeRows.{AreRowsOf, IsLeafRow, IsRowAt, IsSplitRow}
-use Rattle.vs_document.specs.declared.document.Shape.{Shape}
-use Rattle.vs_document.specs.declared.document.Shape.TheVariants as shape
+use Rattle.vs_rows.specs.declared.document.Shape.{Shape}
+use Rattle.vs_rows.specs.declared.document.Shape.TheVariants as shape
 use Rattle.vs_cert.proofs.states.Numberings.{first_times-more, stands-more}
 use Rattle.vs_cert.proofs.states.Renumbering.{ArePlacedRows, IsPlacedRow, named_in, named_in-leaf, named_in-preorder, named_in-split, placed-kept, placed-push, placed_tree}
 

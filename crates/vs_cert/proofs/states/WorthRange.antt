@@ -22,7 +22,7 @@ use Rattle.vs_prices.specs.Worth.{IsRoundedUp, IsWorth, fleet_price, least, leas
 use Rattle.vs_prices.specs.declared.bound.Bound.TheVariants.{AtLeast}
 use Rattle.vs_prices.specs.declared.table.Table.{Table}
 use Rattle.vs_prices.proofs.CallerLemmas.{IsScaled, scaled-IsScaled, product_within}
-use Rattle.vs_document.proofs.CallerLemmas.{price_anywhere, prices_in_all}
+use Rattle.vs_rows.proofs.CallerLemmas.{price_anywhere, prices_in_all}
 
 -- numbers at most so far from 0
 abbrev pub Within : ℕ → ℤ → Type 0

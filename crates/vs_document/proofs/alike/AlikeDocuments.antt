@@ -21,13 +21,13 @@ use Rattle.vs_reader.specs.NameRules.{AreNames}
 use Rattle.vs_reader.specs.Rows.{Row}
 use Rattle.vs_cases.specs.declared.claim.Claim.{Claim}
 use Rattle.vs_document.specs.Alike.{AreAlike}
-use Rattle.vs_document.specs.declared.document.Document.{Document}
-use Rattle.vs_document.specs.declared.document.Shape.{Shape}
-use Rattle.vs_document.specs.declared.document.Shape.TheVariants as shape
-use Rattle.vs_document.specs.DocumentRows.{DocumentRow, ClaimRow, CostRow, BoundRow, NodesRow, BlockRow, TableRow, FleetRow, PriceRow, SplitRow, LeafRow, EndRow, SayAll, layer_rows, permitted_trips, rows_of_document, shape_row, table_rows, tables_rows}
-use Rattle.vs_document.specs.DocumentText.{Agree, DocumentText}
+use Rattle.vs_rows.specs.declared.document.Document.{Document}
+use Rattle.vs_rows.specs.declared.document.Shape.{Shape}
+use Rattle.vs_rows.specs.declared.document.Shape.TheVariants as shape
+use Rattle.vs_rows.specs.DocumentRows.{DocumentRow, ClaimRow, CostRow, BoundRow, NodesRow, BlockRow, TableRow, FleetRow, PriceRow, SplitRow, LeafRow, EndRow, SayAll, layer_rows, permitted_trips, rows_of_document, shape_row, table_rows, tables_rows}
+use Rattle.vs_rows.specs.DocumentText.{Agree, DocumentText}
 use Rattle.vs_document.proofs.rows.AcceptedRows.{rest_is}
-use Rattle.vs_document.proofs.rows.SaysOnce.{says_once}
+use Rattle.vs_rows.proofs.CallerLemmas.{says_once}
 
 -- of equal lists the fronts of equal length are equal, and so are the rests
 same_fronts : {X : Type 0} (xs ys us vs : List X) → length xs ≡ length us → xs ++ ys ≡ us ++ vs → (xs ≡ us) × (ys ≡ vs)

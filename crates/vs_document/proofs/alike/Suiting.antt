@@ -1,8 +1,8 @@
 -- Documents that are read, and those that have a text, suit their instance.
 use Rattle.vs_instance.specs.Problem.{Problem}
-use Rattle.vs_document.specs.declared.document.Document.{Document}
+use Rattle.vs_rows.specs.declared.document.Document.{Document}
 use Rattle.vs_document.specs.Form.{IsReadFor, Suits}
-use Rattle.vs_document.specs.DocumentText.{HasText}
+use Rattle.vs_rows.specs.DocumentText.{HasText}
 
 pub suits-read : (p : Problem) (d : Document) → IsReadFor p d → Suits p d
 suits-read p d read = record {

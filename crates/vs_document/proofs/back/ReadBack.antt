@@ -1,11 +1,11 @@
 -- Behind the records of its instance the text of a document is read as that document.
 use Rattle.std.proofs.Common.{refl}
 use Rattle.vs_reader.proofs.CallerLemmas.{stands_behind, stands_counts}
-use Rattle.vs_document.specs.DocumentRows.{document_rows}
+use Rattle.vs_rows.specs.DocumentRows.{document_rows}
 use Rattle.vs_document.specs.Laws.{WrittenDocumentsAreReadBack}
 use Rattle.vs_document.proofs.back.InstanceNames.{instance_names}
-use Rattle.vs_document.proofs.written.WrittenForms.{stands as stands_for}
-use Rattle.vs_document.proofs.written.WrittenPlain.{plain_document}
+use Rattle.vs_rows.proofs.CallerLemmas.{stands as stands_for}
+use Rattle.vs_rows.proofs.CallerLemmas.{plain_document}
 
 pub read_back : WrittenDocumentsAreReadBack
 read_back bytes read p names before rest d text has ends has_text =

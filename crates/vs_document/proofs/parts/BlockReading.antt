@@ -11,10 +11,10 @@ use Rattle.vs_plan.specs.Blocks.{IsOfInstance}
 use Rattle.vs_reader.specs.Rows.{row_of}
 use Rattle.vs_reader.specs.Names.{HaveCounts}
 use Rattle.vs_reader.specs.declared.input.Input.{Input}
-use Rattle.vs_document.specs.DocumentRows.{BlockRow, DocumentRow, IsNamedBlock, Says}
+use Rattle.vs_rows.specs.DocumentRows.{BlockRow, DocumentRow, IsNamedBlock, Says}
 use Rattle.vs_document.specs.Places.{AtBlocks, InTable}
 use Rattle.vs_document.specs.Reading.{ReadsBlocks, ReadsTo}
-use Rattle.vs_document.specs.RowForms.{BeginsAs}
+use Rattle.vs_rows.specs.RowForms.{BeginsAs}
 use Rattle.vs_document.proofs.rows.RefusedRows.{lead_on, read_on, reads_none, reads_one}
 use Rattle.vs_document.proofs.parts.SamePlaces.{blocks_end}
 

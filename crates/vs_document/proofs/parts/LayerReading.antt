@@ -12,7 +12,7 @@ use Rattle.vs_prices.specs.declared.table.Table.{Table}
 use Rattle.vs_prices.specs.Table.{IsPrice, prices_in}
 use Rattle.vs_reader.specs.declared.input.Input.{Input}
 use Rattle.vs_document.specs.declared.refused.DocError.{DocError}
-use Rattle.vs_document.specs.DocumentRows.{DocumentRow, FleetRow, SayAll, TableRow, layer_rows, permitted_trips}
+use Rattle.vs_rows.specs.DocumentRows.{DocumentRow, FleetRow, SayAll, TableRow, layer_rows, permitted_trips}
 use Rattle.vs_document.specs.Places.{InTable, PriceOf, Trip, Vehicle, prices_of}
 use Rattle.vs_document.specs.Reading.{IsRefusedAt, LeadTo, ReadsFleet, ReadsKind, ReadsLayer, ReadsPrices, ReadsTable, price_rows, prices_from}
 use Rattle.vs_document.proofs.rows.RefusedRows.{lead_on, say_on}

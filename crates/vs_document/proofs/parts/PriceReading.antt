@@ -14,7 +14,7 @@ use Rattle.vs_prices.specs.declared.table.Table.{Table}
 use Rattle.vs_prices.specs.Table.{IsPrice}
 use Rattle.vs_reader.specs.declared.input.Input.{Input}
 use Rattle.vs_document.specs.declared.refused.DocError.{DocError}
-use Rattle.vs_document.specs.DocumentRows.{DocumentRow, PriceRow, SayAll, permitted_trips}
+use Rattle.vs_rows.specs.DocumentRows.{DocumentRow, PriceRow, SayAll, permitted_trips}
 use Rattle.vs_document.specs.Places.{PriceOf, Trip, InTable}
 use Rattle.vs_document.specs.Reading.{IsRefusedAt, LeadTo, ReadsPrice, ReadsPrices, price_rows, trips_from}
 use Rattle.vs_document.proofs.parts.PriceRows.{as_word}

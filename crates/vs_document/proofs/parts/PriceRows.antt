@@ -10,8 +10,8 @@ use Rattle.vs_reader.specs.Rows.{row_of}
 use Rattle.vs_reader.specs.declared.input.Input.{Input}
 use Rattle.vs_document.specs.declared.refused.DocWhy.TheVariants.{OutOfOrder, PriceRange}
 use Rattle.vs_document.specs.declared.refused.DocError.TheVariants as error
-use Rattle.vs_document.specs.declared.limits.TheConstants.{MAX_PRINTED_PRICE}
-use Rattle.vs_document.specs.DocumentRows.{FleetRow, IsWithin, PriceRow, Says}
+use Rattle.vs_rows.specs.declared.limits.TheConstants.{MAX_PRINTED_PRICE}
+use Rattle.vs_rows.specs.DocumentRows.{FleetRow, IsWithin, PriceRow, Says}
 use Rattle.vs_document.specs.Places.{PriceOf, Trip, Vehicle, InTable, behind}
 use Rattle.vs_document.specs.Reading.{IsRefusedAt, ReadsFleet, ReadsPrice}
 use Rattle.vs_document.proofs.rows.RefusedRows.{leads_one, no_prices, out_of_order, says_one}

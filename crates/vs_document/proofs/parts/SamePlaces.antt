@@ -14,13 +14,14 @@ use Rattle.vs_document.specs.declared.refused.DocError.{DocError}
 use Rattle.vs_document.specs.declared.refused.DocError.TheVariants as error
 use Rattle.vs_document.specs.declared.reading.said.Said.{Said}
 use Rattle.vs_document.specs.declared.reading.said.Said.TheVariants as said
-use Rattle.vs_document.specs.DocumentRows.{DocumentRow, BlockRow, TableRow, LeafRow, Says}
+use Rattle.vs_rows.specs.DocumentRows.{DocumentRow, BlockRow, TableRow, LeafRow, Says}
 use Rattle.vs_document.specs.DocumentRefusals.{AreRefusedFrom, IsAccepted, IsRefusedRow}
 use Rattle.vs_document.specs.Places.{Place, AtEnd, AtBlocks, InTable, InTree, HasNumber, SuitsCost, behind}
 use Rattle.vs_document.specs.Reading.{IsRefusedAt, LeadTo}
-use Rattle.vs_document.specs.RowForms.{BeginsAs, IsOfKind, row_said}
+use Rattle.vs_rows.specs.RowForms.{BeginsAs, IsOfKind}
+use Rattle.vs_document.specs.RowKinds.{row_said}
 use Rattle.vs_document.proofs.rows.RefusedRows.{ends_early, refused_here, refused_behind}
-use Rattle.vs_document.proofs.rows.SaysOnce.{first_word, word_of}
+use Rattle.vs_rows.proofs.CallerLemmas.{first_word, word_of}
 
 -- what a refusal of no rows, and of some, says at a place before the end
 pub refused_none : (p : Problem) (names : NameLists) (n : ℕ) (place : Place) (at : ℕ) (why : DocWhy) → place ≢ AtEnd

@@ -9,12 +9,12 @@ use Rattle.vs_prices.specs.Table.{Fits}
 use Rattle.vs_prices.specs.declared.table.Table.{Table}
 use Rattle.vs_reader.specs.Rows.{row_of}
 use Rattle.vs_reader.specs.declared.input.Input.{Input}
-use Rattle.vs_document.specs.declared.limits.TheConstants.{MAX_NUMBER}
-use Rattle.vs_document.specs.DocumentText.{IsBlankElsewhere}
-use Rattle.vs_document.specs.DocumentRows.{DocumentRow, table_rows, tables_rows}
+use Rattle.vs_rows.specs.declared.limits.TheConstants.{MAX_NUMBER}
+use Rattle.vs_rows.specs.DocumentText.{IsBlankElsewhere}
+use Rattle.vs_rows.specs.DocumentRows.{DocumentRow, table_rows, tables_rows}
 use Rattle.vs_document.specs.Places.{InTable, InTree}
 use Rattle.vs_document.specs.Reading.{ReadsTable, ReadsTables, ReadsTo}
-use Rattle.vs_document.specs.RowForms.{IsOfKind}
+use Rattle.vs_rows.specs.RowForms.{IsOfKind}
 use Rattle.vs_document.proofs.rows.RefusedRows.{lead_on, read_on, reads_none}
 use Rattle.vs_document.proofs.parts.SamePlaces.{tables_end}
 

@@ -11,13 +11,13 @@ use Rattle.vs_reader.specs.declared.input.Input.{Input}
 use Rattle.vs_document.specs.declared.refused.DocWhy.TheVariants.{EndsEarly, RowsAfterEnd}
 use Rattle.vs_document.specs.declared.refused.DocError.{DocError}
 use Rattle.vs_document.specs.declared.refused.DocError.TheVariants as error
-use Rattle.vs_document.specs.declared.document.Shape.{Shape}
-use Rattle.vs_document.specs.declared.document.Shape.TheVariants as shape
+use Rattle.vs_rows.specs.declared.document.Shape.{Shape}
+use Rattle.vs_rows.specs.declared.document.Shape.TheVariants as shape
 use Rattle.vs_document.specs.DocumentRefusals.{AreRefusedFrom}
-use Rattle.vs_document.specs.DocumentRows.{DocumentRow, HasForm, LeafRow, Says, SplitRow, shape_row}
+use Rattle.vs_rows.specs.DocumentRows.{DocumentRow, HasForm, LeafRow, Says, SplitRow, shape_row}
 use Rattle.vs_document.specs.Places.{AtEnd, InTree}
 use Rattle.vs_document.specs.Reading.{IsRefusedAt, ReadsPart, ReadsTo, ReadsTree, SayTo, parts_behind}
-use Rattle.vs_document.specs.Shapes.{AreTree, IsShapeOf, preorder}
+use Rattle.vs_rows.specs.Shapes.{AreTree, IsShapeOf, preorder}
 use Rattle.vs_document.proofs.rows.RefusedRows.{leads_one, read_on, reads_none, refused_at_the_end, says_one}
 
 -- the parts that are read, of a tree of which so many are still to come

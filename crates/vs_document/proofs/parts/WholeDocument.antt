@@ -7,9 +7,10 @@ use Rattle.vs_instance.specs.Plan.{LayerBlock, all_trips}
 use Rattle.vs_reader.specs.Names.{NameLists, name_of}
 use Rattle.vs_reader.specs.Rows.{Row, all_fields, row_of}
 use Rattle.vs_reader.specs.declared.input.Input.{Input}
-use Rattle.vs_document.specs.declared.document.Shape.{Shape}
-use Rattle.vs_document.specs.DocumentRows.{DocumentRow, BlockRow, EndRow, SayAll, Says, shape_row}
-use Rattle.vs_document.specs.Reading.{IsInput, IsLast, ReadsTree, SayTo}
+use Rattle.vs_rows.specs.declared.document.Shape.{Shape}
+use Rattle.vs_rows.specs.DocumentRows.{DocumentRow, BlockRow, EndRow, SayAll, Says, shape_row}
+use Rattle.vs_rows.specs.RowForms.{IsInput}
+use Rattle.vs_document.specs.Reading.{IsLast, ReadsTree, SayTo}
 
 -- the last row says `end`
 ends : (input : Input) (at : ℕ) → IsLast input at → SayAll input.names (drop at input.rest) (EndRow ∷ [])

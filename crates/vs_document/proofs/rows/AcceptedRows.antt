@@ -10,15 +10,15 @@ use Rattle.vs_plan.specs.Blocks.{blocks_of}
 use Rattle.vs_prices.specs.Table.{Fits, into_price, from_price, vehicle_price}
 use Rattle.vs_prices.specs.declared.table.Table.{Table}
 use Rattle.vs_cases.specs.Tree.{Tree, Leaf, Split}
-use Rattle.vs_document.specs.declared.document.Document.{Document}
-use Rattle.vs_document.specs.declared.document.Shape.{Shape}
-use Rattle.vs_document.specs.declared.document.Shape.TheVariants as shape
-use Rattle.vs_document.specs.DocumentRows.{DocumentRow, BlockRow, TableRow, PriceRow, EndRow, head_rows, layer_rows, permitted_trips, rows_of_document, shape_row, table_rows, tables_rows}
-use Rattle.vs_document.specs.DocumentText.{HasText}
+use Rattle.vs_rows.specs.declared.document.Document.{Document}
+use Rattle.vs_rows.specs.declared.document.Shape.{Shape}
+use Rattle.vs_rows.specs.declared.document.Shape.TheVariants as shape
+use Rattle.vs_rows.specs.DocumentRows.{DocumentRow, BlockRow, TableRow, PriceRow, EndRow, head_rows, layer_rows, permitted_trips, rows_of_document, shape_row, table_rows, tables_rows}
+use Rattle.vs_rows.specs.DocumentText.{HasText}
 use Rattle.vs_document.specs.Places.{Place, AtClaim, AtCost, AtBound, AtNodes, AtBlocks, InTable, InTree, AtEnd, PriceOf, Trip, Vehicle, HasNumber, HasPrices, SuitsCost, behind, prices_of}
-use Rattle.vs_document.specs.Shapes.{IsShapeOf, preorder}
+use Rattle.vs_rows.specs.Shapes.{IsShapeOf, preorder}
 use Rattle.vs_document.proofs.rows.BoundBesideCost.{suits}
-use Rattle.vs_document.proofs.written.PriceRanges.{price_anywhere, prices_in_all}
+use Rattle.vs_rows.proofs.CallerLemmas.{price_anywhere, prices_in_all}
 use Rattle.vs_document.proofs.parts.PriceRows.{fleet_order, price_order}
 use Rattle.vs_document.proofs.parts.SamePlaces.{number_of_blocks, number_of_tables}
 

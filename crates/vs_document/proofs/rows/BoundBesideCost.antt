@@ -7,12 +7,12 @@ use Rattle.vs_reader.specs.Names.{NameLists}
 use Rattle.vs_reader.specs.declared.input.Input.{Input}
 use Rattle.vs_document.specs.declared.refused.DocWhy.TheVariants.{BadRow}
 use Rattle.vs_document.specs.declared.refused.DocError.TheVariants as error
-use Rattle.vs_document.specs.DocumentRows.{DocumentRow, BoundRow, Says}
+use Rattle.vs_rows.specs.DocumentRows.{DocumentRow, BoundRow, Says}
 use Rattle.vs_document.specs.DocumentRefusals.{SaysAt}
 use Rattle.vs_document.specs.Places.{AtBound, SuitsCost}
 use Rattle.vs_document.specs.Reading.{IsRefusedAt}
 use Rattle.vs_document.proofs.rows.RefusedRows.{refused_at}
-use Rattle.vs_document.proofs.rows.SaysOnce.{first_word, none_is_no_number, word_of}
+use Rattle.vs_rows.proofs.CallerLemmas.{first_word, none_is_no_number, word_of}
 
 -- a row that says that there is no bound says nothing else
 only_none : (names : NameLists) (row : Row) (cost : ℤ) → Says names row (BoundRow None) → (said : DocumentRow)

@@ -4,17 +4,17 @@ use Rattle.vs_instance.specs.Problem.{Problem}
 use Rattle.vs_reader.specs.Rows.{Row}
 use Rattle.vs_reader.specs.Names.{NameLists}
 use Rattle.vs_reader.specs.NameRules.{AreNames}
-use Rattle.vs_document.specs.declared.document.Document.{Document}
+use Rattle.vs_rows.specs.declared.document.Document.{Document}
 use Rattle.vs_document.specs.declared.refused.DocWhy.{DocWhy}
 use Rattle.vs_document.specs.declared.refused.DocError.{DocError}
 use Rattle.vs_document.specs.declared.refused.DocError.TheVariants as error
-use Rattle.vs_document.specs.DocumentRows.{DocumentRow, SayAll, rows_of_document}
+use Rattle.vs_rows.specs.DocumentRows.{DocumentRow, SayAll, rows_of_document}
 use Rattle.vs_document.specs.DocumentRefusals.{AreRefused, AreRefusedFrom, IsAccepted, IsRefusal, IsRefusedError, IsRefusedRow, IsRefusedSaying}
-use Rattle.vs_document.specs.DocumentText.{DocumentText}
+use Rattle.vs_rows.specs.DocumentText.{DocumentText}
 use Rattle.vs_document.specs.Places.{Place, AtClaim, AtCost, AtBound, AtNodes, AtBlocks, InTable, InTree, AtEnd, HasNumber, HasPrices, behind}
 use Rattle.vs_document.proofs.rows.AcceptedRows.{LeadsTo, leads_document}
 use Rattle.vs_document.proofs.parts.SamePlaces.{refused_none, refused_some}
-use Rattle.vs_document.proofs.rows.SaysOnce.{says_once}
+use Rattle.vs_rows.proofs.CallerLemmas.{says_once}
 
 -- a place is behind the end, or not
 at_end : (place : Place) → (place ≡ AtEnd) ⊎ (place ≢ AtEnd)

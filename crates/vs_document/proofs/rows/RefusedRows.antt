@@ -9,7 +9,7 @@ use Rattle.vs_document.specs.declared.refused.DocWhy.{DocWhy}
 use Rattle.vs_document.specs.declared.refused.DocWhy.TheVariants.{BadRow, OutOfOrder, TableNumber, EndsEarly, PriceRange}
 use Rattle.vs_document.specs.declared.refused.DocError.{DocError}
 use Rattle.vs_document.specs.declared.refused.DocError.TheVariants as error
-use Rattle.vs_document.specs.DocumentRows.{DocumentRow, SayAll, Says}
+use Rattle.vs_rows.specs.DocumentRows.{DocumentRow, SayAll, Says}
 use Rattle.vs_document.specs.DocumentRefusals.{AreRefusedFrom, IsAccepted, IsRefusedRow}
 use Rattle.vs_document.specs.Places.{Place, AtEnd, HasNumber, HasPrices, SuitsCost, behind}
 use Rattle.vs_document.specs.Reading.{IsRefusedAt, LeadTo, ReadsTo, SayTo}

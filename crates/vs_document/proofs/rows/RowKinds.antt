@@ -7,8 +7,8 @@ use Rattle.vs_instance.specs.Plan.{LayerBlock}
 use Rattle.vs_reader.specs.Rows.{Row}
 use Rattle.vs_reader.specs.Names.{NameLists}
 use Rattle.vs_cases.specs.declared.claim.Claim.{Claim}
-use Rattle.vs_document.specs.DocumentRows.{DocumentRow, ClaimRow, CostRow, BoundRow, NodesRow, BlockRow, TableRow, FleetRow, PriceRow, SplitRow, LeafRow, EndRow, Says}
-use Rattle.vs_document.specs.RowForms.{IsHeadRow, IsOtherRow, IsPriceRow}
+use Rattle.vs_rows.specs.DocumentRows.{DocumentRow, ClaimRow, CostRow, BoundRow, NodesRow, BlockRow, TableRow, FleetRow, PriceRow, SplitRow, LeafRow, EndRow, Says}
+use Rattle.vs_document.specs.RowKinds.{IsHeadRow, IsOtherRow, IsPriceRow}
 
 -- what follows from a fact, follows for no value too
 pub none_weaker : {T : Type 0} (r : Option T) (P Q : Type 0) → IfNone r P → (P → Q) → IfNone r Q

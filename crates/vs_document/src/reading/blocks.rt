@@ -3,14 +3,14 @@
 ghost use Rattle.std.specs.Prelude.{◌≤◌, length, IfOk, IfErr};
 ghost use Rattle.vs_plan.specs.Blocks.{pairs_of};
 ghost use Rattle.vs_document.specs.Places.{AtBlocks};
-ghost use Rattle.vs_document.specs.Reading.{IsInput, IsRefusedAt, ReadsBlocks};
+ghost use Rattle.vs_rows.specs.RowForms.{IsInput};
+ghost use Rattle.vs_document.specs.Reading.{IsRefusedAt, ReadsBlocks};
 
-use crate::reading::fields::begins_as;
-use crate::reading::forms;
 use crate::refused::{DocError, DocWhy, refusal};
 use std::alloc::Global;
 use vs_plan::Block;
 use vs_reader::Input;
+use vs_rows::{begins_as, forms};
 
 /// The blocks that stand from a row on beside a cost, and the row behind them.
 pub fn read_blocks(

@@ -1,14 +1,14 @@
 //! The reading of a whole document.
 
 ghost use Rattle.std.specs.Prelude.{All, IfOk, IfErr};
-ghost use Rattle.vs_document.specs.declared.document.Document.{Document as DocumentOf};
+ghost use Rattle.vs_rows.specs.declared.document.Document.{Document as DocumentOf};
 ghost use Rattle.vs_document.specs.Alike.{AreAlike};
 ghost use Rattle.vs_document.specs.DocumentRefusals.{IsRefusedError};
-ghost use Rattle.vs_document.specs.DocumentText.{IsBlankElsewhere};
+ghost use Rattle.vs_rows.specs.DocumentText.{IsBlankElsewhere};
 ghost use Rattle.vs_document.specs.Form.{IsReadFor};
-ghost use Rattle.vs_document.specs.Reading.{IsDocumentOf, IsInput, IsRefusalOf};
+ghost use Rattle.vs_rows.specs.RowForms.{IsInput};
+ghost use Rattle.vs_document.specs.Reading.{IsDocumentOf, IsRefusalOf};
 
-use crate::document::Document;
 use crate::reading::blocks::read_blocks;
 use crate::reading::head::read_head;
 use crate::reading::tables::read_tables;
@@ -17,6 +17,7 @@ use crate::refused::{DocError, DocWhy, refusal};
 use std::alloc::Global;
 use vs_plan::Plan;
 use vs_reader::Input;
+use vs_rows::Document;
 
 /// The document for which the rows of the input's rest stand; else the first row that is refused, and why.
 /// Prices for trips that a layer may not run, which no row tells, are 0.

@@ -1,17 +1,18 @@
 //! The reading of the first four rows.
 
 ghost use Rattle.std.specs.Prelude.{◌≡◌, ◌≤◌, ℤ, pos, Option, None, length, IfOk, IfErr, IfSome, IfNone};
-ghost use Rattle.vs_document.specs.declared.limits.TheConstants.{MAX_COST, MAX_BOUND, MAX_FINISHED};
-ghost use Rattle.vs_document.specs.DocumentRows.{ClaimRow, CostRow, BoundRow, NodesRow, IsBetween, IsWithin};
+ghost use Rattle.vs_rows.specs.declared.limits.TheConstants.{MAX_COST, MAX_BOUND, MAX_FINISHED};
+ghost use Rattle.vs_rows.specs.DocumentRows.{ClaimRow, CostRow, BoundRow, NodesRow, IsBetween, IsWithin};
 ghost use Rattle.vs_document.specs.Places.{AtClaim, AtCost, AtBound, AtNodes, AtBlocks};
-ghost use Rattle.vs_document.specs.Reading.{IsInput, IsRefusedAt, ReadsRow, ReadsHead};
+ghost use Rattle.vs_rows.specs.RowForms.{IsInput};
+ghost use Rattle.vs_document.specs.Reading.{IsRefusedAt, ReadsRow, ReadsHead};
 
-use crate::reading::names::Likely;
 use crate::reading::said::{Said, said_at};
 use crate::refused::{DocError, DocWhy, refusal};
 use std::alloc::Global;
 use vs_cases::Claim;
 use vs_reader::Input;
+use vs_rows::Likely;
 
 /// The first four rows of a document.
 #[derive(Clone, Copy)]

@@ -3,15 +3,16 @@
 ghost use Rattle.std.specs.Prelude.{◌≡◌, ◌≤◌, ◌<◌, ℕ, List, ◌∷◌, length, IfOk, IfErr, MatchOption, SomeIff};
 ghost use Rattle.vs_prices.specs.Table.{IsPrice};
 ghost use Rattle.vs_document.specs.Places.{InTable, PriceOf, Trip, Vehicle};
-ghost use Rattle.vs_document.specs.Reading.{IsInput, IsRefusedAt, IsRefusedInLayer, IsRefusedInTrips};
+ghost use Rattle.vs_rows.specs.RowForms.{IsInput};
+ghost use Rattle.vs_document.specs.Reading.{IsRefusedAt, IsRefusedInLayer, IsRefusedInTrips};
 ghost use Rattle.vs_document.specs.Reading.{ReadsFleet, ReadsPrice, ReadsLayer, ReadsPrices};
 
-use crate::reading::names::Likely;
 use crate::reading::said::{Said, said_at};
 use crate::refused::{DocError, DocWhy, refusal};
 use std::alloc::Global;
 use vs_prices::{MAX_PRICE, Table};
 use vs_reader::Input;
+use vs_rows::Likely;
 use vs_types::{LayerNo, TripNo};
 
 /// Reads the rows of a layer, puts its prices at the end of those of the table, and answers the row behind

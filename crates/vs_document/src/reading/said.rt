@@ -1,17 +1,17 @@
 //! What a row says.
 
 ghost use Rattle.std.specs.Prelude.{◌≡◌, ◌<◌, ◌≤◌, length, IfOk, IfErr, IfSome, IfNone};
-ghost use Rattle.vs_document.specs.DocumentRows.{DocumentRow};
-ghost use Rattle.vs_document.specs.Reading.{IsInput, IsRefusedAnywhere};
-ghost use Rattle.vs_document.specs.RowForms.{row_said, IsPriceRow, IsOtherRow, IsHeadRow, NeverTells, SaysThere, Tells};
+ghost use Rattle.vs_rows.specs.DocumentRows.{DocumentRow};
+ghost use Rattle.vs_rows.specs.RowForms.{IsInput, NeverTells, SaysThere, Tells};
+ghost use Rattle.vs_document.specs.Reading.{IsRefusedAnywhere};
+ghost use Rattle.vs_document.specs.RowKinds.{row_said, IsPriceRow, IsOtherRow, IsHeadRow};
 
-use crate::reading::forms;
-use crate::reading::names::Likely;
 use crate::refused::{DocError, DocWhy, refusal};
 use std::alloc::Global;
 use vs_cases::Claim;
 use vs_plan::Block;
 use vs_reader::{Input, Rows};
+use vs_rows::{Likely, forms};
 use vs_types::{LayerNo, LayerSet, TripNo};
 
 /// What a row says.

@@ -1,18 +1,18 @@
 //! The reading of tables.
 
 ghost use Rattle.std.specs.Prelude.{◌≡◌, ◌≤◌, ◌<◌, [], length, codes, IfOk, IfErr};
-ghost use Rattle.vs_document.specs.declared.limits.TheConstants.{MAX_NUMBER};
+ghost use Rattle.vs_rows.specs.declared.limits.TheConstants.{MAX_NUMBER};
 ghost use Rattle.vs_reader.specs.Rows.{field_of, row_of};
 ghost use Rattle.vs_document.specs.Places.{InTable};
-ghost use Rattle.vs_document.specs.Reading.{IsEmptyTable, IsInput, IsRefusedAt, ReadsTable, ReadsTables, ReadsKind};
+ghost use Rattle.vs_rows.specs.RowForms.{IsInput};
+ghost use Rattle.vs_document.specs.Reading.{IsEmptyTable, IsRefusedAt, ReadsTable, ReadsTables, ReadsKind};
 
-use crate::reading::fields::is_of_kind;
-use crate::reading::forms;
 use crate::reading::prices::read_layer;
 use crate::refused::{DocError, DocWhy, refusal};
 use std::alloc::Global;
 use vs_prices::Table;
 use vs_reader::Input;
+use vs_rows::{forms, is_of_kind};
 use vs_types::{LayerNo, Memory};
 
 /// The tables that stand from a row on, and the row behind them.

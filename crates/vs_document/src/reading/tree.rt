@@ -1,16 +1,16 @@
 //! The reading of a tree of cases, and of the end.
 
 ghost use Rattle.std.specs.Prelude.{◌≡◌, ◌+◌, ◌≤◌, ◌<◌, length, IfOk, IfErr};
-ghost use Rattle.vs_document.specs.declared.limits.TheConstants.{MAX_NUMBER};
+ghost use Rattle.vs_rows.specs.declared.limits.TheConstants.{MAX_NUMBER};
 ghost use Rattle.vs_document.specs.Places.{InTree};
-ghost use Rattle.vs_document.specs.Reading.{IsInput, IsLast, IsRefusedAt, IsRefusedInTree, ReadsPart, ReadsTree};
+ghost use Rattle.vs_rows.specs.RowForms.{IsInput};
+ghost use Rattle.vs_document.specs.Reading.{IsLast, IsRefusedAt, IsRefusedInTree, ReadsPart, ReadsTree};
 
-use crate::document::Shape;
-use crate::reading::names::Likely;
 use crate::reading::said::{Said, said_at};
 use crate::refused::{DocError, DocWhy, refusal};
 use std::alloc::Global;
 use vs_reader::Input;
+use vs_rows::{Likely, Shape};
 
 /// The tree that stands from a row on behind so many tables, and the row behind it.
 pub fn read_tree(

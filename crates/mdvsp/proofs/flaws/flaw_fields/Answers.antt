@@ -7,7 +7,7 @@ use Rattle.std.proofs.lemmas.Result.{IfOk-equal}
 use Rattle.vs_check.specs.declared.flaw.Flaw.{Flaw}
 use Rattle.mdvsp.specs.FlawRows.{broken_fields, flaw_fields, position_field}
 use Rattle.vs_reader.specs.Rows.{Field, more_fields}
-use Rattle.vs_document.proofs.CallerLemmas.{wrote_field, wrote_last}
+use Rattle.vs_rows.proofs.CallerLemmas.{wrote_field, wrote_last}
 use Rattle.mdvsp.proofs.flaws.flaw_fields.Goals as goal
 
 -- some fields are written, and then others

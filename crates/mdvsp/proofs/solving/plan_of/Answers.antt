@@ -2,7 +2,7 @@ use Rattle.std.proofs.Common.{sym, ap, ◌∙◌}
 use Rattle.vs_instance.specs.Problem.{Problem}
 use Rattle.vs_reader.specs.Rows.{lines}
 use Rattle.vs_tree.specs.Search.{state}
-use Rattle.vs_document.specs.DocumentRows.{document_rows}
+use Rattle.vs_rows.specs.DocumentRows.{document_rows}
 use Rattle.mdvsp.specs.Owed.{status_of}
 use Rattle.mdvsp.proofs.SearchAnswers.{one_claim, search_answers}
 use Rattle.mdvsp.proofs.solving.plan_of.Goals as goal

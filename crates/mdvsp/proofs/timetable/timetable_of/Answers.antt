@@ -8,7 +8,7 @@ use Rattle.vs_instance.specs.Blocks.{IsBlock}
 use Rattle.vs_instance.specs.Plan.{LayerBlock}
 use Rattle.vs_plan.specs.Blocks.{pair_of, pairs_of}
 use Rattle.vs_reader.specs.Rows.{lines}
-use Rattle.vs_document.proofs.CallerLemmas.{lines-flat_map, wrote_more, wrote_all}
+use Rattle.vs_rows.proofs.CallerLemmas.{lines-flat_map, wrote_more, wrote_all}
 use Rattle.mdvsp.specs.Timetable.{vehicle_rows}
 use Rattle.mdvsp.proofs.timetable.timetable_of.Goals as goal
 

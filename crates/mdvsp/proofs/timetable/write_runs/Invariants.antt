@@ -1,10 +1,11 @@
-use Rattle.std.proofs.Common.{◌≡◌, ◌++◌, take}
-use Rattle.std.specs.Prelude.{flat_map}
-use Rattle.vs_reader.specs.Rows.{line}
-use Rattle.mdvsp.specs.Timetable.{run_row}
+use Rattle.std.proofs.Common.{◌≡◌, ◌++◌, ◌-◌, drop}
+use Rattle.vs_reader.specs.Rows.{lines}
+use Rattle.mdvsp.specs.Timetable.{rows_behind, run_rows, trip_at}
 use Rattle.mdvsp.proofs.timetable.write_runs.Given as goal
 
--- the trips so far are written
-abbrev pub invariant-loop-i : goal.invariant-loop-i
-invariant-loop-i l =
-    l.text ≡ l.initial.text ++ flat_map (λ i. line (run_row l.instance l.names l.k i)) (take l.i-index l.trips)
+-- what is written, and what the vehicle does behind the trip that was written last, are all that it does
+abbrev pub invariant-loop-place : goal.invariant-loop-place
+invariant-loop-place l =
+    l.text ++ lines (rows_behind l.instance l.names l.k l.block.layer
+    (trip_at l.block.trips.items (l.place - 1)) (drop l.place l.block.trips.items))
+    ≡ l.fn.text ++ lines (run_rows l.instance l.names l.k l.block.layer l.block.trips.items)

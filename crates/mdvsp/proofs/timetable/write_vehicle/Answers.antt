@@ -3,12 +3,12 @@ use Rattle.std.specs.Fmt.{signed_decimal}
 use Rattle.std.specs.Prelude.{codes, decimal}
 use Rattle.std.proofs.lemmas.Int.{to_z-of_z}
 use Rattle.std.proofs.lemmas.Result.{IfOk-equal}
-use Rattle.vs_document.specs.Fields.{time_field}
+use Rattle.vs_rows.specs.Fields.{time_field}
 use Rattle.vs_instance.specs.Blocks.{block_cost, pull_in_minute, pull_out_minute}
 use Rattle.vs_plan.specs.Blocks.{pair_of}
 use Rattle.vs_reader.specs.Names.{name_of}
 use Rattle.vs_reader.specs.Rows.{Field, fields, more_fields}
-use Rattle.vs_document.proofs.CallerLemmas.{wrote_last}
+use Rattle.vs_rows.proofs.CallerLemmas.{wrote_last}
 use Rattle.mdvsp.proofs.owing.RowsInParts.{row_in_parts}
 use Rattle.mdvsp.proofs.timetable.write_vehicle.Goals as goal
 

@@ -5,13 +5,13 @@ use Rattle.vs_plan.specs.Blocks.{IsOfInstance, blocks_of}
 use Rattle.vs_reader.specs.Rows.{lines}
 use Rattle.vs_tree.specs.Search.{state}
 use Rattle.vs_tree.proofs.CallerLemmas.{histories_are_sound}
-use Rattle.vs_document.specs.DocumentRows.{BlockRow, DocumentRow, HasForm, IsNamedBlock, head_of, shape_row, written_rows}
-use Rattle.vs_document.specs.Shapes.{IsShapeOf}
+use Rattle.vs_rows.specs.DocumentRows.{BlockRow, DocumentRow, HasForm, IsNamedBlock, head_of, shape_row, written_rows}
+use Rattle.vs_rows.specs.Shapes.{IsShapeOf}
 use Rattle.vs_cert.specs.TreeText.{numbered_rows}
 use Rattle.vs_cert.proofs.states.StateRanges.{blocks_of_instance}
 use Rattle.vs_cert.proofs.states.TreeDocument.{document, document_says, few_numbers, has_text, of_state, shapes_are}
 use Rattle.vs_cert.proofs.states.TreeTables.{numbers_within}
-use Rattle.vs_document.proofs.CallerLemmas.{block_form, shape_form, written_in_turn}
+use Rattle.vs_rows.proofs.CallerLemmas.{block_form, shape_form, written_in_turn}
 use Rattle.vs_cert.proofs.tree_document.write.Goals as goal
 
 pub write_blocks-requires : goal.write_blocks-requires

@@ -10,11 +10,11 @@ use Rattle.vs_tree.specs.Prices.{Prices, prices_of}
 use Rattle.vs_tree.specs.Search.{state}
 use Rattle.vs_tree.proofs.CallerLemmas.{histories_are_sound}
 use Rattle.vs_reader.specs.Rows.{lines}
-use Rattle.vs_document.specs.DocumentRows.{table_rows, written_rows}
+use Rattle.vs_rows.specs.DocumentRows.{table_rows, written_rows}
 use Rattle.vs_cert.specs.TreeText.{prices_of_number, prices_rows}
-use Rattle.vs_document.specs.Writing.{AddsRows}
+use Rattle.vs_rows.specs.Writing.{AddsRows}
 use Rattle.vs_cert.proofs.states.TreeTables.{number_fits}
-use Rattle.vs_document.proofs.CallerLemmas.{written-flat_map, wrote_more, wrote_all}
+use Rattle.vs_rows.proofs.CallerLemmas.{written-flat_map, wrote_more, wrote_all}
 use Rattle.vs_cert.proofs.tree_document.write_numbered.Goals as goal
 
 -- a table of the prices of the number at a place, as one of the numbered ones

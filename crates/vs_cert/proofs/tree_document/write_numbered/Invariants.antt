@@ -3,7 +3,7 @@ use Rattle.std.specs.Prelude.{flat_map}
 use Rattle.std.specs.List.{enumerate_from}
 use Rattle.vs_reader.specs.Rows.{lines}
 use Rattle.vs_tree.specs.Search.{state}
-use Rattle.vs_document.specs.DocumentRows.{written_rows}
+use Rattle.vs_rows.specs.DocumentRows.{written_rows}
 use Rattle.vs_cert.specs.TreeText.{prices_of_number, prices_rows}
 use Rattle.vs_cert.proofs.tree_document.write_numbered.Given as goal
 

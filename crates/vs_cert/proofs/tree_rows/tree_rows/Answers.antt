@@ -6,7 +6,7 @@ use Rattle.vs_tree.specs.declared.spot.Spot.{Spot}
 use Rattle.vs_tree.specs.declared.spot.Spot.TheVariants.{Inner, Free, Held, Closed}
 use Rattle.vs_tree.proofs.CallerLemmas.{histories_are_sound, states_are_trees}
 use Rattle.vs_cert.specs.Numbering.{Numbered}
-use Rattle.vs_document.specs.declared.document.Shape.{Shape}
+use Rattle.vs_rows.specs.declared.document.Shape.{Shape}
 use Rattle.vs_cert.proofs.states.Waiting.{AreUnderway, begun, ended, next_within, rows_ahead, went_on}
 use Rattle.vs_cert.proofs.tree_rows.tree_rows.Goals as goal
 

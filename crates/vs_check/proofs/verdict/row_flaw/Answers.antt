@@ -1,7 +1,7 @@
 use Rattle.std.proofs.Common.{◌≡◌, true, false, sym, ap, ◌∙◌, subst, Some, None}
 use Rattle.vs_types.specs.declared.layer_set.LayerSet.{LayerSet}
 use Rattle.vs_instance.specs.Restriction.{set_of}
-use Rattle.vs_document.specs.declared.document.Shape.{Shape}
+use Rattle.vs_rows.specs.declared.document.Shape.{Shape}
 use Rattle.vs_types.specs.Parts.{is_proper_part}
 use Rattle.vs_check.specs.Walk.{GoesOver}
 use Rattle.vs_check.specs.declared.flaw.Flaw.TheVariants.{BadSplit}

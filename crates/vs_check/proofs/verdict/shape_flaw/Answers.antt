@@ -1,8 +1,8 @@
 use Rattle.std.proofs.Common.{◌+◌, ◌<◌, ◌≤◌, List, length, drop, sym, ap, subst, arith}
 use Rattle.std.specs.List.{All}
 use Rattle.vs_instance.specs.Firsts.{first}
-use Rattle.vs_document.specs.Shapes.{IsShapeOf}
-use Rattle.vs_document.specs.declared.document.Shape.{Shape}
+use Rattle.vs_rows.specs.Shapes.{IsShapeOf}
+use Rattle.vs_rows.specs.declared.document.Shape.{Shape}
 use Rattle.vs_check.specs.Flaws.{shape_flaws}
 use Rattle.vs_check.proofs.Parts.{Follows, IsBefore, none_left, root_before, row_follows, walk_restricts}
 use Rattle.vs_check.proofs.verdict.shape_flaw.Goals as goal

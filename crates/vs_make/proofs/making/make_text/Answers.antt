@@ -5,7 +5,7 @@ use Rattle.std.proofs.lemmas.List.{append_assoc, append-nil}
 use Rattle.vs_reader.specs.Rows.{Row, line, lines}
 use Rattle.vs_make.specs.declared.grid.TheConstants.{STOPS, DEPOTS}
 use Rattle.vs_make.specs.Generator.{deadheads_from, drawn_row, layer_row, make_rows, stop_row}
-use Rattle.vs_document.proofs.CallerLemmas.{more_rows}
+use Rattle.vs_rows.proofs.CallerLemmas.{more_rows}
 use Rattle.vs_make.proofs.making.make_text.Goals as goal
 
 pub returns : goal.returns

@@ -3,7 +3,7 @@ use Rattle.std.specs.List.{range_with_len}
 use Rattle.vs_reader.specs.Rows.{lines}
 use Rattle.vs_make.specs.declared.grid.TheConstants.{STOPS}
 use Rattle.vs_make.specs.Generator.{deadheads_from}
-use Rattle.vs_document.proofs.CallerLemmas.{lines-flat_map, numbered_more, numbered_all}
+use Rattle.vs_rows.proofs.CallerLemmas.{lines-flat_map, numbered_more, numbered_all}
 use Rattle.vs_make.proofs.making.write_deadheads.Goals as goal
 
 pub loop-k-preserved : goal.loop-k-preserved

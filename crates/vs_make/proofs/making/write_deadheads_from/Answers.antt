@@ -6,7 +6,7 @@ use Rattle.std.proofs.lemmas.List.{append-nil}
 use Rattle.vs_reader.specs.Rows.{line}
 use Rattle.vs_make.specs.declared.grid.TheConstants.{STOPS}
 use Rattle.vs_make.specs.Generator.{deadhead_row}
-use Rattle.vs_document.proofs.CallerLemmas.{lines-map, flat_map-filter, numbered_more, numbered_all}
+use Rattle.vs_rows.proofs.CallerLemmas.{lines-map, flat_map-filter, numbered_more, numbered_all}
 use Rattle.vs_make.proofs.making.write_deadheads_from.Goals as goal
 use Rattle.vs_make.proofs.making.write_deadheads_from.Goals.{then-s-k+in_ok-write_deadhead, else-s-k}
 

@@ -6,7 +6,7 @@ use Rattle.std.proofs.lemmas.Bool.{eq-eqb, ne_eqb, false≢true}
 use Rattle.std.proofs.lemmas.List.{append-nil}
 use Rattle.vs_types.specs.LayerSet.{members, layer_numbers}
 use Rattle.vs_make.specs.Generator.{layer_name}
-use Rattle.vs_document.proofs.CallerLemmas.{more_fields-map, flat_map-filter, numbered_more, numbered_all}
+use Rattle.vs_rows.proofs.CallerLemmas.{more_fields-map, flat_map-filter, numbered_more, numbered_all}
 use Rattle.vs_make.proofs.making.write_layer_names.Goals as goal
 use Rattle.vs_make.proofs.making.write_layer_names.Goals.{then-has+in_ok-numbered, else-has}
 

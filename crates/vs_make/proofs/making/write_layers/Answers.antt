@@ -3,7 +3,7 @@ use Rattle.std.specs.List.{range_with_len}
 use Rattle.vs_reader.specs.Rows.{line}
 use Rattle.vs_make.specs.declared.grid.TheConstants.{DEPOTS}
 use Rattle.vs_make.specs.Generator.{layer_row}
-use Rattle.vs_document.proofs.CallerLemmas.{lines-map, numbered_more, numbered_all}
+use Rattle.vs_rows.proofs.CallerLemmas.{lines-map, numbered_more, numbered_all}
 use Rattle.vs_make.proofs.making.write_layers.Goals as goal
 
 pub loop-l-preserved : goal.loop-l-preserved

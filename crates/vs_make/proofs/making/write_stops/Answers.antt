@@ -3,7 +3,7 @@ use Rattle.std.specs.List.{range_with_len}
 use Rattle.vs_reader.specs.Rows.{line}
 use Rattle.vs_make.specs.declared.grid.TheConstants.{STOPS}
 use Rattle.vs_make.specs.Generator.{stop_row}
-use Rattle.vs_document.proofs.CallerLemmas.{lines-map, numbered_more, numbered_all}
+use Rattle.vs_rows.proofs.CallerLemmas.{lines-map, numbered_more, numbered_all}
 use Rattle.vs_make.proofs.making.write_stops.Goals as goal
 
 pub loop-k-preserved : goal.loop-k-preserved

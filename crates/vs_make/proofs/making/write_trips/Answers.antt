@@ -3,7 +3,7 @@ use Rattle.std.specs.List.{range_with_len}
 use Rattle.vs_reader.specs.Rows.{line}
 use Rattle.vs_make.specs.Generator.{draws, drawn_row, number_at, trip_row}
 use Rattle.vs_make.proofs.Sequences.{number_at-add}
-use Rattle.vs_document.proofs.CallerLemmas.{lines-map, numbered_more, numbered_all}
+use Rattle.vs_rows.proofs.CallerLemmas.{lines-map, numbered_more, numbered_all}
 use Rattle.vs_make.proofs.making.write_trips.Goals as goal
 
 pub loop-i-preserved : goal.loop-i-preserved

@@ -1,6 +1,6 @@
 use Rattle.std.proofs.Common.{◌≡◌, ◌∷◌, [], arith, length, map}
 use Rattle.vs_plan.specs.Blocks.{pairs_of}
-use Rattle.vs_document.specs.DocumentRows.{ClaimRow, CostRow, BoundRow, NodesRow, BlockRow, shape_row, tables_rows}
+use Rattle.vs_rows.specs.DocumentRows.{ClaimRow, CostRow, BoundRow, NodesRow, BlockRow, shape_row, tables_rows}
 use Rattle.vs_document.proofs.parts.WholeDocument.{all_say, few_shapes, few_trips, tree_of}
 use Rattle.vs_document.proofs.reading.document.read_rows.Goals as goal
 

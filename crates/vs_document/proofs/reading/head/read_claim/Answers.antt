@@ -1,5 +1,5 @@
 use Rattle.std.proofs.Common.{refl}
-use Rattle.vs_document.specs.DocumentRows.{ClaimRow}
+use Rattle.vs_rows.specs.DocumentRows.{ClaimRow}
 use Rattle.vs_document.specs.Places.{AtClaim, AtCost}
 use Rattle.vs_document.specs.Reading.{IsRefusedAt}
 use Rattle.vs_document.proofs.words.ErrorsPass.{err_passes}

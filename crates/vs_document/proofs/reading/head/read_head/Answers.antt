@@ -1,5 +1,5 @@
 use Rattle.std.proofs.Common.{[], ◌∷◌}
-use Rattle.vs_document.specs.DocumentRows.{ClaimRow, CostRow, BoundRow, NodesRow}
+use Rattle.vs_rows.specs.DocumentRows.{ClaimRow, CostRow, BoundRow, NodesRow}
 use Rattle.vs_document.specs.Places.{AtClaim, AtCost, AtBound, AtNodes, AtBlocks}
 use Rattle.vs_document.specs.Reading.{IsRefusedAt}
 use Rattle.vs_document.proofs.words.ErrorsPass.{err_passes}

@@ -1,5 +1,5 @@
 use Rattle.std.proofs.Common.{refl, ℤ, Option}
-use Rattle.vs_document.specs.DocumentRows.{NodesRow}
+use Rattle.vs_rows.specs.DocumentRows.{NodesRow}
 use Rattle.vs_document.specs.Places.{AtNodes, AtBlocks}
 use Rattle.vs_document.specs.Reading.{IsRefusedAt}
 use Rattle.vs_document.proofs.words.ErrorsPass.{err_passes}

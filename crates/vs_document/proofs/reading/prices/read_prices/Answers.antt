@@ -1,5 +1,5 @@
 use Rattle.std.proofs.Common.{ℕ, ◌<◌, length, List, ◌++◌, map, refl, arith, pos, ℤ, ap}
-use Rattle.vs_document.specs.DocumentRows.{permitted_trips}
+use Rattle.vs_rows.specs.DocumentRows.{permitted_trips}
 use Rattle.vs_document.specs.Places.{PriceOf, Trip, InTable}
 use Rattle.vs_document.specs.Reading.{IsRefusedAt}
 use Rattle.vs_document.proofs.words.ErrorsPass.{err_passes}

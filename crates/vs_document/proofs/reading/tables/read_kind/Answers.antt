@@ -1,6 +1,6 @@
 use Rattle.std.proofs.Common.{◌≡◌, ℕ, ◌+◌, [], refl, arith, subst}
 use Rattle.vs_reader.specs.Rows.{row_of}
-use Rattle.vs_document.specs.DocumentRows.{TableRow, Says}
+use Rattle.vs_rows.specs.DocumentRows.{TableRow, Says}
 use Rattle.vs_document.specs.Places.{InTable, prices_of}
 use Rattle.vs_document.proofs.rows.RefusedRows.{bad_row, reads_one, wrong_number}
 use Rattle.vs_document.proofs.parts.SamePlaces.{no_table}

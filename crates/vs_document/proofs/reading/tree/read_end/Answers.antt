@@ -1,5 +1,5 @@
 use Rattle.std.proofs.Common.{◌+◌, refl, arith}
-use Rattle.vs_document.specs.DocumentRows.{EndRow}
+use Rattle.vs_rows.specs.DocumentRows.{EndRow}
 use Rattle.vs_document.specs.declared.refused.DocWhy.TheVariants.{RowsAfterEnd}
 use Rattle.vs_document.specs.declared.refused.DocError.TheVariants as error
 use Rattle.vs_document.specs.Places.{InTree, AtEnd}

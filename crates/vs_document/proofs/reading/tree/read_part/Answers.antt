@@ -1,10 +1,10 @@
 use Rattle.std.proofs.Common.{ℕ, suc, refl, arith}
-use Rattle.vs_document.specs.DocumentRows.{LeafRow, SplitRow}
+use Rattle.vs_rows.specs.DocumentRows.{LeafRow, SplitRow}
 use Rattle.vs_document.specs.Places.{InTree}
 use Rattle.vs_document.specs.Reading.{IsRefusedAt}
 use Rattle.vs_document.proofs.words.ErrorsPass.{err_passes}
 use Rattle.vs_document.proofs.rows.RefusedRows.{leads_one, says_one, out_of_order, wrong_number}
-use Rattle.vs_document.specs.RowForms.{row_said}
+use Rattle.vs_document.specs.RowKinds.{row_said}
 use Rattle.vs_document.proofs.parts.SamePlaces.{tree_order}
 use Rattle.vs_document.proofs.parts.TreeReading.{leaf_part, split_part}
 use Rattle.vs_document.proofs.reading.tree.read_part.Goals as goal

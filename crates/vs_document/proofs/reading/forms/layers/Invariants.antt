@@ -1,7 +1,0 @@
-use Rattle.std.proofs.Common.{◌-◌, take, drop}
-use Rattle.vs_reader.specs.Rows.{row_of}
-use Rattle.vs_document.specs.RowForms.{NameSet}
-use Rattle.vs_document.proofs.reading.forms.layers.Given as goal
-
-abbrev pub invariant-loop-k : goal.invariant-loop-k
-invariant-loop-k l = NameSet l.input.names.layers (take (l.k - 2) (drop 2 (row_of l.input.rest l.row))) l.left

@@ -1,5 +1,0 @@
-use Rattle.vs_document.proofs.words.Numbers.{Reads}
-use Rattle.vs_document.proofs.reading.numbers.natural.Given as goal
-
-abbrev pub invariant-loop-i : goal.invariant-loop-i
-invariant-loop-i l = Reads l.digits l.i l.n

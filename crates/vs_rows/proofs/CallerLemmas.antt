@@ -1,0 +1,10 @@
+-- What crates above may cite of these proofs.
+pub use Rattle.vs_rows.proofs.rows.SaysOnce.{first_word, none_is_no_number, says_once, word_of}
+pub use Rattle.vs_rows.proofs.written.PriceRanges.{price_anywhere, prices_in_all}
+pub use Rattle.vs_rows.proofs.written.WrittenForms.{block_form, shape_form, stands}
+pub use Rattle.vs_rows.proofs.written.WrittenParts.{written-flat_map, written_in_turn}
+pub use Rattle.vs_rows.proofs.written.WrittenPlain.{plain_document}
+pub use Rattle.vs_rows.proofs.written.WrittenRows.{ended_row, flat_map-filter, join-cons, lines-flat_map, lines-map}
+pub use Rattle.vs_rows.proofs.written.WrittenRows.{more_fields-map, more_rows, numbered_all, numbered_more}
+pub use Rattle.vs_rows.proofs.written.WrittenRows.{one_more_field, some_more_fields, wrote_all, wrote_field}
+pub use Rattle.vs_rows.proofs.written.WrittenRows.{wrote_last, wrote_more}

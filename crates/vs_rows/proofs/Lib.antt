@@ -1,0 +1,4 @@
+pub mod words
+pub mod rows
+pub mod written
+pub mod CallerLemmas

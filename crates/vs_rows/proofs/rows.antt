@@ -1,0 +1,2 @@
+pub mod SplitLayers
+pub mod SaysOnce

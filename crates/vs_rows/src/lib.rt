@@ -1,0 +1,23 @@
+//! The rows of a document: what each says, how one is read and how all are written; and the text of a whole document.
+#![tactic(auto)]
+
+mod document;
+mod fields;
+pub mod forms;
+mod laws;
+mod limits;
+mod names;
+mod numbers;
+mod text;
+mod writing;
+
+pub use document::{Document, Shape};
+pub use fields::{begins_as, is_of_kind};
+pub use laws::written_rows_stand_for_their_document;
+pub use limits::{MAX_BOUND, MAX_COST, MAX_FINISHED, MAX_NUMBER, MAX_PRINTED_PRICE};
+pub use names::Likely;
+pub use text::Text;
+pub use writing::{
+    bound_field, claim_field, cost_field, text_of, write_blocks, write_head, write_shapes,
+    write_table,
+};
