@@ -13,15 +13,15 @@ use vs_types::{LayerSet, Memory};
 /// How often the layers are brought to agree within a pool.
 pub(crate) const TURNS: u32 = 8;
 
-/// Of how many choices the first pool is: fewer leave hardly a trip with a choice, and more of them much of the instance.
+/// Of how many choices the first pool is: fewer leave hardly a trip with several layers, and more much of the instance.
 const FIRST_WIDTH: usize = 6;
 
 /// After how many agreements a turn ends: later ones find what the first ones did.
 const AGREEMENTS: u32 = 4;
 
 impl Seeker {
-    /// Eight turns of so many passes, in each of which a trip may be run by those layers alone that the cheapest choices
-    /// give it to. Where a turn finds no cheaper plan, the next one has one choice more.
+    /// Eight turns of so many passes, in each of which a trip may be run by those layers alone that the cheapest
+    /// choices give it to. Where a turn finds no cheaper plan, the next one has one choice more.
     pub fn seek_in_pool(
         &mut self,
         case: &Case<'_>,

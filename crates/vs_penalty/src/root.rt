@@ -17,17 +17,17 @@ use vs_types::Memory;
 /// The first step of a climb, in hundredths of the greatest: the multipliers are known to within some hundredths.
 const FIRST_STEP: u32 = 2;
 
-/// How many circulations a layer keeps in a climb: with half as many it takes more rounds, with twice as many each round
-/// takes longer.
+/// How many circulations a layer keeps in a climb: with half as many it takes more rounds, with twice as many each
+/// round takes longer.
 const CUTS: u32 = 50;
 
 /// How many rounds a climb has: later ones gain next to nothing.
 const ROUNDS: u32 = 300;
 
 impl Seeker {
-    /// Seeks plans and ever better multipliers, in steps: passes from the first multipliers, a climb from where these end,
-    /// slow passes from the best multipliers, passes in pools of the best plans, and another climb, which a cheaper plan
-    /// guides better. What is left is left out as soon as no plan can cost less than the cheapest that was found.
+    /// Seeks plans and ever better multipliers, in steps: passes from the first multipliers, a climb from where these
+    /// end, slow passes from the best multipliers, passes in pools of the best plans, and another climb, which a
+    /// cheaper plan guides better. What is left is left out as soon as no plan can cost less than the cheapest one.
     pub fn seek_all(
         &mut self,
         case: &Case<'_>,
