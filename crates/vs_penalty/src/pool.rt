@@ -13,12 +13,7 @@ use vs_types::{LayerSet, Memory};
 /// How often the layers are brought to agree within a pool.
 pub(crate) const TURNS: u32 = 8;
 
-<<<<<<< HEAD
-/// Of how many choices the first pool is: fewer leave hardly a trip with a choice, and more of them much of the
-/// instance.
-=======
 /// Of how many choices the first pool is: fewer leave hardly a trip with several layers, and more much of the instance.
->>>>>>> 72b4bf216ce9d220728d3727637981fbc5f34515
 const FIRST_WIDTH: usize = 6;
 
 /// After how many agreements a turn ends: later ones find what the first ones did.

@@ -27,12 +27,7 @@ const ROUNDS: u32 = 300;
 impl Seeker {
     /// Seeks plans and ever better multipliers, in steps: passes from the first multipliers, a climb from where these
     /// end, slow passes from the best multipliers, passes in pools of the best plans, and another climb, which a
-<<<<<<< HEAD
-    /// cheaper plan guides better. What is left is left out as soon as no plan can cost less than the cheapest that
-    /// was found.
-=======
     /// cheaper plan guides better. What is left is left out as soon as no plan can cost less than the cheapest one.
->>>>>>> 72b4bf216ce9d220728d3727637981fbc5f34515
     pub fn seek_all(
         &mut self,
         case: &Case<'_>,
