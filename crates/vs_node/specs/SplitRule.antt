@@ -1,16 +1,14 @@
--- Which trip's set a leaf is split by, and how.
-use Rattle.std.specs.Prelude.{◌≡◌, ◌≢◌, ℕ, ◌<◌, ◌≤◌, ◌↔◌, ◌⊎◌, List, length, slice_index}
+-- Which trips' sets a leaf may be split by, and how.
+use Rattle.std.specs.Prelude.{◌≡◌, ℕ, ◌<◌, ◌↔◌, List, length}
 use Rattle.vs_types.specs.declared.layer_set.LayerSet.{LayerSet}
+use Rattle.vs_types.specs.declared.numbers.TheConstants.{MAX_LAYERS}
 use Rattle.vs_types.specs.LayerSet.{Has, members}
 use Rattle.vs_instance.specs.Restriction.{set_of}
+use Rattle.vs_node.specs.declared.leads.Candidate.{Candidate}
 
 -- trip i may be run in two layers or more
 abbrev pub HasChoice : List LayerSet → ℕ → Type 0
 HasChoice sets i = 1 < length (members (set_of sets i))
-
--- and isn't run in exactly one layer
-abbrev pub IsDisputed : List LayerSet → List ℕ → ℕ → Type 0
-IsDisputed sets covers i = HasChoice sets i × (slice_index covers i ≢ 1)
 
 -- i is the lowest of the first so many numbers of which this holds
 pub record IsLowest (P : ℕ → Type 0) (count i : ℕ) : Type 0 where
@@ -22,16 +20,15 @@ pub record IsLowest (P : ℕ → Type 0) (count i : ℕ) : Type 0 where
 abbrev pub HoldsOfNone : (ℕ → Type 0) → ℕ → Type 0
 HoldsOfNone P count = (j : ℕ) → j < count → ¬ (P j)
 
--- the lowest-numbered trip with a choice that isn't run in exactly one layer, where there is one, else the
--- lowest-numbered one with a choice
-abbrev pub IsSplitTrip : List LayerSet → List ℕ → ℕ → Type 0
-IsSplitTrip sets covers i =
-    IsLowest (IsDisputed sets covers) (length sets) i
-    ⊎ (HoldsOfNone (IsDisputed sets covers) (length sets) × IsLowest (HasChoice sets) (length sets) i)
+-- one of the first so many trips that may be run in two layers or more, and one of these layers
+pub record MaySplit (sets : List LayerSet) (count : ℕ) (candidate : Candidate) : Type 0 where
+  pub inside : candidate.trip.0 < count
+  pub choice : HasChoice sets candidate.trip.0
+  pub among : Has (set_of sets candidate.trip.0) candidate.layer.0
+  pub few : candidate.layer.0 < MAX_LAYERS
 
--- the set has layer l alone, the lowest of the other's
-pub record IsLowestAlone (left whole : LayerSet) : Type 0 where
+-- the set has one of the other's layers alone
+pub record IsLayerAlone (left whole : LayerSet) : Type 0 where
   pub layer : ℕ
   pub among : Has whole layer
-  pub lowest : (l : ℕ) → Has whole l → layer ≤ l
   pub alone : (l : ℕ) → Has left l ↔ (l ≡ layer)

@@ -4,36 +4,35 @@ ghost use Rattle.vs_instance.specs.declared.limits.TheConstants.{MAX_TRIPS};
 ghost use Rattle.vs_node.specs.NextSteps.{IsNextBy};
 ghost use Rattle.vs_node.specs.SplitRule.{HasChoice};
 
-use crate::splitting::{lowest_alone, split_trip};
+use crate::leads::Leads;
+use crate::splitting::{alone, split_trip};
 use vs_plan::{CheckedPlan, cost_of};
 use vs_prices::Bound;
 use vs_tree::Next;
 use vs_types::LayerSet;
 
-/// What becomes of a leaf whose table is worth so much, and whose trips are run by so many layers in the last round: it
-/// is closed where the table leaves no room for a plan that costs less than the known cost and than the plan, and else
-/// split.
+/// What becomes of a leaf whose table is worth so much: it is closed where the table leaves no room for a plan that
+/// costs less than the known cost and than the plan, and else split.
 pub(crate) fn next_of(
     sets: &[LayerSet],
     worth: Bound,
     known: Option<i64>,
     plan: &Option<CheckedPlan>,
-    covers: &[u32],
+    leads: &Leads,
 ) -> Next
     requires few { length sets.now ≤ MAX_TRIPS }
-    requires covers { length covers.now ≡ length sets.now }
     requires choice { (i : ℕ) × (i < length sets.now) × HasChoice sets.now i }
-    ensures { IsNextBy sets.now covers.now worth known plan.now result }
+    ensures { IsNextBy sets.now worth known plan.now result }
 {
     let is_wanted = worth.is_below(known);
     let is_cheaper = worth.is_below(cost_of(plan));
     if !is_wanted || !is_cheaper {
         return Next::Close;
     }
-    match split_trip(sets, covers) {
-        Some(trip) => Next::Split {
-            trip,
-            left: lowest_alone(sets[trip.0 as usize]),
+    match split_trip(sets, leads) {
+        Some(split) => Next::Split {
+            trip: split.trip,
+            left: alone(sets[split.trip.0 as usize], split.layer),
         },
         None => unreachable!(),
     }

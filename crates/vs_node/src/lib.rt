@@ -3,9 +3,11 @@
 #![tactic(auto)]
 
 mod choosing;
+mod climbing;
 mod deciding;
 mod keeping;
 mod layers_run;
+mod leads;
 mod outcome;
 mod pushing;
 mod ray_table;

@@ -14,6 +14,7 @@ ghost use Rattle.vs_node.specs.SplitRule.{HasChoice};
 
 use crate::choosing::chosen_layers;
 use crate::deciding::next_of;
+use crate::leads::Leads;
 use crate::settling::settle;
 use std::alloc::Global;
 use vs_circ::Work;
@@ -76,31 +77,29 @@ pub(crate) fn alone(
     })
 }
 
-/// What comes of a leaf with this table, which is worth so much, some trip of which may be run in two layers or more,
-/// and whose trips are run by so many layers in the last round.
+/// What comes of a leaf with this table, which is worth so much, some trip of which may be run in two layers or more.
 pub(crate) fn outcome_of(
     case: &Case<'_>,
     known: Option<i64>,
     table: Table,
     worth: Bound,
-    covers: &[u32],
+    leads: &Leads,
     work: &mut Work,
 ) -> Result<Outcome, Memory>
     requires case { IsCase case.now.instance.now case.now.nets.now case.now.sets.now }
     requires fits { Fits case.now.instance.now table }
-    requires covers { length covers.now ≡ length case.now.instance.now.trips }
     requires choice { (i : ℕ) × (i < length case.now.sets.now) × HasChoice case.now.sets.now i }
     ensures table { IfOk result (λ outcome. outcome.table ≡ table) }
     ensures plan { IfOk result (λ outcome.
         HasPlan case.now.instance.now case.now.sets.now table outcome.plan) }
     ensures next { IfOk result (λ outcome.
-        IsNextBy case.now.sets.now covers.now worth known outcome.plan outcome.next) }
+        IsNextBy case.now.sets.now worth known outcome.plan outcome.next) }
 {
     prove!(case.instance.trips() <= MAX_TRIPS);
     let chosen = chosen_layers(case.alloc, case.instance, case.sets, &table)?;
     let layers = chosen.as_slice();
     let settled = settle(case.alloc, case.instance, case.nets, layers, work)?;
-    let next = next_of(case.sets, worth, known, &settled.plan, covers);
+    let next = next_of(case.sets, worth, known, &settled.plan, leads);
     Ok(Outcome {
         table,
         plan: settled.plan,

@@ -5,22 +5,26 @@ ghost use Rattle.vs_match.specs.LayerNets.{AreLayerNets};
 ghost use Rattle.vs_multi.specs.Rounds.{IsCase};
 ghost use Rattle.vs_prices.specs.Table.{Fits, HoldingTable};
 ghost use Rattle.vs_prices.specs.Worth.{IsWorth};
-ghost use Rattle.vs_node.specs.Outcomes.{IsFollowedBy, IsLeafsLastRound, IsOutcome};
+ghost use Rattle.vs_node.specs.Outcomes.{IsFollowedBy, IsOutcome};
 ghost use Rattle.vs_node.specs.SplitRule.{HasChoice};
 ghost use Rattle.vs_node.specs.WorkedStep.{IsWorked};
 
+use crate::climbing::climb_on;
 use crate::keeping::better;
 use crate::outcome::{Outcome, Task, outcome_of};
 use std::alloc::Global;
 use vs_circ::Work;
 use vs_instance::Instance;
 use vs_match::LayerNet;
-use vs_multi::{Best, Case, near_rounds, of_table, raise, rounds, start};
+use vs_multi::{Best, Case, few_rounds, of_table, raise, rounds, start};
 use vs_prices::Table;
 use vs_types::Memory;
 
-/// What comes of a leaf some trip of which may be run in two layers or more: the better of its own table and the best
-/// one of rounds, raised, and the plan of the layers that this one chooses.
+/// How many rounds a leaf other than the root begins with: one shows what its first multipliers are worth.
+const FIRST_ROUNDS: u32 = 1;
+
+/// What comes of a leaf some trip of which may be run in two layers or more: the best of its own table, that of its
+/// first rounds and that of a climb, raised, and the plan of the layers that this one chooses.
 pub(crate) fn search(
     alloc: Global,
     instance: &Instance,
@@ -35,7 +39,7 @@ pub(crate) fn search(
     requires choice { (i : ℕ) × (i < length task.now.sets.items) × HasChoice task.now.sets.items i }
     ensures found { IfOk result (IsOutcome instance.now task.now) }
     ensures next { IfOk result (λ outcome.
-        IsFollowedBy instance.now nets.now task.now outcome) }
+        IsFollowedBy instance.now task.now outcome) }
 {
     let sets = task.sets.as_slice();
     let case = Case {
@@ -46,14 +50,14 @@ pub(crate) fn search(
     };
     let best = best_round(&case, task.root, &task.table, work)?;
     let (mut table, worth) = better(&case, &task.table, best.table, best.worth)?;
-    let raised = raise(&case, &mut table, worth, work)?;
-    let covers = best.covers.as_slice();
-    let outcome = outcome_of(&case, task.known, table, raised, covers, work)?;
+    let climbed = climb_on(&case, task.known, &mut table, worth, work)?;
+    let raised = raise(&case, &mut table, climbed.worth, work)?;
+    let outcome = outcome_of(&case, task.known, table, raised, &climbed.leads, work)?;
     Ok(outcome)
 }
 
-/// The best of the rounds for a leaf: from the starting multipliers at the root, and else from those that the leaf's
-/// table stands for.
+/// The best of the first rounds for a leaf: all rounds from the starting multipliers at the root, and else one at those
+/// that the leaf's table stands for.
 fn best_round(case: &Case<'_>, root: bool, own: &Table, work: &mut Work) -> Result<Best, Memory>
     requires case { IsCase case.now.instance.now case.now.nets.now case.now.sets.now }
     requires fits { Fits case.now.instance.now own.now }
@@ -63,8 +67,6 @@ fn best_round(case: &Case<'_>, root: bool, own: &Table, work: &mut Work) -> Resu
         IsWorth case.now.instance.now case.now.sets.now best.table best.worth) }
     ensures worked { IfOk result (λ best.
         IsWorked case.now.instance.now root case.now.sets.now own.now best.table) }
-    ensures covers { IfOk result (λ best. IsLeafsLastRound case.now.instance.now case.now.nets.now root
-        case.now.sets.now own.now best.covers.items) }
 {
     let mut room = vec![in case.alloc; 0; case.instance.trips() as usize]?;
     let multipliers = room.as_mut_slice();
@@ -81,6 +83,6 @@ fn best_round(case: &Case<'_>, root: bool, own: &Table, work: &mut Work) -> Resu
         return Ok(best);
     }
     of_table(case.instance, case.sets, own, multipliers);
-    let near = near_rounds(case, multipliers, work)?;
-    Ok(near)
+    let first = few_rounds(case, FIRST_ROUNDS, multipliers, work)?;
+    Ok(first)
 }

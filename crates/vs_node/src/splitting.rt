@@ -1,11 +1,13 @@
 //! By which trip a leaf is split, and how.
-ghost use Rattle.std.specs.Prelude.{◌≤◌, ◌≡◌, ℕ, ◌<◌, length, MatchOption, OnSome};
+ghost use Rattle.std.specs.Prelude.{◌≤◌, ◌≡◌, ◌⊎◌, ◌<◌, length, MatchOption, Some};
 ghost use Rattle.vs_instance.specs.declared.limits.TheConstants.{MAX_TRIPS};
-ghost use Rattle.vs_types.specs.LayerSet.{members};
+ghost use Rattle.vs_types.specs.LayerSet.{Has, members};
 ghost use Rattle.vs_types.specs.Parts.{IsProperPart};
-ghost use Rattle.vs_node.specs.SplitRule.{HasChoice, HoldsOfNone, IsDisputed, IsLowest, IsLowestAlone, IsSplitTrip};
+ghost use Rattle.vs_types.specs.declared.numbers.TheConstants.{MAX_LAYERS};
+ghost use Rattle.vs_node.specs.SplitRule.{HasChoice, HoldsOfNone, IsLayerAlone, IsLowest, MaySplit};
 
-use vs_types::{LayerSet, TripNo};
+use crate::leads::{Candidate, Leads};
+use vs_types::{LayerNo, LayerSet, TripNo};
 
 /// The lowest-numbered trip that may be run in two layers or more. None exactly where there is none.
 pub(crate) fn first_with_choice(sets: &[LayerSet]) -> Option<TripNo>
@@ -21,40 +23,39 @@ pub(crate) fn first_with_choice(sets: &[LayerSet]) -> Option<TripNo>
     None
 }
 
-/// The lowest-numbered of these trips that isn't run in exactly one layer. None exactly where there is none.
-fn first_disputed(sets: &[LayerSet], covers: &[u32]) -> Option<TripNo>
-    requires few { length sets.now ≤ MAX_TRIPS }
-    requires covers { length covers.now ≡ length sets.now }
-    ensures { MatchOption result (HoldsOfNone (IsDisputed sets.now covers.now) (length sets.now))
-        (λ i. IsLowest (IsDisputed sets.now covers.now) (length sets.now) i.0) }
+/// The better one to split a leaf by, the earlier one of two that are alike.
+fn better_of(best: Option<Candidate>, next: Candidate) -> Candidate
+    ensures { (result ≡ next) ⊎ (best ≡ Some result) }
 {
+    match best {
+        Some(best) if !next.is_before(&best) => best,
+        _ => next,
+    }
+}
+
+/// The trip by which a leaf is split: among those that may be run in two layers or more one that is shared out, where
+/// there is one, and of several the one that is paid for most. None exactly where no trip may be run in two layers.
+pub(crate) fn split_trip(sets: &[LayerSet], leads: &Leads) -> Option<Candidate>
+    requires { length sets.now ≤ MAX_TRIPS }
+    ensures { MatchOption result (HoldsOfNone (HasChoice sets.now) (length sets.now))
+        (MaySplit sets.now (length sets.now)) }
+{
+    let mut best: Option<Candidate> = None;
     for i in 0..sets.len() {
-        if sets[i].count() > 1 && covers[i] != 1 {
-            return Some(TripNo(i as u32));
+        if sets[i].count() > 1 {
+            let next = leads.candidate(sets[i], TripNo(i as u32));
+            best = Some(better_of(best, next));
         }
     }
-    None
+    best
 }
 
-/// The trip whose set a leaf is split by: the lowest-numbered one with a choice that isn't run in exactly one layer,
-/// else the lowest-numbered one with a choice. None where no trip has a choice.
-pub(crate) fn split_trip(sets: &[LayerSet], covers: &[u32]) -> Option<TripNo>
-    requires few { length sets.now ≤ MAX_TRIPS }
-    requires covers { length covers.now ≡ length sets.now }
-    ensures { MatchOption result (HoldsOfNone (HasChoice sets.now) (length sets.now))
-        (λ i. IsSplitTrip sets.now covers.now i.0) }
+/// One layer of a set alone.
+pub(crate) fn alone(set: LayerSet, l: LayerNo) -> LayerSet
+    requires choice { 1 < length (members set) }
+    requires among { Has set l.0 }
+    requires few { l.0 < MAX_LAYERS }
+    ensures { IsProperPart result set }
 {
-    match first_disputed(sets, covers) {
-        Some(trip) => Some(trip),
-        None => first_with_choice(sets),
-    }
-}
-
-/// The lowest layer of a set alone.
-pub(crate) fn lowest_alone(set: LayerSet) -> LayerSet
-    requires { 1 < length (members set) }
-    ensures lowest { IsLowestAlone result set }
-    ensures part { IsProperPart result set }
-{
-    LayerSet::only(set.lowest().unwrap())
+    LayerSet::only(l)
 }

@@ -45,7 +45,7 @@ pub fn work(
     ensures plan { IfOk result (λ outcome.
         HasPlan instance.now task.now.sets.items outcome.table outcome.plan) }
     ensures next { IfOk result (λ outcome.
-        IsFollowedBy instance.now nets.now task.now outcome) }
+        IsFollowedBy instance.now task.now outcome) }
     ensures alone { IfOk result (λ outcome. AreSingle task.now.sets.items → outcome.next ≡ Close) }
 {
     prove!(instance.trips() <= MAX_TRIPS);

@@ -8,7 +8,7 @@ use Rattle.vs_instance.specs.Lagrangian.{multiplier_of}
 use Rattle.vs_instance.specs.Problem.{Problem}
 use Rattle.vs_instance.specs.Restriction.{set_of}
 use Rattle.vs_instance.specs.Ways.{Permitted, trip_of}
-use Rattle.vs_multi.specs.Multipliers.{AreMultipliers, IsMultiplier, limited}
+use Rattle.vs_multi.specs.Multipliers.{AreWithin, IsMultiplier, limited}
 use Rattle.vs_plan.specs.CheckedPlan.{Checked, IsChecked}
 use Rattle.vs_penalty.specs.declared.penalties.Penalties.{Penalties}
 
@@ -18,30 +18,37 @@ pub record IsBidBeside (multiplier : ℤ) (rate : ℕ) (others : LayerSet) (bid 
   pub alone : length (members others) ≡ 0 → bid ≡ limited (multiplier +ℤ pos (rate / 2))
   pub beside : 0 < length (members others) → bid ≡ limited (multiplier -ℤ pos (rate / 2))
 
--- what layer l is offered for a trip that it is one of the permitted layers of, and that these layers run now
-pub record IsBid (permitted : LayerSet) (l : ℕ) (multiplier : ℤ) (rate : ℕ) (runs : LayerSet) (bid : ℤ) : Type 0 where
-  pub may : Has permitted l
+-- what layer l is offered for a trip in whose set it is, and that these layers run now
+pub record IsBid (set : LayerSet) (l : ℕ) (multiplier : ℤ) (rate : ℕ) (runs : LayerSet) (bid : ℤ) : Type 0 where
+  pub may : Has set l
   pub within : IsMultiplier bid
   pub others : LayerSet
   pub but : (k : ℕ) → Has others k ↔ (Has runs k × (k ≢ l))
   pub beside : IsBidBeside multiplier rate others bid
 
--- the offer of trip i to layer l, none where that may not run it
-abbrev pub IsOfferIn : Problem → ℕ → List ℤ → ℕ → List LayerSet → List (Option ℤ) → ℕ → Type 0
-IsOfferIn p l multipliers rate runs offers i =
-    MatchOption (offer_of offers i) (¬ (Permitted p l i))
-    (IsBid (trip_of p i).layers l (multiplier_of multipliers i) rate (set_of runs i))
+-- the offer of trip i to layer l, none where its set hasn't that
+abbrev pub IsOfferIn : List LayerSet → ℕ → List ℤ → ℕ → List LayerSet → List (Option ℤ) → ℕ → Type 0
+IsOfferIn sets l multipliers rate runs offers i =
+    MatchOption (offer_of offers i) (¬ (Has (set_of sets i) l))
+    (IsBid (set_of sets i) l (multiplier_of multipliers i) rate (set_of runs i))
 
 -- an offer of each trip
-pub record AreBids (p : Problem) (l : ℕ) (multipliers : List ℤ) (rate : ℕ) (runs : List LayerSet)
+pub record AreBids (sets : List LayerSet) (l : ℕ) (multipliers : List ℤ) (rate : ℕ) (runs : List LayerSet)
     (offers : List (Option ℤ)) : Type 0 where
-  pub each_trip : length offers ≡ length p.trips
-  pub each : (i : ℕ) → i < length p.trips → IsOfferIn p l multipliers rate runs offers i
+  pub each_trip : length offers ≡ length sets
+  pub each : (i : ℕ) → i < length sets → IsOfferIn sets l multipliers rate runs offers i
+
+-- penalties with an entry for each of so many trips
+pub record ArePenaltiesOf (trips : ℕ) (penalties : Penalties) : Type 0 where
+  pub each_trip : length penalties.multipliers.items ≡ trips
+  pub within : AreWithin penalties.multipliers.items
+  pub runs : length penalties.runs.items ≡ trips
+  pub offers : length penalties.offers.items ≡ trips
+  pub marks : length penalties.marks.items ≡ trips
 
 -- penalties of an instance have an entry for each trip
-pub record ArePenalties (p : Problem) (penalties : Penalties) : Type 0 where
-  pub multipliers : AreMultipliers p penalties.multipliers.items
-  pub runs : length penalties.runs.items ≡ length p.trips
+abbrev pub ArePenalties : Problem → Penalties → Type 0
+ArePenalties p penalties = ArePenaltiesOf (length p.trips) penalties
 
 -- layer l is the lowest of the set
 pub record IsLowest (set : LayerSet) (l : ℕ) : Type 0 where

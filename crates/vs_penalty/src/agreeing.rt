@@ -1,6 +1,6 @@
 //! The layers brought to agree, and what their multipliers show in the end.
 ghost use Rattle.std.specs.Prelude.{◌≡◌, IfOk, IfSome};
-ghost use Rattle.vs_instance.specs.Restriction.{permitted_sets};
+ghost use Rattle.vs_instance.specs.Restriction.{IsRestriction, permitted_sets};
 ghost use Rattle.vs_multi.specs.Multipliers.{AreMultipliers};
 ghost use Rattle.vs_multi.specs.Rounds.{IsCase};
 ghost use Rattle.vs_match.specs.LayerNets.{AreLayerNets};
@@ -8,29 +8,19 @@ ghost use Rattle.vs_prices.specs.Bounds.{IsWorthNoLess};
 ghost use Rattle.vs_prices.specs.Table.{Fits, HoldingTable};
 ghost use Rattle.vs_penalty.specs.Penalties.{IsPlanOf};
 
-use crate::penalties::Penalties;
+use crate::seeking::Seeker;
 use std::alloc::Global;
 use std::mem::swap;
 use vs_circ::Work;
-use vs_instance::{Instance, MAX_LAYERS, MAX_TRIPS};
+use vs_instance::Instance;
 use vs_match::LayerNet;
-use vs_multi::{Case, few_rounds, keep_better, raise};
+use vs_multi::{Case, few_rounds, keep_better, of_table, raise};
 use vs_plan::CheckedPlan;
 use vs_prices::{Table, permitted_sets, worth};
 use vs_types::{Memory, TripNo};
 
-/// How many offers of trips to layers the passes make together, where that lies between the two limits: a pass takes
-/// the longer the more it offers, and so all passes take about as long for every instance.
-const OFFERS: u32 = 1_600_000;
-
-/// How many passes there are at least: with fewer, the layers of a large instance would hardly begin to agree.
-const LEAST_PASSES: u32 = 400;
-
-/// How many passes there are at most: the layers of a small instance agree long before.
-const MOST_PASSES: u32 = 4_000;
-
-/// How many rounds follow the passes: few, since these left the multipliers near where they settle.
-const ROUNDS: u32 = 20;
+/// One round shows what the multipliers are worth; they are the best already.
+const ROUNDS: u32 = 1;
 
 /// Brings the layers to agree on which of them runs which trip, and gives the cheapest plan that was found on the way,
 /// if any. The table becomes what the multipliers show in the end, where that is worth more. Where no trip has two
@@ -61,13 +51,59 @@ pub fn agree(
         nets,
         sets,
     };
-    let mut penalties = Penalties::new(alloc, instance, sets, table)?;
-    let plan = penalties.seek(&case, passes(instance), work)?;
-    improve(&case, &mut penalties.multipliers, table, work)?;
+    let plan = agree_on(&case, table, work)?;
     Ok(plan)
 }
 
-/// Makes the table what rounds from these multipliers and further sweeps show, where that is worth more.
+/// The same in the layers of these sets.
+fn agree_on(
+    case: &Case<'_>,
+    table: &mut Table,
+    work: &mut Work,
+) -> Result<Option<CheckedPlan>, Memory>
+    requires case { IsCase case.now.instance.now case.now.nets.now case.now.sets.now }
+    requires fits { Fits case.now.instance.now table.old }
+    requires holds { HoldingTable case.now.instance.now table.old }
+    ensures plan { IfOk result (λ plan. IfSome plan (IsPlanOf case.now.instance.now)) }
+    ensures fits { Fits case.now.instance.now table.new }
+    ensures holds { HoldingTable case.now.instance.now table.new }
+    ensures worth { IsWorthNoLess case.now.instance.now case.now.sets.now table.new table.old }
+{
+    let mut multipliers = first_multipliers(case, table)?;
+    let best = seek_from(case, &mut multipliers, work)?;
+    improve(case, &mut multipliers, table, work)?;
+    Ok(best)
+}
+
+/// The multipliers that a table stands for.
+fn first_multipliers(case: &Case<'_>, table: &Table) -> Result<Vec<i64>, Memory>
+    requires restriction { IsRestriction case.now.instance.now case.now.sets.now }
+    requires fits { Fits case.now.instance.now table.now }
+    ensures { IfOk result (λ first. AreMultipliers case.now.instance.now first.items) }
+{
+    let mut first = vec![in case.alloc; 0; case.instance.trips() as usize]?;
+    of_table(case.instance, case.sets, table, &mut first);
+    Ok(first)
+}
+
+/// The cheapest plan that the search from these multipliers finds, if any. They become nearly the best.
+fn seek_from(
+    case: &Case<'_>,
+    multipliers: &mut [i64],
+    work: &mut Work,
+) -> Result<Option<CheckedPlan>, Memory>
+    requires case { IsCase case.now.instance.now case.now.nets.now case.now.sets.now }
+    requires multipliers { AreMultipliers case.now.instance.now multipliers.old }
+    ensures plan { IfOk result (λ plan. IfSome plan (IsPlanOf case.now.instance.now)) }
+    ensures multipliers { AreMultipliers case.now.instance.now multipliers.new }
+{
+    let mut seeker = Seeker::new(case, multipliers)?;
+    seeker.seek_all(case, multipliers, work)?;
+    let best = seeker.choices.best.take();
+    Ok(best)
+}
+
+/// Makes the table what these multipliers and sweeps from there show, where that is worth more.
 fn improve(
     case: &Case<'_>,
     multipliers: &mut [i64],
@@ -98,15 +134,4 @@ fn has_choice(instance: &Instance) -> bool {
         }
     }
     false
-}
-
-/// How many passes there are, the fewer the more each of them offers.
-fn passes(instance: &Instance) -> u32 {
-    prove!(instance.trips() <= MAX_TRIPS && instance.layers() <= MAX_LAYERS);
-    let offers = instance.trips() * instance.layers();
-    OFFERS
-        .checked_div(offers)
-        .unwrap_or(0)
-        .max(LEAST_PASSES)
-        .min(MOST_PASSES)
 }

@@ -2,6 +2,8 @@
 ghost use Rattle.std.specs.Prelude.{◌≡◌, ◌≢◌, ◌<◌, [], length};
 ghost use Rattle.vs_types.specs.LayerSet.{Has, members};
 ghost use Rattle.vs_types.specs.declared.numbers.TheConstants.{MAX_LAYERS};
+ghost use Rattle.vs_instance.specs.Restriction.{IsRestriction};
+ghost use Rattle.vs_node.specs.ChosenLayers.{AreSingle};
 ghost use Rattle.vs_penalty.specs.Penalties.{AreGiven, IsLowestRun};
 
 use vs_instance::Instance;
@@ -24,7 +26,9 @@ fn lowest_layer(permitted: LayerSet, runs: LayerSet) -> LayerNo
 pub(crate) fn lowest_layers(instance: &Instance, runs: &[LayerSet], chosen: &mut [LayerSet])
     requires runs { length runs.now ≡ length instance.now.trips }
     requires chosen { length chosen.old ≡ length instance.now.trips }
-    ensures { AreGiven instance.now runs.now chosen.new }
+    ensures given { AreGiven instance.now runs.now chosen.new }
+    ensures restriction { IsRestriction instance.now chosen.new }
+    ensures single { AreSingle chosen.new }
 {
     for i in 0..instance.trips() {
         let permitted = instance.trip(TripNo(i)).layers;

@@ -3,9 +3,15 @@
 #![tactic(auto)]
 
 mod agreeing;
+mod choices;
 mod choosing;
+mod effort;
 mod penalties;
+mod pool;
 mod rate;
+mod root;
+mod seeking;
+mod slow_passes;
 mod tally;
 
 pub use agreeing::agree;

@@ -1,32 +1,21 @@
-//! What layers are offered for trips while they come to agree, pass by pass.
-ghost use Rattle.std.specs.Prelude.{◌≡◌, ◌<◌, ◌≤ℤ◌, pos, IfOk, IfSome, MatchOption, length};
+//! What layers are offered for trips while they come to agree, and a pass by that.
+ghost use Rattle.std.specs.Prelude.{◌≡◌, ◌<◌, ◌≤ℤ◌, pos, IfOk, MatchOption, length};
 ghost use Rattle.vs_types.specs.LayerSet.{Has};
 ghost use Rattle.vs_instance.specs.Restriction.{IsRestriction};
-ghost use Rattle.vs_prices.specs.Table.{Fits};
 ghost use Rattle.vs_circ.specs.Offers.{AreOffers};
 ghost use Rattle.vs_multi.specs.Rounds.{IsCase};
 ghost use Rattle.vs_multi.specs.Multipliers.{AreMultipliers, AreWithin, IsMultiplier};
 ghost use Rattle.vs_penalty.specs.Moves.{AreMoved};
 ghost use Rattle.vs_penalty.specs.Noted.{AreNoted, IsNoted};
-ghost use Rattle.vs_penalty.specs.Penalties.{AreBids, ArePenalties, IsBid, IsBidBeside, IsPlanOf};
+ghost use Rattle.vs_penalty.specs.Penalties.{AreBids, ArePenalties, ArePenaltiesOf, IsBid, IsBidBeside};
 ghost use Rattle.vs_types.specs.declared.numbers.TheConstants.{MAX_LAYERS};
 ghost use Rattle.vs_instance.specs.declared.limits.TheConstants.{MAX_MULTIPLIER};
 
-use crate::choosing::lowest_layers;
 use crate::rate::Rate;
-use crate::tally::Tally;
-use std::alloc::Global;
 use vs_circ::{Work, runs};
-use vs_instance::{Instance, MAX_MULTIPLIER, MAX_TRIPS};
-use vs_multi::{Case, greatest_step, moved, of_table};
-use vs_node::settle;
-use vs_plan::{CheckedPlan, cheaper};
-use vs_prices::Table;
-use vs_types::{LayerNo, LayerSet, Memory, TripNo};
-
-/// A plan is tried where no more than one trip in so many is run by several layers: where more are, giving each to one
-/// of them leaves the vehicles of the others to run empty, and the plan is dear.
-const FEW: u32 = 8;
+use vs_instance::{Instance, MAX_MULTIPLIER};
+use vs_multi::{Case, moved};
+use vs_types::{LayerNo, LayerSet, Memory};
 
 /// What the layers are offered for each trip while they come to agree on which of them runs which: by the method of
 /// multipliers (Hestenes 1969, Powell 1969), one layer after the other.
@@ -37,115 +26,91 @@ pub(crate) struct Penalties {
     /// By trip: the layers that run it now.
     pub runs: Vec<LayerSet>,
     pub rate: Rate,
+    /// The layer that runs first in a pass.
+    first: u32,
+    /// What the layer that comes next is offered for each trip.
+    offers: Vec<Option<i64>>,
+    /// Which trips it runs.
+    marks: Vec<bool>,
 }
 
 impl Penalties {
-    /// The multipliers that a table stands for, before any layer runs a trip.
-    pub fn new(
-        alloc: Global,
-        instance: &Instance,
-        sets: &[LayerSet],
-        table: &Table,
-    ) -> Result<Penalties, Memory>
-        requires fits { Fits instance.now table.now }
-        requires restriction { IsRestriction instance.now sets.now }
-        ensures { IfOk result (ArePenalties instance.now) }
+    /// These multipliers, before any layer runs a trip.
+    pub fn new(case: &Case<'_>, multipliers: &[i64], rate: Rate) -> Result<Penalties, Memory>
+        requires { AreMultipliers case.now.instance.now multipliers.now }
+        ensures { IfOk result (ArePenalties case.now.instance.now) }
     {
-        let trips = instance.trips() as usize;
-        let mut multipliers = vec![in alloc; 0; trips]?;
-        of_table(instance, sets, table, &mut multipliers);
-        let most = greatest_step(alloc, instance)?;
+        let trips = case.instance.trips() as usize;
         Ok(Penalties {
-            multipliers,
-            runs: vec![in alloc; LayerSet(0); trips]?,
-            rate: Rate::new(most),
+            multipliers: Vec::from_slice(case.alloc, multipliers)?,
+            runs: vec![in case.alloc; LayerSet(0); trips]?,
+            rate,
+            first: 0,
+            offers: vec![in case.alloc; None; trips]?,
+            marks: vec![in case.alloc; false; trips]?,
         })
     }
 
-    /// The cheapest of the plans that so many passes come to, if any.
-    pub fn seek(
-        &mut self,
-        case: &Case<'_>,
-        passes: u32,
-        work: &mut Work,
-    ) -> Result<Option<CheckedPlan>, Memory>
-        requires case { IsCase case.now.instance.now case.now.nets.now case.now.sets.now }
-        requires penalties { ArePenalties case.now.instance.now self.old }
-        ensures penalties { ArePenalties case.now.instance.now self.new }
-        ensures plan { IfOk result (λ plan. IfSome plan (IsPlanOf case.now.instance.now)) }
+    /// Begins again with these multipliers, before any layer runs a trip.
+    pub fn begin(&mut self, multipliers: &[i64])
+        requires old { ArePenaltiesOf (length multipliers.now) self.old }
+        requires within { AreWithin multipliers.now }
+        ensures { ArePenaltiesOf (length multipliers.now) self.new }
     {
-        let trips = case.instance.trips() as usize;
-        let mut offers = vec![in case.alloc; None; trips]?;
-        let mut marks = vec![in case.alloc; false; trips]?;
-        let mut chosen = vec![in case.alloc; LayerSet(0); trips]?;
-        let mut best = None;
-        for _ in 0..passes {
-            self.pass(case, work, &mut offers, &mut marks)?;
-            let plan = self.draw(case, work, &mut chosen)?;
-            best = cheaper(best, plan);
-        }
-        Ok(best)
+        self.multipliers.copy_from_slice(multipliers);
+        empty(&mut self.runs);
+        self.rate.begin();
     }
 
-    /// A plan of the layers that run each trip, where every trip is run and few are by several. The rate rises while
-    /// trips are left out, and falls where a plan is tried. The last is space for the layer of each trip.
-    fn draw(
-        &mut self,
-        case: &Case<'_>,
-        work: &mut Work,
-        chosen: &mut [LayerSet],
-    ) -> Result<Option<CheckedPlan>, Memory>
-        requires case { IsCase case.now.instance.now case.now.nets.now case.now.sets.now }
-        requires penalties { ArePenalties case.now.instance.now self.old }
-        requires chosen { length chosen.old ≡ length case.now.instance.now.trips }
-        ensures penalties { ArePenalties case.now.instance.now self.new }
-        ensures plan { IfOk result (λ plan. IfSome plan (IsPlanOf case.now.instance.now)) }
+    /// Lets the next of so many layers run first from now on, and the rate begin higher once each did.
+    pub fn turn(&mut self, layers: u32)
+        ensures multipliers { self.new.multipliers ≡ self.old.multipliers }
+        ensures runs { self.new.runs ≡ self.old.runs }
+        ensures offers { self.new.offers ≡ self.old.offers }
+        ensures marks { self.new.marks ≡ self.old.marks }
     {
-        let instance = case.instance;
-        prove!(instance.trips() <= MAX_TRIPS);
-        let tally = Tally::of(&self.runs);
-        if tally.none > 0 {
-            self.rate.raise();
-            return Ok(None);
+        self.first = self.first.saturating_add(1);
+        if self.first >= layers {
+            self.first = 0;
+            self.rate.shift();
         }
-        if tally.many > instance.trips() / FEW {
-            return Ok(None);
-        }
-        self.rate.ease();
-        lowest_layers(instance, &self.runs, chosen);
-        let settled = settle(case.alloc, instance, case.nets, chosen, work)?;
-        Ok(settled.plan)
     }
 
-    /// Each layer in turn runs the trips that are worth it at what they are offered for; the next one sees which. The
-    /// last two are space for what a layer is offered for each trip, and for whether it runs it.
-    pub fn pass(
-        &mut self,
-        case: &Case<'_>,
-        work: &mut Work,
-        offers: &mut [Option<i64>],
-        marks: &mut [bool],
-    ) -> Result<(), Memory>
+    /// Each layer in turn runs the trips that are worth it at what they are offered for; the next one sees which.
+    pub fn pass(&mut self, case: &Case<'_>, work: &mut Work) -> Result<(), Memory>
         requires case { IsCase case.now.instance.now case.now.nets.now case.now.sets.now }
         requires penalties { ArePenalties case.now.instance.now self.old }
-        requires offers { length offers.old ≡ length case.now.instance.now.trips }
-        requires marks { length marks.old ≡ length case.now.instance.now.trips }
         ensures penalties { ArePenalties case.now.instance.now self.new }
     {
-        let instance = case.instance;
-        for l in 0..instance.layers() {
-            offer_all(
-                instance,
-                LayerNo(l),
-                &self.multipliers,
-                &self.runs,
-                self.rate.now,
-                offers,
-            );
-            runs(case.alloc, &case.nets[l as usize], offers, work, marks)?;
-            note(instance, LayerNo(l), marks, &mut self.runs);
+        for k in 0..case.instance.layers() {
+            let l = self.layer_at(k, case.instance.layers());
+            self.run(case, l, work)?;
         }
         move_all(&mut self.multipliers, &self.runs, self.rate.now);
+        Ok(())
+    }
+
+    /// The layer that runs in place k of a pass, counted from 0, where there are so many.
+    fn layer_at(&self, k: u32, layers: u32) -> LayerNo
+        requires { k < layers }
+        ensures { result.0 < layers }
+    {
+        LayerNo(self.first.saturating_add(k) % layers)
+    }
+
+    /// A layer runs the trips that are worth it.
+    fn run(&mut self, case: &Case<'_>, l: LayerNo, work: &mut Work) -> Result<(), Memory>
+        requires case { IsCase case.now.instance.now case.now.nets.now case.now.sets.now }
+        requires layer { l.0 < length case.now.instance.now.layers }
+        requires penalties { ArePenalties case.now.instance.now self.old }
+        ensures penalties { ArePenalties case.now.instance.now self.new }
+    {
+        let offers: &mut [Option<i64>] = &mut self.offers;
+        let rate = self.rate.now;
+        offer_all(case, l, &self.multipliers, &self.runs, rate, offers);
+        let net = &case.nets[l.0 as usize];
+        runs(case.alloc, net, offers, work, &mut self.marks)?;
+        note(case.instance, l, &self.marks, &mut self.runs);
         Ok(())
     }
 }
@@ -183,26 +148,25 @@ fn bid(permitted: LayerSet, l: LayerNo, multiplier: i64, rate: u64, runs: LayerS
 
 /// Offers a layer the trips that it may run.
 fn offer_all(
-    instance: &Instance,
+    case: &Case<'_>,
     l: LayerNo,
     multipliers: &[i64],
     runs: &[LayerSet],
     rate: u64,
     offers: &mut [Option<i64>],
 )
-    requires layer { l.0 < length instance.now.layers }
-    requires multipliers { AreMultipliers instance.now multipliers.now }
-    requires runs { length runs.now ≡ length instance.now.trips }
+    requires restriction { IsRestriction case.now.instance.now case.now.sets.now }
+    requires layer { l.0 < length case.now.instance.now.layers }
+    requires multipliers { AreMultipliers case.now.instance.now multipliers.now }
+    requires runs { length runs.now ≡ length case.now.instance.now.trips }
     requires rate { pos rate ≤ℤ MAX_MULTIPLIER }
-    requires offers { length offers.old ≡ length instance.now.trips }
-    ensures offers { AreOffers instance.now l.0 offers.new }
-    ensures bids { AreBids instance.now l.0 multipliers.now rate runs.now offers.new }
+    requires offers { length offers.old ≡ length case.now.instance.now.trips }
+    ensures offers { AreOffers case.now.instance.now l.0 offers.new }
+    ensures bids { AreBids case.now.sets.now l.0 multipliers.now rate runs.now offers.new }
 {
-    prove!(l.0 < instance.layers());
-    for i in 0..instance.trips() {
-        let place = i as usize;
-        let permitted = instance.trip(TripNo(i)).layers;
-        offers[place] = bid(permitted, l, multipliers[place], rate, runs[place]);
+    prove!(l.0 < case.instance.layers());
+    for i in 0..offers.len() {
+        offers[i] = bid(case.sets[i], l, multipliers[i], rate, runs[i]);
     }
 }
 
@@ -213,6 +177,15 @@ fn noted(layers: LayerSet, l: LayerNo, mark: bool) -> LayerSet
 {
     let others = layers.without(l);
     if mark { others.with(l) } else { others }
+}
+
+/// Lets no layer run a trip.
+fn empty(runs: &mut [LayerSet])
+    ensures { length runs.new ≡ length runs.old }
+{
+    for layers in runs.iter_mut() {
+        *layers = LayerSet(0);
+    }
 }
 
 /// Notes which trips a layer runs now, of those that it may run.

@@ -5,7 +5,6 @@ use Rattle.std.proofs.lemmas.Int.{ints, clamps}
 use Rattle.vs_types.specs.declared.layer_set.LayerSet.{LayerSet}
 use Rattle.vs_instance.specs.Problem.{Problem}
 use Rattle.vs_plan.specs.CheckedPlan.{Checked, cost_of}
-use Rattle.vs_match.specs.LayerGraph.{LayerGraph}
 use Rattle.vs_connect.specs.Cost.{lesser_of}
 use Rattle.vs_penalty.specs.Penalties.{IsPlanOf as IsAgreed}
 use Rattle.vs_prices.specs.Bounds.{IsBelow}
@@ -20,7 +19,6 @@ use Rattle.vs_tree.specs.declared.calls.Next.TheVariants.{Close, Split}
 use Rattle.vs_node.specs.LeastPlans.{IsBestWithin}
 use Rattle.vs_node.specs.Outcomes.{HasNext, HasPlan}
 use Rattle.vs_node.specs.declared.outcome.Task.{Task}
-use Rattle.vs_node.specs.SplitRule.{IsSplitTrip}
 use Rattle.vs_node.specs.WorkedStep.{IsWorked}
 use Rattle.vs_crew.specs.Found.{IsLawfulNext}
 
@@ -49,22 +47,17 @@ pub plan_of : (p : Problem) (sets : List LayerSet) (table : Table) (plan : Optio
     → IfSome plan (IsPlanOf p)
 plan_of p sets table plan has = best-is p has.chosen plan has.best
 
--- a trip by which a leaf is split is one of its trips
-split-inside : (sets : List LayerSet) (covers : List ℕ) (i : ℕ) → IsSplitTrip sets covers i → i < length sets
-split-inside sets covers i (inl lowest) = lowest.inside
-split-inside sets covers i (inr lowest) = lowest.1.inside
-
 -- where the known cost was the lesser of a cost and of that of a first plan, the cheaper plan leaves as little room
-pub next-lesser : (p : Problem) (nets : List LayerGraph) (task : Task) (known : Option ℤ) (table : Table)
-    (first plan best : Option Checked) (next : Next) → HasNext p nets task table plan next
+pub next-lesser : (p : Problem) (task : Task) (known : Option ℤ) (table : Table)
+    (first plan best : Option Checked) (next : Next) → HasNext p task table plan next
     → task.known ≡ lesser_of known (cost_of first) → cost_of best ≡ lesser_of (cost_of first) (cost_of plan)
     → IsLawfulNext p task.sets.items known table best next
-next-lesser p nets task known table first plan best Close has lesser cost = λ worth is room.
+next-lesser p task known table first plan best Close has lesser cost = λ worth is room.
     let both = below-both worth (cost_of first) (cost_of plan) (subst (IsBelow worth) cost room.1) in
     has worth is
     (subst (IsBelow worth) (sym lesser) (below-lesser worth known (cost_of first) room.0 both.0), both.1)
-next-lesser p nets task known table first plan best (Split trip left) has lesser cost =
-    (split-inside task.sets.items has.1.0 trip.0 has.1.2.by_rule, has.1.2.part)
+next-lesser p task known table first plan best (Split trip left) has lesser cost =
+    (has.1.inside, has.1.part)
 
 -- a lawful split is one by a trip of the instance
 pub next-in : (p : Problem) (sets : List LayerSet) (known : Option ℤ) (table : Table) (plan : Option Checked)

@@ -11,7 +11,7 @@ use Rattle.vs_types.specs.LayerSet.{Has, members, layer_numbers}
 use Rattle.vs_types.specs.declared.layer_set.LayerSet.{LayerSet}
 use Rattle.vs_types.proofs.CallerLemmas.{Contains-members_below, IsStrictlyIncreasing-members, members-some, Has-rest}
 use Rattle.vs_types.specs.Parts.{rest_of, IsProperPart}
-use Rattle.vs_node.specs.SplitRule.{IsLowestAlone}
+use Rattle.vs_node.specs.SplitRule.{IsLayerAlone}
 
 layer_numbers-range : layer_numbers ≡ range_with_len 0 16
 unfolding layer_numbers
@@ -67,10 +67,10 @@ one_member set k m few k_few m_few has_k has_m =
     sym (at_first (members set) k few (Contains-members_below set k k_few has_k))
     ∙ at_first (members set) m few (Contains-members_below set m m_few has_m)
 
--- the lowest layer alone is a proper part of a set of two layers or more
-pub lowest_alone-part : (left whole : LayerSet) → 1 < length (members whole)
-    → (alone : IsLowestAlone left whole) → alone.layer < 16 → IsProperPart left whole
-lowest_alone-part left whole two alone few =
+-- one layer alone is a proper part of a set of two layers or more
+pub layer_alone-part : (left whole : LayerSet) → 1 < length (members whole)
+    → (alone : IsLayerAlone left whole) → alone.layer < 16 → IsProperPart left whole
+layer_alone-part left whole two alone few =
     let other = other_member whole alone.layer two in
     record {
       some = members-some left alone.layer few ((alone.alone alone.layer).1 refl);

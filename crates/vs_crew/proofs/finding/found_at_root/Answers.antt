@@ -35,6 +35,6 @@ returns-clause-found c =
           made.worked;
       plan = plan-either p agreed outcome.plan best.result (plan-turned p agreed c.in_ok-agreed.ensures.plan)
           (plan_of p task.sets.items outcome.table outcome.plan made.plan) best.ensures.cheaper.one_of;
-      next = next-lesser p c.args.nets.now now task.known outcome.table agreed outcome.plan best.result outcome.next
+      next = next-lesser p now task.known outcome.table agreed outcome.plan best.result outcome.next
           made.next known best.ensures.cost;
     }

@@ -10,8 +10,8 @@ returns c =
     subst (IsBelow c.args.worth) c.cost_of.ensures (c.is_below-is_cheaper.ensures.0 (search rules)) in (
       (known, cost),
       record {
-        by_rule = c.in-Some.ensures;
-        lowest = c.lowest_alone.ensures.lowest;
-        part = c.lowest_alone.ensures.part;
+        inside = c.in-Some.ensures.inside;
+        choice = c.in-Some.ensures.choice;
+        part = c.alone.ensures;
       },
     )

@@ -1,5 +1,4 @@
 use Rattle.std.proofs.Common.{Bool, sym, subst}
-use Rattle.vs_node.specs.Outcomes.{IsLeafsLastRound}
 use Rattle.vs_node.specs.WorkedStep.{AreBegunWith}
 use Rattle.vs_node.proofs.searches.Begun.{worked-by}
 use Rattle.vs_node.proofs.searching.best_round.Goals as goal
@@ -15,15 +14,6 @@ returns-then-root-clause-worked c =
     (subst (λ (root : Bool). AreBegunWith p root sets own multipliers) (sym c.if-root.true) c.start.ensures.start)
     c.in_ok-best.ensures.lagrangian
 
-pub returns-then-root-clause-covers : goal.returns-then-root-clause-covers
-returns-then-root-clause-covers c =
-    let case = c.args.case.now in
-    let p = case.instance.now in
-    let sets = case.sets.now in
-    subst (λ (root : Bool). IsLeafsLastRound p case.nets.now root sets c.args.own.now c.in_ok-best.best.covers.items)
-    (sym c.if-root.true)
-    (record { first = c.start.new.multipliers; begun = c.start.ensures.start; last = c.in_ok-best.ensures.covers })
-
 pub returns-clause-worked : goal.returns-clause-worked
 returns-clause-worked c =
     let case = c.args.case.now in
@@ -31,15 +21,6 @@ returns-clause-worked c =
     let sets = case.sets.now in
     let own = c.args.own.now in
     let multipliers = c.of_table.new.multipliers in
-    worked-by p c.args.root sets own c.in_ok-near.near.table multipliers
+    worked-by p c.args.root sets own c.in_ok-first.first.table multipliers
     (subst (λ (root : Bool). AreBegunWith p root sets own multipliers) (sym c.if-root.false) c.of_table.ensures)
-    c.in_ok-near.ensures.lagrangian
-
-pub returns-clause-covers : goal.returns-clause-covers
-returns-clause-covers c =
-    let case = c.args.case.now in
-    let p = case.instance.now in
-    let sets = case.sets.now in
-    subst (λ (root : Bool). IsLeafsLastRound p case.nets.now root sets c.args.own.now c.in_ok-near.near.covers.items)
-    (sym c.if-root.false)
-    (record { first = c.of_table.new.multipliers; begun = c.of_table.ensures; last = c.in_ok-near.ensures.covers })
+    c.in_ok-first.ensures.lagrangian

@@ -1,14 +1,14 @@
-use Rattle.std.proofs.Common.{ℕ, List, sym, subst}
+use Rattle.std.proofs.Common.{List, sym, subst}
 use Rattle.vs_types.specs.declared.layer_set.LayerSet.{LayerSet}
 use Rattle.vs_prices.specs.declared.table.Table.{Table}
 use Rattle.vs_prices.specs.Bounds.{IsWorthNoLess}
 use Rattle.vs_prices.specs.Table.{Fits, HoldingTable}
 use Rattle.vs_prices.specs.Worth.{IsWorth}
 use Rattle.vs_node.specs.NextSteps.{IsNextBy}
-use Rattle.vs_node.specs.Outcomes.{HasNext, HasPlan, IsLeafsLastRound}
+use Rattle.vs_node.specs.Outcomes.{HasNext, HasPlan}
 use Rattle.vs_node.specs.WorkedStep.{IsWorked}
 use Rattle.vs_node.proofs.tables.Comparing.{lagrangian-kept, worth_no_less-trans}
-use Rattle.vs_node.proofs.searches.Nexts.{next_of_round}
+use Rattle.vs_node.proofs.searches.Nexts.{next_of_worth}
 use Rattle.vs_node.proofs.searching.search.Goals as goal
 
 pub returns-clause-found : goal.returns-clause-found
@@ -19,8 +19,10 @@ returns-clause-found c =
     let sets = c.as_slice-sets.result.now in
     let sets_are = c.as_slice-sets.ensures.value in
     let table_is = sym c.in_ok-outcome.ensures.table in
-    let raised = c.in_ok-raised.ensures.no_less in
     let found = c.in_ok-best.best.table in
+    let climbed = c.climb_on.new.table in
+    let raised = worth_no_less-trans p sets c.raise.new.table climbed c.in_ok-table.table c.in_ok-raised.ensures.no_less
+    c.in_ok-climbed.ensures.no_less in
     let more = worth_no_less-trans p sets c.raise.new.table c.in_ok-table.table task.table raised
     c.in_ok-table.ensures.no_less in
     let more_found = worth_no_less-trans p sets c.raise.new.table c.in_ok-table.table found raised
@@ -41,20 +43,13 @@ returns-clause-found c =
 pub returns-clause-next : goal.returns-clause-next
 returns-clause-next c =
     let p = c.args.instance.now in
-    let nets = c.args.nets.now in
     let task = c.args.task.now in
     let outcome = c.in_ok-outcome.outcome in
-    let covers = c.in_ok-best.best.covers.items in
     let sets_are = c.as_slice-sets.ensures.value in
     let table = c.raise.new.table in
     let worth =
     subst (λ (s : List LayerSet). IsWorth p s table c.in_ok-raised.raised) sets_are c.in_ok-raised.ensures.worth in
-    let last = subst (λ (s : List LayerSet). IsLeafsLastRound p nets task.root s task.table covers) sets_are
-    c.in_ok-best.ensures.covers in
-    let next = subst (λ (s : List LayerSet). IsNextBy s covers c.in_ok-raised.raised task.known outcome.plan
-    outcome.next)
-    sets_are
-    (subst (λ (cs : List ℕ). IsNextBy c.as_slice-sets.result.now cs c.in_ok-raised.raised task.known outcome.plan
-    outcome.next) c.as_slice-covers.ensures.value c.in_ok-outcome.ensures.next) in
-    subst (λ (t : Table). HasNext p nets task t outcome.plan outcome.next) (sym c.in_ok-outcome.ensures.table)
-    (next_of_round p nets task covers table c.in_ok-raised.raised outcome.plan outcome.next worth last next)
+    let next = subst (λ (s : List LayerSet). IsNextBy s c.in_ok-raised.raised task.known outcome.plan outcome.next)
+    sets_are c.in_ok-outcome.ensures.next in
+    subst (λ (t : Table). HasNext p task t outcome.plan outcome.next) (sym c.in_ok-outcome.ensures.table)
+    (next_of_worth p task table c.in_ok-raised.raised outcome.plan outcome.next worth next)

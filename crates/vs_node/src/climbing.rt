@@ -1,0 +1,96 @@
+//! A climb on a leaf: to better multipliers, and to what shows by which trip the leaf is split.
+
+ghost use Rattle.std.specs.Prelude.{IfOk};
+ghost use Rattle.vs_instance.specs.Restriction.{IsRestriction};
+ghost use Rattle.vs_multi.specs.Multipliers.{AreMultipliers};
+ghost use Rattle.vs_multi.specs.Rounds.{IsCase};
+ghost use Rattle.vs_prices.specs.Bounds.{IsWorthNoLess};
+ghost use Rattle.vs_prices.specs.Table.{Fits, HoldingTable};
+ghost use Rattle.vs_prices.specs.Worth.{IsWorth};
+
+use crate::leads::Leads;
+use vs_bundle::{Aim, climb};
+use vs_circ::Work;
+use vs_multi::{Case, few_rounds, greatest_step, keep_better, of_table};
+use vs_prices::{Bound, Table};
+use vs_types::{Memory, SCALE};
+
+/// The first step of a climb, in hundredths of the greatest: the parent's multipliers are near.
+const FIRST_STEP: u32 = 1;
+
+/// How many circulations a layer keeps: about as many as there are rounds.
+const CUTS: u32 = 30;
+
+/// How many rounds a climb has: the first ten gain nothing as a rule, since no circulations are known yet, and twice as
+/// many gain less than further leaves do in that time.
+const ROUNDS: u32 = 35;
+
+/// How many arcs, times trips, the circulations of a climb look along at most: a tenth of what a step of the root may.
+const EFFORT: u64 = 4_000_000_000;
+
+/// One round shows what the best multipliers are worth.
+const LAST_ROUNDS: u32 = 1;
+
+/// What a climb on a leaf found.
+#[derive(Drop)]
+pub(crate) struct Climb {
+    /// What the table is worth then.
+    pub worth: Bound,
+    pub leads: Leads,
+}
+
+/// Climbs from the multipliers that a table stands for, which is worth so much. The table becomes what the best ones
+/// show, where that is worth more.
+pub(crate) fn climb_on(
+    case: &Case<'_>,
+    known: Option<i64>,
+    table: &mut Table,
+    own_worth: Bound,
+    work: &mut Work,
+) -> Result<Climb, Memory>
+    requires case { IsCase case.now.instance.now case.now.nets.now case.now.sets.now }
+    requires fits { Fits case.now.instance.now table.old }
+    requires holds { HoldingTable case.now.instance.now table.old }
+    requires worth { IsWorth case.now.instance.now case.now.sets.now table.old own_worth }
+    ensures fits { Fits case.now.instance.now table.new }
+    ensures holds { HoldingTable case.now.instance.now table.new }
+    ensures no_less { IsWorthNoLess case.now.instance.now case.now.sets.now table.new table.old }
+    ensures worth { IfOk result (λ climb.
+        IsWorth case.now.instance.now case.now.sets.now table.new climb.worth) }
+{
+    let mut multipliers = first_multipliers(case, table)?;
+    let aim = aim_for(case, known)?;
+    let climbed = climb(case, &aim, &mut multipliers, work)?;
+    let mut last = Vec::from_slice(case.alloc, &multipliers)?;
+    let mut best = few_rounds(case, LAST_ROUNDS, &mut last, work)?;
+    let worth = keep_better(table, own_worth, &mut best.table, best.worth);
+    let leads = Leads {
+        multipliers,
+        shares: climbed.shares,
+    };
+    Ok(Climb { worth, leads })
+}
+
+/// The multipliers that a table stands for.
+fn first_multipliers(case: &Case<'_>, table: &Table) -> Result<Vec<i64>, Memory>
+    requires restriction { IsRestriction case.now.instance.now case.now.sets.now }
+    requires fits { Fits case.now.instance.now table.now }
+    ensures { IfOk result (λ first. AreMultipliers case.now.instance.now first.items) }
+{
+    let mut first = vec![in case.alloc; 0; case.instance.trips() as usize]?;
+    of_table(case.instance, case.sets, table, &mut first);
+    Ok(first)
+}
+
+/// What the climb is to come to, where the cheapest plan that is known costs so much.
+fn aim_for(case: &Case<'_>, known: Option<i64>) -> Result<Aim, Memory> {
+    Ok(Aim {
+        known: known.map(|cost| cost.saturating_mul(SCALE)),
+        most: greatest_step(case.alloc, case.instance)?,
+        hundredths: FIRST_STEP,
+        cuts: CUTS,
+        rounds: ROUNDS,
+        trial_rounds: ROUNDS,
+        arcs: EFFORT / u64::from(case.instance.trips()).max(1),
+    })
+}

@@ -1,0 +1,92 @@
+//! By what a leaf is split: what its trips are paid for, and how much of each trip each layer runs after a climb.
+
+ghost use Rattle.std.specs.Prelude.{◌≡◌, ◌≢◌, ◌<◌, []};
+ghost use Rattle.vs_types.specs.LayerSet.{Has, members};
+ghost use Rattle.vs_types.specs.declared.numbers.TheConstants.{MAX_LAYERS};
+
+use vs_bundle::WHOLE;
+use vs_types::{LayerNo, LayerSet, MAX_LAYERS, TripNo};
+
+/// A trip counts as shared out where its greatest share is at least one part in so many, and so much less than a whole
+/// trip: what is nearer to none or to all hardly changes when the layer is chosen.
+const PARTS: i64 = 20;
+
+/// What a climb on a leaf leaves.
+#[derive(Drop)]
+pub(crate) struct Leads {
+    /// By trip, in 1/1000 of a cost unit.
+    pub multipliers: Vec<i64>,
+    /// By layer, and within that by trip: how much of the trip the layer runs, in parts of `WHOLE`.
+    pub shares: Vec<u32>,
+}
+
+/// A trip by which a leaf may be split, and the layer that runs most of it.
+#[derive(Clone, Copy, Debug)]
+pub(crate) struct Candidate {
+    pub trip: TripNo,
+    pub layer: LayerNo,
+    /// Whether several layers run a part of it.
+    shared: bool,
+    /// What it is paid for.
+    multiplier: i64,
+}
+
+impl Candidate {
+    /// Whether a leaf is split by this trip rather than by the other one: by one that is shared out, and among several
+    /// by the one that is paid for most.
+    pub fn is_before(&self, other: &Candidate) -> bool {
+        if self.shared == other.shared {
+            self.multiplier > other.multiplier
+        } else {
+            self.shared
+        }
+    }
+}
+
+impl Leads {
+    /// What there is to say of a trip that may be run in these layers.
+    pub fn candidate(&self, set: LayerSet, trip: TripNo) -> Candidate
+        requires { members set ≢ [] }
+        ensures trip { result.trip ≡ trip }
+        ensures layer { Has set result.layer.0 }
+        ensures few { result.layer.0 < MAX_LAYERS }
+    {
+        let layer = self.greatest(set, trip);
+        let share = i64::from(self.share(layer, trip));
+        let least = WHOLE / PARTS;
+        Candidate {
+            trip,
+            layer,
+            shared: least <= share && share <= WHOLE - least,
+            multiplier: self.multiplier(trip),
+        }
+    }
+
+    /// The layer of the set that runs most of a trip, the one with the lowest number on a tie.
+    fn greatest(&self, set: LayerSet, trip: TripNo) -> LayerNo
+        requires { members set ≢ [] }
+        ensures layer { Has set result.0 }
+        ensures few { result.0 < MAX_LAYERS }
+    {
+        let mut greatest = set.lowest().unwrap();
+        for k in 0..MAX_LAYERS {
+            let l = LayerNo(k);
+            if set.has(l) && self.share(l, trip) > self.share(greatest, trip) {
+                greatest = l;
+            }
+        }
+        greatest
+    }
+
+    /// How much of a trip a layer runs.
+    fn share(&self, l: LayerNo, trip: TripNo) -> u32 {
+        let row = (l.0 as usize).saturating_mul(self.multipliers.len());
+        let place = row.saturating_add(trip.0 as usize);
+        self.shares.get(place).copied().unwrap_or(0)
+    }
+
+    /// What a trip is paid for.
+    fn multiplier(&self, trip: TripNo) -> i64 {
+        self.multipliers.get(trip.0 as usize).copied().unwrap_or(0)
+    }
+}

@@ -1,0 +1,17 @@
+-- What plans are sought with.
+use Rattle.std.specs.Prelude.{◌≡◌, length, IfSome}
+use Rattle.vs_instance.specs.Problem.{Problem}
+use Rattle.vs_penalty.specs.Penalties.{ArePenalties, IsPlanOf}
+use Rattle.vs_penalty.specs.declared.choices.Choices.{Choices}
+use Rattle.vs_penalty.specs.declared.seeking.Seeker.{Seeker}
+
+-- the best plan is one of the instance, and there is an entry for each trip
+pub record AreChoices (p : Problem) (choices : Choices) : Type 0 where
+  pub best : IfSome choices.best (IsPlanOf p)
+  pub last : length choices.last.items ≡ length p.trips
+  pub chosen : length choices.chosen.items ≡ length p.trips
+
+-- penalties and choices of an instance
+pub record IsSeekerFor (p : Problem) (seeker : Seeker) : Type 0 where
+  pub penalties : ArePenalties p seeker.penalties
+  pub choices : AreChoices p seeker.choices

@@ -1,0 +1,43 @@
+//! How much work each step of the search at the root may take.
+
+use vs_instance::{Instance, MAX_LAYERS, MAX_TRIPS};
+use vs_match::LayerNet;
+
+/// How many offers of trips to layers there are in all, where the passes for them lie between the two limits: a pass
+/// takes the longer the more it offers, and so all passes take about as long for every instance.
+const OFFERS: u32 = 1_600_000;
+
+/// How many passes there are at least: with fewer, the layers of a large instance would hardly begin to agree.
+const LEAST_PASSES: u32 = 400;
+
+/// How many passes there are at most: the layers of a small instance agree long before.
+const MOST_PASSES: u32 = 2_000;
+
+/// How many arcs, times trips, the circulations of a step look along at most. The steps on 2,000 trips of a city take a
+/// half of it to two thirds; of an instance that is a hundred times as large a step has a few passes left.
+const EFFORT: u64 = 40_000_000_000;
+
+/// How many passes there are, the fewer the more each of them offers.
+pub(crate) fn passes(instance: &Instance) -> u32 {
+    prove!(instance.trips() <= MAX_TRIPS && instance.layers() <= MAX_LAYERS);
+    let offers = instance.trips() * instance.layers();
+    OFFERS
+        .checked_div(offers)
+        .unwrap_or(0)
+        .max(LEAST_PASSES)
+        .min(MOST_PASSES)
+}
+
+/// How many arcs the circulations of a step look along at most.
+pub(crate) fn arcs_for(instance: &Instance) -> u64 {
+    EFFORT / u64::from(instance.trips()).max(1)
+}
+
+/// So many passes, or as many as so many arcs suffice for where that is less.
+pub(crate) fn affordable(nets: &[LayerNet], passes: u32, arcs: u64) -> u32 {
+    let mut along: u64 = 0;
+    for net in nets {
+        along = along.saturating_add(u64::from(net.net().arcs()));
+    }
+    u64::from(passes).min(arcs / along.max(1)) as u32
+}

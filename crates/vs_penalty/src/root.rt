@@ -1,0 +1,115 @@
+//! The steps by which plans and multipliers are sought at the root.
+
+ghost use Rattle.vs_multi.specs.Multipliers.{AreMultipliers};
+ghost use Rattle.vs_multi.specs.Rounds.{IsCase};
+ghost use Rattle.vs_penalty.specs.Seekers.{IsSeekerFor};
+
+use crate::effort::{affordable, arcs_for, passes};
+use crate::pool::TURNS;
+use crate::rate::Pace;
+use crate::seeking::Seeker;
+use crate::slow_passes::Course;
+use vs_bundle::{Aim, climb};
+use vs_circ::Work;
+use vs_multi::Case;
+use vs_types::Memory;
+
+/// The first step of a climb, in hundredths of the greatest: the multipliers are known to within some hundredths.
+const FIRST_STEP: u32 = 2;
+
+/// How many circulations a layer keeps in a climb: with half as many it takes more rounds, with twice as many each
+/// round takes longer.
+const CUTS: u32 = 50;
+
+/// How many rounds a climb has: later ones gain next to nothing.
+const ROUNDS: u32 = 300;
+
+impl Seeker {
+    /// Seeks plans and ever better multipliers, in steps: passes from the first multipliers, a climb from where these
+    /// end, slow passes from the best multipliers, passes in pools of the best plans, and another climb, which a
+    /// cheaper plan guides better. What is left is left out as soon as no plan can cost less than the cheapest one.
+    pub fn seek_all(
+        &mut self,
+        case: &Case<'_>,
+        multipliers: &mut [i64],
+        work: &mut Work,
+    ) -> Result<(), Memory>
+        requires case { IsCase case.now.instance.now case.now.nets.now case.now.sets.now }
+        requires multipliers { AreMultipliers case.now.instance.now multipliers.old }
+        requires seeker { IsSeekerFor case.now.instance.now self.old }
+        ensures multipliers { AreMultipliers case.now.instance.now multipliers.new }
+        ensures seeker { IsSeekerFor case.now.instance.now self.new }
+    {
+        let passes = passes(case.instance);
+        let arcs = arcs_for(case.instance);
+        let first = affordable(case.nets, passes / 2, arcs);
+        self.seek(case, first, work)?;
+        multipliers.copy_from_slice(&self.penalties.multipliers);
+        self.climb(case, multipliers, work)?;
+        if self.is_done() {
+            return Ok(());
+        }
+        self.seek_near(case, passes, multipliers, work)?;
+        self.climb(case, multipliers, work)
+    }
+
+    /// Seeks plans near multipliers that are nearly the best.
+    fn seek_near(
+        &mut self,
+        case: &Case<'_>,
+        passes: u32,
+        multipliers: &[i64],
+        work: &mut Work,
+    ) -> Result<(), Memory>
+        requires case { IsCase case.now.instance.now case.now.nets.now case.now.sets.now }
+        requires multipliers { AreMultipliers case.now.instance.now multipliers.now }
+        requires seeker { IsSeekerFor case.now.instance.now self.old }
+        ensures { IsSeekerFor case.now.instance.now self.new }
+    {
+        let arcs = arcs_for(case.instance);
+        let slow = Course {
+            passes: affordable(
+                case.nets,
+                passes.saturating_mul(3) / 2,
+                arcs.saturating_mul(2),
+            ),
+            agreements: u32::MAX,
+        };
+        self.penalties.rate.set(Pace::Slow);
+        self.seek_anew(case, slow, multipliers, work)?;
+        self.penalties.rate.set(Pace::Narrow);
+        let narrow = affordable(
+            case.nets,
+            passes / 4,
+            arcs.saturating_mul(3) / u64::from(TURNS),
+        );
+        self.seek_in_pool(case, narrow, multipliers, work)
+    }
+
+    /// Climbs from these multipliers on to the best.
+    fn climb(
+        &mut self,
+        case: &Case<'_>,
+        multipliers: &mut [i64],
+        work: &mut Work,
+    ) -> Result<(), Memory>
+        requires case { IsCase case.now.instance.now case.now.nets.now case.now.sets.now }
+        requires multipliers { AreMultipliers case.now.instance.now multipliers.old }
+        requires seeker { IsSeekerFor case.now.instance.now self.old }
+        ensures multipliers { AreMultipliers case.now.instance.now multipliers.new }
+        ensures seeker { IsSeekerFor case.now.instance.now self.new }
+    {
+        let aim = Aim {
+            known: self.choices.known(),
+            most: self.penalties.rate.most,
+            hundredths: FIRST_STEP,
+            cuts: CUTS,
+            rounds: ROUNDS,
+            trial_rounds: ROUNDS,
+            arcs: arcs_for(case.instance),
+        };
+        let climbed = climb(case, &aim, multipliers, work)?;
+        self.value = climbed.value;
+        Ok(())
+    }
+}
