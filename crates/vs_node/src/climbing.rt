@@ -21,8 +21,8 @@ const FIRST_STEP: u32 = 1;
 /// How many circulations a layer keeps: about as many as there are rounds.
 const CUTS: u32 = 30;
 
-/// How many rounds a climb has: the first ten gain nothing as a rule, since no circulations are known yet, and what twice
-/// as many gain is more by further leaves.
+/// How many rounds a climb has: the first ten gain nothing as a rule, since no circulations are known yet, and twice as
+/// many gain less than further leaves do in that time.
 const ROUNDS: u32 = 35;
 
 /// How many arcs, times trips, the circulations of a climb look along at most: a tenth of what a step of the root may.
