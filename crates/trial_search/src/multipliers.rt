@@ -6,7 +6,7 @@ use trial_fixtures::texts::{END, LAYER, OPEN_HEAD, STOPS, TRIPS};
 use trial_fixtures::{documented, instance_of};
 use vs_circ::Work;
 use vs_match::layer_nets;
-use vs_multi::{Case, near_rounds, of_table, raise, rounds, start};
+use vs_multi::{Case, few_rounds, of_table, raise, rounds, start};
 use vs_prices::{Bound, Table, broken, permitted_sets, worth};
 
 /// The multipliers of `start`, and those of a table of zeros.
@@ -52,8 +52,8 @@ fn stay_where_one_vehicle_runs_both_trips(rt: HostRuntime) -> Result<(), Fail> {
     Ok(())
 }
 
-/// How often near rounds from 30,000 run each trip, and the multipliers then.
-fn after_near_rounds(alloc: Global) -> Result<(Vec<u32>, Vec<i64>), Fail> {
+/// How often ten small rounds from 30,000 run each trip, and the multipliers then.
+fn after_few_rounds(alloc: Global) -> Result<(Vec<u32>, Vec<i64>), Fail> {
     let instance = instance_of(alloc, &[STOPS, LAYER, TRIPS])?;
     let nets = layer_nets(alloc, &instance)?;
     let sets = permitted_sets(alloc, &instance)?;
@@ -65,7 +65,7 @@ fn after_near_rounds(alloc: Global) -> Result<(Vec<u32>, Vec<i64>), Fail> {
         nets: &nets,
         sets: &sets,
     };
-    let best = near_rounds(&case, &mut multipliers, &mut work)?;
+    let best = few_rounds(&case, 10, &mut multipliers, &mut work)?;
     Ok((best.covers, multipliers))
 }
 
@@ -73,7 +73,7 @@ fn after_near_rounds(alloc: Global) -> Result<(Vec<u32>, Vec<i64>), Fail> {
 /// 1544, 1458 and 1381.
 #[test]
 fn rise_where_no_trip_is_run(rt: HostRuntime) -> Result<(), Fail> {
-    let (covers, multipliers) = after_near_rounds(rt.alloc())?;
+    let (covers, multipliers) = after_few_rounds(rt.alloc())?;
     assert_eq!(rt; covers.as_slice(), [0, 0].as_slice());
     assert_eq!(rt; multipliers.as_slice(), [48_865, 48_865].as_slice());
     Ok(())

@@ -9,7 +9,6 @@ ghost use Rattle.vs_prices.specs.Worth.{IsWorth};
 ghost use Rattle.vs_multi.specs.Multipliers.{AreMultipliers};
 ghost use Rattle.vs_multi.specs.Rounds.{IsBetter, IsCase, IsLastRound};
 ghost use Rattle.vs_multi.specs.Steps.{HasRounds, IsGreatestStep};
-ghost use Rattle.vs_multi.specs.declared.best.TheConstants.{NEAR_ROUNDS};
 ghost use Rattle.vs_multi.specs.declared.steps.Steps.TheVariants.{Halving, Near};
 ghost use Rattle.vs_multi.specs.declared.steps.TheConstants.{ROUNDS};
 
@@ -23,10 +22,6 @@ use vs_instance::Instance;
 use vs_match::LayerNet;
 use vs_prices::{Bound, Table};
 use vs_types::{LayerSet, Memory};
-
-/// How many rounds a leaf other than the root has: few, since its parent's table knows the multipliers already, and
-/// each round costs a circulation in every layer.
-pub const NEAR_ROUNDS: u32 = 10;
 
 /// What rounds found.
 #[derive(Drop)]
@@ -131,29 +126,8 @@ pub fn rounds(
     best_of(&case, Steps::Halving, multipliers, work)
 }
 
-/// The same by ten rounds of small steps, which go on from what the multipliers know: in round r, counted from 0, a
+/// The same by so many rounds of small steps, which go on from what the multipliers know: in round r, counted from 0, a
 /// 400th of the mean, times 10 and divided by 10 + r.
-pub fn near_rounds(
-    case: &Case<'_>,
-    multipliers: &mut [i64],
-    work: &mut Work,
-) -> Result<Best, Memory>
-    requires case { IsCase case.now.instance.now case.now.nets.now case.now.sets.now }
-    requires multipliers { AreMultipliers case.now.instance.now multipliers.old }
-    ensures fits { IfOk result (λ best. Fits case.now.instance.now best.table) }
-    ensures holds { IfOk result (λ best. HoldingTable case.now.instance.now best.table) }
-    ensures worth { IfOk result (λ best.
-        IsWorth case.now.instance.now case.now.sets.now best.table best.worth) }
-    ensures lagrangian { IfOk result (λ best.
-        ReachesLagrangian case.now.instance.now case.now.sets.now multipliers.old best.table) }
-    ensures covers { IfOk result (λ best. IsLastRound case.now.instance.now case.now.nets.now
-        case.now.sets.now (Near NEAR_ROUNDS) multipliers.old best.covers.items) }
-    ensures within { AreMultipliers case.now.instance.now multipliers.new }
-{
-    few_rounds(case, NEAR_ROUNDS, multipliers, work)
-}
-
-/// The same by so many rounds of such steps.
 pub fn few_rounds(
     case: &Case<'_>,
     rounds: u32,

@@ -11,7 +11,7 @@ mod running;
 mod starting;
 mod steps;
 
-pub use best::{Best, NEAR_ROUNDS, few_rounds, greatest_step, keep_better, near_rounds, rounds};
+pub use best::{Best, few_rounds, greatest_step, keep_better, rounds};
 pub use offering::offer;
 pub use raising::raise;
 pub use round::Case;
