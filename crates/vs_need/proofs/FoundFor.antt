@@ -1,6 +1,6 @@
 -- What the gains of a pass are in the words of the field.
 use Rattle.std.proofs.Common.{◌≡◌, ℕ, ◌+◌, ◌-◌, ◌*◌, ◌<◌, ◌≤◌, inl, inr, true, false, Bool, cond, leb, List, length, get_or, take, drop, Option, Some, None, refl, sym, ap, ◌∙◌, subst, arith, w64, ℤ, pos, ◌-ℤ◌, FitsSigned}
-use Rattle.std.specs.Prelude.{IfSome, option_and_then, slice_range}
+use Rattle.std.specs.Prelude.{IfSome, option_and_then, option_map, slice_range}
 use Rattle.std.specs.Int.{bit_at}
 use Rattle.std.specs.List.{All}
 use Rattle.std.proofs.Math.Nat.{add-mul}
@@ -14,7 +14,7 @@ use Rattle.vs_instance.specs.declared.way.Way.{Way}
 use Rattle.vs_instance.specs.Problem.{Problem}
 use Rattle.vs_instance.specs.Instance.{IsInstance}
 use Rattle.vs_instance.specs.Ways.{trip_of, way_between}
-use Rattle.vs_instance.specs.Pieces.{link_piece, rated}
+use Rattle.vs_instance.specs.Pieces.{link_piece, no_more_than, rated, rest_piece}
 use Rattle.vs_instance.specs.HoldingTable.{price_of, scaled}
 use Rattle.vs_instance.proofs.CallerLemmas.{rated-below, trip_of-IsTrip, way-within}
 use Rattle.vs_match.specs.Events.{MayRun}
@@ -85,27 +85,40 @@ price-IsPrice p l i xs each = elim (cases_lt i (length (prices_in p l xs))) [
   | inr past ↦ rw (get_or_past (prices_in p l xs) i (pos 0) past) (omega (arith, ints), omega (arith, ints))
 ]
 
+-- the cheaper of two ways costs no more than the one
+no_more : (rest : Option ℕ) (cost : ℕ) → no_more_than rest cost ≤ cost
+no_more None cost = omega arith
+no_more (Some other) cost = omega arith
+
 module _ (p : Problem) (is : IsInstance p) (l i j c : ℕ) (of_layer : l < length p.layers) (of_trip : j < length p.trips)
   where
-    in_time_small : (b : Bool) (w : Way) → way_between p i j ≡ Some w
-        → cond b (Some (rated p l ((trip_of p j).start - (trip_of p i).end) w.metres)) None ≡ Some c → c ≤ 12880000000
-    in_time_small false w e costs = absurd (none-some c costs)
-    in_time_small true w e costs =
+    cheaper : (w : Way) (rest : Option ℕ) → way_between p i j ≡ Some w
+        → no_more_than rest (rated p l ((trip_of p j).start - (trip_of p i).end) w.metres) ≡ c → c ≤ 12880000000
+    cheaper w rest e same =
+        let direct = rated p l ((trip_of p j).start - (trip_of p i).end) w.metres in
         let limits = way-within p is (trip_of p i).to.0 (trip_of p j).from.0 w e in
         let trip = trip_of-IsTrip p is j of_trip in
-        let same = same_Some (rated p l ((trip_of p j).start - (trip_of p i).end) w.metres) c costs in
         let short = rated-below p is l ((trip_of p j).start - (trip_of p i).end) w.metres of_layer
         (omega (arith, trip.lasts, trip.end)) limits.metres in
-        omega (arith, same, short)
+        omega (arith, same, short, no_more rest direct)
 
-    by_way : (o : Option Way) → way_between p i j ≡ o
-        → option_and_then (λ w. cond (leb ((trip_of p i).end + w.minutes) (trip_of p j).start)
-        (Some (rated p l ((trip_of p j).start - (trip_of p i).end) w.metres)) None) o ≡ Some c → c ≤ 12880000000
-    by_way None e costs = absurd (none-some c costs)
-    by_way (Some w) e costs = in_time_small (leb ((trip_of p i).end + w.minutes) (trip_of p j).start) w e costs
+    in_time_small : (b : Bool) (w : Way) (rest : Option ℕ) → way_between p i j ≡ Some w
+        → option_map (no_more_than rest)
+        (cond b (Some (rated p l ((trip_of p j).start - (trip_of p i).end) w.metres)) None) ≡ Some c → c ≤ 12880000000
+    in_time_small false w rest e costs = absurd (none-some c costs)
+    in_time_small true w rest e costs = cheaper w rest e (same_Some _ c costs)
 
+    by_way : (o : Option Way) (rest : Option ℕ) → way_between p i j ≡ o
+        → option_map (no_more_than rest)
+        (option_and_then (λ w. cond (leb ((trip_of p i).end + w.minutes) (trip_of p j).start)
+        (Some (rated p l ((trip_of p j).start - (trip_of p i).end) w.metres)) None) o) ≡ Some c → c ≤ 12880000000
+    by_way None rest e costs = absurd (none-some c costs)
+    by_way (Some w) rest e costs =
+        in_time_small (leb ((trip_of p i).end + w.minutes) (trip_of p j).start) w rest e costs
+
+    -- a link costs no more than the way straight to the trip
     link_small : link_piece p l i j ≡ Some c → c ≤ 12880000000
-    link_small costs = by_way (way_between p i j) refl costs
+    link_small costs = by_way (way_between p i j) (rest_piece p l i j) refl costs
 
 worth_fits : (ray : Bool) (into x : ℤ) (c : ℕ) → IsPrice into → c ≤ 12880000000 → x ≡ into -ℤ scaled ray c
     → FitsSigned w64 x

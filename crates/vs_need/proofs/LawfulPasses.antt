@@ -4,10 +4,10 @@ use Rattle.std.proofs.lemmas.Bool.{cases_eq}
 use Rattle.vs_layer.specs.declared.arc.Arc.{Arc}
 use Rattle.vs_layer.specs.Graph.{arc_of}
 use Rattle.vs_instance.specs.Problem.{Problem}
-use Rattle.vs_match.specs.declared.event.Event.{Event}
+use Rattle.vs_match.specs.declared.event.Point.{Point}
 use Rattle.vs_match.specs.declared.arc_kind.ArcKind.{ArcKind}
-use Rattle.vs_match.specs.declared.arc_kind.ArcKind.TheVariants.{Trip, Waiting, Deadhead, PullOut, PullIn, Return}
-use Rattle.vs_match.specs.Events.{HasPlace}
+use Rattle.vs_match.specs.declared.arc_kind.ArcKind.TheVariants.{Trip, Waiting, Deadhead, PullOut, PullIn, RestIn, RestWait, RestOut, Return}
+use Rattle.vs_match.specs.Events.{HasPoint}
 use Rattle.vs_match.specs.NetArcs.{IsTripArc}
 use Rattle.vs_match.specs.LayerGraph.{LayerGraph, IsArcOfTrip, arcs_in, kind_of}
 use Rattle.vs_match.specs.LayerNets.{HasRisingArcs}
@@ -16,16 +16,19 @@ use Rattle.vs_match.specs.LawfulNets.{IsLawful, IsLawfulArc}
 use Rattle.vs_match.proofs.CallerLemmas.{placed}
 use Rattle.vs_need.specs.Nets.{CanBePassed}
 
-placed_above : (events : List Event) (v : ℕ) (e : Event) → HasPlace events v e → 0 < v
-placed_above events v e has = let is = placed events v e has in omega (arith, is.node)
+placed_above : (points : List Point) (v : ℕ) (x : Point) → HasPoint points v x → 0 < v
+placed_above points v x has = let is = placed points v x has in omega (arith, is.node)
 
 module _ (p : Problem) (l : ℕ) (n : LayerGraph) (lawful : IsLawful p l n) where
-  reaches_above : (kind : ArcKind) (a : Arc) → IsLawfulArc p l n.events kind a → kind ≢ Return → 0 < a.to
-  reaches_above (Trip i) a is real = placed_above n.events a.to _ is.to
-  reaches_above Waiting a is real = placed_above n.events a.to is.1.0 is.1.1
-  reaches_above Deadhead a is real = placed_above n.events a.to is.1.0 is.1.1
-  reaches_above PullOut a is real = placed_above n.events a.to is.1.0 is.1.1
+  reaches_above : (kind : ArcKind) (a : Arc) → IsLawfulArc p l n.points kind a → kind ≢ Return → 0 < a.to
+  reaches_above (Trip i) a is real = placed_above n.points a.to _ is.to
+  reaches_above Waiting a is real = placed_above n.points a.to _ is.1.1
+  reaches_above Deadhead a is real = placed_above n.points a.to _ is.1.1
+  reaches_above PullOut a is real = placed_above n.points a.to _ is.1.1
   reaches_above PullIn a is real = omega (arith, is.1)
+  reaches_above RestIn a is real = placed_above n.points a.to _ is.1.1
+  reaches_above RestWait a is real = placed_above n.points a.to _ is.1.1
+  reaches_above RestOut a is real = placed_above n.points a.to _ is.1.1
   reaches_above Return a is real = absurd (real refl)
 
   goes_up : (k : ℕ) → k < arcs_in n → kind_of n k ≢ Return → (arc_of n.graph k).from < (arc_of n.graph k).to
@@ -39,9 +42,9 @@ module _ (p : Problem) (l : ℕ) (n : LayerGraph) (lawful : IsLawful p l n) wher
         | inr earlier ↦ right.goes_on.forward (omega arith)
       ]
 
-  pub arc_of_trip : (i k : ℕ) → IsArcOfTrip n.kinds i k → IsTripArc p l n.events i (arc_of n.graph k)
+  pub arc_of_trip : (i k : ℕ) → IsArcOfTrip n.kinds i k → IsTripArc p l n.points i (arc_of n.graph k)
   arc_of_trip i k is =
-      let P : ArcKind → Type 0 = λ kind. IsLawfulArc p l n.events kind (arc_of n.graph k) in
+      let P : ArcKind → Type 0 = λ kind. IsLawfulArc p l n.points kind (arc_of n.graph k) in
       subst P is.1 (lawful.arcs k (omega (arith, is.0, lawful.labelled.each_arc)))
 
   pub can_be_passed : HasRisingArcs n → CanBePassed n (length p.trips)
@@ -64,4 +67,7 @@ kind_below n trips k can within = by_kind (kind_of n k) refl
     by_kind Deadhead is = tt
     by_kind PullOut is = tt
     by_kind PullIn is = tt
+    by_kind RestIn is = tt
+    by_kind RestWait is = tt
+    by_kind RestOut is = tt
     by_kind Return is = tt

@@ -1,7 +1,7 @@
 -- What an arc joins to its near end is the greatest of what is joined to its far end, less its cost, or its own worth.
 use Rattle.std.proofs.Common.{◌≡◌, ◌≢◌, ◌⊎◌, inl, inr, Bool, Option, Some, None, refl, List, ℤ, ◌+ℤ◌}
 use Rattle.vs_match.specs.declared.arc_kind.ArcKind.{ArcKind}
-use Rattle.vs_match.specs.declared.arc_kind.ArcKind.TheVariants.{Trip, Waiting, Deadhead, PullOut, PullIn, Return}
+use Rattle.vs_match.specs.declared.arc_kind.ArcKind.TheVariants.{Trip, Waiting, Deadhead, PullOut, PullIn, RestIn, RestWait, RestOut, Return}
 use Rattle.vs_match.specs.WalkLaw.{IsMove}
 use Rattle.vs_need.specs.declared.aim.Aim.{Aim}
 use Rattle.vs_need.specs.declared.aim.Aim.TheVariants as aim
@@ -14,12 +14,24 @@ module _ (into : List ℤ) (ray : Bool) where
   no_prize : (t : Aim) (kind : ArcKind) (cost : ℤ) → IsMove kind → prize_of into ray t kind cost ≡ None
   no_prize aim.Next Waiting cost moves = refl
   no_prize aim.Next Deadhead cost moves = refl
+  no_prize aim.Next RestIn cost moves = refl
+  no_prize aim.Next RestWait cost moves = refl
+  no_prize aim.Next RestOut cost moves = refl
   no_prize aim.PullIn Waiting cost moves = refl
   no_prize aim.PullIn Deadhead cost moves = refl
+  no_prize aim.PullIn RestIn cost moves = refl
+  no_prize aim.PullIn RestWait cost moves = refl
+  no_prize aim.PullIn RestOut cost moves = refl
   no_prize aim.PullOut Waiting cost moves = refl
   no_prize aim.PullOut Deadhead cost moves = refl
+  no_prize aim.PullOut RestIn cost moves = refl
+  no_prize aim.PullOut RestWait cost moves = refl
+  no_prize aim.PullOut RestOut cost moves = refl
   no_prize (aim.After i) Waiting cost moves = refl
   no_prize (aim.After i) Deadhead cost moves = refl
+  no_prize (aim.After i) RestIn cost moves = refl
+  no_prize (aim.After i) RestWait cost moves = refl
+  no_prize (aim.After i) RestOut cost moves = refl
   no_prize t (Trip i) cost moves = absurd moves
   no_prize t PullOut cost moves = absurd moves
   no_prize t PullIn cost moves = absurd moves
@@ -62,4 +74,10 @@ module _ (into : List ℤ) (ray : Bool) where
   greatest-offer t (Trip i) cost Far value is = asked t (Trip i) cost Far (λ moves. moves)
   greatest-offer t PullOut cost Far value is = asked t PullOut cost Far (λ moves. moves)
   greatest-offer t PullIn cost Far value is = asked t PullIn cost Far (λ moves. moves)
+  greatest-offer t RestIn cost Far value is =
+      moved t RestIn cost Far _ tt (greatest-less Far value (fare ray cost) (is (λ e. cc)))
+  greatest-offer t RestWait cost Far value is =
+      moved t RestWait cost Far _ tt (greatest-less Far value (fare ray cost) (is (λ e. cc)))
+  greatest-offer t RestOut cost Far value is =
+      moved t RestOut cost Far _ tt (greatest-less Far value (fare ray cost) (is (λ e. cc)))
   greatest-offer t Return cost Far value is = asked t Return cost Far (λ moves. moves)

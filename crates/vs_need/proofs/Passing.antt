@@ -8,7 +8,7 @@ use Rattle.vs_layer.specs.declared.arc.TheConstants.{MAX_ARCS}
 use Rattle.vs_layer.specs.Graph.{arc_of}
 use Rattle.vs_instance.specs.HoldingTable.{price_of}
 use Rattle.vs_match.specs.declared.arc_kind.ArcKind.{ArcKind}
-use Rattle.vs_match.specs.declared.arc_kind.ArcKind.TheVariants.{Trip, Waiting, Deadhead, PullOut, PullIn, Return}
+use Rattle.vs_match.specs.declared.arc_kind.ArcKind.TheVariants.{Trip, Waiting, Deadhead, PullOut, PullIn, RestIn, RestWait, RestOut, Return}
 use Rattle.vs_match.specs.LayerGraph.{LayerGraph, IsArcOfTrip, arcs_in, kind_of}
 use Rattle.vs_match.specs.WalkLaw.{IsMove}
 use Rattle.vs_match.proofs.CallerLemmas.{get_or-copies}
@@ -57,6 +57,9 @@ is_trip_or_not Waiting i = inr (λ e. cc)
 is_trip_or_not Deadhead i = inr (λ e. cc)
 is_trip_or_not PullOut i = inr (λ e. cc)
 is_trip_or_not PullIn i = inr (λ e. cc)
+is_trip_or_not RestIn i = inr (λ e. cc)
+is_trip_or_not RestWait i = inr (λ e. cc)
+is_trip_or_not RestOut i = inr (λ e. cc)
 is_trip_or_not Return i = inr (λ e. cc)
 
 noted-same : (kind : ArcKind) (value : Option ℤ) (found : List (Option ℤ)) (i : ℕ) → kind ≡ Trip (record { 0 = i })
@@ -72,6 +75,9 @@ noted-other Waiting value found i other = refl
 noted-other Deadhead value found i other = refl
 noted-other PullOut value found i other = refl
 noted-other PullIn value found i other = refl
+noted-other RestIn value found i other = refl
+noted-other RestWait value found i other = refl
+noted-other RestOut value found i other = refl
 noted-other Return value found i other = refl
 
 ends_within : (b : Bool) (a : Arc) (nodes : ℕ) → a.from < nodes → a.to < nodes

@@ -11,7 +11,7 @@ use Rattle.vs_instance.specs.Problem.{Problem}
 use Rattle.vs_instance.specs.Pieces.{out_piece, link_piece, in_piece}
 use Rattle.vs_instance.specs.HoldingTable.{price_of, scaled}
 use Rattle.vs_match.specs.declared.arc_kind.ArcKind.{ArcKind}
-use Rattle.vs_match.specs.declared.arc_kind.ArcKind.TheVariants.{Trip, Waiting, Deadhead, PullOut, PullIn, Return}
+use Rattle.vs_match.specs.declared.arc_kind.ArcKind.TheVariants.{Trip, Waiting, Deadhead, PullOut, PullIn, RestIn, RestWait, RestOut, Return}
 use Rattle.vs_match.specs.Events.{MayRun}
 use Rattle.vs_match.specs.NetArcs.{at_scale}
 use Rattle.vs_match.specs.LayerGraph.{LayerGraph, IsArcOfTrip, kind_of}
@@ -68,6 +68,9 @@ module _ (into : List ℤ) (ray : Bool) (cost prize : ℤ) where
   next_prize Deadhead is = absurd (none-some prize is)
   next_prize PullOut is = absurd (none-some prize is)
   next_prize PullIn is = absurd (none-some prize is)
+  next_prize RestIn is = absurd (none-some prize is)
+  next_prize RestWait is = absurd (none-some prize is)
+  next_prize RestOut is = absurd (none-some prize is)
   next_prize Return is = absurd (none-some prize is)
 
   pull_in_prize : (kind : ArcKind) → prize_of into ray aim.PullIn kind cost ≡ Some prize
@@ -76,6 +79,9 @@ module _ (into : List ℤ) (ray : Bool) (cost prize : ℤ) where
   pull_in_prize (Trip j) is = absurd (none-some prize is)
   pull_in_prize Waiting is = absurd (none-some prize is)
   pull_in_prize Deadhead is = absurd (none-some prize is)
+  pull_in_prize RestIn is = absurd (none-some prize is)
+  pull_in_prize RestWait is = absurd (none-some prize is)
+  pull_in_prize RestOut is = absurd (none-some prize is)
   pull_in_prize PullOut is = absurd (none-some prize is)
   pull_in_prize Return is = absurd (none-some prize is)
 
@@ -86,6 +92,9 @@ module _ (into : List ℤ) (ray : Bool) (cost prize : ℤ) where
   pull_out_prize Waiting is = absurd (none-some prize is)
   pull_out_prize Deadhead is = absurd (none-some prize is)
   pull_out_prize PullIn is = absurd (none-some prize is)
+  pull_out_prize RestIn is = absurd (none-some prize is)
+  pull_out_prize RestWait is = absurd (none-some prize is)
+  pull_out_prize RestOut is = absurd (none-some prize is)
   pull_out_prize Return is = absurd (none-some prize is)
 
   same_trip : (b : Bool) (i j : ℕ) → eqb i j ≡ b → cond b (Some (pos 0)) None ≡ Some prize
@@ -102,6 +111,9 @@ module _ (into : List ℤ) (ray : Bool) (cost prize : ℤ) where
   after_prize i Deadhead is = absurd (none-some prize is)
   after_prize i PullOut is = absurd (none-some prize is)
   after_prize i PullIn is = absurd (none-some prize is)
+  after_prize i RestIn is = absurd (none-some prize is)
+  after_prize i RestWait is = absurd (none-some prize is)
+  after_prize i RestOut is = absurd (none-some prize is)
   after_prize i Return is = absurd (none-some prize is)
 
 module _ (p : Problem) (l : ℕ) (n : LayerGraph) (lawful : IsLawful p l n) (into : List ℤ) (ray : Bool) where

@@ -7,7 +7,7 @@ use Rattle.std.proofs.lemmas.Int.{ints}
 use Rattle.std.proofs.lemmas.List.{get_or_past}
 use Rattle.vs_instance.specs.HoldingTable.{price_of}
 use Rattle.vs_match.specs.declared.arc_kind.ArcKind.{ArcKind}
-use Rattle.vs_match.specs.declared.arc_kind.ArcKind.TheVariants.{Trip, Waiting, Deadhead, PullOut, PullIn, Return}
+use Rattle.vs_match.specs.declared.arc_kind.ArcKind.TheVariants.{Trip, Waiting, Deadhead, PullOut, PullIn, RestIn, RestWait, RestOut, Return}
 use Rattle.vs_prices.specs.Table.{IsPrice}
 use Rattle.vs_need.specs.declared.aim.Aim.{Aim}
 use Rattle.vs_need.specs.declared.aim.Aim.TheVariants as aim
@@ -71,24 +71,36 @@ module _ (into : List ℤ) (each : (j : ℕ) → FitsSigned w64 (price_of into j
   wide-prize aim.Next Deadhead = tt
   wide-prize aim.Next PullOut = tt
   wide-prize aim.Next PullIn = tt
+  wide-prize aim.Next RestIn = tt
+  wide-prize aim.Next RestWait = tt
+  wide-prize aim.Next RestOut = tt
   wide-prize aim.Next Return = tt
   wide-prize aim.PullIn PullIn = wide-neg ray cost m fits
   wide-prize aim.PullIn (Trip j) = tt
   wide-prize aim.PullIn Waiting = tt
   wide-prize aim.PullIn Deadhead = tt
   wide-prize aim.PullIn PullOut = tt
+  wide-prize aim.PullIn RestIn = tt
+  wide-prize aim.PullIn RestWait = tt
+  wide-prize aim.PullIn RestOut = tt
   wide-prize aim.PullIn Return = tt
   wide-prize aim.PullOut PullOut = wide-neg ray cost m fits
   wide-prize aim.PullOut (Trip j) = tt
   wide-prize aim.PullOut Waiting = tt
   wide-prize aim.PullOut Deadhead = tt
   wide-prize aim.PullOut PullIn = tt
+  wide-prize aim.PullOut RestIn = tt
+  wide-prize aim.PullOut RestWait = tt
+  wide-prize aim.PullOut RestOut = tt
   wide-prize aim.PullOut Return = tt
   wide-prize (aim.After i) (Trip j) = wide-after (eqb i.0 j.0)
   wide-prize (aim.After i) Waiting = tt
   wide-prize (aim.After i) Deadhead = tt
   wide-prize (aim.After i) PullOut = tt
   wide-prize (aim.After i) PullIn = tt
+  wide-prize (aim.After i) RestIn = tt
+  wide-prize (aim.After i) RestWait = tt
+  wide-prize (aim.After i) RestOut = tt
   wide-prize (aim.After i) Return = tt
 
   wide-moved : (value : Option ℤ) → IfWide m value → (t : Aim) → IfWide (m + 1) (offer_of into ray t Waiting cost value)
@@ -102,4 +114,7 @@ module _ (into : List ℤ) (each : (j : ℕ) → FitsSigned w64 (price_of into j
   wide-offer t (Trip i) value wide = wide-prize t (Trip i)
   wide-offer t PullOut value wide = wide-prize t PullOut
   wide-offer t PullIn value wide = wide-prize t PullIn
+  wide-offer t RestIn value wide = wide-moved value wide t
+  wide-offer t RestWait value wide = wide-moved value wide t
+  wide-offer t RestOut value wide = wide-moved value wide t
   wide-offer t Return value wide = wide-prize t Return

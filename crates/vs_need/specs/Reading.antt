@@ -1,7 +1,7 @@
 -- One arc after another, as a pass reads them.
 use Rattle.std.specs.Prelude.{ℕ, ◌+◌, ◌-◌, if◌then◌else◌, List, Option, set, option_map, Bool, ℤ, ◌-ℤ◌}
 use Rattle.vs_match.specs.declared.arc_kind.ArcKind.{ArcKind}
-use Rattle.vs_match.specs.declared.arc_kind.ArcKind.TheVariants.{Trip, Waiting, Deadhead, PullOut, PullIn, Return}
+use Rattle.vs_match.specs.declared.arc_kind.ArcKind.TheVariants.{Trip, Waiting, Deadhead, PullOut, PullIn, RestIn, RestWait, RestOut, Return}
 use Rattle.vs_need.specs.declared.aim.Aim.{Aim}
 use Rattle.vs_need.specs.Gains.{fare, is_against, prize_of}
 
@@ -16,6 +16,9 @@ offer_of into ray t Deadhead cost value = option_map (λ y. y -ℤ fare ray cost
 offer_of into ray t (Trip i) cost value = prize_of into ray t (Trip i) cost
 offer_of into ray t PullOut cost value = prize_of into ray t PullOut cost
 offer_of into ray t PullIn cost value = prize_of into ray t PullIn cost
+offer_of into ray t RestIn cost value = option_map (λ y. y -ℤ fare ray cost) value
+offer_of into ray t RestWait cost value = option_map (λ y. y -ℤ fare ray cost) value
+offer_of into ray t RestOut cost value = option_map (λ y. y -ℤ fare ray cost) value
 offer_of into ray t Return cost value = prize_of into ray t Return cost
 
 -- what is found for a trip is what is joined to the far end of its arc

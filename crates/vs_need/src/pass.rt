@@ -64,7 +64,11 @@ fn offer(
     ensures { result ≡ offer_of into.now ray aim kind cost value }
 {
     match kind {
-        ArcKind::Waiting | ArcKind::Deadhead => match value {
+        ArcKind::Waiting
+        | ArcKind::Deadhead
+        | ArcKind::RestIn
+        | ArcKind::RestWait
+        | ArcKind::RestOut => match value {
             Some(value) => Some(less(value, ray, cost)),
             None => None,
         },
