@@ -1,4 +1,5 @@
 pub mod Moving
 pub mod Tracing
+pub mod NotNegative
 pub mod Finding
 pub mod LeastCosts

@@ -11,8 +11,8 @@ use crate::step::{Step, Way};
 use std::marker::Model;
 use vs_layer::{Flow, Net};
 
-/// How many nodes a net has at most in a search by prices: two for each trip, and the two of the depot.
-pub const MAX_SEARCH_NODES: u32 = 4_002;
+/// How many nodes a net has at most in a search by prices: three for each trip, and the two of the depot.
+pub const MAX_SEARCH_NODES: u32 = 6_002;
 
 /// The greatest cost of an arc in a search by prices, either way.
 pub const MAX_STEP_COST: i64 = 120_000_000_000_000;

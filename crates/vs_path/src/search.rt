@@ -13,11 +13,11 @@ use std::alloc::Global;
 use std::marker::Model;
 use vs_types::Memory;
 
-/// How far apart two prices that are to be raised lie at most, some eight times as far as a path costs.
+/// How far apart two prices that are to be raised lie at most, some five times as far as a path costs.
 pub const MAX_SPAN: i64 = 4_000_000_000_000_000_000;
 
 /// The most by which a price is raised: `MAX_SPAN`, and what a path costs through as many nodes as a net has at most.
-pub const MOST_RAISED: i64 = 4_500_000_000_000_000_000;
+pub const MOST_RAISED: i64 = 4_800_000_000_000_000_000;
 
 /// Searches from a node for the nearest one that lacks a unit, by reduced costs.
 #[derive(Drop)]

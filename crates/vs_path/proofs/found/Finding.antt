@@ -1,5 +1,5 @@
 -- What the prices do once the nearest node that lacks a unit is found.
-use Rattle.std.proofs.Common.{◌≡◌, ◌≢◌, ◌⊎◌, ℕ, ◌∙◌, List, refl, sym, ap, subst, arith, inl, inr, Option, Some, None, ℤ, pos, ◌+ℤ◌, ◌-ℤ◌, ◌≤ℤ◌}
+use Rattle.std.proofs.Common.{◌≡◌, ◌≢◌, ◌⊎◌, ℕ, suc, ◌∙◌, List, refl, sym, ap, subst, arith, inl, inr, Option, Some, None, ℤ, pos, ◌+ℤ◌, ◌-ℤ◌, ◌≤ℤ◌}
 use Rattle.std.proofs.lemmas.Bool.{cases_eq}
 use Rattle.std.proofs.lemmas.Int.{ints}
 use Rattle.vs_path.specs.declared.step.Step.{Step}
@@ -8,6 +8,7 @@ use Rattle.vs_path.specs.Residual.{ResidualNet, IsOpen, IsPath, HasSignRule, fro
 use Rattle.vs_path.specs.Labels.{Lists, AreLabels, Covers, Serves, IsOver, IsReached, IsSmall, Lacks, label_of, label_at, settled_at, source_of, waiting_at}
 use Rattle.vs_path.specs.Search.{AreMoved, AreTreeSteps, CanMove, IsCut, IsGoal, IsIn, moved, two_paths}
 use Rattle.vs_path.proofs.labelling.Settling.{order-≤}
+use Rattle.vs_path.proofs.found.NotNegative.{not-negative}
 
 module _ (r : ResidualNet) (prices surplus : List ℤ) (source : ℕ) (l : Lists) (over : IsOver r prices surplus source l)
   where
@@ -51,18 +52,42 @@ module _ (r : ResidualNet) (prices surplus : List ℤ) (source : ℕ) (l : Lists
 
 -- what is settled can be lowered
 pub can-move : (r : ResidualNet) (prices : List ℤ) (l : Lists) (goal : ℕ) (g : Settled) → IsSmall r prices
-    → AreLabels r prices l → settled_at l goal ≡ Some g → CanMove l g.distance prices
-can-move r prices l goal g small labels goal_is v a is =
+    → HasSignRule r prices → AreLabels r prices l → settled_at l goal ≡ Some g → CanMove l g.distance prices
+can-move r prices l goal g small sign labels goal_is v a is =
     let few = order-≤ r.graph.nodes l labels.are_listed in
     let nodes = small.nodes in
     let to_goal = labels.near goal g goal_is in
     let to_v = labels.near v a is in
+    let some_g = not-negative r prices l labels sign (suc g.place) goal g goal_is (omega arith) in
+    let some_v = not-negative r prices l labels sign (suc a.place) v a is (omega arith) in
     let place_g = (labels.are_listed.placed goal g goal_is).0 in
     let place_v = (labels.are_listed.placed v a is).0 in
     let p_g = small.each_price goal in
-    let p_v = small.each_price v in (
-      omega (arith, ints, to_goal.low, to_goal.high, to_v.low, to_v.high, p_g.low, p_g.high, p_v.low, p_v.high),
-      omega (arith, ints, to_goal.low, to_goal.high, to_v.low, to_v.high, p_g.low, p_g.high, p_v.low, p_v.high),
+    let p_v = small.each_price v in
+    let p_s = small.each_price (source_of l) in (
+      omega (
+        arith,
+        ints,
+        to_goal.high,
+        to_v.high,
+        some_g,
+        some_v,
+        p_g.low,
+        p_v.low,
+        p_s.high,
+      ),
+      omega (
+        arith,
+        ints,
+        to_goal.high,
+        to_v.low,
+        to_v.high,
+        some_g,
+        p_g.low,
+        p_v.low,
+        p_v.high,
+        p_s.high,
+      ),
     )
 
 module _ (r : ResidualNet) (prices surplus : List ℤ) (source : ℕ) (l : Lists) (goal : ℕ) (new : List ℤ)

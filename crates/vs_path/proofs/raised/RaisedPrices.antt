@@ -1,6 +1,6 @@
 -- Prices raised by the distances from a node keep the sign rule.
-use Rattle.std.proofs.Common.{◌≡◌, ◌⊎◌, ℕ, zero, suc, ◌<◌, ◌∙◌, List, length, refl, sym, ap, subst, arith, inl, inr, Option, Some, None, ℤ, pos, ◌+ℤ◌, ◌-ℤ◌, ◌≤ℤ◌, FitsSigned, w64}
-use Rattle.std.proofs.lemmas.Bool.{cases_eq, cases_lt}
+use Rattle.std.proofs.Common.{◌≡◌, ◌⊎◌, ℕ, suc, ◌<◌, ◌∙◌, List, length, refl, sym, ap, subst, arith, inl, inr, Option, Some, None, ℤ, pos, ◌+ℤ◌, ◌-ℤ◌, ◌≤ℤ◌, FitsSigned, w64}
+use Rattle.std.proofs.lemmas.Bool.{cases_lt}
 use Rattle.std.proofs.lemmas.Int.{ints}
 use Rattle.std.proofs.lemmas.List.{get_or_past}
 use Rattle.vs_path.specs.declared.step.Step.{Step}
@@ -14,6 +14,7 @@ use Rattle.vs_path.specs.Raising.{AreRaised, CanRaise, HasSpan, IsGreatest, IsRa
 use Rattle.vs_path.proofs.labelling.Settling.{order-≤}
 use Rattle.vs_path.proofs.found.Finding.{over-covers}
 use Rattle.vs_path.proofs.found.Moving.{node-<}
+use Rattle.vs_path.proofs.found.NotNegative.{not-negative}
 use Rattle.vs_path.proofs.found.LeastCosts.{settled-label, least-cost}
 
 -- both ends of a residual step are nodes
@@ -78,28 +79,6 @@ module _ (r : ResidualNet) (prices : List ℤ) (l : Lists) (beyond rise : ℤ) (
           let order = order-≤ r.graph.nodes l labels.are_listed in
           let nodes = small.nodes in
           omega (arith, ints, p.low, p.high, q.low, q.high, near.low, near.high)
-
--- no distance is negative
-not-negative : (r : ResidualNet) (prices : List ℤ) (l : Lists) → AreLabels r prices l → HasSignRule r prices
-    → (n v : ℕ) (a : Settled) → settled_at l v ≡ Some a → a.place < n → pos 0 ≤ℤ a.distance
-not-negative r prices l labels sign zero v a is below = absurd (omega arith)
-not-negative r prices l labels sign (suc n) v a is below =
-    elim (cases_eq v (source_of l)) [
-      | inl same ↦
-          let from = labels.source_is in
-          let e : Some from.0 ≡ Some a = sym from.1 ∙ ap (settled_at l) (sym same) ∙ is in
-          let k : from.0 ≡ a = cc in
-          let d : a.distance ≡ pos 0 = ap (λ (b : Settled). b.distance) (sym k) ∙ from.2 in
-          omega (arith, ints, d)
-      | inr away ↦
-          let arrival = labels.arrived v a is away in
-          let before = arrival.before in
-          let more =
-          not-negative r prices l labels sign n (from_of r arrival.step) arrival.from arrival.from_is (omega arith) in
-          let sum = arrival.sum in
-          let kept = sign arrival.step arrival.is_open in
-          omega (arith, ints, sum, kept, more)
-    ]
 
 module _ (r : ResidualNet) (prices surplus : List ℤ) (source : ℕ) (l : Lists) (over : IsOver r prices surplus source l)
     (sign : HasSignRule r prices) (residual : IsResidual r) (beyond rise : ℤ) (greatest : IsGreatest l beyond rise)

@@ -11,7 +11,7 @@ returns-in_err-goal-clause-found c =
 pub lower_prices-requires-clause-space : goal.lower_prices-requires-clause-space
 lower_prices-requires-clause-space c = λ a is.
     can-move c.args.residual.now c.args.prices.now (lists_of c.explore.new.self) c.in_ok-goal.goal a c.requires.small
-    c.in_ok-goal.ensures.found.labels is
+    c.requires.sign_rule c.in_ok-goal.ensures.found.labels is
 
 pub returns-clause-found : goal.returns-clause-found
 returns-clause-found c =
