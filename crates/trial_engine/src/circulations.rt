@@ -68,8 +68,15 @@ const DEAREST: &str = "layer,L1,D,2000,1000000000,1000000,10000\n";
 
 const LONG_WAYS: &str = "trip,t1,P,8:00,Q,8:30,1000000,L1\ntrip,t2,Q,8:30,P,9:00,1000000,L1\n";
 
+/// Vehicles that may rest in the depot, and trips with time for it between them.
+const RESTING: [&str; 3] = [
+    "instance,2\nstop,D\nstop,P\nstop,Q\ndeadhead,D,P,10,0\ndeadhead,P,D,10,0\ndeadhead,D,Q,10,0\ndeadhead,Q,D,10,0\ndeadhead,P,Q,15,0\ndeadhead,Q,P,15,0\n",
+    "layer,L1,D,2,1000,1,0,20\n",
+    "trip,t1,P,8:00,Q,8:30,0,L1\ntrip,t2,Q,12:00,P,12:30,0,L1\n",
+];
+
 /// A layer and two trips, what each trip is offered for, the least value, and the trips that are run.
-const OFFERED: [([&str; 3], i64, i128, [bool; 2]); 2] = [
+const OFFERED: [([&str; 3], i64, i128, [bool; 2]); 3] = [
     // One vehicle is out for 80 minutes: it costs 1,080, and is worth 1,050 for each trip.
     ([STOPS, LAYER, TRIPS], 1_050_000, -1_020_000, [true, true]),
     // A vehicle costs 10^9, and 10^6 for each of 80 minutes, and 10^4 for each of 2 * 10^6 metres.
@@ -79,6 +86,8 @@ const OFFERED: [([&str; 3], i64, i128, [bool; 2]); 2] = [
         -178_920_000_000_000,
         [true, true],
     ),
+    // One vehicle is out for 50 minutes twice, and rests between.
+    (RESTING, 1_050_000, -1_000_000, [true, true]),
 ];
 
 /// The least value, and the trips that are run.
@@ -109,7 +118,7 @@ fn have_the_least_value(rt: HostRuntime) -> Result<(), Fail> {
 }
 
 /// A layer and two trips, which of them have to run, and what that costs, None where there are too few vehicles.
-const FIXED: [([&str; 3], [bool; 2], Option<i128>); 4] = [
+const FIXED: [([&str; 3], [bool; 2], Option<i128>); 5] = [
     ([STOPS, LAYER, TRIPS], [true, true], Some(1_080_000)),
     ([STOPS, ONE_VEHICLE, LATE_TRIPS], [true, true], None),
     // 10 minutes out, 30 with passengers and 10 back.
@@ -123,6 +132,7 @@ const FIXED: [([&str; 3], [bool; 2], Option<i128>); 4] = [
         [true, true],
         Some(21_080_000_000_000),
     ),
+    (RESTING, [true, true], Some(1_100_000)),
 ];
 
 /// What it costs to run the trips marked.

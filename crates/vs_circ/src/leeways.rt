@@ -120,7 +120,13 @@ fn limit_of(net: &LayerNet, side: Side, prices: &[i64], leeways: &[u64], k: u32)
     match net.kind(k) {
         ArcKind::Trip(_) => 0,
         ArcKind::Return => MAX_LEEWAY,
-        ArcKind::Waiting | ArcKind::Deadhead | ArcKind::PullOut | ArcKind::PullIn => {
+        ArcKind::Waiting
+        | ArcKind::Deadhead
+        | ArcKind::PullOut
+        | ArcKind::PullIn
+        | ArcKind::RestIn
+        | ArcKind::RestWait
+        | ArcKind::RestOut => {
             let arc = net.net().arc(k);
             leeways[side.passing(arc) as usize] + spare(arc, prices)
         }

@@ -39,7 +39,13 @@ pub(crate) fn offered_room(offers: &[Option<i64>], kind: ArcKind, arc: Arc) -> u
             _ => 0,
         },
         ArcKind::Return => arc.room,
-        ArcKind::Waiting | ArcKind::Deadhead | ArcKind::PullOut | ArcKind::PullIn => UNLIMITED,
+        ArcKind::Waiting
+        | ArcKind::Deadhead
+        | ArcKind::PullOut
+        | ArcKind::PullIn
+        | ArcKind::RestIn
+        | ArcKind::RestWait
+        | ArcKind::RestOut => UNLIMITED,
     }
 }
 

@@ -1,10 +1,11 @@
 //! Prices of a layer made from the prices of its nodes.
 
-ghost use Rattle.std.specs.Prelude.{◌≡◌, ℕ, ◌≤◌, ◌+ℤ◌, IfOk, length, true, false};
+ghost use Rattle.std.specs.Prelude.{◌≡◌, ℕ, ◌≤◌, IfOk, length, true, false};
 ghost use Rattle.vs_instance.specs.Problem.{Problem};
 ghost use Rattle.vs_instance.specs.Instance.{IsInstance};
 ghost use Rattle.vs_match.specs.LawfulNets.{IsLawful};
 ghost use Rattle.vs_path.specs.Residual.{AllWithin, IsWithin};
+ghost use Rattle.vs_path.specs.Raising.{HasSpan};
 ghost use Rattle.vs_circ.specs.node_prices.NodePrices.{AreMovePrices, HasMovePrices};
 ghost use Rattle.vs_circ.specs.LayerPrices.{AreHolding};
 ghost use Rattle.vs_circ.specs.PricedFlows.{PaysNoLess};
@@ -85,6 +86,7 @@ pub(crate) fn ray_prices(
     requires none { length none.old ≡ length prices.now }
     requires each_node { length prices.now ≡ net.now.graph.nodes }
     requires within { AllWithin MAX_NODE_PRICE prices.now }
+    requires span { HasSpan MAX_NODE_PRICE prices.now }
     requires moves { AreMovePrices net.now true prices.now }
     ensures holding { IfOk result (λ given. (p : Problem) (l : ℕ) → IsInstance p
         → IsLawful p l net.now → length p.trips ≡ trips → AreHolding p l true given) }
@@ -107,6 +109,7 @@ fn table_of(
     requires of_layer { (p : Problem) × (l : ℕ) × IsLawful p l net.now }
     requires each_node { length prices.now ≡ net.now.graph.nodes }
     requires within { AllWithin MAX_NODE_PRICE prices.now }
+    requires span { HasSpan MAX_NODE_PRICE prices.now }
     requires entering { AreFewLeeways prices.now entering.now }
     requires leaving { AreFewLeeways prices.now leaving.now }
     ensures { IfOk result (IsTableOf net.now prices.now entering.now leaving.now trips) }
@@ -144,6 +147,7 @@ fn entries(
     requires of_layer { (p : Problem) × (l : ℕ) × IsLawful p l net.now }
     requires each_node { length prices.now ≡ net.now.graph.nodes }
     requires within { AllWithin MAX_NODE_PRICE prices.now }
+    requires span { HasSpan MAX_NODE_PRICE prices.now }
     requires leeways { AreFewLeeways prices.now leeways.now }
     ensures { IfOk result (λ entries. AreEntries net.now side prices.now leeways.now trips
         entries.items) }
@@ -160,6 +164,7 @@ fn entry_of(net: &LayerNet, side: Side, prices: &[i64], leeways: &[u64], trip: T
     requires of_layer { (p : Problem) × (l : ℕ) × IsLawful p l net.now }
     requires each_node { length prices.now ≡ net.now.graph.nodes }
     requires within { AllWithin MAX_NODE_PRICE prices.now }
+    requires span { HasSpan MAX_NODE_PRICE prices.now }
     requires leeways { AreFewLeeways prices.now leeways.now }
     ensures { IsEntry net.now side prices.now leeways.now trip.0 result }
 {
@@ -173,7 +178,7 @@ fn entry_of(net: &LayerNet, side: Side, prices: &[i64], leeways: &[u64], trip: T
 
 /// Half of a leeway off the price, rounded down.
 fn shifted(side: Side, price: i64, leeway: u64) -> i64
-    requires price { IsWithin (MAX_NODE_PRICE +ℤ MAX_NODE_PRICE) price }
+    requires price { IsWithin MAX_NODE_PRICE price }
     requires leeway { leeway ≤ MAX_LEEWAY }
     ensures { result ≡ shifted side price leeway }
 {

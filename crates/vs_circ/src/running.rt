@@ -22,7 +22,7 @@ use vs_types::{Memory, TripNo};
 
 /// The greatest price of a node, either way, that is kept for the next call, in 1/1000 of a cost unit: somewhat more
 /// than what prices lie within that were brought near, so this is done only where prices have drifted.
-const MAX_KEPT_PRICE: i64 = 500_000_000_000_000_000;
+const MAX_KEPT_PRICE: i64 = 750_000_000_000_000_000;
 
 /// Marks the trips that a least circulation of offered trips runs, as `relaxed` finds one, without
 /// prices that show that it is. Every entry is set. Gives what that circulation costs, in 1/1000 of a cost unit, with

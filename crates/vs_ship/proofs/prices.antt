@@ -1,6 +1,7 @@
 pub mod Pushed
 pub mod Overwritten
 pub mod Found
+pub mod Between
 pub mod ClosedGaps
 pub mod NearPrices
 pub mod Mirrored

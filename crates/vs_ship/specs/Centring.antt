@@ -1,6 +1,7 @@
 -- Prices of nodes in the middle of those at which a flow is settled.
 use Rattle.std.specs.Prelude.{◌≡◌, ℕ, ◌<◌, List, length, ℤ, pos, ◌+ℤ◌, ◌≤ℤ◌}
 use Rattle.vs_path.specs.Residual.{ResidualNet, HasSignRule, AllWithin, price_at}
+use Rattle.vs_path.specs.Raising.{HasSpan}
 use Rattle.vs_ship.specs.declared.centring.TheConstants.{MAX_RAISED_PRICE}
 use Rattle.vs_ship.specs.declared.gaps.TheConstants.{MAX_NODE_PRICE}
 use Rattle.vs_ship.specs.Mirror.{AreTurned}
@@ -28,9 +29,10 @@ pub record AreLoweredPrices (mirror : ResidualNet) (turned low : List ℤ) : Typ
   pub raised : AreRaisedPrices mirror turned risen
   pub back : AreTurned risen low
 
--- prices that settle the flow, counted from the first node and none too great
+-- prices that settle the flow, counted from the first node, none too great and no two too far apart
 pub record AreSettled (r : ResidualNet) (prices : List ℤ) : Type 0 where
   pub each_node : length prices ≡ r.graph.nodes
   pub within : AllWithin MAX_NODE_PRICE prices
+  pub span : HasSpan MAX_NODE_PRICE prices
   pub first : price_at prices 0 ≡ pos 0
   pub sign_rule : HasSignRule r prices

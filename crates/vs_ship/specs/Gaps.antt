@@ -2,6 +2,7 @@
 use Rattle.std.specs.Prelude.{◌≡◌, ◌⊎◌, ℕ, ◌*◌, ◌<◌, ◌≤◌, List, length, nat_abs, ℤ, pos, ◌-ℤ◌, ◌≤ℤ◌}
 use Rattle.vs_path.specs.declared.residual.TheConstants.{MAX_STEP_COST}
 use Rattle.vs_path.specs.Residual.{AllWithin, price_at}
+use Rattle.vs_path.specs.Raising.{HasSpan}
 use Rattle.vs_ship.specs.declared.gaps.TheConstants.{MAX_NODE_PRICE}
 
 -- one price is above another by no more than before, and by no less, or still by as much as a step costs at most
@@ -18,11 +19,12 @@ AreClosed old new = (u v : ℕ) → u < length old → v < length old → price_
 abbrev pub AreAscending : List ℤ → Type 0
 AreAscending prices = (i j : ℕ) → i ≤ j → j < length prices → price_at prices i ≤ℤ price_at prices j
 
--- prices that are near enough, counted from the first
+-- prices that are near enough to one another, counted from the first
 pub record AreNear (old new : List ℤ) : Type 0 where
   pub size : length new ≡ length old
   pub closed : AreClosed old new
   pub within : AllWithin MAX_NODE_PRICE new
+  pub span : HasSpan MAX_NODE_PRICE new
   pub first : price_at new 0 ≡ pos 0
 
 -- a price above 0 by no more than what so many steps cost

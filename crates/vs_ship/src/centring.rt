@@ -17,7 +17,7 @@ use vs_path::{MAX_SEARCH_NODES, MAX_SEARCH_PRICE, Residual, Search};
 const BEYOND: i64 = 400_000_000_000_000_000;
 
 /// The greatest price of a node that was raised, either way, in 1/1000 of a cost unit.
-pub const MAX_RAISED_PRICE: i64 = 2_000_000_000_000_000_000;
+pub const MAX_RAISED_PRICE: i64 = 3_000_000_000_000_000_000;
 
 /// Moves prices to the middle between the greatest and the least of the nodes at which the flow stays settled, counted
 /// from the first node. The second net is the first one turned round; the last two slices, with as many numbers, are

@@ -5,7 +5,7 @@ use vs_path::Costs;
 
 /// The greatest price of a node, either way, with which sending units may begin, in 1/1000 of a
 /// cost unit.
-pub const MAX_FIRST_PRICE: i64 = 3_000_000_000_000_000_000;
+pub const MAX_FIRST_PRICE: i64 = 2_500_000_000_000_000_000;
 
 /// Units on the arcs of a net, what the arcs cost and take, and the prices and the surplus of its
 /// nodes.

@@ -11,7 +11,7 @@ use Rattle.vs_instance.specs.Problem.{Problem}
 use Rattle.vs_instance.specs.Ways.{layer_of}
 use Rattle.vs_instance.proofs.CallerLemmas.{none_times, times_none, times_sub, total-map_add}
 use Rattle.vs_match.specs.declared.arc_kind.ArcKind.{ArcKind}
-use Rattle.vs_match.specs.declared.arc_kind.ArcKind.TheVariants.{Trip, Waiting, Deadhead, PullOut, PullIn, Return}
+use Rattle.vs_match.specs.declared.arc_kind.ArcKind.TheVariants.{Trip, Waiting, Deadhead, PullOut, PullIn, RestIn, RestWait, RestOut, Return}
 use Rattle.vs_match.specs.Decomposition.{vehicles_of}
 use Rattle.vs_match.specs.LawfulNets.{IsLawful}
 use Rattle.vs_match.specs.LayerGraph.{LayerGraph, kind_of}
@@ -35,6 +35,9 @@ on_or_off Waiting x = omega (arith, ints)
 on_or_off Deadhead x = omega (arith, ints)
 on_or_off PullOut x = omega (arith, ints)
 on_or_off PullIn x = omega (arith, ints)
+on_or_off RestIn x = omega (arith, ints)
+on_or_off RestWait x = omega (arith, ints)
+on_or_off RestOut x = omega (arith, ints)
 on_or_off Return x = omega (arith, ints)
 
 -- where empty moves have nothing, no arc off the trips has anything but the way back
@@ -44,6 +47,9 @@ off_trip-none Waiting x empty other = empty tt
 off_trip-none Deadhead x empty other = empty tt
 off_trip-none PullOut x empty other = empty tt
 off_trip-none PullIn x empty other = empty tt
+off_trip-none RestIn x empty other = empty tt
+off_trip-none RestWait x empty other = empty tt
+off_trip-none RestOut x empty other = empty tt
 off_trip-none Return x empty other = absurd (other refl)
 
 -- vehicles that are used pay what all do: one that is left pays nothing, and one that is used no less than nothing

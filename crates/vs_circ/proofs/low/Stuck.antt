@@ -8,7 +8,7 @@ use Rattle.vs_instance.specs.Problem.{Problem}
 use Rattle.vs_instance.specs.Ways.{layer_of}
 use Rattle.vs_instance.proofs.CallerLemmas.{times_none, times_one, total-range_le}
 use Rattle.vs_match.specs.declared.arc_kind.ArcKind.{ArcKind}
-use Rattle.vs_match.specs.declared.arc_kind.ArcKind.TheVariants.{Trip, Waiting, Deadhead, PullOut, PullIn, Return}
+use Rattle.vs_match.specs.declared.arc_kind.ArcKind.TheVariants.{Trip, Waiting, Deadhead, PullOut, PullIn, RestIn, RestWait, RestOut, Return}
 use Rattle.vs_match.specs.LawfulNets.{IsLawful}
 use Rattle.vs_match.specs.LayerGraph.{LayerGraph, kind_at, kind_of}
 use Rattle.vs_path.specs.Residual.{price_at}
@@ -43,6 +43,9 @@ must_on_trips must Waiting x = times_none x
 must_on_trips must Deadhead x = times_none x
 must_on_trips must PullOut x = times_none x
 must_on_trips must PullIn x = times_none x
+must_on_trips must RestIn x = times_none x
+must_on_trips must RestWait x = times_none x
+must_on_trips must RestOut x = times_none x
 must_on_trips must Return x = times_none x
 
 -- a unit on a trip's arc that has to run loses no more by the nodes' prices than the trip pays

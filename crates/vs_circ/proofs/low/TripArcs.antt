@@ -3,7 +3,7 @@ use Rattle.std.proofs.Common.{◌≡◌, ◌≢◌, ℕ, zero, suc, ◌+◌, ◌
 use Rattle.std.specs.List.{range_with_len}
 use Rattle.std.proofs.lemmas.Bool.{cases_eq, eqb-true, eq-eqb, ne_eqb, false≢true}
 use Rattle.vs_match.specs.declared.arc_kind.ArcKind.{ArcKind}
-use Rattle.vs_match.specs.declared.arc_kind.ArcKind.TheVariants.{Trip, Waiting, Deadhead, PullOut, PullIn, Return}
+use Rattle.vs_match.specs.declared.arc_kind.ArcKind.TheVariants.{Trip, Waiting, Deadhead, PullOut, PullIn, RestIn, RestWait, RestOut, Return}
 use Rattle.vs_match.specs.LayerGraph.{IsArcOfTrip, kind_at}
 use Rattle.vs_circ.proofs.low.Reindexing.{over_range, total-none, total-only, total-same, total-swap}
 
@@ -24,6 +24,9 @@ of_trip-is Waiting i is = cc
 of_trip-is Deadhead i is = cc
 of_trip-is PullOut i is = cc
 of_trip-is PullIn i is = cc
+of_trip-is RestIn i is = cc
+of_trip-is RestWait i is = cc
+of_trip-is RestOut i is = cc
 of_trip-is Return i is = cc
 
 -- what an arc has goes to its trip, and to no other
@@ -38,6 +41,9 @@ given_to_trip Waiting x n inside = total-none (λ i. pos 0) 0 n (λ k from withi
 given_to_trip Deadhead x n inside = total-none (λ i. pos 0) 0 n (λ k from within. refl)
 given_to_trip PullOut x n inside = total-none (λ i. pos 0) 0 n (λ k from within. refl)
 given_to_trip PullIn x n inside = total-none (λ i. pos 0) 0 n (λ k from within. refl)
+given_to_trip RestIn x n inside = total-none (λ i. pos 0) 0 n (λ k from within. refl)
+given_to_trip RestWait x n inside = total-none (λ i. pos 0) 0 n (λ k from within. refl)
+given_to_trip RestOut x n inside = total-none (λ i. pos 0) 0 n (λ k from within. refl)
 given_to_trip Return x n inside = total-none (λ i. pos 0) 0 n (λ k from within. refl)
 
 module _ (kinds : List ArcKind) where

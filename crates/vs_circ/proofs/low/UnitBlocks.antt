@@ -13,7 +13,7 @@ use Rattle.vs_instance.specs.Lagrangian.{AreBlocksOf, multiplier_of, paid_for}
 use Rattle.vs_instance.specs.Plan.{LayerBlock, all_trips, times_run}
 use Rattle.vs_instance.proofs.CallerLemmas.{IsOwnBlock, trips_inside, none_times, times_none, total-by_count}
 use Rattle.vs_match.specs.declared.arc_kind.ArcKind.{ArcKind}
-use Rattle.vs_match.specs.declared.arc_kind.ArcKind.TheVariants.{Trip, Waiting, Deadhead, PullOut, PullIn, Return}
+use Rattle.vs_match.specs.declared.arc_kind.ArcKind.TheVariants.{Trip, Waiting, Deadhead, PullOut, PullIn, RestIn, RestWait, RestOut, Return}
 use Rattle.vs_match.specs.Decomposition.{Decompose}
 use Rattle.vs_match.specs.Events.{MayRun}
 use Rattle.vs_match.specs.LawfulNets.{IsLawful}
@@ -58,6 +58,9 @@ paid_on_trips multipliers Waiting u = none_times u
 paid_on_trips multipliers Deadhead u = none_times u
 paid_on_trips multipliers PullOut u = none_times u
 paid_on_trips multipliers PullIn u = none_times u
+paid_on_trips multipliers RestIn u = none_times u
+paid_on_trips multipliers RestWait u = none_times u
+paid_on_trips multipliers RestOut u = none_times u
 paid_on_trips multipliers Return u = none_times u
 
 module _ (p : Problem) (l : LayerNo) (n : LayerGraph) (lawful : IsLawful p l.0 n) (units : List ℕ) where

@@ -10,7 +10,7 @@ use Rattle.vs_layer.specs.Graph.{arc_of}
 use Rattle.vs_layer.specs.Circulation.{cost_of_units, flow_cost}
 use Rattle.vs_instance.proofs.CallerLemmas.{times_sub, total-map_sub}
 use Rattle.vs_match.specs.declared.arc_kind.ArcKind.{ArcKind}
-use Rattle.vs_match.specs.declared.arc_kind.ArcKind.TheVariants.{Trip, Waiting, Deadhead, PullOut, PullIn, Return}
+use Rattle.vs_match.specs.declared.arc_kind.ArcKind.TheVariants.{Trip, Waiting, Deadhead, PullOut, PullIn, RestIn, RestWait, RestOut, Return}
 use Rattle.vs_match.specs.LayerGraph.{LayerGraph, IsLabelled, kind_of}
 use Rattle.vs_path.specs.declared.residual.TheConstants.{MAX_STEP_COST}
 use Rattle.vs_path.specs.Residual.{IsWithin}
@@ -55,6 +55,9 @@ offered_cost-is offers Waiting a = omega (arith, ints)
 offered_cost-is offers Deadhead a = omega (arith, ints)
 offered_cost-is offers PullOut a = omega (arith, ints)
 offered_cost-is offers PullIn a = omega (arith, ints)
+offered_cost-is offers RestIn a = omega (arith, ints)
+offered_cost-is offers RestWait a = omega (arith, ints)
+offered_cost-is offers RestOut a = omega (arith, ints)
 offered_cost-is offers Return a = omega (arith, ints)
 
 -- what the units are worth is what the flow costs less what its trips are paid

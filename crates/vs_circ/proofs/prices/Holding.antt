@@ -10,7 +10,8 @@ use Rattle.vs_instance.specs.Pieces.{out_piece, link_piece, in_piece}
 use Rattle.vs_instance.specs.HoldingTable.{HoldsInLayer, price_of, scaled}
 use Rattle.vs_match.specs.LayerGraph.{LayerGraph, IsArcOfTrip}
 use Rattle.vs_match.specs.LawfulNets.{IsLawful}
-use Rattle.vs_path.specs.Residual.{AllWithin, price_at}
+use Rattle.vs_path.specs.Residual.{price_at}
+use Rattle.vs_path.specs.Raising.{HasSpan}
 use Rattle.vs_circ.specs.declared.circ.LayerPrices.{LayerPrices}
 use Rattle.vs_circ.specs.declared.leeways.Side.TheVariants.{Leaving, Entering}
 use Rattle.vs_ship.specs.declared.gaps.TheConstants.{MAX_NODE_PRICE}
@@ -139,20 +140,20 @@ module _ (p : Problem) (l : ℕ) (n : LayerGraph) (lawful : IsLawful p l n) (ray
   }
 
 -- a vehicle's price is no greater than prices of a layer may be
-vehicle-price : (n : LayerGraph) (prices : List ℤ) → AllWithin MAX_NODE_PRICE prices → IsPrice (vehicle_price n prices)
-vehicle-price n prices within =
-    let first = within 0 in
-    let last = within (end_node n) in (
-      omega (arith, ints, clamps, first.low, first.high, last.low, last.high),
-      omega (arith, ints, clamps, first.low, first.high, last.low, last.high),
-    )
+vehicle-price : (n : LayerGraph) (prices : List ℤ) → 0 < length prices → end_node n < length prices
+    → HasSpan MAX_NODE_PRICE prices → IsPrice (vehicle_price n prices)
+vehicle-price n prices some end span =
+    let apart = span 0 (end_node n) some end in
+    (omega (arith, ints, clamps, apart), omega (arith, ints, clamps, apart))
 
 -- the whole table holds
 pub table-holds : (p : Problem) (l : ℕ) (n : LayerGraph) (ray : Bool) (prices : List ℤ) (entering leaving : List ℕ)
-    (trips : ℕ) (given : LayerPrices) → IsLawful p l n → length p.trips ≡ trips → AllWithin MAX_NODE_PRICE prices
+    (trips : ℕ) (given : LayerPrices) → IsLawful p l n → length p.trips ≡ trips
+    → length prices ≡ n.graph.nodes → HasSpan MAX_NODE_PRICE prices
     → AreLeeways n ray Entering prices entering → AreLeeways n ray Leaving prices leaving
     → IsTableOf n prices entering leaving trips given → AreHolding p l ray given
-table-holds p l n ray prices entering leaving trips given lawful count within enter leave table =
+table-holds p l n ray prices entering leaving trips given lawful count size span enter leave table =
+    let nodes = lawful.net.nodes in
     let Table : ℕ → Type 0 = λ m. IsTableOf n prices entering leaving m given in
     let of_trips : Table (length p.trips) = subst Table (sym count) table in
     let Is : ℤ → Type 0 = IsPrice in
@@ -163,7 +164,8 @@ table-holds p l n ray prices entering leaving trips given lawful count within en
           (λ i below. (of_trips.into.each i (omega (arith, of_trips.into.size))).price);
       from = All-from_get_or IsPrice given.from.items (pos 0)
           (λ i below. (of_trips.from.each i (omega (arith, of_trips.from.size))).price);
-      fleet = subst Is (sym table.vehicle) (vehicle-price n prices within);
+      fleet = subst Is (sym table.vehicle)
+          (vehicle-price n prices (omega (arith, size, nodes)) (omega (arith, size, nodes)) span);
       holds =
           holds p l n lawful ray prices entering leaving enter leave given
           (table-follows n prices entering leaving (length p.trips) given of_trips);

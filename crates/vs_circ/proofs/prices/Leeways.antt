@@ -4,7 +4,7 @@ use Rattle.std.specs.Prelude.{slice_index}
 use Rattle.std.proofs.lemmas.Int.{ints}
 use Rattle.vs_layer.specs.Graph.{IsNet, arc_of}
 use Rattle.vs_match.specs.declared.arc_kind.ArcKind.{ArcKind}
-use Rattle.vs_match.specs.declared.arc_kind.ArcKind.TheVariants.{Trip, Waiting, Deadhead, PullOut, PullIn, Return}
+use Rattle.vs_match.specs.declared.arc_kind.ArcKind.TheVariants.{Trip, Waiting, Deadhead, PullOut, PullIn, RestIn, RestWait, RestOut, Return}
 use Rattle.vs_match.specs.LayerGraph.{LayerGraph, IsArcOfTrip, IsLabelled, kind_of}
 use Rattle.vs_path.specs.Residual.{price_at}
 use Rattle.vs_circ.specs.declared.leeways.Side.{Side}
@@ -21,6 +21,9 @@ allows-move Waiting most leeway is allows = allows
 allows-move Deadhead most leeway is allows = allows
 allows-move PullOut most leeway is allows = allows
 allows-move PullIn most leeway is allows = allows
+allows-move RestIn most leeway is allows = allows
+allows-move RestWait most leeway is allows = allows
+allows-move RestOut most leeway is allows = allows
 allows-move Return most leeway is allows = absurd is
 
 -- a trip allows none

@@ -6,7 +6,7 @@ use Rattle.std.proofs.lemmas.Int.{ints}
 use Rattle.std.proofs.lemmas.List.{length-replicate, get_or-replicate, get_or_past}
 use Rattle.vs_layer.specs.Graph.{arc_of}
 use Rattle.vs_match.specs.declared.arc_kind.ArcKind.{ArcKind}
-use Rattle.vs_match.specs.declared.arc_kind.ArcKind.TheVariants.{Trip, Waiting, Deadhead, PullOut, PullIn, Return}
+use Rattle.vs_match.specs.declared.arc_kind.ArcKind.TheVariants.{Trip, Waiting, Deadhead, PullOut, PullIn, RestIn, RestWait, RestOut, Return}
 use Rattle.vs_match.specs.LayerGraph.{LayerGraph, kind_of}
 use Rattle.vs_circ.specs.declared.leeways.Side.{Side}
 use Rattle.vs_circ.specs.declared.leeways.TheConstants.{MAX_LEEWAY}
@@ -60,6 +60,9 @@ allows-≤ Waiting most more y less is = omega (arith, ints)
 allows-≤ Deadhead most more y less is = omega (arith, ints)
 allows-≤ PullOut most more y less is = omega (arith, ints)
 allows-≤ PullIn most more y less is = omega (arith, ints)
+allows-≤ RestIn most more y less is = omega (arith, ints)
+allows-≤ RestWait most more y less is = omega (arith, ints)
+allows-≤ RestOut most more y less is = omega (arith, ints)
 allows-≤ Return most more y less is = tt
 
 -- no leeway is always allowed
@@ -69,6 +72,9 @@ allows-none Waiting most least = least tt
 allows-none Deadhead most least = least tt
 allows-none PullOut most least = least tt
 allows-none PullIn most least = least tt
+allows-none RestIn most least = least tt
+allows-none RestWait most least = least tt
+allows-none RestOut most least = least tt
 allows-none Return most least = tt
 
 module _ (n : LayerGraph) (ray : Bool) (side : Side) (prices : List ℤ) where

@@ -9,7 +9,7 @@ use Rattle.vs_instance.specs.Problem.{Problem}
 use Rattle.vs_instance.specs.Pieces.{out_piece, link_piece, in_piece}
 use Rattle.vs_instance.specs.HoldingTable.{scaled}
 use Rattle.vs_match.specs.declared.arc_kind.ArcKind.{ArcKind}
-use Rattle.vs_match.specs.declared.arc_kind.ArcKind.TheVariants.{Trip, Waiting, Deadhead, PullOut, PullIn, Return}
+use Rattle.vs_match.specs.declared.arc_kind.ArcKind.TheVariants.{Trip, Waiting, Deadhead, PullOut, PullIn, RestIn, RestWait, RestOut, Return}
 use Rattle.vs_match.specs.Events.{last_node}
 use Rattle.vs_match.specs.NetArcs.{at_scale, IsTripArc}
 use Rattle.vs_match.specs.LayerGraph.{LayerGraph, IsArcOfTrip, kind_of}
@@ -49,6 +49,9 @@ empty-move Waiting moves = tt
 empty-move Deadhead moves = tt
 empty-move PullOut moves = absurd moves
 empty-move PullIn moves = absurd moves
+empty-move RestIn moves = tt
+empty-move RestWait moves = tt
+empty-move RestOut moves = tt
 empty-move Return moves = absurd moves
 
 -- what is within the cost of each such list of arcs is within what the least of them costs
@@ -82,22 +85,22 @@ module _ (p : Problem) (l : ℕ) (n : LayerGraph) (lawful : IsLawful p l n) (ray
       → weight v ≤ℤ (weight 0 +ℤ counts ray (path_cost n.graph ks))
   along_way_out [] v way = absurd way
   along_way_out (k ∷ ks) v way =
-      let law : IsLawfulArc p l n.events PullOut (arc_of n.graph k) =
-      subst (λ (kind : ArcKind). IsLawfulArc p l n.events kind (arc_of n.graph k)) way.1 (lawful.arcs k way.0) in
+      let law : IsLawfulArc p l n.points PullOut (arc_of n.graph k) =
+      subst (λ (kind : ArcKind). IsLawfulArc p l n.points kind (arc_of n.graph k)) way.1 (lawful.arcs k way.0) in
       let from : weight (arc_of n.graph k).from ≡ weight 0 = ap weight law.0 in
       let step = moves k way.0 (subst IsEmptyMove (sym way.1) tt) in
       let rest = along_walk ks (arc_of n.graph k).to v way.2 in
       let sum = counts-sum ray (arc_of n.graph k).cost (path_cost n.graph ks) in
       omega (arith, ints, from, step, rest, sum)
 
-  end-last : end_node n ≡ last_node n.events
+  end-last : end_node n ≡ last_node n.points
   end-last = omega (arith, lawful.labelled.each_node)
 
   along_way_in : (ks : List ℕ) (u : ℕ) → IsWayIn n u ks
       → weight (end_node n) ≤ℤ (weight u +ℤ counts ray (path_cost n.graph ks))
   along_way_in ks u way =
-      let law : IsLawfulArc p l n.events PullIn (arc_of n.graph way.last) =
-      subst (λ (kind : ArcKind). IsLawfulArc p l n.events kind (arc_of n.graph way.last)) way.pull_in
+      let law : IsLawfulArc p l n.points PullIn (arc_of n.graph way.last) =
+      subst (λ (kind : ArcKind). IsLawfulArc p l n.points kind (arc_of n.graph way.last)) way.pull_in
       (lawful.arcs way.last way.of_net) in
       let to : weight (arc_of n.graph way.last).to ≡ weight (end_node n) = ap weight (law.1 ∙ sym end-last) in
       let step = moves way.last way.of_net (subst IsEmptyMove (sym way.pull_in) tt) in
@@ -114,9 +117,9 @@ module _ (p : Problem) (l : ℕ) (n : LayerGraph) (lawful : IsLawful p l n) (ray
       omega (arith, ints, to, step, before, parts, none)
 
   -- the arc of a trip leaves the node where it departs, and reaches the one where it arrives
-  trip_arc : (i k : ℕ) → IsArcOfTrip n.kinds i k → IsTripArc p l n.events i (arc_of n.graph k)
+  trip_arc : (i k : ℕ) → IsArcOfTrip n.kinds i k → IsTripArc p l n.points i (arc_of n.graph k)
   trip_arc i k is =
-      subst (λ (kind : ArcKind). IsLawfulArc p l n.events kind (arc_of n.graph k)) is.1
+      subst (λ (kind : ArcKind). IsLawfulArc p l n.points kind (arc_of n.graph k)) is.1
       (lawful.arcs k (omega (arith, is.0, lawful.labelled.each_arc)))
 
   -- from the depot's beginning to where a trip departs the weight rises by no more than the pull-out

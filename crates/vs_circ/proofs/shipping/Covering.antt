@@ -12,7 +12,7 @@ use Rattle.vs_instance.specs.Problem.{Problem}
 use Rattle.vs_instance.specs.Instance.{IsInstance}
 use Rattle.vs_instance.specs.Ways.{layer_of}
 use Rattle.vs_match.specs.declared.arc_kind.ArcKind.{ArcKind}
-use Rattle.vs_match.specs.declared.arc_kind.ArcKind.TheVariants.{Trip, Waiting, Deadhead, PullOut, PullIn, Return}
+use Rattle.vs_match.specs.declared.arc_kind.ArcKind.TheVariants.{Trip, Waiting, Deadhead, PullOut, PullIn, RestIn, RestWait, RestOut, Return}
 use Rattle.vs_match.specs.Decomposition.{vehicles_of}
 use Rattle.vs_match.specs.LawfulNets.{IsLawful, IsLawfulArc}
 use Rattle.vs_match.specs.LayerGraph.{LayerGraph, IsArcOfTrip, kind_of}
@@ -42,6 +42,9 @@ empty_due must Waiting empty = refl
 empty_due must Deadhead empty = refl
 empty_due must PullOut empty = refl
 empty_due must PullIn empty = refl
+empty_due must RestIn empty = refl
+empty_due must RestWait empty = refl
+empty_due must RestOut empty = refl
 empty_due must Return empty = refl
 
 -- a unit has to run where one is on the trip's arc
@@ -51,13 +54,16 @@ due_if false some = absurd (omega arith)
 
 -- an arc has room for what a trip's takes, and for as many units as there are vehicles
 arc_takes : (p : Problem) (l : ℕ) (n : LayerGraph) (kind : ArcKind) (a : Arc) (u : ℕ)
-    → IsLawfulArc p l n.events kind a → ((i : ℕ) → kind ≡ Trip (record { 0 = i }) → u ≤ 1) → u ≤ (layer_of p l).fleet
+    → IsLawfulArc p l n.points kind a → ((i : ℕ) → kind ≡ Trip (record { 0 = i }) → u ≤ 1) → u ≤ (layer_of p l).fleet
     → u ≤ a.room
 arc_takes p l n (Trip i) a u arc one few = omega (arith, one i.0 refl, arc.room)
 arc_takes p l n Waiting a u arc one few = omega (arith, few, arc.2.room)
 arc_takes p l n Deadhead a u arc one few = omega (arith, few, arc.2.room)
 arc_takes p l n PullOut a u arc one few = omega (arith, few, arc.2.room)
 arc_takes p l n PullIn a u arc one few = omega (arith, few, arc.2.room)
+arc_takes p l n RestIn a u arc one few = omega (arith, few, arc.2.room)
+arc_takes p l n RestWait a u arc one few = omega (arith, few, arc.2.room)
+arc_takes p l n RestOut a u arc one few = omega (arith, few, arc.2.room)
 arc_takes p l n Return a u arc one few = omega (arith, few, arc.room)
 
 greater-none : (u t : ℕ) → IsGreater u 0 t → t ≡ u + 0
@@ -79,6 +85,9 @@ greater-sum Waiting must a u t within is = greater-none u t is
 greater-sum Deadhead must a u t within is = greater-none u t is
 greater-sum PullOut must a u t within is = greater-none u t is
 greater-sum PullIn must a u t within is = greater-none u t is
+greater-sum RestIn must a u t within is = greater-none u t is
+greater-sum RestWait must a u t within is = greater-none u t is
+greater-sum RestOut must a u t within is = greater-none u t is
 greater-sum Return must a u t within is = greater-none u t is
 
 module _ (p : Problem) (is : IsInstance p) (l : LayerNo) (n : LayerGraph) (lawful : IsLawful p l.0 n)

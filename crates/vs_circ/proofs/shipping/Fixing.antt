@@ -12,6 +12,7 @@ use Rattle.vs_instance.specs.Instance.{IsInstance}
 use Rattle.vs_match.specs.LawfulNets.{IsLawful}
 use Rattle.vs_match.specs.LayerGraph.{LayerGraph}
 use Rattle.vs_path.specs.Residual.{AllWithin, HasSignRule, IsResidual, IsWithin, price_at}
+use Rattle.vs_path.specs.Raising.{HasSpan}
 use Rattle.vs_ship.specs.declared.gaps.TheConstants.{MAX_NODE_PRICE}
 use Rattle.vs_circ.specs.declared.circ.FixedFlow.TheVariants.{Covered, Short}
 use Rattle.vs_circ.specs.declared.circ.LayerPrices.{LayerPrices}
@@ -58,12 +59,25 @@ stuck-price nodes prices are v = go (is_in nodes v) refl
     go false e = are.others v (λ is. false≢true (sym e ∙ is_in-from nodes v is))
 
 -- none of these prices is great
-pub stuck-within : (nodes : List ℕ) (prices : List ℤ) → AreStuckPrices nodes prices → AllWithin MAX_NODE_PRICE prices
-stuck-within nodes prices are v = go (is_in nodes v) (stuck-price nodes prices are v)
+stuck-small : (nodes : List ℕ) (prices : List ℤ) → AreStuckPrices nodes prices → (v : ℕ)
+    → IsWithin (pos 1) (price_at prices v)
+stuck-small nodes prices are v = go (is_in nodes v) (stuck-price nodes prices are v)
   where
-    go : (b : Bool) → price_at prices v ≡ neg_ℤ (cond b (pos 1) (pos 0)) → IsWithin MAX_NODE_PRICE (price_at prices v)
+    go : (b : Bool) → price_at prices v ≡ neg_ℤ (cond b (pos 1) (pos 0)) → IsWithin (pos 1) (price_at prices v)
     go true is = record { low = omega (arith, ints, is); high = omega (arith, ints, is) }
     go false is = record { low = omega (arith, ints, is); high = omega (arith, ints, is) }
+
+pub stuck-within : (nodes : List ℕ) (prices : List ℤ) → AreStuckPrices nodes prices → AllWithin MAX_NODE_PRICE prices
+stuck-within nodes prices are v =
+    let small = stuck-small nodes prices are v in
+    record { low = omega (arith, ints, small.low); high = omega (arith, ints, small.high) }
+
+-- no two of them lie far apart
+pub stuck-span : (nodes : List ℕ) (prices : List ℤ) → AreStuckPrices nodes prices → HasSpan MAX_NODE_PRICE prices
+stuck-span nodes prices are u v here there =
+    let one = stuck-small nodes prices are u in
+    let other = stuck-small nodes prices are v in
+    omega (arith, ints, one.high, other.low)
 
 module _ (n : LayerGraph) (must : List Bool) (nodes : List ℕ) (prices : List ℤ) (stuck : HasStuckUnits n must nodes)
     (are : AreStuckPrices nodes prices) where
@@ -115,6 +129,7 @@ module _ (n : LayerGraph) (must : List Bool) (s : Shipment) (supplied : IsSuppli
     near-moves = record {
       each_node = near.size ∙ supplied.can.sized.prices;
       within = near.within;
+      span = near.span;
       moves = priced.moves;
     }
 

@@ -7,7 +7,7 @@ use Rattle.vs_instance.specs.declared.limits.TheConstants.{MAX_FLEET, MAX_MULTIP
 use Rattle.vs_layer.specs.declared.arc.Arc.{Arc}
 use Rattle.vs_layer.specs.Graph.{Graph, arc_of}
 use Rattle.vs_match.specs.declared.arc_kind.ArcKind.{ArcKind}
-use Rattle.vs_match.specs.declared.arc_kind.ArcKind.TheVariants.{Trip, Waiting, Deadhead, PullOut, PullIn, Return}
+use Rattle.vs_match.specs.declared.arc_kind.ArcKind.TheVariants.{Trip, Waiting, Deadhead, PullOut, PullIn, RestIn, RestWait, RestOut, Return}
 use Rattle.vs_match.specs.declared.layer_net.TheConstants.{MAX_ARC_COST}
 use Rattle.vs_match.specs.LayerGraph.{LayerGraph, kind_of}
 use Rattle.vs_path.specs.declared.step.Step.TheVariants.{Forward, Back}
@@ -41,6 +41,9 @@ module _ (offers : List (Option ℤ)) (small : AreSmallOffers offers) where
   offered_cost-within Deadhead a no_gain limit = record { low = omega (arith, ints); high = omega (arith, ints) }
   offered_cost-within PullOut a no_gain limit = record { low = omega (arith, ints); high = omega (arith, ints) }
   offered_cost-within PullIn a no_gain limit = record { low = omega (arith, ints); high = omega (arith, ints) }
+  offered_cost-within RestIn a no_gain limit = record { low = omega (arith, ints); high = omega (arith, ints) }
+  offered_cost-within RestWait a no_gain limit = record { low = omega (arith, ints); high = omega (arith, ints) }
+  offered_cost-within RestOut a no_gain limit = record { low = omega (arith, ints); high = omega (arith, ints) }
   offered_cost-within Return a no_gain limit = record { low = omega (arith, ints); high = omega (arith, ints) }
 
 room_if-< : (offer : Option ℤ) → room_if offer ≤ 1
@@ -54,6 +57,9 @@ offered_room-< offers Waiting a few = omega arith
 offered_room-< offers Deadhead a few = omega arith
 offered_room-< offers PullOut a few = omega arith
 offered_room-< offers PullIn a few = omega arith
+offered_room-< offers RestIn a few = omega arith
+offered_room-< offers RestWait a few = omega arith
+offered_room-< offers RestOut a few = omega arith
 offered_room-< offers Return a few = omega arith
 
 -- only an arc that is no trip's takes more than the net lets it
@@ -66,6 +72,9 @@ offered-no_gain offers Waiting a more no_gain trip = no_gain
 offered-no_gain offers Deadhead a more no_gain trip = no_gain
 offered-no_gain offers PullOut a more no_gain trip = no_gain
 offered-no_gain offers PullIn a more no_gain trip = no_gain
+offered-no_gain offers RestIn a more no_gain trip = no_gain
+offered-no_gain offers RestWait a more no_gain trip = no_gain
+offered-no_gain offers RestOut a more no_gain trip = no_gain
 offered-no_gain offers Return a more no_gain trip = no_gain
 
 module _ (n : LayerGraph) (offers : List (Option ℤ)) (arcs : HasSmallArcs n) where

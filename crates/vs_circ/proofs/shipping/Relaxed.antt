@@ -36,7 +36,12 @@ module _ (p : Problem) (is : IsInstance p) (l : LayerNo) (n : LayerGraph) (lawfu
 
   -- no empty move is worth more than it costs
   pub centred-moves : HasMovePrices n prices
-  centred-moves = record { each_node = centred.each_node; within = centred.within; moves = flow.moves }
+  centred-moves = record {
+    each_node = centred.each_node;
+    within = centred.within;
+    span = centred.span;
+    moves = flow.moves;
+  }
 
   pub least-of-settled : (c : Circ) → AreOffers p l.0 offers → c.flow.units.items ≡ s.flow.units.items
       → AreHolding p l.0 false c.prices → PaysNoLess n (length p.trips) prices c.prices

@@ -9,7 +9,7 @@ use Rattle.vs_instance.specs.Problem.{Problem}
 use Rattle.vs_instance.specs.Instance.{IsInstance}
 use Rattle.vs_instance.specs.Ways.{layer_of}
 use Rattle.vs_match.specs.declared.arc_kind.ArcKind.{ArcKind}
-use Rattle.vs_match.specs.declared.arc_kind.ArcKind.TheVariants.{Trip, Waiting, Deadhead, PullOut, PullIn, Return}
+use Rattle.vs_match.specs.declared.arc_kind.ArcKind.TheVariants.{Trip, Waiting, Deadhead, PullOut, PullIn, RestIn, RestWait, RestOut, Return}
 use Rattle.vs_match.specs.Decomposition.{vehicles_of}
 use Rattle.vs_match.specs.LawfulNets.{IsLawful, IsLawfulArc}
 use Rattle.vs_match.specs.LayerGraph.{LayerGraph, IsArcOfTrip, kind_of}
@@ -55,6 +55,9 @@ empty_cost offers Waiting a empty = refl
 empty_cost offers Deadhead a empty = refl
 empty_cost offers PullOut a empty = refl
 empty_cost offers PullIn a empty = refl
+empty_cost offers RestIn a empty = refl
+empty_cost offers RestWait a empty = refl
+empty_cost offers RestOut a empty = refl
 empty_cost offers Return a empty = refl
 
 pub empty_room : (offers : List (Option ℤ)) (kind : ArcKind) (a : Arc) → IsEmptyMove kind
@@ -64,16 +67,22 @@ empty_room offers Waiting a empty = refl
 empty_room offers Deadhead a empty = refl
 empty_room offers PullOut a empty = refl
 empty_room offers PullIn a empty = refl
+empty_room offers RestIn a empty = refl
+empty_room offers RestWait a empty = refl
+empty_room offers RestOut a empty = refl
 empty_room offers Return a empty = absurd empty
 
 -- an arc has room for what a trip's takes, and for as many units as there are vehicles
 arc_room : (p : Problem) (l : ℕ) (n : LayerGraph) (offers : List (Option ℤ)) (kind : ArcKind) (a : Arc) (u : ℕ)
-    → IsLawfulArc p l n.events kind a → u ≤ offered_room offers kind a → u ≤ (layer_of p l).fleet → u ≤ a.room
+    → IsLawfulArc p l n.points kind a → u ≤ offered_room offers kind a → u ≤ (layer_of p l).fleet → u ≤ a.room
 arc_room p l n offers (Trip i) a u arc within few = omega (arith, room_if-≤ (offer_of offers i.0), arc.room)
 arc_room p l n offers Waiting a u arc within few = omega (arith, arc.2.room)
 arc_room p l n offers Deadhead a u arc within few = omega (arith, arc.2.room)
 arc_room p l n offers PullOut a u arc within few = omega (arith, arc.2.room)
 arc_room p l n offers PullIn a u arc within few = omega (arith, arc.2.room)
+arc_room p l n offers RestIn a u arc within few = omega (arith, arc.2.room)
+arc_room p l n offers RestWait a u arc within few = omega (arith, arc.2.room)
+arc_room p l n offers RestOut a u arc within few = omega (arith, arc.2.room)
 arc_room p l n offers Return a u arc within few = within
 
 module _ (p : Problem) (is : IsInstance p) (l : LayerNo) (n : LayerGraph) (lawful : IsLawful p l.0 n)

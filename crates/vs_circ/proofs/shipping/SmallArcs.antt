@@ -9,7 +9,7 @@ use Rattle.vs_instance.specs.Instance.{IsInstance}
 use Rattle.vs_instance.specs.Ways.{layer_of, no_trip, trip_of}
 use Rattle.vs_instance.proofs.CallerLemmas.{layer_of-IsLayer, rated-below}
 use Rattle.vs_match.specs.declared.arc_kind.ArcKind.{ArcKind}
-use Rattle.vs_match.specs.declared.arc_kind.ArcKind.TheVariants.{Trip, Waiting, Deadhead, PullOut, PullIn, Return}
+use Rattle.vs_match.specs.declared.arc_kind.ArcKind.TheVariants.{Trip, Waiting, Deadhead, PullOut, PullIn, RestIn, RestWait, RestOut, Return}
 use Rattle.vs_match.specs.declared.layer_net.TheConstants.{MAX_ARC_COST}
 use Rattle.vs_match.specs.LawfulNets.{IsLawful, IsLawfulArc, IsFreeArc}
 use Rattle.vs_match.specs.LayerGraph.{LayerGraph, kind_of}
@@ -27,7 +27,7 @@ module _ (p : Problem) (is : IsInstance p) (l : ℕ) (n : LayerGraph) (lawful : 
   free_arc : (a : Arc) → IsFreeArc p l a → IsSmallArc a
   free_arc a free = record { no_gain = free.no_gain; cost = free.limit; room = omega (arith, free.room, fleet-≤) }
 
-  small_arc : (kind : ArcKind) (a : Arc) → IsLawfulArc p l n.events kind a → IsSmallArc a
+  small_arc : (kind : ArcKind) (a : Arc) → IsLawfulArc p l n.points kind a → IsSmallArc a
   small_arc (Trip i) a arc =
       let trip = is.trips i.0 no_trip arc.may_run.0 in
       let few =
@@ -42,6 +42,9 @@ module _ (p : Problem) (is : IsInstance p) (l : ℕ) (n : LayerGraph) (lawful : 
   small_arc Deadhead a arc = free_arc a arc.2
   small_arc PullOut a arc = free_arc a arc.2
   small_arc PullIn a arc = free_arc a arc.2
+  small_arc RestIn a arc = free_arc a arc.2
+  small_arc RestWait a arc = free_arc a arc.2
+  small_arc RestOut a arc = free_arc a arc.2
   small_arc Return a arc = record {
     no_gain = subst (λ (x : ℤ). pos 0 ≤ℤ x) (sym arc.cost) (omega (arith, ints));
     cost = subst (λ (x : ℤ). x ≤ℤ MAX_ARC_COST) (sym arc.cost) (omega (arith, ints));
@@ -54,6 +57,6 @@ module _ (p : Problem) (is : IsInstance p) (l : ℕ) (n : LayerGraph) (lawful : 
     cost = λ k within. (small_arc (kind_of n k) (arc_of n.graph k) (lawful.arcs k within)).cost;
     room = λ k within. (small_arc (kind_of n k) (arc_of n.graph k) (lawful.arcs k within)).room;
     trip = λ i k within is_trip.
-        (subst (λ (kind : ArcKind). IsLawfulArc p l n.events kind (arc_of n.graph k)) is_trip
+        (subst (λ (kind : ArcKind). IsLawfulArc p l n.points kind (arc_of n.graph k)) is_trip
         (lawful.arcs k within)).room;
   }

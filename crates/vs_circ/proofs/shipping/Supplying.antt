@@ -11,7 +11,7 @@ use Rattle.vs_instance.specs.Instance.{IsInstance}
 use Rattle.vs_instance.specs.Lagrangian.{total}
 use Rattle.vs_instance.proofs.CallerLemmas.{total-range_le}
 use Rattle.vs_match.specs.declared.arc_kind.ArcKind.{ArcKind}
-use Rattle.vs_match.specs.declared.arc_kind.ArcKind.TheVariants.{Trip, Waiting, Deadhead, PullOut, PullIn, Return}
+use Rattle.vs_match.specs.declared.arc_kind.ArcKind.TheVariants.{Trip, Waiting, Deadhead, PullOut, PullIn, RestIn, RestWait, RestOut, Return}
 use Rattle.vs_match.specs.LawfulNets.{IsLawful}
 use Rattle.vs_match.specs.LayerGraph.{LayerGraph, kind_at, kind_of}
 use Rattle.vs_path.specs.declared.residual.TheConstants.{MAX_SEARCH_NODES}
@@ -37,6 +37,9 @@ unoffered_cost Waiting a = refl
 unoffered_cost Deadhead a = refl
 unoffered_cost PullOut a = refl
 unoffered_cost PullIn a = refl
+unoffered_cost RestIn a = refl
+unoffered_cost RestWait a = refl
+unoffered_cost RestOut a = refl
 unoffered_cost Return a = refl
 
 must_if-≤ : (b : Bool) → cond b 1 0 ≤ 1
@@ -50,6 +53,9 @@ must_on-≤ must Waiting = omega arith
 must_on-≤ must Deadhead = omega arith
 must_on-≤ must PullOut = omega arith
 must_on-≤ must PullIn = omega arith
+must_on-≤ must RestIn = omega arith
+must_on-≤ must RestWait = omega arith
+must_on-≤ must RestOut = omega arith
 must_on-≤ must Return = omega arith
 
 -- and only on the arcs of trips
@@ -59,6 +65,9 @@ must_on-trip must Waiting = refl
 must_on-trip must Deadhead = refl
 must_on-trip must PullOut = refl
 must_on-trip must PullIn = refl
+must_on-trip must RestIn = refl
+must_on-trip must RestWait = refl
+must_on-trip must RestOut = refl
 must_on-trip must Return = refl
 
 -- units in all, as a total over the arcs

@@ -3,7 +3,7 @@ use Rattle.std.specs.Prelude.{◌≡◌, ℕ, ◌+◌, ◌-◌, ◌/◌, ◌<◌
 use Rattle.vs_layer.specs.declared.arc.Arc.{Arc}
 use Rattle.vs_layer.specs.Graph.{Graph, arc_of, leaving, reaching}
 use Rattle.vs_match.specs.declared.arc_kind.ArcKind.{ArcKind}
-use Rattle.vs_match.specs.declared.arc_kind.ArcKind.TheVariants.{Trip, Waiting, Deadhead, PullOut, PullIn, Return}
+use Rattle.vs_match.specs.declared.arc_kind.ArcKind.TheVariants.{Trip, Waiting, Deadhead, PullOut, PullIn, RestIn, RestWait, RestOut, Return}
 use Rattle.vs_match.specs.LayerGraph.{LayerGraph, kind_of}
 use Rattle.vs_path.specs.Residual.{price_at}
 use Rattle.vs_circ.specs.declared.leeways.Side.{Side}
@@ -36,6 +36,9 @@ Allows Waiting most leeway = pos leeway ≤ℤ most
 Allows Deadhead most leeway = pos leeway ≤ℤ most
 Allows PullOut most leeway = pos leeway ≤ℤ most
 Allows PullIn most leeway = pos leeway ≤ℤ most
+Allows RestIn most leeway = pos leeway ≤ℤ most
+Allows RestWait most leeway = pos leeway ≤ℤ most
+Allows RestOut most leeway = pos leeway ≤ℤ most
 Allows Return most leeway = Unit {0}
 
 -- arc k allows so much leeway: an empty move allows what the other node has, and what the move is not worth

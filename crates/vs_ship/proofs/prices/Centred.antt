@@ -54,6 +54,7 @@ module _ (r : ResidualNet) (is : IsResidual r) (prices near : List ℤ) (small :
   near-settled rule = record {
     each_node = near_is.size ∙ small.each_node;
     within = near_is.within;
+    span = near_is.span;
     first = near_is.first;
     sign_rule = near-rule rule;
   }

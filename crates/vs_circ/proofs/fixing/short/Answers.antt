@@ -1,10 +1,11 @@
 use Rattle.std.proofs.Common.{◌≡◌, ◌∙◌, ℤ, List, length, true, sym, subst}
 use Rattle.std.proofs.lemmas.List.{with_items_is}
 use Rattle.vs_path.specs.Residual.{AllWithin}
+use Rattle.vs_path.specs.Raising.{HasSpan}
 use Rattle.vs_ship.specs.declared.gaps.TheConstants.{MAX_NODE_PRICE}
 use Rattle.vs_circ.specs.node_prices.NodePrices.{AreMovePrices}
 use Rattle.vs_circ.specs.PricedFlows.{PaysNoLess}
-use Rattle.vs_circ.proofs.shipping.Fixing.{short-fixed, stuck-by_prices, stuck-within}
+use Rattle.vs_circ.proofs.shipping.Fixing.{short-fixed, stuck-by_prices, stuck-span, stuck-within}
 use Rattle.vs_circ.proofs.fixing.short.Goals as goal
 
 pub ray_prices-requires-clause-of_layer : goal.ray_prices-requires-clause-of_layer
@@ -18,6 +19,14 @@ ray_prices-requires-clause-within c =
     c.deref.ensures.value
     ∙ with_items_is c.args.space.now.prices prices (c.set_stuck_prices.auto.prices ∙ c.deref_mut.ensures.len) in
     subst (AllWithin MAX_NODE_PRICE) (sym is) (stuck-within c.args.stuck.now prices c.set_stuck_prices.ensures)
+
+pub ray_prices-requires-clause-span : goal.ray_prices-requires-clause-span
+ray_prices-requires-clause-span c =
+    let prices = c.set_stuck_prices.new.prices in
+    let is : c.deref.result.now ≡ prices =
+    c.deref.ensures.value
+    ∙ with_items_is c.args.space.now.prices prices (c.set_stuck_prices.auto.prices ∙ c.deref_mut.ensures.len) in
+    subst (HasSpan MAX_NODE_PRICE) (sym is) (stuck-span c.args.stuck.now prices c.set_stuck_prices.ensures)
 
 pub ray_prices-requires-clause-moves : goal.ray_prices-requires-clause-moves
 ray_prices-requires-clause-moves c =

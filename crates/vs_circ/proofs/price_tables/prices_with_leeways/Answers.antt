@@ -9,7 +9,7 @@ returns-clause-holding c =
     if-ok c.table_of.result c.table_of.ensures
     (λ given table p l is lawful count.
     table-holds p l n false prices c.set_entering.new.leeways c.set_leaving.new.leeways c.args.trips given lawful count
-    c.requires.prices.within c.set_entering.ensures c.set_leaving.ensures table)
+    c.requires.prices.each_node c.requires.prices.span c.set_entering.ensures c.set_leaving.ensures table)
 
 pub returns-clause-pays : goal.returns-clause-pays
 returns-clause-pays c =

@@ -19,8 +19,8 @@ returns-clause-holding c =
     (no-leeways n true Leaving prices (length prices) c.requires.each_node c.requires.moves) in
     if-ok c.table_of.result c.table_of.ensures
     (λ given table p l is lawful count.
-    table-holds p l n true prices c.fill.new.self c.fill.new.self c.args.trips given lawful count c.requires.within
-    entering leaving table)
+    table-holds p l n true prices c.fill.new.self c.fill.new.self c.args.trips given lawful count
+    c.requires.each_node c.requires.span entering leaving table)
 
 pub returns-clause-pays : goal.returns-clause-pays
 returns-clause-pays c =
