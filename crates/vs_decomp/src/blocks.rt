@@ -15,8 +15,8 @@ use vs_plan::Block;
 use vs_types::{LayerNo, Memory};
 
 /// The blocks that the vehicles of a circulation run: the same trips, in no more blocks than the return arc carries
-/// units, at no higher cost. A run of waiting and deadheads becomes one connection, and a round without a trip is
-/// dropped.
+/// units, at no higher cost. A run of waiting, deadhead and rest arcs becomes one connection, and a round without a
+/// trip is dropped.
 pub fn blocks_of(
     alloc: Global,
     instance: &Instance,
