@@ -7,6 +7,6 @@ mod pieces;
 
 pub use connections::connects;
 pub use pieces::{
-    MAX_PIECE, MAX_REST, direct_cost, in_cost, lesser, link_cost, out_cost, pieces_exist_where_moves_do, rest_cost,
-    rest_times, scaled, trip_cost,
+    MAX_PIECE, MAX_REST, direct_cost, in_cost, lesser, link_cost, out_cost,
+    pieces_exist_where_moves_do, rest_cost, rest_times, scaled, trip_cost,
 };

@@ -107,7 +107,8 @@ pub fn rest_cost(instance: &Instance, l: LayerNo, i: TripNo, j: TripNo) -> Optio
     if u64::from(ended.end + back.minutes) + stay + u64::from(out.minutes) > u64::from(next.start) {
         return None;
     }
-    let cost = rated(layer, back.minutes, u64::from(back.metres)) + rated(layer, out.minutes, u64::from(out.metres));
+    let cost = rated(layer, back.minutes, u64::from(back.metres))
+        + rated(layer, out.minutes, u64::from(out.metres));
     Some(cost as i64)
 }
 

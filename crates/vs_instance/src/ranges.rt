@@ -4,7 +4,9 @@ ghost use Rattle.std.specs.Prelude.{◌≡◌, ◌≤◌, length};
 ghost use Rattle.vs_instance.specs.Misfits.{first_misfit, is_no_stay, layer_misfits, layers_misfits, trip_misfits, trips_misfits};
 
 use crate::layer::Layer;
-use crate::limits::{MAX_FIXED, MAX_FLEET, MAX_METRES, MAX_PER_METRE, MAX_PER_MINUTE, MAX_STAY, MAX_TRIPS};
+use crate::limits::{
+    MAX_FIXED, MAX_FLEET, MAX_METRES, MAX_PER_METRE, MAX_PER_MINUTE, MAX_STAY, MAX_TRIPS,
+};
 use crate::misfit::{Field, Misfit, Place};
 use crate::trip::Trip;
 use vs_types::{LayerNo, MAX_LAYERS, TripNo};
