@@ -90,7 +90,21 @@ const OFFERED: [([&str; 3], i64, i128, [bool; 2]); 3] = [
     (RESTING, 1_050_000, -1_000_000, [true, true]),
 ];
 
-/// The least value, and the trips that are run.
+/// The least value of a net, and the trips that are run.
+fn found_in(
+    alloc: Global,
+    instance: &Instance,
+    net: &LayerNet,
+    offer: i64,
+) -> Result<(i128, Vec<bool>), Fail>
+    requires lawful { IsLawful instance.now 0 net.now }
+{
+    let mut work = Work::new(alloc, &[])?;
+    let circ = relaxed_at(alloc, instance, net, &[offer; 2], &mut work)?;
+    let marked = run_at(alloc, instance, net, &[offer; 2], &mut work)?;
+    Ok((circ.value, marked))
+}
+
 fn found(
     alloc: Global,
     parts: &[&str],
@@ -99,10 +113,7 @@ fn found(
 ) -> Result<(i128, Vec<bool>), Fail> {
     let instance = instance_of(alloc, parts)?;
     let net = net_of(alloc, &instance, latest)?;
-    let mut work = Work::new(alloc, &[])?;
-    let circ = relaxed_at(alloc, &instance, &net, &[offer; 2], &mut work)?;
-    let marked = run_at(alloc, &instance, &net, &[offer; 2], &mut work)?;
-    Ok((circ.value, marked))
+    found_in(alloc, &instance, &net, offer)
 }
 
 #[test]
@@ -110,8 +121,7 @@ fn have_the_least_value(rt: HostRuntime) -> Result<(), Fail> {
     for (parts, offer, value, runs) in OFFERED {
         for latest in [false, true] {
             let (least, marked) = found(rt.alloc(), &parts, latest, offer)?;
-            assert_eq!(rt; least, value);
-            assert_eq!(rt; marked.as_slice(), runs.as_slice());
+            assert_eq!(rt; (least, marked.as_slice()), (value, runs.as_slice()));
         }
     }
     Ok(())
@@ -135,7 +145,19 @@ const FIXED: [([&str; 3], [bool; 2], Option<i128>); 5] = [
     (RESTING, [true, true], Some(1_100_000)),
 ];
 
-/// What it costs to run the trips marked.
+/// What it costs in a net to run the trips marked.
+fn cost_in(
+    alloc: Global,
+    instance: &Instance,
+    net: &LayerNet,
+    marks: [bool; 2],
+) -> Result<Option<i128>, Fail>
+    requires lawful { IsLawful instance.now 0 net.now }
+{
+    let mut work = Work::new(alloc, &[])?;
+    cost_of(alloc, instance, net, &marks, &mut work)
+}
+
 fn cost(
     alloc: Global,
     parts: &[&str],
@@ -144,8 +166,7 @@ fn cost(
 ) -> Result<Option<i128>, Fail> {
     let instance = instance_of(alloc, parts)?;
     let net = net_of(alloc, &instance, latest)?;
-    let mut work = Work::new(alloc, &[])?;
-    cost_of(alloc, &instance, &net, &marks, &mut work)
+    cost_in(alloc, &instance, &net, marks)
 }
 
 #[test]
@@ -195,22 +216,54 @@ const MULTIPLIERS: [[i64; 4]; 6] = [
     [20_000, 1_200_000, 1_045_001, 1_044_999],
 ];
 
-/// One after the other, from what the calls before left, by `relaxed` and by `runs`. The trips that `runs` marks can be
-/// run at a cost that leaves the least value.
+/// What `relaxed` finds at these multipliers, and what the trips that `runs` marks can be run for less those.
+fn values(
+    alloc: Global,
+    rows: &[Row; 4],
+    instance: &Instance,
+    net: &LayerNet,
+    multipliers: &[i64; 4],
+    work: &mut Work,
+) -> Result<(i128, Option<i64>), Fail>
+    requires lawful { IsLawful instance.now 0 net.now }
+{
+    let circ = relaxed_at(alloc, instance, net, multipliers, work)?;
+    let marked = run_at(alloc, instance, net, multipliers, work)?;
+    Ok((circ.value, value_of_marked(rows, multipliers, &marked)))
+}
+
+/// The first multipliers at which either isn't the least value of every way. They come one after the other, and each
+/// call begins with what those before it left.
+fn first_miss_in(
+    alloc: Global,
+    rows: &[Row; 4],
+    instance: &Instance,
+    net: &LayerNet,
+    work: &mut Work,
+) -> Result<Option<[i64; 4]>, Fail>
+    requires lawful { IsLawful instance.now 0 net.now }
+{
+    for multipliers in &MULTIPLIERS {
+        let least = least_value(rows, multipliers);
+        let found = values(alloc, rows, instance, net, multipliers, work)?;
+        if found != (i128::from(least), Some(least)) {
+            return Ok(Some(*multipliers));
+        }
+    }
+    Ok(None)
+}
+
+fn first_miss(alloc: Global, rows: &[Row; 4], work: &mut Work) -> Result<Option<[i64; 4]>, Fail> {
+    let instance = rows_instance(alloc, rows)?;
+    let net = net_of(alloc, &instance, true)?;
+    first_miss_in(alloc, rows, &instance, &net, work)
+}
+
 #[test]
 fn have_the_least_value_of_every_way(rt: HostRuntime) -> Result<(), Fail> {
-    let alloc = rt.alloc();
-    let mut work = Work::new(alloc, &[])?;
+    let mut work = Work::new(rt.alloc(), &[])?;
     for rows in &TABLE {
-        let instance = rows_instance(alloc, rows)?;
-        let net = net_of(alloc, &instance, true)?;
-        for multipliers in &MULTIPLIERS {
-            let least = least_value(rows, multipliers);
-            let circ = relaxed_at(alloc, &instance, &net, multipliers, &mut work)?;
-            assert_eq!(rt; circ.value, i128::from(least));
-            let marked = run_at(alloc, &instance, &net, multipliers, &mut work)?;
-            assert_eq!(rt; value_of_marked(rows, multipliers, &marked), Some(least));
-        }
+        assert_eq!(rt; first_miss(rt.alloc(), rows, &mut work)?, None);
     }
     Ok(())
 }
@@ -225,19 +278,37 @@ fn marks_of(number: u32) -> [bool; 4] {
     ]
 }
 
+/// The first number whose trips `fixed` doesn't run at the least cost of every way.
+fn first_dearer_in(
+    alloc: Global,
+    rows: &[Row; 4],
+    instance: &Instance,
+    net: &LayerNet,
+    work: &mut Work,
+) -> Result<Option<u32>, Fail>
+    requires lawful { IsLawful instance.now 0 net.now }
+{
+    for number in 0..16 {
+        let marks = marks_of(number);
+        let least = least_that_runs(rows, &marks).map(i128::from);
+        if cost_of(alloc, instance, net, &marks, work)? != least {
+            return Ok(Some(number));
+        }
+    }
+    Ok(None)
+}
+
+fn first_dearer(alloc: Global, rows: &[Row; 4], work: &mut Work) -> Result<Option<u32>, Fail> {
+    let instance = rows_instance(alloc, rows)?;
+    let net = net_of(alloc, &instance, false)?;
+    first_dearer_in(alloc, rows, &instance, &net, work)
+}
+
 #[test]
 fn have_the_least_cost_of_every_way(rt: HostRuntime) -> Result<(), Fail> {
-    let alloc = rt.alloc();
-    let mut work = Work::new(alloc, &[])?;
+    let mut work = Work::new(rt.alloc(), &[])?;
     for rows in &TABLE {
-        let instance = rows_instance(alloc, rows)?;
-        let net = net_of(alloc, &instance, false)?;
-        for number in 0..16 {
-            let marks = marks_of(number);
-            let least = least_that_runs(rows, &marks).map(i128::from);
-            let cost = cost_of(alloc, &instance, &net, &marks, &mut work)?;
-            assert_eq!(rt; cost, least, "{number}");
-        }
+        assert_eq!(rt; first_dearer(rt.alloc(), rows, &mut work)?, None);
     }
     Ok(())
 }

@@ -1,19 +1,48 @@
 //! Least paths in a net of three nodes.
 
-ghost use Rattle.std.specs.Prelude.{◌≡◌, ◌<◌, ◌↔◌, length, IfOk, IsTrue, Some};
+ghost use Rattle.std.specs.Prelude.{◌≡◌, ◌↔◌, length, IfOk, IsTrue, Some};
 ghost use Rattle.vs_path.specs.Keys.{IsNotAfter};
-ghost use Rattle.vs_path.specs.Residual.{AllWithin};
+ghost use Rattle.vs_path.specs.Labels.{IsSmall};
+ghost use Rattle.vs_path.specs.Residual.{AllWithin, HasSignRule};
 ghost use Rattle.vs_path.specs.PathTree.{HasNoNegativeCycle};
 ghost use Rattle.vs_path.specs.Distances.{without_return};
 
 use std::alloc::Global;
-use std::process::Abort;
 use std::test::Fail;
 use vs_layer::{Arc, Flow, Net};
 use vs_path::{
     Costs, MAX_PATH_ARC_COST, NodeHeap, Paths, Reach, Residual, Search, Step, distances,
     sign_rule_leaves_no_negative_cycle,
 };
+
+const fn arc(from: u32, to: u32) -> Arc {
+    Arc {
+        from,
+        to,
+        cost: 0,
+        room: 1,
+    }
+}
+
+/// The nodes 0, 1 and 2, and arcs from 0 to 1, from 1 to 2, from 0 to 2, and back from 2 to 0.
+fn three_nodes(alloc: Global) -> Result<Net, Fail>
+    ensures nodes { IfOk result (λ net. net.nodes ≡ 3) }
+    ensures arcs { IfOk result (λ net. length net.arcs ≡ 4) }
+{
+    let arcs = vec![in alloc; arc(0, 1), arc(1, 2), arc(0, 2), arc(2, 0)]?;
+    Ok(Net::new(alloc, 3, arcs)?)
+}
+
+/// What the arcs cost, and how many units have room on them.
+fn costs_of(alloc: Global, cost: [i64; 4], room: [u32; 4]) -> Result<Costs, Fail>
+    ensures cost { IfOk result (λ costs. length costs.cost.items ≡ 4) }
+    ensures room { IfOk result (λ costs. length costs.room.items ≡ 4) }
+{
+    Ok(Costs {
+        cost: Vec::from_slice(alloc, &cost)?,
+        room: Vec::from_slice(alloc, &room)?,
+    })
+}
 
 /// A net with units, costs and rooms on its arcs.
 #[derive(Drop)]
@@ -23,34 +52,21 @@ struct Example {
     costs: Costs,
 }
 
-/// The nodes 0, 1 and 2, with arcs from 0 to 1, from 1 to 2, from 0 to 2, and back from 2 to 0.
-fn three_nodes(
-    alloc: Global,
-    units: [u32; 4],
-    cost: [i64; 4],
-    room: [u32; 4],
-) -> Result<Example, Fail>
+/// These nodes and arcs, with units, costs and rooms.
+fn made(alloc: Global, units: [u32; 4], cost: [i64; 4], room: [u32; 4]) -> Result<Example, Fail>
     ensures nodes { IfOk result (λ e. e.net.nodes ≡ 3) }
     ensures arcs { IfOk result (λ e. length e.net.arcs ≡ 4) }
     ensures units { IfOk result (λ e. length e.flow.units.items ≡ 4) }
     ensures cost { IfOk result (λ e. length e.costs.cost.items ≡ 4) }
     ensures room { IfOk result (λ e. length e.costs.room.items ≡ 4) }
 {
-    let arcs = [(0, 1), (1, 2), (0, 2), (2, 0)].map(|(from, to)| Arc {
-        from,
-        to,
-        cost: 0,
-        room: 1,
-    });
+    let net = three_nodes(alloc)?;
+    let costs = costs_of(alloc, cost, room)?;
+    let units = Vec::from_slice(alloc, &units)?;
     Ok(Example {
-        net: Net::new(alloc, 3, Vec::from_slice(alloc, &arcs)?)?,
-        flow: Flow {
-            units: Vec::from_slice(alloc, &units)?,
-        },
-        costs: Costs {
-            cost: Vec::from_slice(alloc, &cost)?,
-            room: Vec::from_slice(alloc, &room)?,
-        },
+        net,
+        flow: Flow { units },
+        costs,
     })
 }
 
@@ -93,14 +109,15 @@ const LAST_NODES: [([i64; 4], [u32; 4], [i64; 3], Last); 3] = [
 ];
 
 fn last_node(
-    rt: &impl Abort,
     alloc: Global,
     cost: [i64; 4],
     room: [u32; 4],
     prices: [i64; 3],
 ) -> Result<Last, Fail> {
-    let example = three_nodes(alloc, [0; 4], cost, room)?;
-    assert!(rt; may_search(&example.net, &example.flow, &example.costs, &prices));
+    let example = made(alloc, [0; 4], cost, room)?;
+    if !may_search(&example.net, &example.flow, &example.costs, &prices) {
+        return Err(Fail::new("prices that don't keep the sign rule"));
+    }
     let mut paths = Paths::new(alloc, &example.net)?;
     let reach = distances(&example.net, &example.flow, &example.costs, &mut paths);
     Ok((reach, paths.distance(2), paths.step(2)))
@@ -109,9 +126,20 @@ fn last_node(
 #[test]
 fn lead_to_the_last_node(rt: HostRuntime) -> Result<(), Fail> {
     for (cost, room, prices, wanted) in LAST_NODES {
-        assert_eq!(rt; last_node(&rt, rt.alloc(), cost, room, prices)?, wanted);
+        assert_eq!(rt; last_node(rt.alloc(), cost, room, prices)?, wanted);
     }
     Ok(())
+}
+
+/// Whether paths may be found in a net by prices.
+fn may_guide(residual: &Residual, prices: &[i64]) -> bool
+    ensures small { IsTrue result → IsSmall residual.now prices.now }
+    ensures sign_rule { IsTrue result → HasSignRule residual.now prices.now }
+{
+    if !residual.is_small(prices) {
+        return false;
+    }
+    residual.keeps_sign_rule(prices)
 }
 
 /// A node, and what the nodes cost from it where node 1 is reached at cost 2, and node 2 from it at 1 or at once at 5.
@@ -120,24 +148,30 @@ const COSTS: [(u32, [Option<i64>; 3]); 2] = [
     (2, [None, None, Some(0)]),
 ];
 
-fn costs(rt: &impl Abort, alloc: Global, source: u32) -> Result<[Option<i64>; 3], Fail>
-    requires { source < 3 }
+/// What the nodes cost from a node.
+fn costs_from(residual: &Residual, paths: &mut Paths, source: u32) -> Result<[Option<i64>; 3], Fail>
+    requires nodes { residual.now.graph.nodes ≡ 3 }
+    requires size { length paths.old.distances ≡ 3 }
 {
-    let example = three_nodes(alloc, [0; 4], [2, 1, 5, 0], [1; 4])?;
-    let residual = Residual::new(&example.net, &example.flow, &example.costs, 3);
     let prices = [0; 3];
-    assert!(rt; residual.is_small(&prices));
-    assert!(rt; residual.keeps_sign_rule(&prices));
-    let mut paths = Paths::new(alloc, &example.net)?;
-    paths.find(&residual, &prices, source);
+    if source >= 3 || !may_guide(residual, &prices) {
+        return Err(Fail::new("prices that don't keep the sign rule"));
+    }
+    paths.find(residual, &prices, source);
     Ok([paths.distance(0), paths.distance(1), paths.distance(2)])
+}
+
+fn costs(alloc: Global, source: u32) -> Result<[Option<i64>; 3], Fail> {
+    let example = made(alloc, [0; 4], [2, 1, 5, 0], [1; 4])?;
+    let mut paths = Paths::new(alloc, &example.net)?;
+    let residual = Residual::new(&example.net, &example.flow, &example.costs, 3);
+    costs_from(&residual, &mut paths, source)
 }
 
 #[test]
 fn cost_the_least(rt: HostRuntime) -> Result<(), Fail> {
     for (source, wanted) in COSTS {
-        assert!(rt; source < 3);
-        assert_eq!(rt; costs(&rt, rt.alloc(), source)?, wanted, "from {source}");
+        assert_eq!(rt; costs(rt.alloc(), source)?, wanted, "from {source}");
     }
     Ok(())
 }
@@ -184,48 +218,77 @@ const SEARCHED: [Searched; 3] = [
     },
 ];
 
-/// Searches for a node that lacks a unit, and compares what is found.
-fn search(rt: &impl Abort, alloc: Global, row: &Searched) -> Result<(), Fail> {
-    let example = three_nodes(alloc, row.units, [2, 1, 5, 0], [1; 4])?;
-    let residual = Residual::new(&example.net, &example.flow, &example.costs, 3);
-    let mut prices = row.prices;
-    assert!(rt; row.source < 3);
-    assert!(rt; residual.is_small(&prices));
-    assert!(rt; residual.keeps_sign_rule(&prices));
-    assert!(rt; row.surplus[row.source as usize] >= 0);
+/// The node that lacks a unit which a search finds, and how many nodes it reaches.
+fn goal(
+    residual: &Residual,
+    search: &mut Search,
+    row: &Searched,
+    prices: &mut [i64],
+) -> Result<(Option<u32>, usize), Fail>
+    requires nodes { residual.now.graph.nodes ≡ 3 }
+    requires search { search.old.nodes ≡ 3 }
+{
+    if row.source >= 3 || !may_guide(residual, prices) {
+        return Err(Fail::new("prices that don't keep the sign rule"));
+    }
+    if row.surplus[row.source as usize] < 0 {
+        return Err(Fail::new("a node that lacks a unit"));
+    }
+    let goal = search.find(residual, &row.surplus, row.source, prices);
+    Ok((goal, search.reached().len()))
+}
+
+/// What a search finds: that, the path, and the prices then.
+fn found(
+    alloc: Global,
+    row: &Searched,
+) -> Result<((Option<u32>, usize), Vec<Step>, [i64; 3]), Fail> {
+    let example = made(alloc, row.units, [2, 1, 5, 0], [1; 4])?;
     let mut search = Search::new(alloc, 3)?;
-    let goal = search.find(&residual, &row.surplus, row.source, &mut prices);
-    assert_eq!(rt; search.path(), row.path);
-    assert_eq!(rt; (goal, search.reached().len()), row.found);
-    assert_eq!(rt; prices, row.lowered);
-    Ok(())
+    let mut prices = row.prices;
+    let residual = Residual::new(&example.net, &example.flow, &example.costs, 3);
+    let found = goal(&residual, &mut search, row, &mut prices)?;
+    Ok((found, search.path().to_vec(alloc)?, prices))
 }
 
 #[test]
 fn lead_to_the_nearest_node_that_lacks_a_unit(rt: HostRuntime) -> Result<(), Fail> {
     for row in &SEARCHED {
-        search(&rt, rt.alloc(), row)?;
+        let (found, path, lowered) = found(rt.alloc(), row)?;
+        assert_eq!(rt; (found, lowered), (row.found, row.lowered));
+        assert_eq!(rt; path.as_slice(), row.path);
     }
     Ok(())
 }
 
 /// The prices of the nodes once they are raised from a node, by 10 where it doesn't reach.
-fn raise(rt: &impl Abort, alloc: Global, source: u32) -> Result<[i64; 3], Fail>
-    requires { source < 3 }
+fn raise(residual: &Residual, search: &mut Search, source: u32) -> Result<[i64; 3], Fail>
+    requires nodes { residual.now.graph.nodes ≡ 3 }
+    requires search { search.old.nodes ≡ 3 }
 {
-    let example = three_nodes(alloc, [0; 4], [2, 1, 5, 0], [1; 4])?;
-    let residual = Residual::new(&example.net, &example.flow, &example.costs, 3);
     let mut prices = [0; 3];
-    assert!(rt; residual.is_small(&prices));
-    assert!(rt; residual.keeps_sign_rule(&prices));
-    Search::new(alloc, 3)?.raise(&residual, source, 10, &mut prices);
+    if source >= 3 || !may_guide(residual, &prices) {
+        return Err(Fail::new("prices that don't keep the sign rule"));
+    }
+    search.raise(residual, source, 10, &mut prices);
     Ok(prices)
 }
 
+fn raised(alloc: Global, source: u32) -> Result<[i64; 3], Fail> {
+    let example = made(alloc, [0; 4], [2, 1, 5, 0], [1; 4])?;
+    let mut search = Search::new(alloc, 3)?;
+    let residual = Residual::new(&example.net, &example.flow, &example.costs, 3);
+    raise(&residual, &mut search, source)
+}
+
+/// A node, and the prices once they are raised from it.
+const RAISED: [(u32, [i64; 3]); 2] = [(0, [0, 2, 3]), (1, [10, 0, 1])];
+
 #[test]
 fn raise_prices(rt: HostRuntime) -> Result<(), Fail> {
-    assert_eq!(rt; raise(&rt, rt.alloc(), 0)?, [0, 2, 3]);
-    assert_eq!(rt; raise(&rt, rt.alloc(), 1)?, [10, 0, 1]);
+    for (source, wanted) in RAISED {
+        assert_eq!(rt; raised(rt.alloc(), source)?, wanted, "from {source}");
+    }
     Ok(())
 }
 

@@ -1,5 +1,10 @@
 //! Plans and tables on which layers agree, beside those of rules that are simpler.
 
+ghost use Rattle.std.specs.Prelude.{IfOk};
+ghost use Rattle.vs_match.specs.LayerNets.{AreLayerNets};
+ghost use Rattle.vs_multi.specs.Rounds.{IsCase};
+ghost use Rattle.vs_prices.specs.Table.{Fits, HoldingTable};
+
 use mdvsp::make_text;
 use std::alloc::Global;
 use std::test::Fail;
@@ -7,11 +12,11 @@ use trial_fixtures::texts::STOPS;
 use trial_fixtures::{input_of, instance_of};
 use vs_circ::Work;
 use vs_instance::{Instance, MAX_TRIPS};
-use vs_match::layer_nets;
+use vs_match::{LayerNet, layer_nets};
 use vs_multi::{Case, few_rounds, rounds, start};
 use vs_penalty::agree;
 use vs_plan::greedy;
-use vs_prices::{Table, permitted_sets, worth};
+use vs_prices::{Bound, Table, permitted_sets, worth};
 
 /// The generator's instance of so many trips.
 fn made(alloc: Global, trips: u32) -> Result<Instance, Fail> {
@@ -19,27 +24,118 @@ fn made(alloc: Global, trips: u32) -> Result<Instance, Fail> {
     Ok(input_of(alloc, &text)?.instance)
 }
 
+/// What the plan costs on which the layers agree, from this table on.
+fn agreed_from(
+    alloc: Global,
+    instance: &Instance,
+    nets: &[LayerNet],
+    table: &mut Table,
+) -> Result<Option<i64>, Fail>
+    requires nets { AreLayerNets instance.now nets.now }
+    requires fits { Fits instance.now table.old }
+    requires holds { HoldingTable instance.now table.old }
+    ensures fits { Fits instance.now table.new }
+{
+    let mut work = Work::new(alloc, nets)?;
+    match agree(alloc, instance, nets, table, &mut work)? {
+        Some(plan) => Ok(Some(plan.cost())),
+        None => Ok(None),
+    }
+}
+
+/// The same from a table of zeros, and the table then.
+fn agreed(alloc: Global, instance: &Instance) -> Result<(Option<i64>, Table), Fail>
+    ensures { IfOk result (λ found. Fits instance.now found.1) }
+{
+    let nets = layer_nets(alloc, instance)?;
+    let mut table = Table::zero(alloc, instance)?;
+    let cost = agreed_from(alloc, instance, &nets, &mut table)?;
+    Ok((cost, table))
+}
+
+/// What that plan costs, and what the table is worth.
+fn agreed_worth(alloc: Global, instance: &Instance) -> Result<(Option<i64>, Bound), Fail> {
+    let (cost, table) = agreed(alloc, instance)?;
+    let sets = permitted_sets(alloc, instance)?;
+    Ok((cost, worth(instance, &sets, &table)))
+}
+
+/// What the greedy rule's plan costs.
+fn greedy_cost(alloc: Global, instance: &Instance) -> Result<Option<i64>, Fail> {
+    match greedy(alloc, instance)? {
+        Some(plan) => Ok(Some(plan.cost())),
+        None => Ok(None),
+    }
+}
+
+/// What rounds from `start` are worth: the first alone, or all of them.
+fn rounds_worth(case: &Case<'_>, first: bool, work: &mut Work) -> Result<Bound, Fail>
+    requires { IsCase case.now.instance.now case.now.nets.now case.now.sets.now }
+{
+    let instance = case.instance;
+    let mut multipliers = vec![in case.alloc; 0; instance.trips() as usize]?;
+    start(instance, &mut multipliers);
+    let best = if first {
+        few_rounds(case, 1, &mut multipliers, work)?
+    } else {
+        rounds(
+            case.alloc,
+            instance,
+            case.nets,
+            case.sets,
+            &mut multipliers,
+            work,
+        )?
+    };
+    Ok(best.worth)
+}
+
+/// What the first round from `start` is worth, and what all of them are.
+fn first_and_all(alloc: Global, instance: &Instance) -> Result<[Bound; 2], Fail> {
+    let nets = layer_nets(alloc, instance)?;
+    let sets = permitted_sets(alloc, instance)?;
+    let mut work = Work::new(alloc, &nets)?;
+    let case = Case {
+        alloc,
+        instance,
+        nets: &nets,
+        sets: &sets,
+    };
+    let first = rounds_worth(&case, true, &mut work)?;
+    Ok([first, rounds_worth(&case, false, &mut work)?])
+}
+
+/// What is found of the generator's instance of 100 trips.
+#[derive(Drop)]
+struct Found {
+    agreed: i64,
+    greedy: i64,
+    worth: Bound,
+    best: Bound,
+}
+
+fn compared(alloc: Global) -> Result<Found, Fail> {
+    let instance = made(alloc, 100)?;
+    let (agreed, worth) = agreed_worth(alloc, &instance)?;
+    let greedy = greedy_cost(alloc, &instance)?;
+    let [_first, best] = first_and_all(alloc, &instance)?;
+    Ok(Found {
+        agreed: agreed.unwrap_or(i64::MAX),
+        greedy: greedy.unwrap_or(0),
+        worth,
+        best,
+    })
+}
+
 #[test]
 fn agrees_on_cheap_plans(rt: HostRuntime) -> Result<(), Fail> {
-    let alloc = rt.alloc();
-    let instance = made(alloc, 100)?;
-    let nets = layer_nets(alloc, &instance)?;
-    let sets = permitted_sets(alloc, &instance)?;
-    let mut work = Work::new(alloc, &nets)?;
-    let mut table = Table::zero(alloc, &instance)?;
-    let plan = agree(alloc, &instance, &nets, &mut table, &mut work)?;
-    let agreed = plan.as_ref().map_or(i64::MAX, |plan| plan.cost());
-    let plan = greedy(alloc, &instance)?;
-    let first = plan.as_ref().map_or(0, |plan| plan.cost());
-    let mut multipliers = vec![in alloc; 0; instance.trips() as usize]?;
-    start(&instance, &mut multipliers);
-    let best = rounds(alloc, &instance, &nets, &sets, &mut multipliers, &mut work)?;
-    let worth = worth(&instance, &sets, &table);
+    let found = compared(rt.alloc())?;
+    let (agreed, greedy) = (found.agreed, found.greedy);
     assert!(rt;
-        i128::from(agreed) * 6 <= i128::from(first) * 5,
-        "{agreed} {first}"
+        i128::from(agreed) * 6 <= i128::from(greedy) * 5,
+        "{agreed} {greedy}"
     );
-    assert!(rt; !best.worth.is_no_less(worth));
+    assert!(rt; !found.best.is_no_less(found.worth));
     Ok(())
 }
 
@@ -52,34 +148,16 @@ const ONE_BETWEEN_TWO: [&str; 3] = [
 
 #[test]
 fn ends_where_there_is_no_plan(rt: HostRuntime) -> Result<(), Fail> {
-    let alloc = rt.alloc();
-    let instance = instance_of(alloc, &ONE_BETWEEN_TWO)?;
-    let nets = layer_nets(alloc, &instance)?;
-    let mut work = Work::new(alloc, &nets)?;
-    let mut table = Table::zero(alloc, &instance)?;
-    let plan = agree(alloc, &instance, &nets, &mut table, &mut work)?;
-    assert!(rt; plan.is_none());
+    let instance = instance_of(rt.alloc(), &ONE_BETWEEN_TWO)?;
+    let (cost, _table) = agreed(rt.alloc(), &instance)?;
+    assert_eq!(rt; cost, None);
     Ok(())
 }
 
 #[test]
 fn later_rounds_are_worth_more(rt: HostRuntime) -> Result<(), Fail> {
-    let alloc = rt.alloc();
-    let instance = made(alloc, 30)?;
-    let nets = layer_nets(alloc, &instance)?;
-    let sets = permitted_sets(alloc, &instance)?;
-    let mut work = Work::new(alloc, &nets)?;
-    let mut multipliers = vec![in alloc; 0; instance.trips() as usize]?;
-    start(&instance, &mut multipliers);
-    let case = Case {
-        alloc,
-        instance: &instance,
-        nets: &nets,
-        sets: &sets,
-    };
-    let first = few_rounds(&case, 1, &mut multipliers, &mut work)?;
-    start(&instance, &mut multipliers);
-    let best = rounds(alloc, &instance, &nets, &sets, &mut multipliers, &mut work)?;
-    assert!(rt; !first.worth.is_no_less(best.worth));
+    let instance = made(rt.alloc(), 30)?;
+    let [first, best] = first_and_all(rt.alloc(), &instance)?;
+    assert!(rt; !first.is_no_less(best));
     Ok(())
 }

@@ -1,24 +1,45 @@
 //! Multipliers of trips that several layers may run.
 
+ghost use Rattle.std.specs.Prelude.{IfOk};
+ghost use Rattle.vs_match.specs.LayerNets.{AreLayerNets};
+ghost use Rattle.vs_multi.specs.Multipliers.{AreMultipliers};
+ghost use Rattle.vs_multi.specs.Rounds.{IsCase};
+ghost use Rattle.vs_prices.specs.Table.{Fits};
+
 use std::alloc::Global;
 use std::test::Fail;
 use trial_fixtures::texts::{END, LAYER, OPEN_HEAD, STOPS, TRIPS};
 use trial_fixtures::{documented, instance_of};
 use vs_circ::Work;
-use vs_match::layer_nets;
-use vs_multi::{Case, few_rounds, of_table, raise, rounds, start};
+use vs_instance::Instance;
+use vs_match::{LayerNet, layer_nets};
+use vs_multi::{Best, Case, few_rounds, of_table, raise, rounds, start};
 use vs_prices::{Bound, Table, broken, permitted_sets, worth};
+use vs_types::Memory;
 
-/// The multipliers of `start`, and those of a table of zeros.
+/// The multipliers of `start`.
+fn started(alloc: Global, instance: &Instance) -> Result<Vec<i64>, Memory>
+    ensures { IfOk result (λ multipliers. AreMultipliers instance.now multipliers.items) }
+{
+    let mut multipliers = vec![in alloc; 0; instance.trips() as usize]?;
+    start(instance, &mut multipliers);
+    Ok(multipliers)
+}
+
+/// Those of a table of zeros.
+fn of_zeros(alloc: Global, instance: &Instance) -> Result<Vec<i64>, Memory> {
+    let sets = permitted_sets(alloc, instance)?;
+    let zero = Table::zero(alloc, instance)?;
+    let mut multipliers = vec![in alloc; 0; instance.trips() as usize]?;
+    of_table(instance, &sets, &zero, &mut multipliers);
+    Ok(multipliers)
+}
+
+/// Both, of two trips in one layer.
 fn begun(alloc: Global) -> Result<[Vec<i64>; 2], Fail> {
     let instance = instance_of(alloc, &[STOPS, LAYER, TRIPS])?;
-    let sets = permitted_sets(alloc, &instance)?;
-    let zero = Table::zero(alloc, &instance)?;
-    let mut first = vec![in alloc; 0; instance.trips() as usize]?;
-    let mut later = first.clone()?;
-    start(&instance, &mut first);
-    of_table(&instance, &sets, &zero, &mut later);
-    Ok([first, later])
+    let first = started(alloc, &instance)?;
+    Ok([first, of_zeros(alloc, &instance)?])
 }
 
 #[test]
@@ -30,15 +51,55 @@ fn begin_as_what_a_trip_costs_alone(rt: HostRuntime) -> Result<(), Fail> {
     Ok(())
 }
 
+/// The best of the rounds from these multipliers on.
+fn best_of(
+    alloc: Global,
+    instance: &Instance,
+    multipliers: &mut [i64],
+    few: bool,
+) -> Result<Best, Fail>
+    requires { AreMultipliers instance.now multipliers.old }
+{
+    let nets = layer_nets(alloc, instance)?;
+    let sets = permitted_sets(alloc, instance)?;
+    let mut work = Work::new(alloc, &nets)?;
+    let case = Case {
+        alloc,
+        instance,
+        nets: &nets,
+        sets: &sets,
+    };
+    rounds_of(&case, few, multipliers, &mut work)
+}
+
+/// Ten small rounds, or all of them.
+fn rounds_of(
+    case: &Case<'_>,
+    few: bool,
+    multipliers: &mut [i64],
+    work: &mut Work,
+) -> Result<Best, Fail>
+    requires case { IsCase case.now.instance.now case.now.nets.now case.now.sets.now }
+    requires multipliers { AreMultipliers case.now.instance.now multipliers.old }
+{
+    if few {
+        return Ok(few_rounds(case, 10, multipliers, work)?);
+    }
+    Ok(rounds(
+        case.alloc,
+        case.instance,
+        case.nets,
+        case.sets,
+        multipliers,
+        work,
+    )?)
+}
+
 /// What the rounds from `start` are worth, how often they run each trip, and the multipliers then.
 fn after_rounds(alloc: Global) -> Result<(Bound, Vec<u32>, Vec<i64>), Fail> {
     let instance = instance_of(alloc, &[STOPS, LAYER, TRIPS])?;
-    let nets = layer_nets(alloc, &instance)?;
-    let sets = permitted_sets(alloc, &instance)?;
-    let mut work = Work::new(alloc, &nets)?;
-    let mut multipliers = vec![in alloc; 0; instance.trips() as usize]?;
-    start(&instance, &mut multipliers);
-    let best = rounds(alloc, &instance, &nets, &sets, &mut multipliers, &mut work)?;
+    let mut multipliers = started(alloc, &instance)?;
+    let best = best_of(alloc, &instance, &mut multipliers, false)?;
     Ok((best.worth, best.covers, multipliers))
 }
 
@@ -55,17 +116,8 @@ fn stay_where_one_vehicle_runs_both_trips(rt: HostRuntime) -> Result<(), Fail> {
 /// How often ten small rounds from 30,000 run each trip, and the multipliers then.
 fn after_few_rounds(alloc: Global) -> Result<(Vec<u32>, Vec<i64>), Fail> {
     let instance = instance_of(alloc, &[STOPS, LAYER, TRIPS])?;
-    let nets = layer_nets(alloc, &instance)?;
-    let sets = permitted_sets(alloc, &instance)?;
-    let mut work = Work::new(alloc, &nets)?;
     let mut multipliers = vec![in alloc; 30_000; instance.trips() as usize]?;
-    let case = Case {
-        alloc,
-        instance: &instance,
-        nets: &nets,
-        sets: &sets,
-    };
-    let best = few_rounds(&case, 10, &mut multipliers, &mut work)?;
+    let best = best_of(alloc, &instance, &mut multipliers, true)?;
     Ok((best.covers, multipliers))
 }
 
@@ -89,28 +141,41 @@ const UNEVEN: [&str; 5] = [
     END,
 ];
 
-/// What that table is worth, and what it is worth once it was raised.
-fn raised(alloc: Global) -> Result<(Bound, Bound), Fail> {
-    let (instance, document) = documented(alloc, &UNEVEN)?;
-    let nets = layer_nets(alloc, &instance)?;
-    let sets = permitted_sets(alloc, &instance)?;
-    let mut work = Work::new(alloc, &nets)?;
-    let mut tables = document.tables;
-    let Some(table) = tables.first_mut() else {
-        return Err(Fail::new("no table"));
-    };
-    if broken(&instance, table).is_some() {
+/// What a table is worth, and what it is worth once it was raised.
+fn raised_of(
+    alloc: Global,
+    instance: &Instance,
+    nets: &[LayerNet],
+    table: &mut Table,
+) -> Result<(Bound, Bound), Fail>
+    requires nets { AreLayerNets instance.now nets.now }
+    requires fits { Fits instance.now table.old }
+{
+    if broken(instance, table).is_some() {
         return Err(Fail::new("a table that breaks"));
     }
-    let before = worth(&instance, &sets, table);
+    let sets = permitted_sets(alloc, instance)?;
+    let mut work = Work::new(alloc, nets)?;
+    let before = worth(instance, &sets, table);
     let case = Case {
         alloc,
-        instance: &instance,
-        nets: &nets,
+        instance,
+        nets,
         sets: &sets,
     };
     let raised = raise(&case, table, before, &mut work)?;
     Ok((before, raised))
+}
+
+/// The same of that table.
+fn raised(alloc: Global) -> Result<(Bound, Bound), Fail> {
+    let (instance, document) = documented(alloc, &UNEVEN)?;
+    let nets = layer_nets(alloc, &instance)?;
+    let mut tables = document.tables;
+    let Some(table) = tables.first_mut() else {
+        return Err(Fail::new("no table"));
+    };
+    raised_of(alloc, &instance, &nets, table)
 }
 
 /// For 1040 and 40 no vehicle of the second layer gains anything, so its trips pay as much.
