@@ -112,6 +112,7 @@ fn enlist(
             root: false,
         },
         scratch: Work::new(alloc, nets)?,
+        taken: 0,
         over: false,
     })
 }

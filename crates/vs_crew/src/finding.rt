@@ -11,9 +11,9 @@ use vs_connect::lesser;
 use vs_instance::Instance;
 use vs_match::LayerNet;
 use vs_node::{Outcome, Task, work};
-use vs_penalty::agree;
+use vs_penalty::{agree, seek_plan};
 use vs_plan::{cheaper, cost_of};
-use vs_tree::Finish;
+use vs_tree::{Finish, Next};
 use vs_types::Memory;
 
 /// What the work on a leaf finds, and how the leaf is finished by that: what its new table is worth there, or in the
@@ -24,12 +24,14 @@ pub(crate) struct Finding {
     pub finish: Finish,
 }
 
-/// What the work on a leaf finds. The sets of the task serve as space in the end.
+/// What the work on a leaf finds; on one that is split also by some passes, where these are asked for. The sets of the
+/// task serve as space in the end.
 pub(crate) fn found(
     alloc: Global,
     instance: &Instance,
     nets: &[LayerNet],
     task: &mut Task,
+    passes: bool,
     scratch: &mut Work,
 ) -> Result<Finding, Memory>
     requires nets { AreLayerNets instance.now nets.now }
@@ -38,7 +40,7 @@ pub(crate) fn found(
     ensures sets { length task.new.sets.items ≡ length task.old.sets.items }
     ensures fits { Fits instance.now task.new.table }
 {
-    let outcome = outcome_of(alloc, instance, nets, task, scratch)?;
+    let outcome = outcome_of(alloc, instance, nets, task, passes, scratch)?;
     let sets = task.sets.as_mut_slice();
     let finish = Finish::of(instance, sets, &outcome.table, outcome.next);
     Ok(Finding { outcome, finish })
@@ -50,6 +52,7 @@ fn outcome_of(
     instance: &Instance,
     nets: &[LayerNet],
     task: &mut Task,
+    passes: bool,
     scratch: &mut Work,
 ) -> Result<Outcome, Memory>
     requires nets { AreLayerNets instance.now nets.now }
@@ -60,8 +63,37 @@ fn outcome_of(
 {
     if task.root {
         found_at_root(alloc, instance, nets, task, scratch)
+    } else if passes {
+        found_with_passes(alloc, instance, nets, task, scratch)
     } else {
         work(alloc, instance, nets, task, scratch)
+    }
+}
+
+/// What is found on a leaf, and where it is split, the plan of some passes where that is cheaper.
+fn found_with_passes(
+    alloc: Global,
+    instance: &Instance,
+    nets: &[LayerNet],
+    task: &Task,
+    scratch: &mut Work,
+) -> Result<Outcome, Memory>
+    requires nets { AreLayerNets instance.now nets.now }
+    requires lawful { IsLawfulTask instance.now task.now }
+    ensures found { IfOk result (IsFound instance.now task.now) }
+{
+    let outcome = work(alloc, instance, nets, task, scratch)?;
+    match outcome.next {
+        Next::Close => Ok(outcome),
+        Next::Split { .. } => {
+            let sought = seek_plan(alloc, instance, nets, &task.sets, &outcome.table, scratch)?;
+            let plan = cheaper(outcome.plan, sought);
+            Ok(Outcome {
+                table: outcome.table,
+                plan,
+                next: outcome.next,
+            })
+        }
     }
 }
 

@@ -15,6 +15,9 @@ use vs_tree::Take;
 use vs_turn::Seat;
 use vs_types::Memory;
 
+/// Of so many leaves that a worker takes, plans are sought by passes on one: they take about as long as the work on it.
+const TURNS: u32 = 4;
+
 /// One worker of a crew: its number, its seat at the turn, and the room that it works in.
 #[derive(Drop)]
 pub(crate) struct Worker {
@@ -22,6 +25,8 @@ pub(crate) struct Worker {
     pub seat: Option<Seat>,
     pub task: Task,
     pub scratch: Work,
+    /// How many leaves it has taken.
+    pub taken: u32,
     /// Whether it was told that the search is over.
     pub over: bool,
 }
@@ -136,8 +141,10 @@ fn work_on<R: Wait, G: Gate>(
         (IsAfter worker.old.number result.1) result.0 }
 {
     let number = worker.number;
-    let task = &mut worker.task;
-    match found(alloc, site.instance, site.nets, task, &mut worker.scratch) {
+    worker.taken = worker.taken.wrapping_add(1);
+    let passes = worker.taken % TURNS == 0;
+    let (task, scratch) = (&mut worker.task, &mut worker.scratch);
+    match found(alloc, site.instance, site.nets, task, passes, scratch) {
         Ok(finding) => (hand_in(rt, site, seat, number, leaf, finding), After::Idle),
         Err(Memory) => (give_up(rt, site, seat, number), After::Left),
     }

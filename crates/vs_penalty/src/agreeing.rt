@@ -76,7 +76,7 @@ fn agree_on(
 }
 
 /// The multipliers that a table stands for.
-fn first_multipliers(case: &Case<'_>, table: &Table) -> Result<Vec<i64>, Memory>
+pub(crate) fn first_multipliers(case: &Case<'_>, table: &Table) -> Result<Vec<i64>, Memory>
     requires restriction { IsRestriction case.now.instance.now case.now.sets.now }
     requires fits { Fits case.now.instance.now table.now }
     ensures { IfOk result (λ first. AreMultipliers case.now.instance.now first.items) }

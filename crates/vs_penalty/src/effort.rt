@@ -33,6 +33,11 @@ pub(crate) fn arcs_for(instance: &Instance) -> u64 {
     EFFORT / u64::from(instance.trips()).max(1)
 }
 
+/// How many arcs the circulations of the passes on a leaf look along at most: a tenth of what a step of the root may.
+pub(crate) fn arcs_for_leaf(instance: &Instance) -> u64 {
+    arcs_for(instance) / 10
+}
+
 /// So many passes, or as many as so many arcs suffice for where that is less.
 pub(crate) fn affordable(nets: &[LayerNet], passes: u32, arcs: u64) -> u32 {
     let mut along: u64 = 0;

@@ -6,6 +6,7 @@ mod agreeing;
 mod choices;
 mod choosing;
 mod effort;
+mod leaf;
 mod penalties;
 mod pool;
 mod rate;
@@ -15,3 +16,4 @@ mod slow_passes;
 mod tally;
 
 pub use agreeing::agree;
+pub use leaf::seek_plan;

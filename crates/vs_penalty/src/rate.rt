@@ -12,6 +12,8 @@ pub(crate) enum Pace {
     Slow,
     /// From such multipliers where each trip has few layers, so that there is less to agree on.
     Narrow,
+    /// From such multipliers on a leaf other than the root, where few passes are made.
+    Leaf,
 }
 
 impl Pace {
@@ -22,7 +24,7 @@ impl Pace {
     {
         match self {
             Pace::Quick => 100,
-            Pace::Slow => 2_000,
+            Pace::Slow | Pace::Leaf => 2_000,
             Pace::Narrow => 500,
         }
     }
@@ -35,6 +37,7 @@ impl Pace {
         match self {
             Pace::Quick => 8,
             Pace::Slow | Pace::Narrow => 20,
+            Pace::Leaf => 16,
         }
     }
 }
