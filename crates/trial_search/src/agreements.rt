@@ -6,8 +6,8 @@ use trial_fixtures::instance_of;
 use trial_fixtures::texts::{LAYER, STOPS, TRIPS};
 use vs_circ::Work;
 use vs_match::layer_nets;
-use vs_penalty::agree;
-use vs_prices::Table;
+use vs_penalty::{agree, seek_plan};
+use vs_prices::{Table, permitted_sets};
 
 /// Two layers of one depot, each of which may run both trips.
 const ALIKE: &str = "layer,L1,D,2,1000,1,0\nlayer,L2,D,2,1000,1,0\n";
@@ -46,5 +46,23 @@ fn leave_tables_of_trips_of_one_layer(rt: HostRuntime) -> Result<(), Fail> {
     assert_eq!(rt; table.into.as_slice(), [0, 0].as_slice());
     assert_eq!(rt; table.from.as_slice(), [0, 0].as_slice());
     assert_eq!(rt; table.fleet.as_slice(), [0].as_slice());
+    Ok(())
+}
+
+/// What the plan costs that passes on a leaf find, from a table of zeros.
+fn sought(alloc: Global, parts: &[&str]) -> Result<Option<i64>, Fail> {
+    let instance = instance_of(alloc, parts)?;
+    let sets = permitted_sets(alloc, &instance)?;
+    let table = Table::zero(alloc, &instance)?;
+    let nets = layer_nets(alloc, &instance)?;
+    let mut work = Work::new(alloc, &nets)?;
+    let plan = seek_plan(alloc, &instance, &nets, &sets, &table, &mut work)?;
+    Ok(plan.as_ref().map(|plan| plan.cost()))
+}
+
+#[test]
+fn are_found_on_leaves(rt: HostRuntime) -> Result<(), Fail> {
+    let cost = sought(rt.alloc(), &[STOPS, ALIKE, EITHER])?;
+    assert_eq!(rt; cost, Some(1080));
     Ok(())
 }
