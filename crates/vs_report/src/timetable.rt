@@ -88,9 +88,17 @@ fn begin_vehicle(
         ++ fields (codes "vehicle" ∷ decimal (k + 1) ∷ name_of names.now.layers l.0 ∷ time_field out ∷ [])) }
 {
     text.begin_row("vehicle")?;
-    text.number(k + 1)?;
+    vehicle_number(text, k)?;
     text.field(names.layer(l))?;
     text.time(out)
+}
+
+/// Adds the number of a block's vehicle to a row. It counts from 0, and is written from 1 on.
+fn vehicle_number(text: &mut Text, k: usize) -> Result<(), Memory>
+    requires { k < usize.MAX }
+    ensures { OnOk result (text.new ≡ text.old ++ 44 ∷ decimal (k + 1)) }
+{
+    text.number(k + 1)
 }
 
 /// Writes a row for each trip of a block, which counts from 0, and one for each rest between two of them.
@@ -153,7 +161,7 @@ fn write_rest(text: &mut Text, k: usize, times: Option<(u32, u32)>) -> Result<()
         return Ok(());
     };
     text.begin_row("rest")?;
-    text.number(k + 1)?;
+    vehicle_number(text, k)?;
     text.time(back)?;
     text.time(out)?;
     text.end_row()
@@ -176,7 +184,7 @@ fn write_run(
     prove!(i.0 < instance.trips());
     let trip = instance.trip(i);
     text.begin_row("run")?;
-    text.number(k + 1)?;
+    vehicle_number(text, k)?;
     text.field(names.trip(i))?;
     text.field(names.stop(trip.from))?;
     text.time(trip.start)?;

@@ -31,4 +31,5 @@ returns c =
     subst (Written (trip_at trips (c.args.place - 1))) next
     (subst (λ (a : TripNo). Written a j) ended
     (rested_run p names c.args.k l c.args.text.now c.write_rest.new.text c.write_run.new.text i j
-    c.rest_times-times.result c.write_run.result c.rest_times-times.ensures c.in_ok-write_rest.ensures c.write_run.ensures))
+    c.rest_times-times.result c.write_run.result c.rest_times-times.ensures c.in_ok-write_rest.ensures
+    c.write_run.ensures))
