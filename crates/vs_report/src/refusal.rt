@@ -1,6 +1,6 @@
 //! What a refusal of the input is called, and its details.
 
-ghost use Rattle.std.specs.Prelude.{◌≡◌, [], ◌∷◌, ◌++◌, codes, decimal, OnOk};
+ghost use Rattle.std.specs.Prelude.{◌≡◌, [], ◌∷◌, ◌++◌, decimal, OnOk};
 ghost use Rattle.vs_reader.specs.Rows.{more_fields};
 ghost use Rattle.vs_report.specs.RefusalRows.{document_name, document_number};
 ghost use Rattle.vs_report.specs.RefusalRows.{misfit_details, misfit_name, range_name, stop_fields, why_details, why_name, why_number};
