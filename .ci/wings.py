@@ -13,7 +13,7 @@ TOP = os.path.dirname(os.path.dirname(os.path.abspath(__file__)))
 # What judges, and what it may never stand on.
 AUDIT = ["vs_check", "vs_document", "vs_rows", "vs_cases", "vs_need", "vs_reader", "vs_plan", "vs_prices", "vs_match"]
 SEARCH = {
-    "vs_path", "vs_ship", "vs_circ", "vs_decomp", "vs_multi", "vs_bundle", "vs_node", "vs_penalty",
+    "vs_path", "vs_ship", "vs_circ", "vs_decomp", "vs_multi", "vs_cuts", "vs_bundle", "vs_node", "vs_penalty",
     "vs_turn", "vs_tree", "vs_crew", "vs_cert", "vs_answer", "atomic_table",
 }
 
