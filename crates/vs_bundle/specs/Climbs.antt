@@ -1,14 +1,13 @@
 -- What a climb works on, and what it gives. How good that is nothing says.
-use Rattle.std.specs.Prelude.{◌≡◌, ℕ, ◌*◌, List, length, slice_index, pos, ◌≤ℤ◌}
+use Rattle.std.specs.Prelude.{◌≡◌, ℕ, ◌*◌, List, length, ℤ}
+use Rattle.vs_types.specs.declared.layer_set.LayerSet.{LayerSet}
 use Rattle.vs_instance.specs.Problem.{Problem}
+use Rattle.vs_match.specs.LayerGraph.{LayerGraph}
+use Rattle.vs_cuts.specs.Shares.{AreParts}
 use Rattle.vs_multi.specs.Multipliers.{AreMultipliers}
+use Rattle.vs_multi.specs.Rounds.{IsCase}
 use Rattle.vs_bundle.specs.declared.climbing.Ascent.{Ascent}
 use Rattle.vs_bundle.specs.declared.valuing.Trial.{Trial}
-use Rattle.vs_bundle.specs.declared.whole.TheConstants.{WHOLE}
-
--- no share is more than a whole trip
-abbrev pub AreParts : List ℕ → Type 0
-AreParts shares = (k : ℕ) → pos (slice_index shares k) ≤ℤ WHOLE
 
 -- a share for each trip and layer
 pub record AreShares (p : Problem) (shares : List ℕ) : Type 0 where
@@ -24,3 +23,10 @@ pub record IsTrialFor (p : Problem) (trial : Trial) : Type 0 where
 pub record IsAscentFor (p : Problem) (ascent : Ascent) : Type 0 where
   pub trial : IsTrialFor p ascent.trial
   pub candidate : AreMultipliers p ascent.candidate.items
+
+-- what a climb goes on with: a case, multipliers that are the best so far, and all that it keeps
+pub record CanClimb (p : Problem) (graphs : List LayerGraph) (sets : List LayerSet) (best : List ℤ)
+    (kept : Ascent) : Type 0 where
+  pub case : IsCase p graphs sets
+  pub multipliers : AreMultipliers p best
+  pub ascent : IsAscentFor p kept

@@ -3,15 +3,14 @@
 ghost use Rattle.std.specs.Prelude.{◌≡◌, ◌⊎◌, IfOk, length};
 ghost use Rattle.vs_multi.specs.Multipliers.{AreMultipliers, AreWithin};
 ghost use Rattle.vs_multi.specs.Rounds.{IsCase};
-ghost use Rattle.vs_bundle.specs.Climbs.{AreShares, IsAscentFor};
+ghost use Rattle.vs_bundle.specs.Climbs.{AreShares, CanClimb, IsAscentFor};
 
 use crate::aim::Aim;
-use crate::bundle::Bundle;
+use crate::stepping::go_further;
 use crate::stride::Stride;
 use crate::valuing::Trial;
-use crate::weights::Forecast;
-use crate::whole::WHOLE;
 use vs_circ::Work;
+use vs_cuts::{Bundle, Forecast, WHOLE};
 use vs_instance::{MAX_LAYERS, MAX_TRIPS};
 use vs_multi::Case;
 use vs_types::Memory;
@@ -71,9 +70,7 @@ impl Ascent {
 
     /// Finds the first circulations.
     fn begin(&mut self, case: &Case<'_>, multipliers: &[i64], work: &mut Work) -> Result<(), Memory>
-        requires case { IsCase case.now.instance.now case.now.nets.now case.now.sets.now }
-        requires multipliers { AreMultipliers case.now.instance.now multipliers.now }
-        requires ascent { IsAscentFor case.now.instance.now self.old }
+        requires { CanClimb case.now.instance.now case.now.nets.now case.now.sets.now multipliers.now self.old }
         ensures { IsAscentFor case.now.instance.now self.new }
     {
         self.top = self.trial.value(case, multipliers, work)?;
@@ -91,9 +88,7 @@ impl Ascent {
         multipliers: &mut [i64],
         work: &mut Work,
     ) -> Result<bool, Memory>
-        requires case { IsCase case.now.instance.now case.now.nets.now case.now.sets.now }
-        requires multipliers { AreMultipliers case.now.instance.now multipliers.old }
-        requires ascent { IsAscentFor case.now.instance.now self.old }
+        requires { CanClimb case.now.instance.now case.now.nets.now case.now.sets.now multipliers.old self.old }
         ensures multipliers { AreMultipliers case.now.instance.now multipliers.new }
         ensures ascent { IsAscentFor case.now.instance.now self.new }
     {
@@ -121,7 +116,7 @@ impl Ascent {
         ensures trial { self.new.trial ≡ self.old.trial }
     {
         let candidate: &mut [i64] = &mut self.candidate;
-        self.bundle.step(step, multipliers, candidate);
+        go_further(&self.bundle, step, multipliers, candidate);
         self.bundle.set_free(multipliers);
     }
 
@@ -143,9 +138,7 @@ impl Ascent {
         multipliers: &mut [i64],
         work: &mut Work,
     ) -> Result<u32, Memory>
-        requires case { IsCase case.now.instance.now case.now.nets.now case.now.sets.now }
-        requires multipliers { AreMultipliers case.now.instance.now multipliers.old }
-        requires ascent { IsAscentFor case.now.instance.now self.old }
+        requires { CanClimb case.now.instance.now case.now.nets.now case.now.sets.now multipliers.old self.old }
         ensures { AreMultipliers case.now.instance.now multipliers.new }
     {
         let begin = self.top;

@@ -4,17 +4,11 @@
 #![tactic(auto)]
 
 mod aim;
-mod bundle;
 mod climbing;
-mod cut;
-mod keeping;
-mod standing;
+mod stepping;
 mod stride;
-mod trip_set;
 mod valuing;
-mod weights;
-mod whole;
 
 pub use aim::Aim;
 pub use climbing::{Climbed, climb};
-pub use whole::WHOLE;
+pub use vs_cuts::WHOLE;

@@ -6,19 +6,11 @@ ghost use Rattle.vs_multi.specs.Multipliers.{AreMultipliers};
 ghost use Rattle.vs_multi.specs.Rounds.{IsCase};
 ghost use Rattle.vs_bundle.specs.Climbs.{IsTrialFor};
 
-use crate::cut::Cut;
 use std::alloc::Global;
 use vs_circ::{Work, runs};
+use vs_cuts::Found;
 use vs_multi::{Case, offer};
 use vs_types::{LayerNo, Memory};
-
-/// A circulation that a layer has just found.
-#[derive(Drop)]
-pub(crate) struct Found {
-    pub cut: Cut,
-    /// Its cost less the multipliers at which it was found.
-    pub part: i64,
-}
 
 /// What the layers found last, and space to find it in.
 #[derive(Drop)]
@@ -38,8 +30,7 @@ impl Trial {
     {
         let mut found = Vec::with_capacity(alloc, layers as usize)?;
         for _ in 0..layers {
-            let cut = Cut::new(alloc, trips)?;
-            found.push(Found { cut, part: 0 })?;
+            found.push(Found::new(alloc, trips)?)?;
         }
         Ok(Trial {
             offers: vec![in alloc; None; trips]?,
@@ -87,11 +78,7 @@ impl Trial {
         let net = &case.nets[l.0 as usize];
         let cost = runs(case.alloc, net, offers, work, &mut self.marks)?;
         match self.found.get_mut(l.0 as usize) {
-            Some(found) => {
-                found.cut.set(&self.marks, cost);
-                found.part = found.cut.value(multipliers);
-                Ok(found.part)
-            }
+            Some(found) => Ok(found.set(&self.marks, cost, multipliers)),
             None => Ok(0),
         }
     }

@@ -1,6 +1,7 @@
 //! The weights of the cuts: moved from cut to cut of a layer until what is forecast can't be brought much nearer.
 
 use crate::bundle::Bundle;
+use crate::slot::Slot;
 use crate::whole::{WHOLE, fitting, part_of};
 
 /// How often all layers move weights at most: the last sweeps gain next to nothing.
@@ -10,15 +11,15 @@ const SWEEPS: u32 = 60;
 const FINE: i64 = 100;
 
 /// A place, and how high the cut there stands.
-#[derive(Clone, Copy, Debug)]
+#[derive(Clone, Copy)]
 struct Peak {
     place: usize,
     height: i64,
 }
 
 /// What a step is forecast to gain.
-#[derive(Clone, Copy, Debug)]
-pub(crate) struct Forecast {
+#[derive(Clone, Copy)]
+pub struct Forecast {
     /// What the errors of the cuts come to.
     pub errors: i64,
     /// What the step gains along what is lacking.
@@ -43,14 +44,15 @@ impl Bundle {
         self.age();
         Forecast {
             errors: self.errors(),
-            far: part_of(step, square(&self.free_lacks)),
+            far: part_of(step, square(&self.lacking.of_free)),
         }
     }
 
     /// What the errors of the cuts come to, each by its weight.
     fn errors(&self) -> i64 {
         let mut errors: i64 = 0;
-        for standing in &self.standings {
+        for slot in &self.slots {
+            let standing = slot.standing;
             errors = errors.saturating_add(part_of(standing.error, standing.weight));
         }
         errors
@@ -92,54 +94,54 @@ impl Bundle {
     /// Moves weight from the highest cut of a layer that has some to the lowest one, where they lie further apart than
     /// is fine. Gives what that gained.
     fn shift(&mut self, l: usize, step: i64, fine: i64) -> i64 {
-        match (self.highest(l, step), self.lowest(l, step)) {
-            (Some(high), Some(low)) => {
-                let gap = high.height.saturating_sub(low.height);
-                if gap <= fine {
-                    return 0;
-                }
-                let apart = self.apart(high.place, low.place);
-                let amount = best_move(gap, step, apart).min(self.weight(high.place));
-                self.carry(high.place, low.place, amount);
-                part_of(gap, amount)
-            }
-            _ => 0,
+        let high = self.highest(l, step);
+        let low = self.lowest(l, step);
+        let gap = high.height.saturating_sub(low.height);
+        if gap <= fine {
+            return 0;
         }
+        let apart = self.apart(high.place, low.place);
+        let amount = best_move(gap, step, apart).min(self.weight(high.place));
+        self.carry(high.place, low.place, amount);
+        part_of(gap, amount)
     }
 
-    /// The lowest cut of a layer.
-    fn lowest(&self, l: usize, step: i64) -> Option<Peak> {
-        let mut lowest: Option<Peak> = None;
+    /// The lowest cut of a layer. Where there is none, the place of the mixed one, and above all heights.
+    fn lowest(&self, l: usize, step: i64) -> Peak {
+        let mut lowest = Peak {
+            place: self.mixed_of(l),
+            height: i64::MAX,
+        };
         for place in self.places_of(l) {
-            if let Some(standing) = self.standings.get(place) {
-                let height = standing.height(step);
-                if standing.held && lowest.map_or(true, |low| height < low.height) {
-                    lowest = Some(Peak { place, height });
-                }
+            let standing = self.standing(place);
+            let height = standing.height(step);
+            if standing.held && height < lowest.height {
+                lowest = Peak { place, height };
             }
         }
         lowest
     }
 
-    /// The highest cut of a layer that has weight.
-    fn highest(&self, l: usize, step: i64) -> Option<Peak> {
-        let mut highest: Option<Peak> = None;
+    /// The highest cut of a layer that has weight. Where there is none, the place of the mixed one, and below all
+    /// heights.
+    fn highest(&self, l: usize, step: i64) -> Peak {
+        let mut highest = Peak {
+            place: self.mixed_of(l),
+            height: i64::MIN,
+        };
         for place in self.places_of(l) {
-            if let Some(standing) = self.standings.get(place) {
-                let height = standing.height(step);
-                if standing.weight > 0 && highest.map_or(true, |high| high.height < height) {
-                    highest = Some(Peak { place, height });
-                }
+            let standing = self.standing(place);
+            let height = standing.height(step);
+            if standing.weight > 0 && highest.height < height {
+                highest = Peak { place, height };
             }
         }
         highest
     }
 
     /// The weight of the cut at a place.
-    pub fn weight(&self, place: usize) -> i64 {
-        self.standings
-            .get(place)
-            .map_or(0, |standing| standing.weight)
+    pub(crate) fn weight(&self, place: usize) -> i64 {
+        self.standing(place).weight
     }
 
     /// The product of two places.
@@ -161,8 +163,8 @@ impl Bundle {
 
     /// Adds to the weight of the cut at a place.
     fn add_weight(&mut self, place: usize, amount: i64) {
-        if let Some(standing) = self.standings.get_mut(place) {
-            standing.weight = standing.weight.saturating_add(amount);
+        if let Some(slot) = self.slots.get_mut(place) {
+            slot.standing.weight = slot.standing.weight.saturating_add(amount);
         }
     }
 
@@ -171,11 +173,17 @@ impl Bundle {
         self.add_weight(from, amount.saturating_neg());
         self.add_weight(to, amount);
         if let (Some(left), Some(taken)) = (self.products.get(from), self.products.get(to)) {
-            for ((standing, a), b) in self.standings.iter_mut().zip(left).zip(taken) {
-                let more = part_of(a.saturating_sub(*b), amount);
-                standing.slope = standing.slope.saturating_add(more);
-            }
+            tilt(&mut self.slots, left, taken, amount);
         }
+    }
+}
+
+/// Changes how much is lacking of the trips of each cut, where so much weight goes from the cut that has the first
+/// products to the one that has the others.
+fn tilt(slots: &mut [Slot], left: &[i64], taken: &[i64], amount: i64) {
+    for ((slot, a), b) in slots.iter_mut().zip(left).zip(taken) {
+        let more = part_of(a.saturating_sub(*b), amount);
+        slot.standing.slope = slot.standing.slope.saturating_add(more);
     }
 }
 
@@ -184,7 +192,10 @@ fn best_move(gap: i64, step: i64, apart: i64) -> i64 {
     let square = i128::from(WHOLE).saturating_mul(i128::from(WHOLE));
     let steep = i128::from(gap).saturating_mul(square);
     let far = i128::from(step).saturating_mul(i128::from(apart));
-    steep.checked_div(far).map_or(WHOLE, fitting)
+    match steep.checked_div(far) {
+        Some(amount) => fitting(amount),
+        None => WHOLE,
+    }
 }
 
 /// The sum of all squares, in parts of a whole.

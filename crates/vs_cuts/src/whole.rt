@@ -10,6 +10,6 @@ pub(crate) fn fitting(number: i128) -> i64 {
 }
 
 /// So many parts of a whole of a number, rounded down.
-pub(crate) fn part_of(number: i64, parts: i64) -> i64 {
+pub fn part_of(number: i64, parts: i64) -> i64 {
     fitting(i128::from(number).saturating_mul(i128::from(parts)) >> 20)
 }

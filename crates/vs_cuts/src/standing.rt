@@ -3,7 +3,7 @@
 use crate::whole::part_of;
 
 /// How a cut stands.
-#[derive(Clone, Copy, Debug)]
+#[derive(Clone, Copy)]
 pub(crate) struct Standing {
     /// In parts of a whole, which the weights of a layer's cuts are together.
     pub weight: i64,
@@ -43,5 +43,13 @@ impl Standing {
     /// How high it stands: its error, less what a step along what is lacking of its trips gains.
     pub fn height(&self, step: i64) -> i64 {
         self.error.saturating_sub(part_of(step, self.slope))
+    }
+    /// Counts a round, for which it has had no weight or has some.
+    pub fn age(&mut self) {
+        self.idle = if self.weight > 0 {
+            0
+        } else {
+            self.idle.saturating_add(1)
+        };
     }
 }

@@ -20,6 +20,15 @@ impl TripSet {
         })
     }
 
+    /// All of so many trips.
+    pub fn all(alloc: Global, trips: usize) -> Result<TripSet, Memory> {
+        let mut all = TripSet::new(alloc, trips)?;
+        for i in 0..trips {
+            all.put(i, true);
+        }
+        Ok(all)
+    }
+
     /// Whether a trip stands in the set.
     pub fn has(&self, i: usize) -> bool {
         match self.words.get(i / BITS) {

@@ -73,6 +73,11 @@ impl Cut {
         self.cost.saturating_sub(self.sum(multipliers))
     }
 
+    /// By how much its value is above its layer's part.
+    pub fn error(&self, part: i64, multipliers: &[i64]) -> i64 {
+        self.value(multipliers).saturating_sub(part).max(0)
+    }
+
     /// The sum of the numbers of its trips.
     pub fn sum(&self, numbers: &[i64]) -> i64 {
         match &self.runs {

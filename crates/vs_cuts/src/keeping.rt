@@ -2,20 +2,14 @@
 
 use crate::bundle::Bundle;
 use crate::cut::Cut;
-use crate::standing::Standing;
-use crate::valuing::Found;
-use crate::whole::{WHOLE, fitting};
-use std::mem::swap;
+use crate::found::Found;
+use crate::slot::Slot;
 
 impl Bundle {
     /// Counts the rounds for which each cut has had no weight.
-    pub fn age(&mut self) {
-        for standing in self.standings.iter_mut() {
-            standing.idle = if standing.weight > 0 {
-                0
-            } else {
-                standing.idle.saturating_add(1)
-            };
+    pub(crate) fn age(&mut self) {
+        for slot in self.slots.iter_mut() {
+            slot.standing.age();
         }
     }
 
@@ -40,16 +34,8 @@ impl Bundle {
 
     /// Puts a cut at a place.
     fn put(&mut self, place: usize, cut: &mut Cut, weight: i64) {
-        if let Some(kept) = self.cuts.get_mut(place) {
-            swap(kept, cut);
-        }
-        self.set_standing(place, Standing::new(weight));
-    }
-
-    /// Sets how the cut at a place stands.
-    fn set_standing(&mut self, place: usize, new: Standing) {
-        if let Some(standing) = self.standings.get_mut(place) {
-            *standing = new;
+        if let Some(slot) = self.slots.get_mut(place) {
+            slot.put(cut, weight);
         }
     }
 
@@ -58,10 +44,7 @@ impl Bundle {
         let mut spare = None;
         let mut longest = 0;
         for place in self.places_of(l).start..self.mixed_of(l) {
-            let idle = self
-                .standings
-                .get(place)
-                .map_or(0, |standing| standing.idle);
+            let idle = self.standing(place).idle;
             if idle > longest {
                 spare = Some(place);
                 longest = idle;
@@ -76,19 +59,17 @@ impl Bundle {
         let mixed = self.mixed_of(l);
         if !self.is_held(mixed) {
             let first = self.lightest(l)?;
-            self.mix(first, mixed);
+            mix(&mut self.slots, first, mixed);
         }
         let place = self.lightest(l)?;
-        self.mix(place, mixed);
+        mix(&mut self.slots, place, mixed);
         self.renew(mixed);
         Some(place)
     }
 
     /// Whether there is a cut at a place.
     fn is_held(&self, place: usize) -> bool {
-        self.standings
-            .get(place)
-            .map_or(false, |standing| standing.held)
+        self.standing(place).held
     }
 
     /// The place of a layer's cut of least weight, but for the mixed one.
@@ -104,30 +85,12 @@ impl Bundle {
         }
         lightest
     }
-
-    /// Mixes the cut at a place into the mixed one of its layer, by their weights.
-    fn mix(&mut self, place: usize, mixed: usize) {
-        let weight = self.weight(place);
-        let both = weight.saturating_add(self.weight(mixed));
-        mix_at(&mut self.cuts, place, mixed, parts_of(weight, both));
-        self.set_standing(mixed, Standing::new(both));
-        self.set_standing(place, Standing::none());
-    }
 }
 
-/// Mixes a cut into one behind it, of which both together have so many parts of a whole.
-fn mix_at(cuts: &mut [Cut], place: usize, mixed: usize, parts: i64) {
-    if mixed < cuts.len() && place < mixed {
-        let (before, rest) = cuts.split_at_mut(mixed);
-        rest[0].mix_in(&before[place], parts);
-    }
-}
-
-/// How many parts of a whole one weight is of both, within a whole.
-fn parts_of(weight: i64, both: i64) -> i64 {
-    let parts = i128::from(weight).saturating_mul(i128::from(WHOLE));
-    match parts.checked_div(i128::from(both)) {
-        Some(parts) => fitting(parts).max(0).min(WHOLE),
-        None => WHOLE,
+/// Mixes the cut at a place into one behind it, by their weights.
+fn mix(slots: &mut [Slot], place: usize, mixed: usize) {
+    if mixed < slots.len() && place < mixed {
+        let (before, rest) = slots.split_at_mut(mixed);
+        rest[0].mix_in(&mut before[place]);
     }
 }

@@ -1,0 +1,26 @@
+//! Multipliers moved a step along what is lacking of their trips.
+
+ghost use Rattle.std.specs.Prelude.{◌≡◌, length};
+ghost use Rattle.vs_multi.specs.Multipliers.{AreWithin, IsMultiplier};
+
+use vs_cuts::{Bundle, part_of};
+use vs_instance::MAX_MULTIPLIER;
+
+/// The multipliers a step of this length further.
+pub(crate) fn go_further(bundle: &Bundle, step: i64, multipliers: &[i64], further: &mut [i64])
+    requires each { length further.old ≡ length multipliers.now }
+    requires within { AreWithin further.old }
+    ensures { AreWithin further.new }
+{
+    for i in 0..further.len() {
+        further[i] = stepped(step, multipliers[i], bundle.lack(i));
+    }
+}
+
+/// A multiplier a step further, by what is lacking of its trip.
+fn stepped(step: i64, multiplier: i64, lack: i64) -> i64
+    ensures { IsMultiplier result }
+{
+    let further = multiplier.saturating_add(part_of(step, lack));
+    further.max(0).min(MAX_MULTIPLIER)
+}

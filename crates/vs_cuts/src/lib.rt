@@ -1,0 +1,20 @@
+//! Cuts of layers, and their weights: each layer keeps circulations that it found before, its cuts, and the weights mix
+//! them such that together they run every trip as nearly once as is worth the multipliers that it takes. No circulation
+//! is asked for here.
+#![tactic(auto)]
+
+mod bundle;
+mod cut;
+mod found;
+mod keeping;
+mod lacking;
+mod slot;
+mod standing;
+mod trip_set;
+mod weights;
+mod whole;
+
+pub use bundle::Bundle;
+pub use found::Found;
+pub use weights::Forecast;
+pub use whole::{WHOLE, part_of};
