@@ -188,7 +188,7 @@ impl Tree {
                 }
                 if held > 0 { Take::Wait } else { Take::Spent }
             }
-            _ => { if held > 0 { Take::Wait } else { Take::Done } }
+            _ => { if held == 0 { Take::Done } else { Take::Wait } }
         }
     }
 

@@ -98,8 +98,8 @@ returns-then-held-gt0-clause-answer c =
       λ both. subst (λ (t : Search). ¬ (IsRoomLeft t.opening (state t))) c.self.view_is full both.0,
     )
 
-pub returns-then-held-gt0-2-clause-answer : goal.returns-then-held-gt0-2-clause-answer
-returns-then-held-gt0-2-clause-answer c =
+pub returns-else-held-eq0-clause-answer : goal.returns-else-held-eq0-clause-answer
+returns-else-held-eq0-clause-answer c =
     let i = c.self.inside in
     let o = opening_of i in
     let a = parts_of i in
@@ -107,7 +107,7 @@ returns-then-held-gt0-2-clause-answer c =
     let knows : c.known-known.result ≡ known (state_of o a.log.steps) = c.known-known.ensures ∙ known-is o a is in
     let held : c.busy-held.result ≡ count_spots is_held (state_of o a.log.steps).places =
     c.busy-held.ensures ∙ ap (λ (x : List Hand). count_by is_busy x) c.deref.ensures.value ∙ is.parts.busy in
-    let some : 0 < held_leaves (state_of o a.log.steps) = omega (arith, held, c.if-held-gt0-2.true) in
+    let some : 0 < held_leaves (state_of o a.log.steps) = omega (arith, held, c.if-held-eq0.false) in
     let nothing : ¬ (IsWorkLeft o.problem (state_of o a.log.steps)) = elim c.in_default.branch [
       | in_default-via-in-Some+else-is_below w ↦
           nothing_below o a is w.in-Some.next w.in-Some.ensures
@@ -119,8 +119,8 @@ returns-then-held-gt0-2-clause-answer c =
       λ both. subst (λ (t : Search). ¬ (IsWorkLeft t.opening.problem (state t))) c.self.view_is nothing both.1,
     )
 
-pub returns-else-held-gt0-2-clause-answer : goal.returns-else-held-gt0-2-clause-answer
-returns-else-held-gt0-2-clause-answer c =
+pub returns-then-held-eq0-clause-answer : goal.returns-then-held-eq0-clause-answer
+returns-then-held-eq0-clause-answer c =
     let i = c.self.inside in
     let o = opening_of i in
     let a = parts_of i in
@@ -128,7 +128,7 @@ returns-else-held-gt0-2-clause-answer c =
     let knows : c.known-known.result ≡ known (state_of o a.log.steps) = c.known-known.ensures ∙ known-is o a is in
     let held : c.busy-held.result ≡ count_spots is_held (state_of o a.log.steps).places =
     c.busy-held.ensures ∙ ap (λ (x : List Hand). count_by is_busy x) c.deref.ensures.value ∙ is.parts.busy in
-    let none : held_leaves (state_of o a.log.steps) ≡ 0 = omega (arith, held, c.if-held-gt0-2.false) in
+    let none : held_leaves (state_of o a.log.steps) ≡ 0 = omega (arith, held, c.if-held-eq0.true) in
     let nothing : ¬ (IsWorkLeft o.problem (state_of o a.log.steps)) = elim c.in_default.branch [
       | in_default-via-in-Some+else-is_below w ↦
           nothing_below o a is w.in-Some.next w.in-Some.ensures
