@@ -3,11 +3,13 @@
 
 Reads the text of an instance on standard input. The model is the usual one (Kliewer, Mellouli and Suhl 2006): a network
 for each layer, of places and minutes, with deadheads by latest first match; a whole flow on each arc, conserved at each
-node; each trip run once over all layers; at most the fleet on the return arc. Costs are in cost units.
+node; each trip run once over all layers; at most the fleet on the return arc. Where a layer has a stay, vehicles may
+rest in the depot between two trips, along a line of the minutes at which they leave it again. Costs are in cost units.
 """
 
 import csv
 import sys
+from bisect import bisect_left
 from collections import defaultdict
 
 
@@ -27,7 +29,7 @@ def read(lines):
         elif row[0] == "stop":
             ways[row[1], row[1]] = (0, 0)
         elif row[0] == "layer":
-            layers.append((row[1], row[2], *map(int, row[3:7])))
+            layers.append((row[1], row[2], *map(int, row[3:7]), int(row[7]) if len(row) > 7 else None))
         elif row[0] == "trip":
             trips.append((row[2], minute(row[3]), row[4], minute(row[5]), int(row[6]), set(row[7:])))
         elif row[0] == "result":
@@ -52,7 +54,7 @@ def deadheads(ways, departures, arrivals):
 
 def arcs_of(ways, layer, trips):
     """The arcs of a layer's network: from, to, cost, most units, and the trip that one runs, if any."""
-    name, depot, fleet, fixed, per_minute, per_metre = layer
+    name, depot, fleet, fixed, per_minute, per_metre, stay = layer
     cost = lambda minutes, metres: per_minute * minutes + per_metre * metres
     events, departures, arrivals = defaultdict(set), defaultdict(set), defaultdict(set)
     arcs = []
@@ -77,7 +79,30 @@ def arcs_of(ways, layer, trips):
     for stop, ends in arrivals.items():
         if (stop, depot) in ways:
             arcs += [((stop, end), "in", cost(*ways[stop, depot]), fleet, None) for end in ends]
+    if stay is not None:
+        arcs += rests(ways, depot, departures, arrivals, stay, cost, fleet)
     arcs.append(("in", "out", 0, fleet, None))
+    return arcs
+
+
+def rests(ways, depot, departures, arrivals, stay, cost, fleet):
+    """The arcs by which vehicles rest: into the depot, on along its line, and out of it again."""
+    outs = []
+    for stop, starts in departures.items():
+        if (depot, stop) in ways:
+            minutes, metres = ways[depot, stop]
+            way = cost(minutes, metres)
+            outs += [(("depot line", start - minutes), (stop, start), way) for start in starts if start >= minutes]
+    line = sorted({here[1] for here, _, _ in outs})
+    arcs = [(here, there, paid, fleet, None) for here, there, paid in outs]
+    arcs += [(("depot line", here), ("depot line", there), 0, fleet, None) for here, there in zip(line, line[1:])]
+    for stop, ends in arrivals.items():
+        if (stop, depot) in ways:
+            minutes, metres = ways[stop, depot]
+            for end in ends:
+                place = bisect_left(line, end + minutes + stay)
+                if place < len(line):
+                    arcs.append(((stop, end), ("depot line", line[place]), cost(minutes, metres), fleet, None))
     return arcs
 
 
