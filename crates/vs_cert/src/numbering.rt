@@ -51,9 +51,13 @@ impl Numbering {
             return Ok(place);
         }
         let place = self.numbers.len() as u32;
-        self.numbers.push(number)?;
-        self.places[number as usize] = Some(place);
-        Ok(place)
+        match self.numbers.push(number) {
+            Ok(()) => {
+                self.places[number as usize] = Some(place);
+                Ok(place)
+            }
+            Err(_) => Err(Memory),
+        }
     }
 
     /// The numbers that came.

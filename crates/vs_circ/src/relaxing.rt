@@ -64,13 +64,7 @@ fn relaxed_from(
     let graph = net.net();
     recall(net, offers, kept);
     kept.turn(alloc, graph)?;
-    settle(
-        net,
-        offers,
-        &mut kept.search,
-        &mut kept.loads,
-        &mut kept.shipment,
-    );
+    settle(net, offers, kept);
     take_centred(graph, kept);
     let circ = circ_of(alloc, net, offers, &kept.shipment, &mut kept.space)?;
     swap(&mut kept.shipment.prices, &mut kept.space.prices);

@@ -56,13 +56,7 @@ fn run_from(net: &LayerNet, offers: &[Option<i64>], kept: &mut Kept, answer: &mu
         → AreOffers p l.0 offers.now → RunLeast p l net.now offers.now answer.new result }
 {
     recall(net, offers, kept);
-    settle(
-        net,
-        offers,
-        &mut kept.search,
-        &mut kept.loads,
-        &mut kept.shipment,
-    );
+    settle(net, offers, kept);
     mark(net, &kept.shipment.flow.units, answer);
     let cost = cost_of(net, &kept.shipment.flow);
     let space = &mut kept.space;

@@ -10,6 +10,7 @@ use Rattle.vs_instance.specs.Plan.{LayerBlock, plan_cost}
 use Rattle.vs_instance.specs.Problem.{Problem}
 use Rattle.vs_plan.specs.Blocks.{IsOfInstance}
 use Rattle.vs_plan.specs.CheckedPlan.{Checked}
+use Rattle.vs_plan.specs.declared.costs.TheConstants.{MAX_PLAN_COST}
 use Rattle.vs_prices.specs.Bounds.{IsNoLess}
 use Rattle.vs_prices.specs.declared.bound.Bound.TheVariants.{AtLeast, NoPlan}
 use Rattle.vs_tree.specs.History.{Opening, State, incumbent, known, sets_at, spot_at, table_of}
@@ -23,7 +24,7 @@ use Rattle.vs_cert.proofs.states.TreeTables.{number_fits}
 use Rattle.vs_cert.proofs.states.WorthRange.{worth_within}
 
 -- the cost of a checked plan
-checked_cost : (n : ℕ) (cost : ℤ) → cost ≡ pos n → cost ≤ℤ pos 100000000000000 → IsBetween (pos 0) MAX_COST cost
+checked_cost : (n : ℕ) (cost : ℤ) → cost ≡ pos n → cost ≤ℤ MAX_PLAN_COST → IsBetween (pos 0) MAX_COST cost
 checked_cost n cost is few = (omega (arith, ints), omega (arith, ints))
 
 cost_bound : (n cost : ℤ) → n ≡ cost → IsBetween (pos 0) MAX_COST cost → IsWithin MAX_BOUND n

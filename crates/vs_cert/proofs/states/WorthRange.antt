@@ -10,12 +10,14 @@ use Rattle.std.proofs.lemmas.List.FromFn.{length-range_with_len}
 use Rattle.std.proofs.lemmas.Nat.{mul-le}
 use Rattle.vs_types.specs.LayerSet.{members}
 use Rattle.vs_types.specs.declared.layer_set.LayerSet.{LayerSet}
+use Rattle.vs_types.specs.declared.numbers.TheConstants.{MAX_LAYERS}
 use Rattle.vs_instance.specs.HoldingTable.{scaled}
 use Rattle.vs_instance.specs.Instance.{IsInstance, IsLayer, IsTrip}
 use Rattle.vs_instance.specs.Lagrangian.{total}
 use Rattle.vs_instance.specs.Pieces.{trip_piece}
 use Rattle.vs_instance.specs.Problem.{Problem}
 use Rattle.vs_instance.specs.Restriction.{set_of}
+use Rattle.vs_instance.specs.declared.limits.TheConstants.{MAX_FLEET, MAX_METRES, MAX_PER_METRE, MAX_PER_MINUTE, MAX_TRIPS, TWO_DAYS}
 use Rattle.vs_instance.specs.Ways.{layer_of, no_layer, no_trip, trip_of}
 use Rattle.vs_prices.specs.Table.{Fits, IsPrice, into_price, from_price, vehicle_price}
 use Rattle.vs_prices.specs.Worth.{IsRoundedUp, IsWorth, fleet_price, least, least_price, table_value, trip_price}
@@ -31,9 +33,9 @@ Within limit x = (neg_ℤ (pos limit) ≤ℤ x) × (x ≤ℤ pos limit)
 -- the limits of what an instance says, also past the end of its layers and trips
 module _ (p : Problem) (instance : IsInstance p) where
   record IsSmallLayer (l : ℕ) : Type 0 where
-    pub fleet : (layer_of p l).fleet ≤ 2000
-    pub per_minute : (layer_of p l).per_minute ≤ 1000000
-    pub per_metre : (layer_of p l).per_metre ≤ 10000
+    pub fleet : (layer_of p l).fleet ≤ MAX_FLEET
+    pub per_minute : (layer_of p l).per_minute ≤ MAX_PER_MINUTE
+    pub per_metre : (layer_of p l).per_metre ≤ MAX_PER_METRE
 
   small_layer : (l : ℕ) → IsSmallLayer l
   small_layer l = by_place (cases_lt l (length p.layers))
@@ -46,11 +48,11 @@ module _ (p : Problem) (instance : IsInstance p) where
           let e = get_or_past p.layers l no_layer past in
           record { fleet = rw e (omega arith); per_minute = rw e (omega arith); per_metre = rw e (omega arith) }
 
-  trip_small : (i : ℕ) → ((trip_of p i).end ≤ 2880) × ((trip_of p i).metres ≤ 1000000)
+  trip_small : (i : ℕ) → ((trip_of p i).end ≤ TWO_DAYS) × ((trip_of p i).metres ≤ MAX_METRES)
   trip_small i = by_place (cases_lt i (length p.trips))
     where
-      by_place : (i < length p.trips) ⊎ (length p.trips ≤ i) → ((trip_of p i).end ≤ 2880)
-          × ((trip_of p i).metres ≤ 1000000)
+      by_place : (i < length p.trips) ⊎ (length p.trips ≤ i) → ((trip_of p i).end ≤ TWO_DAYS)
+          × ((trip_of p i).metres ≤ MAX_METRES)
       by_place (inl within) =
           let is = All-get_or (IsTrip p) p.trips i no_trip within instance.trips in
           let before = is.end in
@@ -126,9 +128,9 @@ module _ (p : Problem) (instance : IsInstance p) (table : Table) (fits : Fits p 
       trip_numbers in
       let fleets = total_within 2000000000000000000000 (fleet_price p table) fleet_price-within layer_numbers in
       let few_trips = instance.few_trips in let few_layers = instance.few_layers in
-      let most_trips = mul-le (length trip_numbers) 3000000000000000000 2000 3000000000000000000
+      let most_trips = mul-le (length trip_numbers) 3000000000000000000 MAX_TRIPS 3000000000000000000
       (omega (arith, length-range_with_len 0 (length p.trips))) (omega arith) in
-      let most_layers = mul-le (length layer_numbers) 2000000000000000000000 16 2000000000000000000000
+      let most_layers = mul-le (length layer_numbers) 2000000000000000000000 MAX_LAYERS 2000000000000000000000
       (omega (arith, length-range_with_len 0 (length p.layers))) (omega arith) in
       difference_within (total (map (least_price p sets table) trip_numbers))
       (total (map (fleet_price p table) layer_numbers))

@@ -5,24 +5,23 @@ use Rattle.std.proofs.lemmas.Bool.{cases_lt}
 use Rattle.std.proofs.lemmas.List.{get_or_past}
 use Rattle.vs_instance.specs.declared.limits.TheConstants.{MAX_FLEET, MAX_MULTIPLIER}
 use Rattle.vs_layer.specs.declared.arc.Arc.{Arc}
-use Rattle.vs_layer.specs.Graph.{Graph, arc_of}
+use Rattle.vs_layer.specs.Graph.{arc_of}
 use Rattle.vs_match.specs.declared.arc_kind.ArcKind.{ArcKind}
 use Rattle.vs_match.specs.declared.arc_kind.ArcKind.TheVariants.{Trip, Waiting, Deadhead, PullOut, PullIn, RestIn, RestWait, RestOut, Return}
 use Rattle.vs_match.specs.declared.layer_net.TheConstants.{MAX_ARC_COST}
 use Rattle.vs_match.specs.LayerGraph.{LayerGraph, kind_of}
-use Rattle.vs_path.specs.declared.step.Step.TheVariants.{Forward, Back}
 use Rattle.vs_path.specs.declared.residual.TheConstants.{MAX_STEP_COST, MAX_SEARCH_NODES}
-use Rattle.vs_path.specs.Residual.{HasSignRule, IsWithin, AllWithin}
+use Rattle.vs_path.specs.Residual.{IsWithin, AllWithin}
 use Rattle.vs_ship.specs.declared.shipment.Shipment.{Shipment}
 use Rattle.vs_ship.specs.declared.shipment.TheConstants.{MAX_FIRST_PRICE}
 use Rattle.vs_circ.specs.Offers.{offer_of, paid}
-use Rattle.vs_ship.specs.Shipments.{CanShip, IsSized, residual_of}
+use Rattle.vs_ship.specs.Shipments.{CanShip, IsSized}
 use Rattle.vs_circ.specs.shipping.Prepared.{AreOfferedCosts, AreOfferedRooms, AreSmallOffers, HasSmallArcs, offered_cost, offered_room, room_if}
 use Rattle.vs_ship.specs.Suiting.{AllSuit, HasNoGain}
 use Rattle.vs_ship.specs.Leaving.{IsLeftBy}
 use Rattle.vs_ship.proofs.CallerLemmas.{suit-signs}
 
--- what a trip is paid is within 0 and 10^14
+-- what a trip is paid is within 0 and `MAX_MULTIPLIER`
 paid-within : (offer : Option ℤ) → IfSome offer (λ m. (pos 0 ≤ℤ m) × (m ≤ℤ MAX_MULTIPLIER))
     → (pos 0 ≤ℤ paid offer) × (paid offer ≤ℤ MAX_MULTIPLIER)
 paid-within None small = (omega (arith, ints), omega (arith, ints))

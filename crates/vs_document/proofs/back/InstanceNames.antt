@@ -4,6 +4,7 @@ use Rattle.std.proofs.lemmas.List.{get_or_default, length_push}
 use Rattle.std.proofs.lemmas.List.Elements.{All-nil, All-push}
 use Rattle.std.proofs.lemmas.List.Quantifiers.{all_pairs_push}
 use Rattle.vs_instance.specs.Problem.{Problem}
+use Rattle.vs_instance.specs.declared.limits.TheConstants.{MAX_TRIPS}
 use Rattle.vs_reader.specs.declared.version.Version.{Version}
 use Rattle.vs_reader.specs.InstanceText.{IsNew, Declared, nothing_yet, Adds, AddAll, instance_records}
 use Rattle.vs_reader.specs.NameRules.{AreNames}
@@ -20,7 +21,7 @@ pub record HaveNames (names : NameLists) : Type 0 where
 no_names : AreNames []
 no_names = record { each = All-nil IsName; apart = λ i j d before within. absurd (omega arith); few = omega arith }
 
-one_more_name : (names : List Field) (name : Field) → AreNames names → IsNew names name → length names < 2000
+one_more_name : (names : List Field) (name : Field) → AreNames names → IsNew names name → length names < MAX_TRIPS
     → AreNames (names ++ name ∷ [])
 one_more_name names name are new room = record {
   each = All-push IsName names name are.each new.name;

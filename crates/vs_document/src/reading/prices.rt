@@ -1,6 +1,6 @@
 //! The reading of the prices of a table.
 
-ghost use Rattle.std.specs.Prelude.{◌≡◌, ◌≤◌, ◌<◌, ℕ, List, ◌∷◌, length, IfOk, IfErr, MatchOption, SomeIff};
+ghost use Rattle.std.specs.Prelude.{◌≡◌, ◌≤◌, ◌<◌, ℕ, List, [], ◌∷◌, ◌++◌, length, IfOk, IfErr, OnOk, MatchOption, SomeIff};
 ghost use Rattle.vs_prices.specs.Table.{IsPrice};
 ghost use Rattle.vs_document.specs.Places.{InTable, PriceOf, Trip, Vehicle};
 ghost use Rattle.vs_rows.specs.RowForms.{IsInput};
@@ -13,7 +13,7 @@ use std::alloc::Global;
 use vs_prices::{MAX_PRICE, Table};
 use vs_reader::Input;
 use vs_rows::Likely;
-use vs_types::{LayerNo, TripNo};
+use vs_types::{LayerNo, Memory, TripNo};
 
 /// Reads the rows of a layer, puts its prices at the end of those of the table, and answers the row behind
 /// them.
@@ -59,10 +59,21 @@ fn read_prices(
             prices = read_price(alloc, input, next, l, trip)?;
             next += 1;
         }
-        table.into.push(prices.0)?;
-        table.from.push(prices.1)?;
+        add_trip(table, prices.0, prices.1)?;
     }
     Ok(next)
+}
+
+/// Puts the prices of one more trip at the end of those of the table.
+fn add_trip(table: &mut Table, into: i64, from: i64) -> Result<(), Memory>
+    ensures into { OnOk result (table.new.into.items ≡ table.old.into.items ++ into ∷ []) }
+    ensures from { OnOk result (table.new.from.items ≡ table.old.from.items ++ from ∷ []) }
+    ensures fleet { table.new.fleet.items ≡ table.old.fleet.items }
+    ensures ray { table.new.ray ≡ table.old.ray }
+{
+    table.into.push(into)?;
+    table.from.push(from)?;
+    Ok(())
 }
 
 /// The price of a vehicle of a layer, in the row that has to tell it.

@@ -19,7 +19,7 @@ returns c =
     let word : to_z w128 (of_z w128 cost) ≡ cost = to_z-of_z w128 cost (search (rules, c.cost_of-cost.type_inv)) in
     record {
       least = λ p l is lawful are.
-          marked-least p is l c.args.net.now lawful c.args.offers.now are c.settle.new.shipment
+          marked-least p is l c.args.net.now lawful c.args.offers.now are c.settle.new.kept.shipment
           c.settle.ensures.settled c.deref.result.now c.mark.new.answer (to_z w128 (of_z w128 cost))
           c.deref.ensures.value (omega (arith, c.requires.each_trip)) (λ i below. c.mark.ensures i (omega arith))
           (word ∙ c.cost_of-cost.ensures);

@@ -1,4 +1,4 @@
-use Rattle.std.proofs.Common.{◌≡◌, ℕ, ℤ, [], sym, subst, arith, Option, Some, None, MatchOption, ◌+ℤ◌}
+use Rattle.std.proofs.Common.{◌≡◌, ◌∙◌, ℕ, ℤ, [], ap, sym, subst, arith, Option, Some, None, MatchOption, ◌+ℤ◌}
 use Rattle.std.proofs.lemmas.Int.{ints}
 use Rattle.vs_layer.specs.Graph.{Graph}
 use Rattle.vs_path.specs.declared.residual.Costs.{Costs}
@@ -17,6 +17,19 @@ prepare-requires-clause-arcs c =
 none_of : (found : Option ℕ) (P : Type 0) (Q : ℕ → Type 0) → MatchOption found P Q → ((k : ℕ) → Q k → ⊥) → P
 none_of None P Q is never = is
 none_of (Some k) P Q is never = absurd (never k is)
+
+pub returns-clause-kept : goal.returns-clause-kept
+returns-clause-kept c =
+    let n = c.args.net.now in
+    let Sent : Graph → Type 0 = λ g. Ships g c.prepare.new.shipment c.drain.new.shipment in
+    let ships = subst Sent c.net.ensures.graph c.drain.ensures.ships in
+    record {
+      sized = ships.can.sized;
+      before = c.requires.kept.before;
+      nodes = c.drain.ensures.nodes ∙ c.requires.kept.nodes;
+      lists = c.drain.ensures.lists ∙ ap (λ (g : Graph). g.nodes) c.net.ensures.graph;
+      space = c.requires.kept.space;
+    }
 
 pub returns-clause-settled : goal.returns-clause-settled
 returns-clause-settled c =

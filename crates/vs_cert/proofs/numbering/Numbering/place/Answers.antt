@@ -19,8 +19,8 @@ returns-in-Some-clause-numbers c =
     let same = known_before places numbers c.args.number c.self.invariant c.in-Some.place at in
     subst (λ (v : Numbered). v.numbers ≡ with_number v.numbers c.args.number) c.self.view_is (sym same)
 
-pub invariant_of-self-2 : goal.invariant_of-self-2
-invariant_of-self-2 c =
+pub invariant_of-self : goal.invariant_of-self
+invariant_of-self c =
     let places = c.self.inside.places.items in let numbers = c.self.inside.numbers.items in
     let limit = ap (λ (v : Numbered). v.limit) c.self.view_is in
     let inside : c.args.number < length places = omega (arith, limit, c.requires.below) in
@@ -28,21 +28,21 @@ invariant_of-self-2 c =
     let are = grown_places places numbers c.args.number c.self.invariant inside at in
     let size : c.len-place.result ≡ length numbers = omega (arith, c.len-place.ensures, c.self.inside.numbers.ok.0) in
     subst (λ (more : List ℕ). ArePlaces (set places c.args.number (Some c.len-place.result)) more)
-    (sym c.in_ok-push.ensures.items)
+    (sym c.in-Ok.ensures.items)
     (subst (λ (n : ℕ). ArePlaces (set places c.args.number (Some n)) (numbers ++ c.args.number ∷ [])) (sym size) are)
 
-pub returns-clause-numbers : goal.returns-clause-numbers
-returns-clause-numbers c =
+pub returns-in-Ok-clause-numbers : goal.returns-in-Ok-clause-numbers
+returns-in-Ok-clause-numbers c =
     let places = c.self.inside.places.items in let numbers = c.self.inside.numbers.items in
     let limit = ap (λ (v : Numbered). v.limit) c.self.view_is in
     let inside : c.args.number < length places = omega (arith, limit, c.requires.below) in
     let at = was places c.args.number c.index.result.now inside c.index.ensures ∙ c.in_default.is in
-    c.in_ok-push.ensures.items ∙ sym (new_now places numbers c.args.number c.self.invariant at)
+    c.in-Ok.ensures.items ∙ sym (new_now places numbers c.args.number c.self.invariant at)
     ∙ ap (λ (v : Numbered). with_number v.numbers c.args.number) c.self.view_is
 
-pub returns-clause-named : goal.returns-clause-named
-returns-clause-named c =
+pub returns-in-Ok-clause-named : goal.returns-in-Ok-clause-named
+returns-in-Ok-clause-named c =
     let numbers = c.self.inside.numbers.items in
     let size : c.len-place.result ≡ length numbers = omega (arith, c.len-place.ensures, c.self.inside.numbers.ok.0) in
-    ap (λ (more : List ℕ). slice_get more c.len-place.result) c.in_ok-push.ensures.items
+    ap (λ (more : List ℕ). slice_get more c.len-place.result) c.in-Ok.ensures.items
     ∙ ap (slice_get (numbers ++ c.args.number ∷ [])) size ∙ stands-last numbers c.args.number

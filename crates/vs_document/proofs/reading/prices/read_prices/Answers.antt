@@ -1,4 +1,4 @@
-use Rattle.std.proofs.Common.{ℕ, ◌<◌, length, List, ◌++◌, map, refl, arith, pos, ℤ, ap}
+use Rattle.std.proofs.Common.{ℕ, ◌<◌, length, List, ◌++◌, map, arith, pos, ℤ, ap}
 use Rattle.vs_rows.specs.DocumentRows.{permitted_trips}
 use Rattle.vs_document.specs.Places.{PriceOf, Trip, InTable}
 use Rattle.vs_document.specs.Reading.{IsRefusedAt}
@@ -36,12 +36,12 @@ loop-i-preserved c =
           (is_permitted input.instance l c.loop-i.i c.trip.result.now c.has-may.result c.trip.ensures w.if-may.true
           c.has-may.ensures) r
           (record {
-            into_is = pushed _ c.loop-i.table.into.items c.if-may.prices.0 a c.in_ok-push.ensures.items
+            into_is = pushed _ c.loop-i.table.into.items c.if-may.prices.0 a c.in_ok-add_trip.ensures.into
                 (ap (λ (x : ℤ × ℤ). x.0) w.prices-is) r.into_price;
-            from_is = pushed _ c.loop-i.table.from.items c.if-may.prices.1 b c.in_ok-push-2.ensures.items
+            from_is = pushed _ c.loop-i.table.from.items c.if-may.prices.1 b c.in_ok-add_trip.ensures.from
                 (ap (λ (x : ℤ × ℤ). x.1) w.prices-is) r.from_price;
-            fleet_is = refl;
-            ray_is = refl;
+            fleet_is = c.add_trip.ensures.fleet;
+            ray_is = c.add_trip.ensures.ray;
           }))
       | else-may w ↦
           rw w.next-is
@@ -49,12 +49,12 @@ loop-i-preserved c =
           (not_permitted input.instance l c.loop-i.i c.trip.result.now c.has-may.result c.trip.ensures w.if-may.false
           c.has-may.ensures)
           (record {
-            into_is = pushed _ c.loop-i.table.into.items c.if-may.prices.0 (pos 0) c.in_ok-push.ensures.items
+            into_is = pushed _ c.loop-i.table.into.items c.if-may.prices.0 (pos 0) c.in_ok-add_trip.ensures.into
                 (ap (λ (x : ℤ × ℤ). x.0) w.prices-is) zero_price;
-            from_is = pushed _ c.loop-i.table.from.items c.if-may.prices.1 (pos 0) c.in_ok-push-2.ensures.items
+            from_is = pushed _ c.loop-i.table.from.items c.if-may.prices.1 (pos 0) c.in_ok-add_trip.ensures.from
                 (ap (λ (x : ℤ × ℤ). x.1) w.prices-is) zero_price;
-            fleet_is = refl;
-            ray_is = refl;
+            fleet_is = c.add_trip.ensures.fleet;
+            ray_is = c.add_trip.ensures.ray;
           }))
     ]
 
