@@ -2,7 +2,8 @@
 """Fails where the audit stands on the search: where crates.txt has a crate of the audit above one that searches.
 
 What judges a document has to trust nothing of what made it. So nothing below `vs_check` may be a crate of
-the search, of threads or of atomics, whatever way leads there.
+the search, of threads or of atomics, whatever way leads there; and nothing below `vs_report`, which writes what
+was found.
 """
 
 import os
@@ -10,8 +11,11 @@ import sys
 
 TOP = os.path.dirname(os.path.dirname(os.path.abspath(__file__)))
 
-# What judges, and what it may never stand on.
-AUDIT = ["vs_check", "vs_document", "vs_rows", "vs_cases", "vs_need", "vs_reader", "vs_plan", "vs_prices", "vs_match"]
+# What judges or writes what was found, and what it may never stand on.
+AUDIT = [
+    "vs_report", "vs_check", "vs_document", "vs_rows", "vs_cases", "vs_need", "vs_reader", "vs_plan", "vs_prices",
+    "vs_match",
+]
 SEARCH = {
     "vs_path", "vs_ship", "vs_circ", "vs_decomp", "vs_multi", "vs_bundle", "vs_node", "vs_penalty",
     "vs_turn", "vs_tree", "vs_crew", "vs_cert", "vs_answer", "atomic_table",
@@ -47,9 +51,9 @@ def main():
     for name in missing:
         print(f"wings: crates.txt has no {name}")
     for name, lower in wrong:
-        print(f"wings: {name} judges, and stands on {', '.join(lower)}")
+        print(f"wings: {name} judges or tells, and stands on {', '.join(lower)}")
     if not missing and not wrong:
-        print(f"wings: {len(AUDIT)} crates judge, and stand on nothing of the search")
+        print(f"wings: {len(AUDIT)} crates judge or tell what was found, and stand on nothing of the search")
     return 1 if missing or wrong else 0
 
 

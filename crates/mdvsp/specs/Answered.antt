@@ -15,12 +15,12 @@ use Rattle.vs_reader.specs.Names.{NameLists}
 use Rattle.mdvsp.specs.SolveAnswer.{SolveAnswer}
 use Rattle.mdvsp.specs.declared.case.CaseError.{CaseError}
 use Rattle.mdvsp.specs.declared.case.CaseError.TheVariants as error
-use Rattle.mdvsp.specs.Network.{AreNetworkRows}
+use Rattle.vs_report.specs.Network.{AreNetworkRows}
 use Rattle.mdvsp.specs.Owed.{Owes, OwesNoCase, status_of}
 use Rattle.vs_reader.specs.Rows.{Row, lines}
 use Rattle.vs_reader.specs.Texts.{IsRefused}
 use Rattle.vs_reader.specs.declared.refused.Refused.{Refused}
-use Rattle.mdvsp.specs.RefusalRows.{refusal_row}
+use Rattle.vs_report.specs.RefusalRows.{refusal_row}
 
 -- the text is the lines of rows that are owed for the bytes, with this answer
 pub record IsOwedFor (command : Command) (bytes : List ℕ) (answer : Answer) : Type 0 where

@@ -1,10 +1,6 @@
-pub mod FlawRows
-pub mod RefusalRows
 pub mod Status
 pub mod Budgets
 pub mod SolveAnswer
-pub mod Network
-pub mod Timetable
 pub mod Cases
 pub mod Owed
 pub mod Laws

@@ -11,7 +11,7 @@ use Rattle.mdvsp.specs.declared.status.Status.{Status}
 use Rattle.mdvsp.specs.declared.status.Status.TheVariants as status
 use Rattle.vs_reader.specs.Rows.{Row, lines}
 use Rattle.vs_words.specs.Words.{Word, AreBadAt, AskFor, AskToRead, Reads}
-use Rattle.mdvsp.specs.RefusalRows.{words_row}
+use Rattle.vs_report.specs.RefusalRows.{words_row}
 use Rattle.mdvsp.specs.Owed.{Owes}
 
 -- how many bytes an input may have

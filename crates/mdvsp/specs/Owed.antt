@@ -18,16 +18,16 @@ use Rattle.vs_document.specs.declared.refused.DocWhy.{DocWhy}
 use Rattle.vs_reader.specs.Texts.{IsRefused}
 use Rattle.vs_reader.specs.declared.refused.Refused.{Refused}
 use Rattle.mdvsp.specs.Cases.{CheckText, LacksDocument, SolveText}
-use Rattle.mdvsp.specs.RefusalRows.{document_refusal_row, refusal_row, too_large_row}
-use Rattle.mdvsp.specs.FlawRows.{no_row}
+use Rattle.vs_report.specs.RefusalRows.{document_refusal_row, refusal_row, too_large_row}
+use Rattle.vs_report.specs.FlawRows.{no_row}
 use Rattle.mdvsp.specs.Budgets.{budget_of}
 use Rattle.mdvsp.specs.SolveAnswer.{SolveAnswer}
 use Rattle.vs_words.specs.declared.command.Command.{Command}
 use Rattle.vs_words.specs.declared.command.Effort.{Effort}
 use Rattle.vs_words.specs.declared.command.Command.TheVariants.{Check, Solve, Network, Blocks, Make}
 use Rattle.vs_make.specs.Generator.{make_rows}
-use Rattle.mdvsp.specs.Network.{AreNetworkRows}
-use Rattle.mdvsp.specs.Timetable.{timetable_of}
+use Rattle.vs_report.specs.Network.{AreNetworkRows}
+use Rattle.vs_report.specs.Timetable.{timetable_of}
 use Rattle.vs_instance.specs.Plan.{IsPlan}
 use Rattle.vs_plan.specs.PlanFaults.{faults_of}
 use Rattle.vs_plan.specs.declared.plan_fault.PlanFault.{PlanFault}

@@ -1,6 +1,6 @@
 //! `solve`: a search of the instance, and its document.
 
-ghost use Rattle.std.specs.Prelude.{◌≡◌, ◌≤◌, ◌∷◌, [], length, IfOk};
+ghost use Rattle.std.specs.Prelude.{◌≡◌, ◌≤◌, length, IfOk};
 ghost use Rattle.vs_reader.specs.Names.{HaveCounts};
 ghost use Rattle.vs_tree.specs.Search.{state};
 ghost use Rattle.vs_tree.specs.Takes.{IsOver};

@@ -10,7 +10,7 @@ use Rattle.vs_words.specs.declared.command.Command.{Command}
 use Rattle.vs_words.specs.declared.command.Command.TheVariants.{Check, Solve, Network, Blocks, Make}
 use Rattle.mdvsp.specs.declared.status.Status.{Status}
 use Rattle.mdvsp.specs.declared.status.Status.TheVariants as status
-use Rattle.mdvsp.specs.Network.{AreNetworkRows}
+use Rattle.vs_report.specs.Network.{AreNetworkRows}
 use Rattle.vs_instance.specs.Firsts.{first}
 use Rattle.vs_instance.specs.Plan.{IsPlan, LayerBlock}
 use Rattle.vs_plan.specs.Blocks.{blocks_of}
@@ -22,15 +22,14 @@ use Rattle.vs_check.specs.declared.flaw.Flaw.{Flaw}
 use Rattle.vs_check.specs.declared.flaw.Flaw.TheVariants.{Plan}
 use Rattle.vs_check.specs.Flaws.{flaws_of}
 use Rattle.vs_check.specs.HoldingDocument.{HoldingDocument}
-use Rattle.mdvsp.specs.FlawRows.{no_row}
+use Rattle.vs_report.specs.FlawRows.{no_row}
 use Rattle.vs_make.specs.Generator.{make_rows}
 use Rattle.mdvsp.specs.Laws.{IsDetermined}
 use Rattle.mdvsp.specs.Owed.{Owes, BlocksOwes, CheckOwes, MakeOwes, NetworkOwes, OwesNetwork, OwesNo, OwesNoCase, OwesNoTimetable, OwesRefusal, OwesTimetable, OwesYes}
-use Rattle.mdvsp.specs.Timetable.{rows_beside, timetable_of}
+use Rattle.vs_report.specs.Timetable.{rows_beside, timetable_of}
 use Rattle.mdvsp.proofs.once.OneCase.{case_refused, one_document_refusal, same_case}
-use Rattle.mdvsp.specs.RefusalRows.{refusal_row}
-use Rattle.mdvsp.proofs.once.OneNet.{one_network}
-use Rattle.mdvsp.proofs.once.OneRefusal.{one_refusal}
+use Rattle.vs_report.specs.RefusalRows.{refusal_row}
+use Rattle.vs_report.proofs.CallerLemmas.{one_network, one_refusal}
 
 -- the row of a document that holds
 abbrev yes_fields : Claim → Option ℤ → Option ℤ → Row

@@ -19,8 +19,8 @@ use Rattle.mdvsp.specs.declared.answer.Answer.{Answer}
 use Rattle.vs_words.specs.declared.command.Command.TheVariants.{Blocks}
 use Rattle.mdvsp.specs.declared.status.Status.TheVariants as status
 use Rattle.mdvsp.specs.Answered.{IsOwedFor}
-use Rattle.mdvsp.specs.FlawRows.{no_row}
-use Rattle.mdvsp.specs.Timetable.{rows_beside, timetable}
+use Rattle.vs_report.specs.FlawRows.{no_row}
+use Rattle.vs_report.specs.Timetable.{rows_beside, timetable}
 use Rattle.mdvsp.proofs.owing.OwedAnswers.{owed_so}
 
 -- a cost that is printed, and one that isn't

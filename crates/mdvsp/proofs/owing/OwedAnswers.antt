@@ -23,8 +23,8 @@ use Rattle.vs_document.specs.declared.refused.DocWhy.{DocWhy}
 use Rattle.mdvsp.specs.Budgets.{budget_of}
 use Rattle.mdvsp.specs.Cases.{CheckText, SolveText}
 use Rattle.mdvsp.specs.Owed.{Owes, SolveOwes, OwesDocument, OwesRefusal, status_of, yes_row}
-use Rattle.mdvsp.specs.RefusalRows.{document_refusal_row, refusal_row, too_large_row}
-use Rattle.mdvsp.specs.FlawRows.{no_row}
+use Rattle.vs_report.specs.RefusalRows.{document_refusal_row, refusal_row, too_large_row}
+use Rattle.vs_report.specs.FlawRows.{no_row}
 use Rattle.vs_instance.specs.Firsts.{first}
 use Rattle.vs_check.specs.Flaws.{flaws_of, verdict_of}
 use Rattle.vs_check.specs.declared.flaw.Flaw.{Flaw}

@@ -17,7 +17,7 @@ use Rattle.mdvsp.specs.Outcome.{Run, Told, Answered, CouldNotRead, Ends, HasRead
 use Rattle.mdvsp.specs.Owed.{Owes}
 use Rattle.vs_reader.specs.Rows.{Row, lines}
 use Rattle.vs_words.specs.Words.{AreBadAt, AskFor}
-use Rattle.mdvsp.specs.RefusalRows.{words_row}
+use Rattle.vs_report.specs.RefusalRows.{words_row}
 
 -- what was owed for some command was written
 answered_ends : (run : Run) (command : Command) (bytes : List ℕ) (answer : Status) (rows : List Row)

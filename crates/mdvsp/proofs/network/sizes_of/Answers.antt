@@ -1,14 +1,14 @@
-use Rattle.std.proofs.Common.{arith}
-use Rattle.mdvsp.proofs.owing.NetworkRows.{no_rows, one_layer_more, sizes_written}
+use Rattle.std.proofs.Common.{ℕ, List, ◌++◌, ap, ◌∙◌}
+use Rattle.vs_reader.specs.Rows.{lines}
 use Rattle.mdvsp.proofs.network.sizes_of.Goals as goal
-
-pub loop-l-init : goal.loop-l-init
-loop-l-init c = no_rows _ _ _ c.new-text.ensures
-
-pub loop-l-preserved : goal.loop-l-preserved
-loop-l-preserved c = one_layer_more _ _ _ _ _ c.loop-l.invariant c.in_ok-write_layer.ensures
 
 pub returns : goal.returns
 returns c =
-    sizes_written _ _ c.loop-l.l c.loop-l.text c.of.result c.loop-l.invariant (omega arith) c.of.ensures.status
-    c.of.ensures.text
+    let nets = c.in_ok-write_nets.ensures in
+    record {
+      rows = nets.rows;
+      rows_are = nets.are_rows;
+      status_is = c.of.ensures.status;
+      text_is = c.of.ensures.text ∙ nets.text_is
+          ∙ ap (λ (bytes : List ℕ). bytes ++ lines nets.rows) c.new-text.ensures;
+    }

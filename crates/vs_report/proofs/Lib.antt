@@ -1,0 +1,3 @@
+pub mod written
+pub mod once
+pub mod CallerLemmas

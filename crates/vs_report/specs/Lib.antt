@@ -1,0 +1,4 @@
+pub mod RefusalRows
+pub mod FlawRows
+pub mod Network
+pub mod Timetable

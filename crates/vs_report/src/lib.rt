@@ -1,0 +1,12 @@
+//! What the commands write: the rows of refusals and of flaws, those that tell how large nets are, and timetables.
+#![tactic(auto)]
+
+mod flaws;
+mod network;
+mod refusal;
+mod timetable;
+
+pub use flaws::flaw_fields;
+pub use network::write_nets;
+pub use refusal::{write_document_why, write_why};
+pub use timetable::write_timetable;
