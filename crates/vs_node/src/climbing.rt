@@ -11,6 +11,7 @@ ghost use Rattle.vs_prices.specs.Worth.{IsWorth};
 use crate::leads::Leads;
 use vs_bundle::{Aim, climb};
 use vs_circ::Work;
+use vs_instance::{Instance, MAX_LAYERS, MAX_TRIPS};
 use vs_multi::{Case, few_rounds, greatest_step, keep_better, of_table};
 use vs_prices::{Bound, Table};
 use vs_types::{Memory, SCALE};
@@ -21,9 +22,16 @@ const FIRST_STEP: u32 = 1;
 /// How many circulations a layer keeps: about as many as there are rounds.
 const CUTS: u32 = 30;
 
-/// How many rounds a climb has: the first ten gain nothing as a rule, since no circulations are known yet, and twice as
-/// many gain less than further leaves do in that time.
-const ROUNDS: u32 = 35;
+/// How many rounds a climb has at most: the first ten gain nothing as a rule, since no circulations are known yet, and
+/// twice as many gain less than further leaves do in that time.
+const MOST_ROUNDS: u32 = 35;
+
+/// How many rounds a climb has at least: a few that can gain.
+const LEAST_ROUNDS: u32 = 12;
+
+/// How many offers of trips to layers there are in all, where the rounds for them lie between the two limits: the root
+/// has fewer passes the more a pass offers, and 200 leaves are to take no more than four times as long as the root.
+const OFFERS: u32 = 56_000;
 
 /// How many arcs, times trips, the circulations of a climb look along at most: a tenth of what a step of the root may.
 const EFFORT: u64 = 4_000_000_000;
@@ -82,15 +90,27 @@ fn first_multipliers(case: &Case<'_>, table: &Table) -> Result<Vec<i64>, Memory>
     Ok(first)
 }
 
+/// How many rounds a climb has, the fewer the more each of them offers.
+fn rounds_for(instance: &Instance) -> u32 {
+    prove!(instance.trips() <= MAX_TRIPS && instance.layers() <= MAX_LAYERS);
+    let offers = instance.trips() * instance.layers();
+    OFFERS
+        .checked_div(offers)
+        .unwrap_or(0)
+        .max(LEAST_ROUNDS)
+        .min(MOST_ROUNDS)
+}
+
 /// What the climb is to come to, where the cheapest plan that is known costs so much.
 fn aim_for(case: &Case<'_>, known: Option<i64>) -> Result<Aim, Memory> {
+    let rounds = rounds_for(case.instance);
     Ok(Aim {
         known: known.map(|cost| cost.saturating_mul(SCALE)),
         most: greatest_step(case.alloc, case.instance)?,
         hundredths: FIRST_STEP,
         cuts: CUTS,
-        rounds: ROUNDS,
-        trial_rounds: ROUNDS,
+        rounds,
+        trial_rounds: rounds,
         arcs: EFFORT / u64::from(case.instance.trips()).max(1),
     })
 }
