@@ -4,6 +4,8 @@
 #[cfg(test)]
 mod agreements;
 #[cfg(test)]
+mod climbs;
+#[cfg(test)]
 mod decompositions;
 #[cfg(test)]
 mod multipliers;

@@ -18,7 +18,7 @@ use vs_prices::{Bound, Table, broken, permitted_sets, worth};
 use vs_types::Memory;
 
 /// The multipliers of `start`.
-fn started(alloc: Global, instance: &Instance) -> Result<Vec<i64>, Memory>
+pub fn started(alloc: Global, instance: &Instance) -> Result<Vec<i64>, Memory>
     ensures { IfOk result (λ multipliers. AreMultipliers instance.now multipliers.items) }
 {
     let mut multipliers = vec![in alloc; 0; instance.trips() as usize]?;

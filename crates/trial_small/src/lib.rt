@@ -1,0 +1,16 @@
+//! Small timetables of version 2 made from numbers, and what the cheapest plans of them cost, by going through all plans.
+#![tactic(auto)]
+
+mod count;
+mod drive;
+mod make;
+mod small;
+mod text;
+
+pub use count::least_cost;
+pub use make::made;
+pub use small::{Layer, Small, Trip, Way};
+pub use text::text_of;
+
+#[cfg(test)]
+mod tests;
