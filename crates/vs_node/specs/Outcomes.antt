@@ -1,7 +1,9 @@
 -- What the work on a leaf finds beside its table.
-use Rattle.std.specs.Prelude.{List, Option}
+use Rattle.std.specs.Prelude.{◌≡◌, List, Option}
 use Rattle.vs_types.specs.declared.layer_set.LayerSet.{LayerSet}
 use Rattle.vs_instance.specs.Problem.{Problem}
+use Rattle.vs_match.specs.LayerGraph.{LayerGraph}
+use Rattle.vs_multi.specs.Rounds.{IsCase}
 use Rattle.vs_plan.specs.CheckedPlan.{Checked}
 use Rattle.vs_prices.specs.declared.table.Table.{Table}
 use Rattle.vs_prices.specs.declared.bound.Bound.{Bound}
@@ -16,6 +18,13 @@ use Rattle.vs_node.specs.ChosenLayers.{AreChosen}
 use Rattle.vs_node.specs.LeastPlans.{IsBestWithin}
 use Rattle.vs_node.specs.NextSteps.{IsOpen, IsSplit}
 use Rattle.vs_node.specs.WorkedStep.{IsWorked}
+
+-- what the work on a leaf has at hand: a case, whose sets are the task's, and a table that fits and holds
+pub record IsAtHand (p : Problem) (nets : List LayerGraph) (sets : List LayerSet) (task : Task) : Type 0 where
+  pub case : IsCase p nets sets
+  pub own : sets ≡ task.sets.items
+  pub fits : Fits p task.table
+  pub holds : HoldingTable p task.table
 
 -- a least plan in which each trip is run in the layer that the table chooses for it, None exactly where there is none
 pub record HasPlan (p : Problem) (sets : List LayerSet) (table : Table) (plan : Option Checked) : Type 0 where

@@ -1,25 +1,21 @@
 //! A leaf to work on, and what the work on it comes to.
 ghost use Rattle.std.specs.Prelude.{◌≡◌, ℕ, ◌<◌, IfOk, length};
-ghost use Rattle.vs_instance.specs.Restriction.{IsRestriction};
-ghost use Rattle.vs_match.specs.LayerNets.{AreLayerNets};
 ghost use Rattle.vs_multi.specs.Rounds.{IsCase};
-ghost use Rattle.vs_prices.specs.Table.{Fits, HoldingTable};
+ghost use Rattle.vs_prices.specs.Table.{Fits};
 ghost use Rattle.vs_prices.specs.Worth.{IsWorth};
 ghost use Rattle.vs_prices.specs.declared.bound.Bound.{Bound};
 ghost use Rattle.vs_tree.specs.declared.calls.Next.TheVariants.{Close};
 ghost use Rattle.vs_node.specs.ChosenLayers.{AreSingle};
 ghost use Rattle.vs_node.specs.NextSteps.{IsNextBy, IsOpen};
-ghost use Rattle.vs_node.specs.Outcomes.{HasPlan, IsOutcome};
+ghost use Rattle.vs_node.specs.Outcomes.{HasPlan, IsAtHand, IsOutcome};
 ghost use Rattle.vs_node.specs.SplitRule.{HasChoice};
 
 use crate::choosing::chosen_layers;
 use crate::deciding::next_of;
 use crate::leads::Leads;
 use crate::settling::settle;
-use std::alloc::Global;
 use vs_circ::Work;
-use vs_instance::{Instance, MAX_TRIPS};
-use vs_match::LayerNet;
+use vs_instance::MAX_TRIPS;
 use vs_multi::Case;
 use vs_plan::CheckedPlan;
 use vs_prices::{Bound, Table};
@@ -51,25 +47,16 @@ pub struct Outcome {
 }
 
 /// What comes of a leaf whose trips have one layer each. It is closed.
-pub(crate) fn alone(
-    alloc: Global,
-    instance: &Instance,
-    nets: &[LayerNet],
-    task: &Task,
-    work: &mut Work,
-) -> Result<Outcome, Memory>
-    requires nets { AreLayerNets instance.now nets.now }
-    requires restriction { IsRestriction instance.now task.now.sets.items }
-    requires fits { Fits instance.now task.now.table }
-    requires holds { HoldingTable instance.now task.now.table }
+pub(crate) fn alone(case: &Case<'_>, task: &Task, work: &mut Work) -> Result<Outcome, Memory>
+    requires leaf { IsAtHand case.now.instance.now case.now.nets.now case.now.sets.now task.now }
     requires single { AreSingle task.now.sets.items }
-    ensures found { IfOk result (IsOutcome instance.now task.now) }
+    ensures found { IfOk result (IsOutcome case.now.instance.now task.now) }
     ensures full { IfOk result (λ outcome. (worth : Bound)
-        → IsWorth instance.now task.now.sets.items outcome.table worth
+        → IsWorth case.now.instance.now task.now.sets.items outcome.table worth
         → ¬ (IsOpen worth task.now.known outcome.plan)) }
     ensures closed { IfOk result (λ outcome. outcome.next ≡ Close) }
 {
-    let settled = settle(alloc, instance, nets, &task.sets, work)?;
+    let settled = settle(case.alloc, case.instance, case.nets, case.sets, work)?;
     Ok(Outcome {
         table: settled.table,
         plan: settled.plan,

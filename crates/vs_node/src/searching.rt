@@ -1,21 +1,16 @@
 //! The search of prices for a leaf some trip of which may be run in two layers or more.
 ghost use Rattle.std.specs.Prelude.{◌≡◌, ℕ, ◌<◌, Bool, IfOk, length};
-ghost use Rattle.vs_instance.specs.Restriction.{IsRestriction};
-ghost use Rattle.vs_match.specs.LayerNets.{AreLayerNets};
 ghost use Rattle.vs_multi.specs.Rounds.{IsCase};
 ghost use Rattle.vs_prices.specs.Table.{Fits, HoldingTable};
 ghost use Rattle.vs_prices.specs.Worth.{IsWorth};
-ghost use Rattle.vs_node.specs.Outcomes.{IsFollowedBy, IsOutcome};
+ghost use Rattle.vs_node.specs.Outcomes.{IsAtHand, IsFollowedBy, IsOutcome};
 ghost use Rattle.vs_node.specs.SplitRule.{HasChoice};
 ghost use Rattle.vs_node.specs.WorkedStep.{IsWorked};
 
 use crate::climbing::climb_on;
 use crate::keeping::better;
 use crate::outcome::{Outcome, Task, outcome_of};
-use std::alloc::Global;
 use vs_circ::Work;
-use vs_instance::Instance;
-use vs_match::LayerNet;
 use vs_multi::{Best, Case, few_rounds, of_table, raise, rounds, start};
 use vs_prices::Table;
 use vs_types::Memory;
@@ -25,34 +20,18 @@ const FIRST_ROUNDS: u32 = 1;
 
 /// What comes of a leaf some trip of which may be run in two layers or more: the best of its own table, that of its
 /// first rounds and that of a climb, raised, and the plan of the layers that this one chooses.
-pub(crate) fn search(
-    alloc: Global,
-    instance: &Instance,
-    nets: &[LayerNet],
-    task: &Task,
-    work: &mut Work,
-) -> Result<Outcome, Memory>
-    requires nets { AreLayerNets instance.now nets.now }
-    requires restriction { IsRestriction instance.now task.now.sets.items }
-    requires fits { Fits instance.now task.now.table }
-    requires holds { HoldingTable instance.now task.now.table }
-    requires choice { (i : ℕ) × (i < length task.now.sets.items) × HasChoice task.now.sets.items i }
-    ensures found { IfOk result (IsOutcome instance.now task.now) }
+pub(crate) fn search(case: &Case<'_>, task: &Task, work: &mut Work) -> Result<Outcome, Memory>
+    requires leaf { IsAtHand case.now.instance.now case.now.nets.now case.now.sets.now task.now }
+    requires choice { (i : ℕ) × (i < length case.now.sets.now) × HasChoice case.now.sets.now i }
+    ensures found { IfOk result (IsOutcome case.now.instance.now task.now) }
     ensures next { IfOk result (λ outcome.
-        IsFollowedBy instance.now task.now outcome) }
+        IsFollowedBy case.now.instance.now task.now outcome) }
 {
-    let sets = task.sets.as_slice();
-    let case = Case {
-        alloc,
-        instance,
-        nets,
-        sets,
-    };
-    let best = best_round(&case, task.root, &task.table, work)?;
-    let (mut table, worth) = better(&case, &task.table, best.table, best.worth)?;
-    let climbed = climb_on(&case, task.known, &mut table, worth, work)?;
-    let raised = raise(&case, &mut table, climbed.worth, work)?;
-    let outcome = outcome_of(&case, task.known, table, raised, &climbed.leads, work)?;
+    let best = best_round(case, task.root, &task.table, work)?;
+    let (mut table, worth) = better(case, &task.table, best.table, best.worth)?;
+    let climbed = climb_on(case, task.known, &mut table, worth, work)?;
+    let raised = raise(case, &mut table, climbed.worth, work)?;
+    let outcome = outcome_of(case, task.known, table, raised, &climbed.leads, work)?;
     Ok(outcome)
 }
 

@@ -17,6 +17,7 @@ use std::alloc::Global;
 use vs_circ::Work;
 use vs_instance::{Instance, MAX_TRIPS};
 use vs_match::LayerNet;
+use vs_multi::Case;
 use vs_types::Memory;
 
 /// Works on a leaf. Finds a table that within the leaf's sets is worth no less than the leaf's own, and no less than
@@ -49,13 +50,20 @@ pub fn work(
     ensures alone { IfOk result (λ outcome. AreSingle task.now.sets.items → outcome.next ≡ Close) }
 {
     prove!(instance.trips() <= MAX_TRIPS);
-    match first_with_choice(&task.sets) {
+    let sets = task.sets.as_slice();
+    let case = Case {
+        alloc,
+        instance,
+        nets,
+        sets,
+    };
+    match first_with_choice(sets) {
         None => {
-            let closed = alone(alloc, instance, nets, task, work)?;
+            let closed = alone(&case, task, work)?;
             Ok(closed)
         }
         Some(_trip) => {
-            let outcome = search(alloc, instance, nets, task, work)?;
+            let outcome = search(&case, task, work)?;
             Ok(outcome)
         }
     }

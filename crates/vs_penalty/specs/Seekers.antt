@@ -1,6 +1,10 @@
 -- What plans are sought with.
-use Rattle.std.specs.Prelude.{◌≡◌, length, IfSome}
+use Rattle.std.specs.Prelude.{◌≡◌, List, length, IfSome, ℤ}
+use Rattle.vs_types.specs.declared.layer_set.LayerSet.{LayerSet}
 use Rattle.vs_instance.specs.Problem.{Problem}
+use Rattle.vs_match.specs.LayerGraph.{LayerGraph}
+use Rattle.vs_multi.specs.Multipliers.{AreMultipliers}
+use Rattle.vs_multi.specs.Rounds.{IsCase}
 use Rattle.vs_penalty.specs.Penalties.{ArePenalties, IsPlanOf}
 use Rattle.vs_penalty.specs.declared.choices.Choices.{Choices}
 use Rattle.vs_penalty.specs.declared.seeking.Seeker.{Seeker}
@@ -15,3 +19,10 @@ pub record AreChoices (p : Problem) (choices : Choices) : Type 0 where
 pub record IsSeekerFor (p : Problem) (seeker : Seeker) : Type 0 where
   pub penalties : ArePenalties p seeker.penalties
   pub choices : AreChoices p seeker.choices
+
+-- what plans are sought with: a case, multipliers to begin with, and a seeker of its instance
+pub record CanSeek (p : Problem) (graphs : List LayerGraph) (sets : List LayerSet) (first : List ℤ)
+    (kept : Seeker) : Type 0 where
+  pub case : IsCase p graphs sets
+  pub multipliers : AreMultipliers p first
+  pub seeker : IsSeekerFor p kept

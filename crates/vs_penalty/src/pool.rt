@@ -1,8 +1,6 @@
 //! Plans sought among the layers of the cheapest choices.
 
-ghost use Rattle.vs_multi.specs.Multipliers.{AreMultipliers};
-ghost use Rattle.vs_multi.specs.Rounds.{IsCase};
-ghost use Rattle.vs_penalty.specs.Seekers.{IsSeekerFor};
+ghost use Rattle.vs_penalty.specs.Seekers.{CanSeek, IsSeekerFor};
 
 use crate::seeking::Seeker;
 use crate::slow_passes::Course;
@@ -29,9 +27,7 @@ impl Seeker {
         multipliers: &[i64],
         work: &mut Work,
     ) -> Result<(), Memory>
-        requires case { IsCase case.now.instance.now case.now.nets.now case.now.sets.now }
-        requires multipliers { AreMultipliers case.now.instance.now multipliers.now }
-        requires seeker { IsSeekerFor case.now.instance.now self.old }
+        requires { CanSeek case.now.instance.now case.now.nets.now case.now.sets.now multipliers.now self.old }
         ensures { IsSeekerFor case.now.instance.now self.new }
     {
         let mut pool = vec![in case.alloc; LayerSet(0); multipliers.len()]?;
@@ -59,9 +55,7 @@ impl Seeker {
         multipliers: &[i64],
         work: &mut Work,
     ) -> Result<(), Memory>
-        requires case { IsCase case.now.instance.now case.now.nets.now pool.now }
-        requires multipliers { AreMultipliers case.now.instance.now multipliers.now }
-        requires seeker { IsSeekerFor case.now.instance.now self.old }
+        requires { CanSeek case.now.instance.now case.now.nets.now pool.now multipliers.now self.old }
         ensures { IsSeekerFor case.now.instance.now self.new }
     {
         let narrow = Case {

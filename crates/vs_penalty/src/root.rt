@@ -1,8 +1,7 @@
 //! The steps by which plans and multipliers are sought at the root.
 
 ghost use Rattle.vs_multi.specs.Multipliers.{AreMultipliers};
-ghost use Rattle.vs_multi.specs.Rounds.{IsCase};
-ghost use Rattle.vs_penalty.specs.Seekers.{IsSeekerFor};
+ghost use Rattle.vs_penalty.specs.Seekers.{CanSeek, IsSeekerFor};
 
 use crate::effort::{affordable, arcs_for, passes};
 use crate::pool::TURNS;
@@ -34,9 +33,7 @@ impl Seeker {
         multipliers: &mut [i64],
         work: &mut Work,
     ) -> Result<(), Memory>
-        requires case { IsCase case.now.instance.now case.now.nets.now case.now.sets.now }
-        requires multipliers { AreMultipliers case.now.instance.now multipliers.old }
-        requires seeker { IsSeekerFor case.now.instance.now self.old }
+        requires { CanSeek case.now.instance.now case.now.nets.now case.now.sets.now multipliers.old self.old }
         ensures multipliers { AreMultipliers case.now.instance.now multipliers.new }
         ensures seeker { IsSeekerFor case.now.instance.now self.new }
     {
@@ -61,9 +58,7 @@ impl Seeker {
         multipliers: &[i64],
         work: &mut Work,
     ) -> Result<(), Memory>
-        requires case { IsCase case.now.instance.now case.now.nets.now case.now.sets.now }
-        requires multipliers { AreMultipliers case.now.instance.now multipliers.now }
-        requires seeker { IsSeekerFor case.now.instance.now self.old }
+        requires { CanSeek case.now.instance.now case.now.nets.now case.now.sets.now multipliers.now self.old }
         ensures { IsSeekerFor case.now.instance.now self.new }
     {
         let arcs = arcs_for(case.instance);
@@ -93,9 +88,7 @@ impl Seeker {
         multipliers: &mut [i64],
         work: &mut Work,
     ) -> Result<(), Memory>
-        requires case { IsCase case.now.instance.now case.now.nets.now case.now.sets.now }
-        requires multipliers { AreMultipliers case.now.instance.now multipliers.old }
-        requires seeker { IsSeekerFor case.now.instance.now self.old }
+        requires { CanSeek case.now.instance.now case.now.nets.now case.now.sets.now multipliers.old self.old }
         ensures multipliers { AreMultipliers case.now.instance.now multipliers.new }
         ensures seeker { IsSeekerFor case.now.instance.now self.new }
     {

@@ -1,8 +1,6 @@
 //! Plans sought by passes that begin anew after each agreement.
 
-ghost use Rattle.vs_multi.specs.Multipliers.{AreMultipliers};
-ghost use Rattle.vs_multi.specs.Rounds.{IsCase};
-ghost use Rattle.vs_penalty.specs.Seekers.{IsSeekerFor};
+ghost use Rattle.vs_penalty.specs.Seekers.{CanSeek, IsSeekerFor};
 
 use crate::seeking::Seeker;
 use vs_circ::Work;
@@ -25,9 +23,7 @@ impl Seeker {
         multipliers: &[i64],
         work: &mut Work,
     ) -> Result<(), Memory>
-        requires case { IsCase case.now.instance.now case.now.nets.now case.now.sets.now }
-        requires multipliers { AreMultipliers case.now.instance.now multipliers.now }
-        requires seeker { IsSeekerFor case.now.instance.now self.old }
+        requires { CanSeek case.now.instance.now case.now.nets.now case.now.sets.now multipliers.now self.old }
         ensures { IsSeekerFor case.now.instance.now self.new }
     {
         let mut left = course.agreements;

@@ -13,11 +13,11 @@ use Rattle.vs_node.proofs.searching.search.Goals as goal
 
 pub returns-clause-found : goal.returns-clause-found
 returns-clause-found c =
-    let p = c.args.instance.now in
+    let p = c.args.case.now.instance.now in
     let task = c.args.task.now in
     let outcome = c.in_ok-outcome.outcome in
-    let sets = c.as_slice-sets.result.now in
-    let sets_are = c.as_slice-sets.ensures.value in
+    let sets = c.args.case.now.sets.now in
+    let sets_are = c.requires.leaf.own in
     let table_is = sym c.in_ok-outcome.ensures.table in
     let found = c.in_ok-best.best.table in
     let climbed = c.climb_on.new.table in
@@ -42,10 +42,10 @@ returns-clause-found c =
 
 pub returns-clause-next : goal.returns-clause-next
 returns-clause-next c =
-    let p = c.args.instance.now in
+    let p = c.args.case.now.instance.now in
     let task = c.args.task.now in
     let outcome = c.in_ok-outcome.outcome in
-    let sets_are = c.as_slice-sets.ensures.value in
+    let sets_are = c.requires.leaf.own in
     let table = c.raise.new.table in
     let worth =
     subst (λ (s : List LayerSet). IsWorth p s table c.in_ok-raised.raised) sets_are c.in_ok-raised.ensures.worth in

@@ -9,7 +9,7 @@ use Rattle.vs_node.proofs.working.work.Goals as goal
 pub alone-requires-clause-single : goal.alone-requires-clause-single
 alone-requires-clause-single c =
     no_choice c.args.instance.now c.args.task.now.sets.items c.requires.nets.instance c.requires.restriction
-    (subst (λ (s : List LayerSet). HoldsOfNone (HasChoice s) (length s)) c.deref.ensures.value c.in-None.ensures)
+    (subst (λ (s : List LayerSet). HoldsOfNone (HasChoice s) (length s)) c.as_slice-sets.ensures.value c.in-None.ensures)
 
 pub returns-in_ok-closed-in-None-clause-start : goal.returns-in_ok-closed-in-None-clause-start
 returns-in_ok-closed-in-None-clause-start c root =
@@ -33,6 +33,6 @@ pub returns-in_ok-outcome-in-Some-clause-alone : goal.returns-in_ok-outcome-in-S
 returns-in_ok-outcome-in-Some-clause-alone c single =
     let sets = c.args.task.now.sets.items in
     let i = c.in-Some._trip.0 in
-    let found = subst (λ (s : List LayerSet). IsLowest (HasChoice s) (length s) i) c.deref.ensures.value
+    let found = subst (λ (s : List LayerSet). IsLowest (HasChoice s) (length s) i) c.as_slice-sets.ensures.value
     c.in-Some.ensures in
     absurd (choice_of_some sets i found.inside found.holds single)
