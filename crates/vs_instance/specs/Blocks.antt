@@ -34,7 +34,7 @@ minutes_of w = option_map_or (λ x. x.minutes) w 0
 abbrev pub metres_of : Option Way → ℕ
 metres_of w = option_map_or (λ x. x.metres) w 0
 
--- when a vehicle leaves its depot for trip i, and when it is back there after trip i, in minutes from 0:00 of the first day
+-- when a vehicle leaves its depot for trip i, and when it is back there after it, in minutes from 0:00 of the first day
 abbrev pub leaves_for : Problem → LayerNo → ℕ → ℕ
 leaves_for p l i = (trip_of p i).start - minutes_of (way_out p l.0 i)
 
@@ -48,10 +48,11 @@ pull_out_minute p l trips = leaves_for p l (first_of trips)
 abbrev pub pull_in_minute : Problem → LayerNo → List TripNo → ℕ
 pull_in_minute p l trips = back_after p l (last_of trips)
 
--- between trips i and j the vehicle goes by the depot: i rests before j there, and that costs less than the way straight
+-- between trips i and j the vehicle goes by the depot: i rests before j there, and that costs less than straight on
 abbrev pub goes_by_depot : Problem → LayerNo → TripNo → TripNo → Bool
 goes_by_depot p l i j =
-    option_map_or (λ rest. option_map_or (nat_lt rest) (direct_piece p l.0 i.0 j.0) false) (rest_piece p l.0 i.0 j.0) false
+    option_map_or (λ rest. option_map_or (nat_lt rest) (direct_piece p l.0 i.0 j.0) false) (rest_piece p l.0 i.0 j.0)
+    false
 
 -- when it is back in the depot between them, and when it leaves it again, where it goes that way
 abbrev pub rest_times : Problem → LayerNo → TripNo → TripNo → Option (ℕ × ℕ)

@@ -23,7 +23,8 @@ trip_piece p l i = rated p l ((trip_of p i).end - (trip_of p i).start) (trip_of 
 abbrev pub in_piece : Problem → ℕ → ℕ → Option ℕ
 in_piece p l i = option_map (λ w. rated p l w.minutes w.metres) (way_in p l i)
 
--- all the time from the end of trip i to the start of trip j, be it driven or waited, and the way straight from the one to the other
+-- all the time from the end of trip i to the start of trip j, be it driven or waited, and the way straight from the one
+-- to the other
 abbrev pub direct_piece : Problem → ℕ → ℕ → ℕ → Option ℕ
 direct_piece p l i j = option_and_then
     (λ w. if nat_le ((trip_of p i).end + w.minutes) (trip_of p j).start then Some

@@ -57,8 +57,8 @@ HasPullOut p l i = IsSomeAnd (way_out p l i) (λ w. w.minutes ≤ (trip_of p i).
 abbrev pub HasPullIn : Problem → ℕ → ℕ → Type 0
 HasPullIn p l i = IsSome (way_in p l i)
 
--- a vehicle of layer l that ran trip i can pull in, rest in the depot for at least the layer's stay, and pull out again in
--- time for trip j
+-- a vehicle of layer l that ran trip i can pull in, rest in the depot for at least the layer's stay, and pull out again
+-- in time for trip j
 abbrev pub Rests : Problem → ℕ → ℕ → ℕ → Type 0
 Rests p l i j =
     IsSomeAnd (layer_of p l).stay (λ stay. IsSomeAnd (way_in p l i) (λ back. IsSomeAnd (way_out p l j) (λ out.

@@ -23,8 +23,8 @@ pub fn starting_values_exist()
     ensures { StartingValuesExist }
 {}
 
-/// Who rests connects: where a vehicle can pull in after a trip, rest, and pull out to another one in time, it can also go
-/// straight from the one to the other, since deadheads are closed.
+/// Who rests connects: where a vehicle can pull in after a trip, rest, and pull out to another one in time, it can also
+/// go straight from the one to the other, since deadheads are closed.
 pub fn who_rests_connects()
     ensures { RestsConnect }
 {}

@@ -28,8 +28,8 @@ const COURSE: Course = Course {
 };
 
 /// Brings the layers of these sets to agree, by some slow passes from the multipliers that a table stands for, and
-/// gives the cheapest plan that was found on the way, if any. It is a plan of the instance, and may run a trip in a layer
-/// outside its set.
+/// gives the cheapest plan that was found on the way, if any. It is a plan of the instance, and may run a trip in a
+/// layer outside its set.
 pub fn seek_plan(
     alloc: Global,
     instance: &Instance,

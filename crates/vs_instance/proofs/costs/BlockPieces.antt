@@ -143,7 +143,8 @@ chain_cost p l i (j ∷ rest) inst chain =
 whole_cost : (p : Problem) (l fixed start end rested trips between cost : ℕ) (out back : Way) → out.minutes ≤ start
     → start + rested ≤ end
     → cost ≡ rated p l (end - start - rested) (trips + between)
-    → fixed + rated p l (end + back.minutes - (start - out.minutes) - rested) (out.metres + trips + between + back.metres)
+    → fixed + rated p l (end + back.minutes - (start - out.minutes) - rested)
+    (out.metres + trips + between + back.metres)
     ≡ fixed + rated p l out.minutes out.metres + cost + rated p l back.minutes back.metres
 whole_cost p l fixed start end rested trips between cost out back in_time in_order is =
     let time : end + back.minutes - (start - out.minutes) - rested

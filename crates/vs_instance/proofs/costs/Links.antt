@@ -118,7 +118,8 @@ module _ (p : Problem) (l : LayerNo) (i j : TripNo) where
       → IsLink p l i j
   link_of None none w way time directs =
       went_straight w way time
-      (ap (λ (o : Option ℕ). option_map_or (λ r. option_map_or (ltb r) (direct_piece p l.0 i.0 j.0) false) o false) none)
+      (ap (λ (o : Option ℕ). option_map_or (λ r. option_map_or (ltb r) (direct_piece p l.0 i.0 j.0) false) o false)
+      none)
       (ap (option_map (no_more_than (rest_piece p l.0 i.0 j.0))) directs
       ∙ ap (λ (o : Option ℕ). Some (no_more_than o (straight w))) none)
   link_of (Some rest) some w way time directs =

@@ -9,7 +9,8 @@ use Rattle.vs_node.proofs.working.work.Goals as goal
 pub alone-requires-clause-single : goal.alone-requires-clause-single
 alone-requires-clause-single c =
     no_choice c.args.instance.now c.args.task.now.sets.items c.requires.nets.instance c.requires.restriction
-    (subst (λ (s : List LayerSet). HoldsOfNone (HasChoice s) (length s)) c.as_slice-sets.ensures.value c.in-None.ensures)
+    (subst (λ (s : List LayerSet). HoldsOfNone (HasChoice s) (length s)) c.as_slice-sets.ensures.value
+    c.in-None.ensures)
 
 pub returns-in_ok-closed-in-None-clause-start : goal.returns-in_ok-closed-in-None-clause-start
 returns-in_ok-closed-in-None-clause-start c root =
