@@ -1,5 +1,5 @@
-//! Tests of what judges: worked examples of documents, plans, prices and verdicts, and that each call can answer something
-//! else than `Memory`.
+//! Tests of what judges: worked examples of documents, plans, prices and verdicts, and that each call can answer
+//! something else than `Memory`.
 #![tactic(auto)]
 
 #[cfg(test)]

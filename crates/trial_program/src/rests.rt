@@ -1,5 +1,5 @@
-//! Rests in the depot: as short and as long as they may be, where they cost as much as the direct way, and beside a plain
-//! count of all plans.
+//! Rests in the depot: as short and as long as they may be, where they cost as much as the direct way, and beside a
+//! plain count of all plans.
 
 use crate::runs::{Row, audit, come_out};
 use mdvsp::Status;
@@ -50,8 +50,8 @@ pub const PAID_METRES: &str = "layer,L1,D,2,1000,1,1,20\n";
 /// A trip in the morning, and one a minute past noon.
 pub const PAST_NOON_TRIPS: &str = "trip,t1,P,8:00,Q,8:30,0,L1\ntrip,t2,Q,12:01,P,12:31,0,L1\n";
 
-/// Two layers at one depot, of which either may run a trip in the morning and one at noon. Vehicles of the one rest for 20
-/// minutes at least, those of the other for 200, which is too long.
+/// Two layers at one depot, of which either may run a trip in the morning and one at noon. Vehicles of the one rest for
+/// 20 minutes at least, those of the other for 200, which is too long.
 pub const TWO_STAYS: &str = "layer,L1,D,2,1000,1,0,20\nlayer,L2,D,2,900,1,0,200\n";
 
 pub const TWO_STAYS_TURNED: &str = "layer,L1,D,2,900,1,0,200\nlayer,L2,D,2,1000,1,0,20\n";

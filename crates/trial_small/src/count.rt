@@ -35,7 +35,8 @@ fn plans(small: &Small, vehicles: u64) -> u64 {
     count
 }
 
-/// What a vehicle does whose trips are those with its digit: Some(None) where it stays in the depot, None where it can't.
+/// What a vehicle does whose trips are those with its digit: Some(None) where it stays in the depot, None where it
+/// can't run them.
 fn day(small: &Small, layer: &Layer, vehicle: u64, count: u64, plan: u64) -> Option<Option<Driven>>
     requires { 0 < count }
 {

@@ -1,4 +1,4 @@
-//! Small timetables of version 2 made from numbers, and what the cheapest plans of them cost, by going through all plans.
+//! Small timetables of version 2 drawn from numbers, and what the cheapest plans of them cost, by a count of all plans.
 #![tactic(auto)]
 
 mod count;
