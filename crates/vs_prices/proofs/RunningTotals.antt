@@ -9,6 +9,8 @@ use Rattle.std.proofs.lemmas.List.Elements.{filter-append}
 use Rattle.std.proofs.lemmas.List.FromFn.{map-range_with_len_more}
 use Rattle.std.proofs.lemmas.Nat.{mul-le}
 use Rattle.vs_connect.specs.Cost.{lesser_of}
+use Rattle.vs_types.specs.declared.numbers.TheConstants.{MAX_LAYERS}
+use Rattle.vs_instance.specs.declared.limits.TheConstants.{MAX_FLEET, MAX_TRIPS}
 use Rattle.vs_prices.specs.Table.{IsPrice}
 use Rattle.vs_instance.specs.Lagrangian.{total}
 use Rattle.vs_prices.specs.declared.table_worth.TheConstants.{MAX_TRIP_PRICE}
@@ -95,7 +97,7 @@ pub record SumWithin (limit : ℕ) (before price after : ℤ) : Type 0 where
   pub high : after ≤ℤ pos limit
 
 pub trip_added : (bits i : ℕ) (from price : ℤ) → from ≡ to_z w64 (of_z w64 price)
-    → neg_ℤ MAX_TRIP_PRICE ≤ℤ price → price ≤ℤ MAX_TRIP_PRICE → i < 2000
+    → neg_ℤ MAX_TRIP_PRICE ≤ℤ price → price ≤ℤ MAX_TRIP_PRICE → i < MAX_TRIPS
     → neg_ℤ (pos (3000000000000000000 * i)) ≤ℤ to_z w128 bits → to_z w128 bits ≤ℤ pos (3000000000000000000 * i)
     → SumWithin (3000000000000000000 * (i + 1)) (to_z w128 bits) price
     (to_z w128 (of_z w128 (to_z w128 bits +ℤ to_z w128 (of_z w128 from))))
@@ -109,18 +111,18 @@ pub record ProductWithin (x : ℤ) : Type 0 where
   pub low : neg_ℤ (pos 2000000000000000000000) ≤ℤ x
   pub high : x ≤ℤ pos 2000000000000000000000
 
-pub product_within : (price : ℤ) (fleet : ℕ) → IsPrice price → fleet ≤ 2000 → ProductWithin (price *ℤ pos fleet)
+pub product_within : (price : ℤ) (fleet : ℕ) → IsPrice price → fleet ≤ MAX_FLEET → ProductWithin (price *ℤ pos fleet)
 product_within (pos n) fleet is_price few =
     let n_small : n ≤ 1000000000000000000 = omega (arith, ints) in
-    let small = mul-le n fleet 1000000000000000000 2000 n_small few in
+    let small = mul-le n fleet 1000000000000000000 MAX_FLEET n_small few in
     record { low = omega (arith, ints); high = omega (arith, ints) }
 product_within (negsuc n) fleet is_price few =
     let n_small : suc n ≤ 1000000000000000000 = omega (arith, ints) in
-    let small = mul-le (suc n) fleet 1000000000000000000 2000 n_small few in
+    let small = mul-le (suc n) fleet 1000000000000000000 MAX_FLEET n_small few in
     record { low = omega (arith, ints); high = omega (arith, ints) }
 
 product_passed : (a b price : ℤ) (fleet : ℕ) → a ≡ to_z w64 (of_z w64 price) → b ≡ pos fleet → IsPrice price
-    → fleet ≤ 2000
+    → fleet ≤ MAX_FLEET
     → to_z w128 (of_z w128 (to_z w128 (of_z w128 a) *ℤ to_z w128 (of_z w128 b))) ≡ price *ℤ pos fleet
 product_passed a b price fleet e f is_price few =
     let within = product_within price fleet is_price few in
@@ -130,7 +132,7 @@ product_passed a b price fleet e f is_price few =
     rw (a_is, b_is) (omega (arith, ints))
 
 pub product_added : (bits l fleet : ℕ) (a b price : ℤ) → a ≡ to_z w64 (of_z w64 price) → b ≡ pos fleet
-    → IsPrice price → fleet ≤ 2000 → l < 16
+    → IsPrice price → fleet ≤ MAX_FLEET → l < MAX_LAYERS
     → neg_ℤ (pos (2000000000000000000000 * l)) ≤ℤ to_z w128 bits → to_z w128 bits ≤ℤ pos (2000000000000000000000 * l)
     → FitsSigned w128 (to_z w128 bits +ℤ to_z w128 (of_z w128 (to_z w128 (of_z w128 a) *ℤ to_z w128 (of_z w128 b))))
     × SumWithin (2000000000000000000000 * (l + 1)) (to_z w128 bits) (price *ℤ pos fleet)

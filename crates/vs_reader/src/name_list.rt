@@ -99,9 +99,13 @@ impl NameList {
         let added = text(alloc, name)?;
         let key = text(alloc, name)?;
         self.names.reserve(1)?;
-        self.numbers.insert(key, number)?;
-        self.names.push(added)?;
-        Ok(())
+        match self.numbers.insert(key, number) {
+            Ok(_) => {
+                self.names.push(added)?;
+                Ok(())
+            }
+            Err(_) => Err(Memory),
+        }
     }
 }
 

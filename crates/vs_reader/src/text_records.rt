@@ -36,7 +36,8 @@ impl<'t> TextRecords<'t> {
 
     /// Goes on to the next record, and answers whether there was one.
     pub fn next(&mut self) -> Result<bool, Memory>
-        ensures { IfOk result (λ found. (rows : List Row) → AreLeft self.old rows → GivesNext self.new rows found) }
+        ensures { IfOk result (λ found. (rows : List Row) → AreLeft self.old rows
+            → GivesNext self.new rows found) }
     {
         // Bytes in memory have no fault, so the only error is want of memory.
         let Ok(found) = self.reader.read_byte_record(&mut self.current) else {

@@ -6,6 +6,7 @@ use Rattle.std.proofs.lemmas.Bool.{agree_below_at, eqb-true, eq-eqb, true≢fals
 use Rattle.std.proofs.lemmas.List.Elements.{All-nil, All-cons, All-get_or}
 use Rattle.vs_types.specs.LayerSet.{Has, members, layer_numbers}
 use Rattle.vs_types.specs.declared.layer_set.LayerSet.{LayerSet}
+use Rattle.vs_types.specs.declared.numbers.TheConstants.{MAX_LAYERS}
 use Rattle.vs_instance.specs.declared.parts.Parts.{Parts}
 use Rattle.vs_instance.specs.Misfits.{AreParts}
 use Rattle.vs_reader.specs.Names.{NameLists}
@@ -20,18 +21,18 @@ filter-none p (x ∷ xs) is =
       | false ↦ λ fails none. All-cons (λ y. p y ≡ false) x xs fails (filter-none p xs none)
     ] refl is
 
-number_at : (l : ℕ) → l < 16 → get_or layer_numbers l 0 ≡ l
+number_at : (l : ℕ) → l < MAX_LAYERS → get_or layer_numbers l 0 ≡ l
 unfolding layer_numbers
 number_at l within =
     eqb-true (get_or layer_numbers l 0) l
-    (agree_below_at (λ k. eqb (get_or layer_numbers k 0) k) (λ _. true) 16 l refl within)
+    (agree_below_at (λ k. eqb (get_or layer_numbers k 0) k) (λ _. true) MAX_LAYERS l refl within)
 
-length-layer_numbers : length layer_numbers ≡ 16
+length-layer_numbers : length layer_numbers ≡ MAX_LAYERS
 unfolding layer_numbers
 length-layer_numbers = refl
 
 -- a set that a layer stands in has members
-pub some_member : (set : LayerSet) (l : ℕ) → l < 16 → Has set l → members set ≢ []
+pub some_member : (set : LayerSet) (l : ℕ) → l < MAX_LAYERS → Has set l → members set ≢ []
 some_member set l within has none =
     let fails =
     All-get_or (λ k. eqb (bit_at set.0 k) 1 ≡ false) layer_numbers l 0 (omega (arith, length-layer_numbers))
@@ -61,6 +62,6 @@ are_parts parts names stops few s = record {
   trip_layers = λ k t within.
       let some = s.some_layer k t within in
       let below = s.trip_layers k t within in
-      let small : some.0 < 16 = omega (arith, below some.0 some.1, s.few_layers) in
+      let small : some.0 < MAX_LAYERS = omega (arith, below some.0 some.1, s.few_layers) in
       (some_member _ some.0 small some.1, λ l has. omega (arith, below l has, s.each_layer));
 }

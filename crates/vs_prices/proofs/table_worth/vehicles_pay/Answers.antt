@@ -1,6 +1,7 @@
 use Rattle.std.proofs.Common.{◌<◌, ◌≤◌, length, arith, sym, ap, ◌∙◌, subst}
 use Rattle.vs_instance.specs.Ways.{no_layer}
 use Rattle.vs_instance.specs.declared.layer.Layer.{Layer}
+use Rattle.vs_instance.specs.declared.limits.TheConstants.{MAX_FLEET}
 use Rattle.vs_prices.specs.Worth.{fleet_price}
 use Rattle.vs_prices.proofs.RunningTotals.{product_added, total-map_more, same_sum, same_product}
 use Rattle.vs_prices.proofs.table_worth.vehicles_pay.Goals as goal
@@ -10,7 +11,7 @@ overflow_add-paid c =
     let inv = c.loop-l.invariant in
     let inside : c.loop-l.l < length c.args.instance.now.layers = omega (arith, c.layers-l-end.ensures.count) in
     let few =
-    subst (λ (x : Layer). x.fleet ≤ 2000) (sym c.layer.ensures)
+    subst (λ (x : Layer). x.fleet ≤ MAX_FLEET) (sym c.layer.ensures)
     (c.layers-l-end.ensures.instance.layers c.loop-l.l no_layer inside).fleet in
     (product_added c.loop-l.paid-bits c.loop-l.l c.layer.result.now.fleet c.from.result c.from-in-loop-l.result
     c.vehicle_price.result c.from.ensures c.from-in-loop-l.ensures c.vehicle_price.ensures.price
@@ -21,7 +22,7 @@ loop-l-preserved c =
     let inv = c.loop-l.invariant in
     let inside : c.loop-l.l < length c.args.instance.now.layers = omega (arith, c.layers-l-end.ensures.count) in
     let few =
-    subst (λ (x : Layer). x.fleet ≤ 2000) (sym c.layer.ensures)
+    subst (λ (x : Layer). x.fleet ≤ MAX_FLEET) (sym c.layer.ensures)
     (c.layers-l-end.ensures.instance.layers c.loop-l.l no_layer inside).fleet in
     let added =
     (product_added c.loop-l.paid-bits c.loop-l.l c.layer.result.now.fleet c.from.result c.from-in-loop-l.result

@@ -8,8 +8,8 @@ use Rattle.vs_reader.specs.Rows.{Field}
 use Rattle.vs_reader.proofs.naming.NumberedNames.{AreNumbers-push, AreNames-push}
 use Rattle.vs_reader.proofs.name_list.NameList.add.Goals as goal
 
-pub invariant_of-self-2 : goal.invariant_of-self-2
-invariant_of-self-2 c =
+pub invariant_of-self-in-Ok : goal.invariant_of-self-in-Ok
+invariant_of-self-in-Ok c =
     let old = c.self.inside.names.items in
     let names : List Field = map string_bytes old in
     let number : c.len-number.result ≡ length names =
@@ -27,19 +27,19 @@ invariant_of-self-2 c =
     (subst (λ (bs : Field). UpdatesBy string_cmp
     (λ k. slice_cmp nat_cmp bs (string_bytes k)) c.self.inside.numbers c.insert.new.self
     (Some c.len-number.result)) c.in_ok-key.ensures
-    c.in_ok-insert.ensures.updates) in
+    c.in-Ok.ensures.updates) in
     let items : c.push.new.self.items ≡ old ++ c.in_ok-added.added ∷ [] =
-    c.in_ok-push.ensures.items ∙ ap (λ ts. ts ++ c.in_ok-added.added ∷ []) c.reserve.ensures.items in
+    c.in_ok-push-in-Ok.ensures.items ∙ ap (λ ts. ts ++ c.in_ok-added.added ∷ []) c.reserve.ensures.items in
     rw (items, map_push string_bytes old c.in_ok-added.added, c.in_ok-added.ensures) (
       AreNames-push names c.args.name.now c.self.invariant.0 c.requires.name new room,
       AreNumbers-push names c.args.name.now c.self.inside.numbers c.insert.new.self c.self.invariant.1 new updates,
     )
 
-pub returns : goal.returns
-returns c =
+pub returns-in_ok-push-in-Ok : goal.returns-in_ok-push-in-Ok
+returns-in_ok-push-in-Ok c =
     let old = c.self.inside.names.items in
     let names : List Field = map string_bytes old in
     let items : c.push.new.self.items ≡ old ++ c.in_ok-added.added ∷ [] =
-    c.in_ok-push.ensures.items ∙ ap (λ ts. ts ++ c.in_ok-added.added ∷ []) c.reserve.ensures.items in
+    c.in_ok-push-in-Ok.ensures.items ∙ ap (λ ts. ts ++ c.in_ok-added.added ∷ []) c.reserve.ensures.items in
     ap (map string_bytes) items ∙ map_push string_bytes old c.in_ok-added.added
     ∙ ap (λ f. names ++ f ∷ []) c.in_ok-added.ensures ∙ ap (λ ns. ns ++ c.args.name.now ∷ []) c.self.view_is
