@@ -1,33 +1,34 @@
 #!/usr/bin/env bash
 # Times `solve --nodes 1` by one worker, `check` on its document, and `network` on `make 2000` as it is, in version 1, and in
-# version 2 with a stay of 30 minutes in every layer. It prints the seconds of the processor for either, how many times as
-# long the second takes, and the plan's cost, and asserts nothing; 1.3 times is the aim. Build bin/mdvsp first.
+# version 2 with a stay of 30 minutes in every layer. It prints the seconds of the processor for either, for the program and
+# for the system together, how many times as long the second takes, and the plan's cost. Of `solve` it takes the lesser of two
+# runs, of the others, which are short, the least of twenty. It asserts nothing; 1.3 times is the aim. Build bin/mdvsp first.
 set -u
 cd "$(dirname "$0")/.." || exit 1
 work=$(mktemp -d)
 trap 'rm -rf "$work"' EXIT
-TIMEFORMAT=%U
+TIMEFORMAT='%U %S'
 
 bin/mdvsp make 2000 > "$work/1"
 awk -F, '{ print /^instance/ ? "instance,2" : /^layer/ ? $0 ",30" : $0 }' "$work/1" > "$work/2"
 
-# The least seconds of three runs of these words on a file.
+# The least seconds of so many runs of these words on a file.
 seconds() {
-  local file=$1
-  shift
-  for _ in 1 2 3; do
+  local runs=$1 file=$2
+  shift 2
+  for _ in $(seq "$runs"); do
     { time bin/mdvsp "$@" < "$file" > "$work/written"; } 2>&1
-  done | sort -n | head -1
+  done | awk '{ print $1 + $2 }' | sort -n | head -1
 }
 
-# Prints a row for these words on the files of either version.
+# Prints a row for so many runs of these words on the files of either version.
 row() {
-  local name=$1 one two
-  shift
-  one=$(seconds "$work/$name 1" "$@")
-  two=$(seconds "$work/$name 2" "$@")
+  local runs=$1 name=$2 one two
+  shift 2
+  one=$(seconds "$runs" "$work/$name 1" "$@")
+  two=$(seconds "$runs" "$work/$name 2" "$@")
   awk -v words="$*" -v one="$one" -v two="$two" \
-    'BEGIN { printf "%s: %.2f s in version 1, %.2f s in version 2, %.2f times\n", words, one, two, two / one }'
+    'BEGIN { printf "%s: %.3f s in version 1, %.3f s in version 2, %.2f times\n", words, one, two, two / one }'
 }
 
 for version in 1 2; do
@@ -36,6 +37,6 @@ for version in 1 2; do
   echo "version $version: $(sed -n 's/^cost,//p' "$work/plan") cost units, $(grep -c '^block,' "$work/plan") vehicles"
   cat "$work/$version" "$work/plan" > "$work/document $version"
 done
-row instance solve --workers 1 --nodes 1
-row document check
-row instance network
+row 2 instance solve --workers 1 --nodes 1
+row 20 document check
+row 20 instance network
