@@ -79,7 +79,8 @@ fn amount(field: &[u8], low: i128, high: i128) -> Option<Option<i128>>
     requires low { neg_ℤ MAX_BOUND ≤ℤ low }
     requires high { high ≤ℤ MAX_BOUND }
     ensures found { IfSome result (λ n. (field.now ≡ number_field n) × IfSome n (IsBetween low high)) }
-    ensures none { IfNone result ((n : Option ℤ) → IfSome n (IsBetween low high) → ¬ (field.now ≡ number_field n)) }
+    ensures none { IfNone result ((n : Option ℤ) → IfSome n (IsBetween low high)
+        → ¬ (field.now ≡ number_field n)) }
 {
     if is_text(field, "none") {
         return Some(None);
@@ -183,7 +184,8 @@ pub fn fleet(input: &Input, row: usize, likely: Likely) -> Option<(LayerNo, i128
 pub fn price(input: &Input, row: usize, likely: Likely) -> Option<(LayerNo, TripNo, i128, i128)>
     requires { row < length input.now.rest }
     ensures found { IfSome result (λ r. SaysThere input.now row (PriceRow r.0.0 r.1.0 r.2 r.3)) }
-    ensures none { IfNone result ((l i : ℕ) (into from : ℤ) → ¬ (SaysThere input.now row (PriceRow l i into from))) }
+    ensures none { IfNone result ((l i : ℕ) (into from : ℤ)
+        → ¬ (SaysThere input.now row (PriceRow l i into from))) }
 {
     let rows = &input.rest;
     if !is_of_kind(rows, row, "price", 5) {
@@ -209,7 +211,8 @@ pub fn split(input: &Input, row: usize) -> Option<(TripNo, LayerSet)>
     requires input { IsInput input.now }
     requires row { row < length input.now.rest }
     ensures found { IfSome result (λ r. SaysThere input.now row (SplitRow r.0 r.1)) }
-    ensures none { IfNone result ((trip : TripOf) (left : SetOf) → ¬ (SaysThere input.now row (SplitRow trip left))) }
+    ensures none { IfNone result ((trip : TripOf) (left : SetOf)
+        → ¬ (SaysThere input.now row (SplitRow trip left))) }
 {
     if !begins_as(&input.rest, row, "split") {
         return None;

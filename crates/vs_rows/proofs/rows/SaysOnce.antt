@@ -67,17 +67,12 @@ same_claims StillOpen Optimal e = absurd (omega (arith, ap length e))
 same_claims StillOpen Infeasible e = absurd (omega (arith, ap length e))
 same_claims StillOpen StillOpen e = refl
 
--- numbers that are within 10^20 are written in one way
-same_within : (y z : ℤ) → IsWithin MAX_BOUND y → IsWithin MAX_BOUND z → signed_decimal y ≡ signed_decimal z → y ≡ z
-same_within y z p q e = same_signed y z (omega (arith, ints, p.0), omega (arith, ints, p.1))
-    (omega (arith, ints, q.0), omega (arith, ints, q.1)) e
-
 same_amounts : (a b : Option ℤ) → ((n : ℤ) → a ≡ Some n → IsWithin MAX_BOUND n)
     → ((n : ℤ) → b ≡ Some n → IsWithin MAX_BOUND n) → number_field a ≡ number_field b → a ≡ b
 same_amounts None None p q e = refl
 same_amounts None (Some z) p q e = absurd (none_is_no_number z (q z refl) e)
 same_amounts (Some y) None p q e = absurd (none_is_no_number y (p y refl) (sym e))
-same_amounts (Some y) (Some z) p q e = ap Some (same_within y z (p y refl) (q z refl) e)
+same_amounts (Some y) (Some z) p q e = ap Some (same_signed y z (p y refl) (q z refl) e)
 
 cost_within : (cost : Option ℤ) (names : NameLists) → HasForm names (CostRow cost) → (n : ℤ) → cost ≡ Some n
     → IsWithin MAX_BOUND n

@@ -11,6 +11,7 @@ use Rattle.vs_types.specs.LayerSet.{Has, layer_numbers, members}
 use Rattle.vs_types.specs.declared.numbers.TripNo.{TripNo}
 use Rattle.vs_types.proofs.CallerLemmas.{members-some}
 use Rattle.vs_types.specs.declared.layer_set.LayerSet.{LayerSet}
+use Rattle.vs_types.specs.declared.numbers.TheConstants.{MAX_LAYERS}
 use Rattle.vs_reader.specs.Rows.{Field, Row, field_of}
 use Rattle.vs_reader.specs.Names.{NameLists, name_of}
 use Rattle.vs_reader.specs.NameRules.{AreNames}
@@ -164,7 +165,7 @@ two_fields (a ∷ b ∷ rest) many = refl
 -- a row of some fields that begins as a split, and names a trip and then some layers, says so
 pub split_says : (names : NameLists) (row : Row) (trip : TripNo) (left : LayerSet) (field : Field)
     → BeginsAs (codes "split") row → field ≡ field_of row 1 → field ≡ name_of names.trips trip.0
-    → trip.0 < length names.trips → NameSet names.layers (drop 2 row) left → length names.layers ≤ 16
+    → trip.0 < length names.trips → NameSet names.layers (drop 2 row) left → length names.layers ≤ MAX_LAYERS
     → Says names row (SplitRow trip left)
 split_says names row trip left field begins is name lt s few =
     let some : 0 < length s.layers =

@@ -3,7 +3,8 @@ use Rattle.std.proofs.Common.{◌≡◌, ℕ, zero, suc, ◌+◌, ◌-◌, ◌*�
 use Rattle.std.proofs.Common.{drop, ℤ, pos, negsuc}
 use Rattle.std.specs.Fmt.{signed_decimal}
 use Rattle.std.proofs.lemmas.Int.{ints}
-use Rattle.vs_rows.specs.DocumentRows.{IsBetween}
+use Rattle.vs_rows.specs.DocumentRows.{IsWithin}
+use Rattle.vs_rows.specs.declared.limits.TheConstants.{MAX_BOUND}
 use Rattle.std.specs.Char.{IsAsciiDigit, IsNotAsciiDigit}
 use Rattle.std.specs.Str.Parse.{AllDigits, digits_value}
 use Rattle.std.proofs.lemmas.Fmt.{decimal_is_IsNumeral_wide, decimal_by_steps_wide, length-decimal-le_wide, decimal_digit, decimal_step_wide}
@@ -132,10 +133,10 @@ other_number digits (suc i) n m all within large r few e =
     let whole : digits ≡ decimal n = sym (take_all (suc i) digits all) ∙ r.some (omega arith) in
     omega (arith, same_number m n (omega arith) (omega (arith, r.few)) (sym e ∙ whole))
 
--- no number within -10^20 and 10^20 is written so
+-- no number within `MAX_BOUND` is written so
 abbrev pub IsNoNumber : List ℕ → Type 0
 IsNoNumber field =
-    (z : ℤ) → IsBetween (negsuc 99999999999999999999) (pos 100000000000000000000) z → ¬ (field ≡ signed_decimal z)
+    (z : ℤ) → IsWithin MAX_BOUND z → ¬ (field ≡ signed_decimal z)
 
 no_minus_first : (m : ℕ) (field : List ℕ) → m ≤ 100000000000000000000 → get_or field 0 0 ≡ 45 → field ≡ decimal m → ⊥
 no_minus_first m field few first e =
@@ -156,8 +157,7 @@ no_number_from_zero field n first none e =
     no_number_behind_minus field first
     (λ m some few f. absurd (omega (arith, same_number m n (omega arith) (omega arith) (sym f ∙ e))))
 
-pub same_signed : (y z : ℤ) → IsBetween (negsuc 99999999999999999999) (pos 100000000000000000000) y
-    → IsBetween (negsuc 99999999999999999999) (pos 100000000000000000000) z
+pub same_signed : (y z : ℤ) → IsWithin MAX_BOUND y → IsWithin MAX_BOUND z
     → signed_decimal y ≡ signed_decimal z → y ≡ z
 same_signed (pos m) (pos n) p q e = ap pos (same_number m n (omega (arith, ints, p.1)) (omega (arith, ints, q.1)) e)
 same_signed (pos m) (negsuc n) p q e =

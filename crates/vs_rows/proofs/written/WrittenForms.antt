@@ -9,6 +9,7 @@ use Rattle.std.proofs.lemmas.List.Kept.{AllPairs-from_increasing}
 use Rattle.std.proofs.lemmas.Bool.{eqb-true}
 use Rattle.vs_types.specs.LayerSet.{Has, layer_numbers, members}
 use Rattle.vs_types.specs.declared.layer_set.LayerSet.{LayerSet}
+use Rattle.vs_types.specs.declared.numbers.TheConstants.{MAX_LAYERS}
 use Rattle.vs_types.proofs.CallerLemmas.{Contains-members_below, IsStrictlyIncreasing-members}
 use Rattle.vs_instance.specs.Instance.{IsInstance}
 use Rattle.vs_instance.specs.Plan.{LayerBlock}
@@ -36,7 +37,7 @@ below n = All-from_get_or (λ k. k < n) (range_with_len 0 n) 0
     omega (arith, get_or-range_with_len 0 n i 0 i_below))
 
 -- the members of a set whose layers are below so many, each once
-members_are : (left : LayerSet) (layers : ℕ) → layers ≤ 16 → ((l : ℕ) → Has left l → l < layers)
+members_are : (left : LayerSet) (layers : ℕ) → layers ≤ MAX_LAYERS → ((l : ℕ) → Has left l → l < layers)
     → AreLayersOf left (members left)
 members_are left layers few below_layers = record {
   once = λ i j d lt within. let less = AllPairs-from_increasing (members left)

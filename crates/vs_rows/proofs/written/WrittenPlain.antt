@@ -60,7 +60,7 @@ plain_decimal : (n : ℕ) → n ≤ 1000000000000000000000 → IsPlainField (dec
 plain_decimal n few = plain_digits (decimal n) (decimal_is_IsNumeral_wide n (omega arith)).0.1
 
 abbrev Printed : ℤ → Type 0
-Printed n = IsBetween (negsuc 99999999999999999999) (pos 100000000000000000000) n
+Printed n = IsWithin MAX_BOUND n
 
 plain_signed : (z : ℤ) → Printed z → IsPlainField (signed_decimal z)
 plain_signed (pos n) within = plain_decimal n (omega (arith, ints, within.1))

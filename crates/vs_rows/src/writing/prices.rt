@@ -32,14 +32,9 @@ pub fn write_layer(
     for i in 0..trips {
         if instance.trip(TripNo(i)).layers.has(l) {
             let place = l.0 as usize * trips as usize + i as usize;
-            write_price(
-                text,
-                names,
-                l,
-                TripNo(i),
-                table.into[place],
-                table.from[place],
-            )?;
+            let into = table.into[place];
+            let from = table.from[place];
+            write_price(text, names, l, TripNo(i), into, from)?;
         }
     }
     Ok(())

@@ -34,7 +34,7 @@ loop-i-preserved c =
     elim c.if-has.branch [
       | then-has+in_ok-write_price w ↦
           let has : bit_at (trip_of p i).layers.0 l ≡ 1 = sym bit ∙ c.has.ensures.0 w.if-has.true in
-          let a = w.index-then-has.result.now in let b = w.index-then-has-2.result.now in
+          let a = w.index-into.result.now in let b = w.index-from.result.now in
           let a_fits : SFits w64 a = search rules in
           let b_fits : SFits w64 b = search rules in
           let place : l * c.trips-trips.result + i ≡ l * n + i = ap (λ m. l * m + i) c.trips-trips.ensures.count in
@@ -42,12 +42,12 @@ loop-i-preserved c =
           to_z-of_z w64 a a_fits
           ∙ price_read table.into.items l (length p.layers) n i a
           (pos 0) c.requires.fits.into_size c.requires.layer within
-          (w.index-then-has.ensures ∙ ap (λ k. get_or table.into.items k a) place) in
+          (w.index-into.ensures ∙ ap (λ k. get_or table.into.items k a) place) in
           let from : to_z w64 (of_z w64 b) ≡ price_of (prices_in p l table.from.items) i =
           to_z-of_z w64 b b_fits
           ∙ price_read table.from.items l (length p.layers) n i b
           (pos 0) c.requires.fits.from_size c.requires.layer within
-          (w.index-then-has-2.ensures ∙ ap (λ k. get_or table.from.items k b) place) in
+          (w.index-from.ensures ∙ ap (λ k. get_or table.from.items k b) place) in
           w.text-is ∙ w.in_ok-write_price.ensures
           ∙ ap (λ (z : ℤ). text
           ++ line (codes "price" ∷ name_of names.layers l ∷ name_of names.trips i ∷ signed_decimal z
