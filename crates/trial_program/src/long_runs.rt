@@ -34,6 +34,22 @@ fn one_worker_plans(rt: HostRuntime) -> Result<(), Fail> {
     is_planned(&rt, rt.alloc(), &instance, "1", "200")
 }
 
+/// What one worker writes for the generator's timetable of 60 trips.
+fn written_alone<R: Threads + Wait + Sync>(rt: &R, alloc: Global) -> Result<Vec<u8>, Fail> {
+    let words = ["solve", "--workers", "1", "--nodes", "5"];
+    let (_status, document) = ran(rt, alloc, &words, make_text(alloc, 60)?)?;
+    Ok(document)
+}
+
+#[test]
+fn one_worker_writes_the_same_at_each_run(rt: HostRuntime) -> Result<(), Fail> {
+    let first = written_alone(&rt, rt.alloc())?;
+    let again = written_alone(&rt, rt.alloc())?;
+    assert!(rt; first.starts_with(b"result,1,"));
+    assert_eq!(rt; first.as_slice(), again.as_slice());
+    Ok(())
+}
+
 #[test]
 fn several_workers_plan(rt: HostRuntime) -> Result<(), Fail> {
     let instance = make_text(rt.alloc(), 100)?;
