@@ -19,12 +19,12 @@ use vs_types::{Memory, SCALE};
 /// The first step of a climb, in hundredths of the greatest: the parent's multipliers are near.
 const FIRST_STEP: u32 = 1;
 
-/// How many circulations a layer keeps: about as many as there are rounds.
-const CUTS: u32 = 30;
+/// How many circulations a layer keeps: fewer would be mixed up before the rounds are over.
+const CUTS: u32 = 50;
 
 /// How many rounds a climb has at most: the first ten gain nothing as a rule, since no circulations are known yet, and
-/// twice as many gain less than further leaves do in that time.
-const MOST_ROUNDS: u32 = 35;
+/// with half as many a timetable of 200 trips is closed by five times as many leaves.
+const MOST_ROUNDS: u32 = 70;
 
 /// How many rounds a climb has at least: a few that can gain.
 const LEAST_ROUNDS: u32 = 12;
