@@ -1,6 +1,6 @@
 #!/usr/bin/env bash
-# Times `solve` by one worker on timetables of `make N`, with 20 nodes and with the default budget, and on the smallest with
-# 1,000 nodes. One worker comes to the same document each time.
+# Times `solve` by one worker on timetables of `make N`, with one node and with the default budget. One worker comes to the same
+# document each time.
 # It prints a row for each: the greedy plan's cost, the plan's cost, the bound, how far they are apart, the nodes that were
 # worked on, and the seconds of the processor; and has each document judged. Where cbc is installed (Debian's
 # coinor-cbc), it is given the same timetables as a MIP (bench/time_space_model.py) for at most 600 seconds each. It asserts
@@ -14,10 +14,9 @@ trap 'rm -rf "$work"' EXIT
 head_rows
 for trips in 100 300 1000 2000; do
   bin/mdvsp make "$trips" > "$work/make $trips"
-  timed "make $trips" --nodes 20
+  timed "make $trips" --nodes 1
   timed "make $trips"
 done
-timed "make 100" --nodes 1000
 if command -v cbc > /dev/null; then
   for trips in 100 300 1000 2000; do
     mip "make $trips"
