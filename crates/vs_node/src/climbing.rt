@@ -34,7 +34,7 @@ const LEAST_ROUNDS: u32 = 12;
 const OFFERS: u32 = 56_000;
 
 /// How many arcs, times trips, the circulations of a climb look along at most: a tenth of what a step of the root may.
-const EFFORT: u64 = 4_000_000_000;
+const EFFORT: u64 = 3_400_000_000;
 
 /// One round shows what the best multipliers are worth.
 const LAST_ROUNDS: u32 = 1;

@@ -13,9 +13,9 @@ const LEAST_PASSES: u32 = 400;
 /// How many passes there are at most: the layers of a small instance agree long before.
 const MOST_PASSES: u32 = 2_000;
 
-/// How many arcs, times trips, the circulations of a step look along at most. The steps on 2,000 trips of a city take a
-/// half of it to two thirds; of an instance that is a hundred times as large a step has a few passes left.
-const EFFORT: u64 = 40_000_000_000;
+/// How many arcs, times trips, the circulations of a step look along at most. The steps on 2,000 trips of a city take
+/// three to four fifths of it; of an instance that is a hundred times as large a step has a few passes left.
+const EFFORT: u64 = 34_000_000_000;
 
 /// How many passes there are, the fewer the more each of them offers.
 pub(crate) fn passes(instance: &Instance) -> u32 {
