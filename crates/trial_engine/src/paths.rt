@@ -302,6 +302,19 @@ fn may_lower(known: Option<i64>, key: i64) -> bool
     }
 }
 
+/// Takes a node out of a heap, and out of a plain list of the nodes' keys. Gives its key in the heap and in the list.
+fn take_of_both(heap: &mut NodeHeap, keys: &mut [Option<i64>; 7]) -> (Option<i64>, Option<i64>)
+    requires { length heap.old ≡ 7 }
+    ensures { length heap.new ≡ 7 }
+{
+    let Some((node, key)) = heap.take() else {
+        return (None, None);
+    };
+    let listed = keys[node as usize];
+    keys[node as usize] = None;
+    (Some(key), listed)
+}
+
 /// A heap of nodes gives the least key, as a plain list of the nodes' keys does.
 #[test]
 fn take_nodes_by_their_keys(rt: HostRuntime) -> Result<(), Fail> {
@@ -314,12 +327,7 @@ fn take_nodes_by_their_keys(rt: HostRuntime) -> Result<(), Fail> {
         let key = i64::from((number >> 16) % 50) - 25;
         if number >> 30 == 0 {
             let least: Option<i64> = keys.iter().flatten().copied().min();
-            let taken = heap.take();
-            assert_eq!(rt; taken.map(|t| t.1), least);
-            if let Some((taken, _)) = taken {
-                assert_eq!(rt; keys[taken as usize], least);
-                keys[taken as usize] = None;
-            }
+            assert_eq!(rt; take_of_both(&mut heap, &mut keys), (least, least));
         } else if may_lower(heap.key(node), key) {
             heap.lower(node, key);
             keys[node as usize] = Some(key);

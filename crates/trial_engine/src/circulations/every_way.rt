@@ -34,9 +34,11 @@ fn can_follow(one: Row, next: Row) -> bool {
 
 /// What a vehicle costs that begins with one trip and ends with another one, in 1/1000 of a cost unit.
 fn cost_between(first: Row, last: Row) -> i64 {
-    let out = i64::from(first.1) - minutes(0, first.0);
-    let back = i64::from(last.3) + minutes(last.2, 0);
-    1_000 * (1_000 + back - out)
+    let begins = i64::from(first.1);
+    let ends = i64::from(last.3);
+    let out = minutes(0, first.0);
+    let back = minutes(last.2, 0);
+    1_000 * (1_000 + (ends + back) - (begins - out))
 }
 
 /// What a vehicle costs that runs its trips of a way, None where it can't run them all.

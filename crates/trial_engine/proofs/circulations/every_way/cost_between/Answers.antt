@@ -4,4 +4,6 @@ use Rattle.trial_engine.proofs.circulations.every_way.cost_between.Goals as goal
 
 pub overflow_mul-result : goal.overflow_mul-result
 overflow_mul-result c =
-    omega (arith, ints, c.minutes.ensures.few, c.minutes-2.ensures.few, c.from.ensures, c.from-2.ensures)
+    let out = c.minutes-out.ensures.few in
+    let back = c.minutes-back.ensures.few in
+    omega (arith, ints, out, back, c.from-begins.ensures, c.from-ends.ensures)
