@@ -10,6 +10,7 @@ mod leaf;
 mod penalties;
 mod pool;
 mod rate;
+mod ray;
 mod root;
 mod seeking;
 mod slow_passes;
@@ -17,3 +18,4 @@ mod tally;
 
 pub use agreeing::agree;
 pub use leaf::seek_plan;
+pub use ray::seek_ray;
