@@ -12,3 +12,8 @@ pub record ShowsNoPlan (p : Problem) (sets : List LayerSet) (table : Table) : Ty
   pub fits : Fits p table
   pub holds : HoldingTable p table
   pub worth : IsWorth p sets table NoPlan
+
+-- the table fits and holds
+pub record IsHolding (p : Problem) (table : Table) : Type 0 where
+  pub fits : Fits p table
+  pub holds : HoldingTable p table

@@ -11,6 +11,7 @@ mod penalties;
 mod pool;
 mod rate;
 mod ray;
+mod reasons;
 mod root;
 mod seeking;
 mod slow_passes;

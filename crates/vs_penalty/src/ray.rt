@@ -8,6 +8,7 @@ ghost use Rattle.vs_prices.specs.Table.{Fits, HoldingTable};
 ghost use Rattle.vs_penalty.specs.Rays.{ShowsNoPlan};
 
 use crate::effort::arcs_for;
+use crate::reasons::plain_reason;
 use std::alloc::Global;
 use vs_bundle::{Aim, climb};
 use vs_circ::Work;
@@ -69,7 +70,7 @@ fn unrated_table(
     climbed_table(&case, rounds, &mut work)
 }
 
-/// The same in this case.
+/// The same in this case, or the prices that give a plain reason, where such are found.
 fn climbed_table(case: &Case<'_>, rounds: u32, work: &mut Work) -> Result<Table, Memory>
     requires { IsCase case.now.instance.now case.now.nets.now case.now.sets.now }
     ensures fits { IfOk result (Fits case.now.instance.now) }
@@ -84,6 +85,9 @@ fn climbed_table(case: &Case<'_>, rounds: u32, work: &mut Work) -> Result<Table,
         trial_rounds: rounds,
         arcs: arcs_for(case.instance),
     };
+    if let Some(table) = plain_reason(case, work)? {
+        return Ok(table);
+    }
     let mut multipliers = vec![in case.alloc; FIRST; case.instance.trips() as usize]?;
     climb(case, &aim, &mut multipliers, work)?;
     let best = few_rounds(case, LAST_ROUNDS, &mut multipliers, work)?;
