@@ -1,2 +1,3 @@
 pub mod FewLayers
 pub mod GivenLayers
+pub mod ShownRays
