@@ -90,11 +90,13 @@ impl Instance {
     pub fn without_rates(&self, alloc: Global) -> Result<Instance, Memory>
         ensures { IfOk result (λ instance. instance ≡ without_rates self.now) }
     {
-        let trips = self.trips.as_slice();
+        let ways = self.ways.copy(alloc)?;
+        let layers = unrated_layers(alloc, &self.layers)?;
+        let trips = Vec::from_slice(alloc, &self.trips)?;
         Ok(Instance {
-            ways: self.ways.copy(alloc)?,
-            layers: unrated_layers(alloc, &self.layers)?,
-            trips: Vec::from_slice(alloc, trips)?,
+            ways,
+            layers,
+            trips,
         })
     }
 

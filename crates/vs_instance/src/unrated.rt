@@ -26,8 +26,8 @@ pub(crate) fn unrated_layers(alloc: Global, layers: &[Layer]) -> Result<Vec<Laye
     ensures { IfOk result (λ free. free.items ≡ map unrated layers.now) }
 {
     let mut free = Vec::with_capacity(alloc, layers.len())?;
-    for layer in layers {
-        free.push(unrated(*layer))?;
+    for l in 0..layers.len() {
+        free.push(unrated(layers[l]))?;
     }
     Ok(free)
 }

@@ -21,6 +21,6 @@ shown-IsFound p task table shows = record {
   no_less = shown-no_less p task.sets.items table shows task.table;
   worked = λ multipliers begun. shown-reaches p task.sets.items table shows multipliers;
   plan = tt;
-  next = λ worth is open.
-      subst (λ (b : Bound). IsBelow b task.known) (shown-once p task.sets.items table shows worth is) open.0;
+  next = λ worth is room.
+      subst (λ (b : Bound). IsBelow b task.known) (shown-once p task.sets.items table shows worth is) room.0;
 }

@@ -105,7 +105,9 @@ free_way (Some w) cost paid nothing = ap Some (nothing w)
 module _ (p : Problem) (l : ℕ) where
   rated-without_rates : (minutes metres : ℕ) → rated (without_rates p) l minutes metres ≡ 0
   rated-without_rates minutes metres =
+      let none : 0 * minutes + 0 * metres ≡ 0 = omega arith in
       ap (λ (layer : Layer). layer.per_minute * minutes + layer.per_metre * metres) (layer_of-without_rates p l)
+      ∙ none
 
   -- trips, pull-outs, links and pull-ins are the same and cost nothing
   pub trip-without_rates : (i : ℕ) → trip_piece (without_rates p) l i ≡ 0
