@@ -90,9 +90,11 @@ impl Instance {
     pub fn without_rates(&self, alloc: Global) -> Result<Instance, Memory>
         ensures { IfOk result (λ instance. instance ≡ without_rates self.now) }
     {
+        let own_layers = self.layers.as_slice();
+        let own_trips = self.trips.as_slice();
         let ways = self.ways.copy(alloc)?;
-        let layers = unrated_layers(alloc, &self.layers)?;
-        let trips = Vec::from_slice(alloc, &self.trips)?;
+        let layers = unrated_layers(alloc, own_layers)?;
+        let trips = Vec::from_slice(alloc, own_trips)?;
         Ok(Instance {
             ways,
             layers,

@@ -1,6 +1,4 @@
-use Rattle.std.proofs.Common.{◌≡◌, List, sym, ap, ◌∙◌, subst}
-use Rattle.vs_instance.specs.declared.trip.Trip.{Trip}
-use Rattle.vs_instance.specs.declared.layer.Layer.{Layer}
+use Rattle.std.proofs.Common.{map, sym, ap, ◌∙◌, subst}
 use Rattle.vs_instance.specs.Instance.{IsInstance}
 use Rattle.vs_instance.specs.Problem.{Problem}
 use Rattle.vs_instance.specs.Unrated.{unrated}
@@ -12,6 +10,7 @@ pub invariant_of-result : goal.invariant_of-result
 invariant_of-result c =
     let own = c.self.inside in
     let p : Problem = problem_with own.ways own.layers.items own.trips.items in
-    subst IsInstance
-    (λ k. problem_with (sym c.in_ok-ways.ensures k) (sym c.in_ok-layers.ensures k) (sym c.in_ok-trips.ensures.items k))
+    let layers = c.in_ok-layers.ensures ∙ ap (map unrated) c.as_slice-own_layers.ensures.value in
+    let trips = c.in_ok-trips.ensures.items ∙ c.as_slice-own_trips.ensures.value in
+    subst IsInstance (λ k. problem_with (sym c.in_ok-ways.ensures k) (sym layers k) (sym trips k))
     (without_rates-IsInstance p c.self.invariant)
