@@ -45,25 +45,4 @@ told t x leaf sets table take cost begins is answer =
 
 pub ask-requires-clause-stays : goal.ask-requires-clause-stays
 ask-requires-clause-stays c =
-    subst (λ (s : Search). ¬ (IsAmong 0 (state s).gone)) (sym c.in_ok-tree.ensures.1) (none-gone 0)
-
-pub ask-requires-2-clause-stays : goal.ask-requires-2-clause-stays
-ask-requires-2-clause-stays c =
-    subst (λ (gone : List ℕ). ¬ (IsAmong 1 gone))
-    (sym (c.in_ok-lower.ensures.gone ∙ ap (λ (s : Search). (state s).gone) c.in_ok-tree.ensures.1)) (none-gone 1)
-
-pub returns-clause-right : goal.returns-clause-right
-returns-clause-right c =
-    let p = c.args.instance.now in
-    let left = c.in_ok-tree.ensures.0 in
-    let lower : c.in_ok-lower.lower.take ≡ Node 1 None = search rules in
-    let upper : c.in_ok-upper.upper.take ≡ Node 2 None = search rules in
-    let before = took c.in_ok-tree.tree c.ask.new.tree (parted p left) 0 1 c.in_ok-lower.lower.take None
-    c.in_ok-tree.ensures.1 c.in_ok-lower.ensures.search lower in
-    let then = took c.ask.new.tree c.ask-2.new.tree (lower_taken p left) 1 2 c.in_ok-upper.upper.take None before
-    c.in_ok-upper.ensures.search upper in
-    let is = told c.ask.new.tree (lower_taken p left) 2 c.in_ok-upper.upper.sets.items c.in_ok-upper.upper.table
-    c.in_ok-upper.upper.take None before upper c.in_ok-upper.ensures.answer in (
-      is.0 ∙ sym (ap (λ (s : Search). sets_at (state s) 2) then),
-      is.1 ∙ sym (ap (λ (s : Search). prices_at (state s) 2) then),
-    )
+    subst (λ (s : Search). ¬ (IsAmong 1 (state s).gone)) (sym c.in_ok-tree.ensures.tree.1) (none-gone 1)
