@@ -21,7 +21,7 @@ CRATES = os.path.join(os.path.dirname(os.path.dirname(os.path.abspath(__file__))
 ANSWERS = ("Answers.antt", "Invariants.antt", "Proof.antt")
 USE = re.compile(r"\s*(pub |ghost )*use ")
 WORD = re.compile(r"[^\s(){}\[\];,.λ@]+")
-NUMBERED = re.compile(r"(?:\b(?:c|t|goal)\.[\w.-]*?[a-z_0-9]-\d+\b|\bfield-\d+\b)")
+NUMBERED = re.compile(r"(?:\b(?:c|t|goal)\.[\w.-]*?[a-z_0-9]-\d+\b|\bfield-\d+\b|\bAfter-[\w-]+-\d+\b|\b[a-z_]+-requires-\d+\b)")
 NUMBERED_GOAL = re.compile(r"(?:pub )?[\w-]*[a-z_0-9]-\d+(?:-[\w-]+)? :")
 LEMMA = re.compile(r"(?:pub )?([^\s(){}:]+) :(?: |$)")
 
