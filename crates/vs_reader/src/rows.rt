@@ -57,8 +57,9 @@ impl Rows {
         let place = start_of(row_ends, row) + k;
         let field_ends: &[u32] = &self.field_ends;
         let start = start_of(field_ends, place);
+        let end = self.field_ends[place] as usize;
         let bytes: &[u8] = &self.bytes;
-        &bytes[start..self.field_ends[place] as usize]
+        &bytes[start..end]
     }
 }
 

@@ -3,7 +3,7 @@ use Rattle.std.specs.Prelude.{slice_range}
 use Rattle.vs_reader.specs.RowEnds.{end_of, rows_of}
 use Rattle.vs_reader.proofs.places.RowPlaces.{length-rows, place_within, field_start_before, field_within, field_is}
 use Rattle.vs_reader.proofs.rows.Rows.field.Goals as goal
-use Rattle.vs_reader.proofs.rows.Rows.field.Goals.{After-deref-row_ends, After-start_of, After-row_known-1}
+use Rattle.vs_reader.proofs.rows.Rows.field.Goals.{After-deref-row_ends, After-start_of, After-deref-bytes}
 
 row_within : (c : After-deref-row_ends) → c.args.row < length c.self.inside.row_ends.items
 row_within c =
@@ -54,13 +54,13 @@ start_of-start-requires c =
 pub index-requires : goal.index-requires
 index-requires c = omega (arith, placed (goal.at.index-requires c).After-start_of, c.self.inside.field_ends.ok.0)
 
-start_is : (c : After-row_known-1)
+start_is : (c : After-deref-bytes)
     → c.start_of-start.result ≡ end_of 0 (take (c.start_of.result + c.args.k) c.self.inside.field_ends.items)
 start_is c =
     c.start_of-start.ensures
     ∙ ap (λ ends. end_of 0 (take (c.start_of.result + c.args.k) ends)) c.deref-field_ends.ensures.value
 
-start_before : (c : After-row_known-1) → c.start_of-start.result ≤ c.index.result.now
+start_before : (c : After-deref-bytes) → c.start_of-start.result ≤ c.index.result.now
 start_before c =
     let i = c.self.inside in let place = c.start_of.result + c.args.k in let d = c.index.result.now in
     omega (
@@ -71,7 +71,7 @@ start_before c =
           (placed (goal.at.slice_bounds-result-count c).After-start_of),
     )
 
-end_within : (c : After-row_known-1) → c.index.result.now ≤ length c.self.inside.bytes.items
+end_within : (c : After-deref-bytes) → c.index.result.now ≤ length c.self.inside.bytes.items
 end_within c =
     let i = c.self.inside in let place = c.start_of.result + c.args.k in let d = c.index.result.now in
     omega (
@@ -93,7 +93,7 @@ slice_bounds-result-end c = omega (arith, start_before c, end_within c, ap lengt
 pub returns : goal.returns
 returns c =
     let i = c.self.inside in let place = c.start_of.result + c.args.k in let d = c.index.result.now in
-    let s = (goal.at.returns c).After-row_known-1 in let t = (goal.at.returns c).After-start_of in let u =
+    let s = (goal.at.returns c).After-deref-bytes in let t = (goal.at.returns c).After-start_of in let u =
     (goal.at.returns c).After-deref-row_ends in
     ap (λ bytes. slice_range bytes c.start_of-start.result d) c.deref-bytes.ensures.value
     ∙ ap (λ start. slice_range i.bytes.items start d) (start_is s)
