@@ -13,3 +13,6 @@ pub returns-in-Err-clause-ends : goal.returns-in-Err-clause-ends
 returns-in-Err-clause-ends g c =
     wrong_words_end _ c.in-Err.bad.0 c.bad_word.result c.say.result refl c.in-Err.ensures c.bad_word.ensures
     c.say.ensures.said
+
+pub returns-in_default-clause-ends : goal.returns-in_default-clause-ends
+returns-in_default-clause-ends g c = c.obey.ensures.ends _ c.in-Ok.ensures
