@@ -213,15 +213,15 @@ impl Labels {
             (lists_of self.old) (lists_of self.new) }
         ensures order { self.new.order ≡ self.old.order }
     {
-        if !residual.is_open(step) {
+        let node = residual.to(step);
+        let label = self.along(residual, prices, distance, step);
+        if self.is_past(label) {
             return;
         }
-        let node = residual.to(step);
         if self.settled[node as usize].is_some() {
             return;
         }
-        let label = self.along(residual, prices, distance, step);
-        if self.is_past(label) {
+        if !residual.is_open(step) {
             return;
         }
         if self.is_better(node, label) {

@@ -38,8 +38,12 @@ pub struct Costs {
 #[derive(Drop)]
 pub struct Residual<'a> {
     net: &'a Net,
-    flow: &'a Flow,
-    costs: &'a Costs,
+    /// By arc how many units it carries.
+    units: &'a [u32],
+    /// By arc what a unit costs.
+    cost: &'a [i64],
+    /// By arc how many units it takes.
+    room: &'a [u32],
     /// How many arcs may be used, from the first.
     arcs: u32,
     /// The arcs that carry units, where they are listed.
@@ -55,19 +59,19 @@ impl<'a> Model for Residual<'a> {
 
     ghost view = { λ r. record {
       graph = r.net.now;
-      units = r.flow.now.units.items;
-      cost = r.costs.now.cost.items;
-      room = r.costs.now.room.items;
+      units = r.units.now;
+      cost = r.cost.now;
+      room = r.room.now;
       arcs = r.arcs;
     } };
 
     ghost invariant = { λ r. IsResidual (record {
       graph = r.net.now;
-      units = r.flow.now.units.items;
-      cost = r.costs.now.cost.items;
-      room = r.costs.now.room.items;
+      units = r.units.now;
+      cost = r.cost.now;
+      room = r.room.now;
       arcs = r.arcs;
-    }) × IfSome r.loads (λ loads. AreLoads r.net.now r.flow.now.units.items loads.now) };
+    }) × IfSome r.loads (λ loads. AreLoads r.net.now r.units.now loads.now) };
 }
 
 impl<'a> Residual<'a> {
@@ -89,8 +93,9 @@ impl<'a> Residual<'a> {
         let _ = net.nodes();
         Residual {
             net,
-            flow,
-            costs,
+            units: &flow.units,
+            cost: &costs.cost,
+            room: &costs.room,
             arcs,
             loads: None,
         }
@@ -112,8 +117,9 @@ impl<'a> Residual<'a> {
     {
         Residual {
             net,
-            flow,
-            costs,
+            units: &flow.units,
+            cost: &costs.cost,
+            room: &costs.room,
             arcs: net.arcs(),
             loads: Some(loads),
         }
@@ -157,9 +163,8 @@ impl<'a> Residual<'a> {
         ensures { IsTrue result ↔ IsOpen self.now step }
     {
         match step {
-            Step::Forward(k) => k < self.arcs
-                && self.flow.units[k as usize] < self.costs.room[k as usize],
-            Step::Back(k) => k < self.arcs && 0 < self.flow.units[k as usize],
+            Step::Forward(k) => k < self.arcs && self.units[k as usize] < self.room[k as usize],
+            Step::Back(k) => k < self.arcs && 0 < self.units[k as usize],
         }
     }
 
@@ -171,8 +176,8 @@ impl<'a> Residual<'a> {
         ensures few { IsWithin MAX_PATH_ARC_COST result }
     {
         match step {
-            Step::Forward(k) => self.costs.cost[k as usize],
-            Step::Back(k) => -self.costs.cost[k as usize],
+            Step::Forward(k) => self.cost[k as usize],
+            Step::Back(k) => -self.cost[k as usize],
         }
     }
 
@@ -234,7 +239,7 @@ impl<'a> Residual<'a> {
         if self.net.nodes() > MAX_SEARCH_NODES || prices.len() != self.net.nodes() as usize {
             return false;
         }
-        all_within(&self.costs.cost, MAX_STEP_COST) && all_within(prices, MAX_SEARCH_PRICE)
+        all_within(self.cost, MAX_STEP_COST) && all_within(prices, MAX_SEARCH_PRICE)
     }
 
     /// Whether no residual step has a negative reduced cost.

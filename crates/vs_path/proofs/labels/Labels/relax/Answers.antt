@@ -52,9 +52,9 @@ returns-then-is_past-clause-relaxes c =
     record {
       labels = c.requires.labels;
       lowered = lowered-same l;
-      relaxed = relaxed_past r p c.args.surplus.now l c.requires.labels c.requires.sign_rule s c.args.distance label
-          c.requires.from c.requires.farthest (c.if-not-is_open.ensures.0 refl) sum
-          c.args.self.now.bound c.requires.bound past;
+      relaxed = λ is_open from.
+          relaxed_past r p c.args.surplus.now l c.requires.labels c.requires.sign_rule s c.args.distance label
+          c.requires.from c.requires.farthest is_open sum c.args.self.now.bound c.requires.bound past is_open from;
     }
 
 -- the node has the label then
