@@ -1,7 +1,7 @@
 //! What a search for least paths knows of the nodes, and how it settles one after the other.
 
 ghost use Rattle.std.specs.Prelude.{◌≡◌, ℕ, ℤ, IfSome, ◌<◌, ◌≤◌, ◌↔◌, ◌++◌, ◌∷◌, [], ◌+ℤ◌, length, set, replicate, IsTrue, IfOk, MatchOption, Some, None, vec_capacity, slice_index, slice_index_or};
-ghost use Rattle.vs_path.specs.Residual.{IsResidual, HasSignRule, arc_no, from_of, reduced};
+ghost use Rattle.vs_path.specs.Residual.{IsResidual, HasSignRule, arc_no, from_of, price_at, reduced};
 ghost use Rattle.vs_path.specs.declared.labels.Settled.{Settled};
 ghost use Rattle.vs_path.specs.declared.step.Step.{Step};
 ghost use Rattle.vs_path.specs.declared.step.Step.TheVariants.{Forward, Back};
@@ -20,6 +20,13 @@ pub struct Settled {
     pub distance: i64,
     /// Its place among the settled nodes, in the order in which they were settled.
     pub place: u32,
+}
+
+/// Where steps leave a settled node: its distance and its price.
+#[derive(Clone, Copy)]
+struct Departure {
+    distance: i64,
+    price: i64,
 }
 
 /// What a search for least paths (Dijkstra 1959) knows of the nodes of a net.
@@ -189,39 +196,41 @@ impl Labels {
         }
     }
 
-    /// The node that a step reaches from one at this distance is given the distance along it, where that is less
-    /// than what it has, and less than the distance of a node that lacks a unit: no node farther than that is settled.
+    /// The node that a step reaches is given the distance along it, where that is less than what it has, and less than
+    /// the distance of a node that lacks a unit: no node farther than that is settled.
     #[inline(always)]
     fn relax(
         &mut self,
         residual: &Residual,
         prices: &[i64],
         surplus: &[i64],
-        distance: i64,
+        departure: Departure,
         step: Step,
     )
         requires arc { arc_no step < length residual.now.graph.arcs }
         requires small { IsSmall residual.now prices.now }
         requires sign_rule { HasSignRule residual.now prices.now }
         requires labels { AreLabels residual.now prices.now (lists_of self.old) }
-        requires from { IsSettledAt (lists_of self.old) (from_of residual.now step) distance }
-        requires farthest { IsFarthest (lists_of self.old) distance }
+        requires from { IsSettledAt (lists_of self.old) (from_of residual.now step)
+            departure.distance }
+        requires price { departure.price ≡ price_at prices.now (from_of residual.now step) }
+        requires farthest { IsFarthest (lists_of self.old) departure.distance }
         requires each_node { length surplus.now ≡ residual.now.graph.nodes }
         requires bound { IsBound surplus.now (lists_of self.old) self.old.bound }
         ensures bound { IsBound surplus.now (lists_of self.new) self.new.bound }
-        ensures relaxes { Relaxes residual.now prices.now surplus.now step distance
+        ensures relaxes { Relaxes residual.now prices.now surplus.now step departure.distance
             (lists_of self.old) (lists_of self.new) }
         ensures order { self.new.order ≡ self.old.order }
     {
-        if !residual.is_open(step) {
+        let node = residual.to(step);
+        let label = self.along(residual, prices, departure, step);
+        if self.is_past(label) {
             return;
         }
-        let node = residual.to(step);
         if self.settled[node as usize].is_some() {
             return;
         }
-        let label = self.along(residual, prices, distance, step);
-        if self.is_past(label) {
+        if !residual.is_open(step) {
             return;
         }
         if self.is_better(node, label) {
@@ -257,15 +266,17 @@ impl Labels {
         self.steps[node as usize] = Some(step);
     }
 
-    /// The distance along a step from a node at this distance.
-    fn along(&self, residual: &Residual, prices: &[i64], distance: i64, step: Step) -> i64
+    /// The distance along a step.
+    fn along(&self, residual: &Residual, prices: &[i64], departure: Departure, step: Step) -> i64
         requires arc { arc_no step < length residual.now.graph.arcs }
         requires small { IsSmall residual.now prices.now }
         requires labels { AreLabels residual.now prices.now (lists_of self.now) }
-        requires from { IsSettledAt (lists_of self.now) (from_of residual.now step) distance }
-        ensures { result ≡ distance +ℤ reduced residual.now prices.now step }
+        requires from { IsSettledAt (lists_of self.now) (from_of residual.now step)
+            departure.distance }
+        requires price { departure.price ≡ price_at prices.now (from_of residual.now step) }
+        ensures { result ≡ departure.distance +ℤ reduced residual.now prices.now step }
     {
-        distance + residual.reduced(prices, step)
+        departure.distance + residual.reduced_by(prices, departure.price, step)
     }
 
     /// Relaxes the steps forward from a node that is settled at this distance, the farthest so far.
@@ -294,8 +305,10 @@ impl Labels {
         ensures order { self.new.order ≡ self.old.order }
         ensures residual { IsResidual residual.now }
     {
+        let price = prices[node as usize];
+        let departure = Departure { distance, price };
         for k in residual.open_along(Way::Forward, node) {
-            self.relax(residual, prices, surplus, distance, Step::Forward(*k));
+            self.relax(residual, prices, surplus, departure, Step::Forward(*k));
         }
     }
 
@@ -325,8 +338,10 @@ impl Labels {
         ensures order { self.new.order ≡ self.old.order }
         ensures residual { IsResidual residual.now }
     {
+        let price = prices[node as usize];
+        let departure = Departure { distance, price };
         for k in residual.open_along(Way::Back, node) {
-            self.relax(residual, prices, surplus, distance, Step::Back(*k));
+            self.relax(residual, prices, surplus, departure, Step::Back(*k));
         }
     }
 }

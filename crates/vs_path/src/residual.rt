@@ -4,7 +4,7 @@ ghost use Rattle.std.specs.Prelude.{◌≡◌, ◌<◌, ◌≤◌, ◌↔◌, �
 ghost use Rattle.vs_path.specs.Labels.{IsSmall};
 ghost use Rattle.vs_path.specs.Loads.{AreAlong, AreLoads};
 ghost use Rattle.vs_path.specs.declared.step.Way.TheVariants.{Back};
-ghost use Rattle.vs_path.specs.Residual.{HasSignRule, IsResidual, IsOpen, IsWithin, AllWithin, arc_no, arcs_along, from_of, to_of, cost_of, reduced};
+ghost use Rattle.vs_path.specs.Residual.{HasSignRule, IsResidual, IsOpen, IsWithin, AllWithin, arc_no, arcs_along, from_of, to_of, cost_of, price_at, reduced};
 
 use crate::loads::Loads;
 use crate::step::{Step, Way};
@@ -38,8 +38,12 @@ pub struct Costs {
 #[derive(Drop)]
 pub struct Residual<'a> {
     net: &'a Net,
-    flow: &'a Flow,
-    costs: &'a Costs,
+    /// By arc how many units it carries.
+    units: &'a [u32],
+    /// By arc what a unit costs.
+    cost: &'a [i64],
+    /// By arc how many units it takes.
+    room: &'a [u32],
     /// How many arcs may be used, from the first.
     arcs: u32,
     /// The arcs that carry units, where they are listed.
@@ -55,19 +59,19 @@ impl<'a> Model for Residual<'a> {
 
     ghost view = { λ r. record {
       graph = r.net.now;
-      units = r.flow.now.units.items;
-      cost = r.costs.now.cost.items;
-      room = r.costs.now.room.items;
+      units = r.units.now;
+      cost = r.cost.now;
+      room = r.room.now;
       arcs = r.arcs;
     } };
 
     ghost invariant = { λ r. IsResidual (record {
       graph = r.net.now;
-      units = r.flow.now.units.items;
-      cost = r.costs.now.cost.items;
-      room = r.costs.now.room.items;
+      units = r.units.now;
+      cost = r.cost.now;
+      room = r.room.now;
       arcs = r.arcs;
-    }) × IfSome r.loads (λ loads. AreLoads r.net.now r.flow.now.units.items loads.now) };
+    }) × IfSome r.loads (λ loads. AreLoads r.net.now r.units.now loads.now) };
 }
 
 impl<'a> Residual<'a> {
@@ -89,8 +93,9 @@ impl<'a> Residual<'a> {
         let _ = net.nodes();
         Residual {
             net,
-            flow,
-            costs,
+            units: &flow.units,
+            cost: &costs.cost,
+            room: &costs.room,
             arcs,
             loads: None,
         }
@@ -112,8 +117,9 @@ impl<'a> Residual<'a> {
     {
         Residual {
             net,
-            flow,
-            costs,
+            units: &flow.units,
+            cost: &costs.cost,
+            room: &costs.room,
             arcs: net.arcs(),
             loads: Some(loads),
         }
@@ -157,9 +163,8 @@ impl<'a> Residual<'a> {
         ensures { IsTrue result ↔ IsOpen self.now step }
     {
         match step {
-            Step::Forward(k) => k < self.arcs
-                && self.flow.units[k as usize] < self.costs.room[k as usize],
-            Step::Back(k) => k < self.arcs && 0 < self.flow.units[k as usize],
+            Step::Forward(k) => k < self.arcs && self.units[k as usize] < self.room[k as usize],
+            Step::Back(k) => k < self.arcs && 0 < self.units[k as usize],
         }
     }
 
@@ -171,8 +176,8 @@ impl<'a> Residual<'a> {
         ensures few { IsWithin MAX_PATH_ARC_COST result }
     {
         match step {
-            Step::Forward(k) => self.costs.cost[k as usize],
-            Step::Back(k) => -self.costs.cost[k as usize],
+            Step::Forward(k) => self.cost[k as usize],
+            Step::Back(k) => -self.cost[k as usize],
         }
     }
 
@@ -184,9 +189,21 @@ impl<'a> Residual<'a> {
         requires prices { AllWithin MAX_SEARCH_PRICE prices.now }
         ensures { result ≡ reduced self.now prices.now step }
     {
-        let from = prices[self.from(step) as usize];
+        let price = prices[self.from(step) as usize];
+        self.reduced_by(prices, price, step)
+    }
+
+    /// The same where the price of the node that the step leaves is at hand.
+    pub(crate) fn reduced_by(&self, prices: &[i64], price: i64, step: Step) -> i64
+        requires arc { arc_no step < length self.now.graph.arcs }
+        requires cost { AllWithin MAX_STEP_COST self.now.cost }
+        requires each_node { length prices.now ≡ self.now.graph.nodes }
+        requires prices { AllWithin MAX_SEARCH_PRICE prices.now }
+        requires price { price ≡ price_at prices.now (from_of self.now step) }
+        ensures { result ≡ reduced self.now prices.now step }
+    {
         let to = prices[self.to(step) as usize];
-        self.cost(step) + from - to
+        self.cost(step) + price - to
     }
 
     /// The numbers of the arcs along which steps that go this way leave a node, in order.
@@ -234,7 +251,7 @@ impl<'a> Residual<'a> {
         if self.net.nodes() > MAX_SEARCH_NODES || prices.len() != self.net.nodes() as usize {
             return false;
         }
-        all_within(&self.costs.cost, MAX_STEP_COST) && all_within(prices, MAX_SEARCH_PRICE)
+        all_within(self.cost, MAX_STEP_COST) && all_within(prices, MAX_SEARCH_PRICE)
     }
 
     /// Whether no residual step has a negative reduced cost.

@@ -23,8 +23,8 @@ returns-then-is_some-clause-relaxes c =
       labels = c.requires.labels;
       lowered = lowered-same l;
       relaxed = λ is_open from.
-          settled_already r p c.args.surplus.now l c.requires.labels c.requires.sign_rule s c.args.distance
-          (c.args.distance +ℤ reduced r p s) c.requires.from c.requires.farthest is_open refl some.0 is is_open refl;
+          settled_already r p c.args.surplus.now l c.requires.labels c.requires.sign_rule s c.args.departure.distance
+          (c.args.departure.distance +ℤ reduced r p s) c.requires.from c.requires.farthest is_open refl some.0 is is_open refl;
     }
 
 -- no unit can take the step
@@ -45,16 +45,15 @@ returns-then-is_past-clause-relaxes c =
     let l = lists_of c.args.self.now in
     let s = c.args.step in
     let label = c.along-label.result in
-    let fits : SFits w64 c.args.distance = search rules in
-    let fits_too : SFits w64 label = search rules in
-    let sum = simp to_z-of_z at c.along-label.ensures in
+    let fits : SFits w64 label = search rules in
+    let sum = c.along-label.ensures in
     let past = simp to_z-of_z at (c.if-is_past.ensures.0 refl) in
     record {
       labels = c.requires.labels;
       lowered = lowered-same l;
-      relaxed = relaxed_past r p c.args.surplus.now l c.requires.labels c.requires.sign_rule s c.args.distance label
-          c.requires.from c.requires.farthest (c.if-not-is_open.ensures.0 refl) sum
-          c.args.self.now.bound c.requires.bound past;
+      relaxed = λ is_open from.
+          relaxed_past r p c.args.surplus.now l c.requires.labels c.requires.sign_rule s c.args.departure.distance label
+          c.requires.from c.requires.farthest is_open sum c.args.self.now.bound c.requires.bound past is_open from;
     }
 
 -- the node has the label then
@@ -65,9 +64,8 @@ note-requires-clause-covers c =
     let l = lists_of c.args.self.now in
     let s = c.args.step in
     let label = c.along-label.result in
-    let fits : SFits w64 c.args.distance = search rules in
-    let fits_too : SFits w64 label = search rules in
-    let sum = simp to_z-of_z at c.along-label.ensures in
+    let fits : SFits w64 label = search rules in
+    let sum = c.along-label.ensures in
     let given = simp to_z-of_z at c.lower.ensures.lists in
     let lists : lists_of c.lower.new.self ≡ lowered l (to_of r s) label s =
     given ∙ ap (λ (v : ℕ). lowered l v label s) c.to-node.ensures.node in
@@ -83,7 +81,7 @@ note-requires-clause-covers c =
     let inside : to_of r s < r.graph.nodes =
     subst (λ (v : ℕ). v < r.graph.nodes) c.to-node.ensures.node c.to-node.ensures.of_net in
     let at =
-    covers_here r p c.args.surplus.now l c.requires.labels c.requires.sign_rule s c.args.distance label
+    covers_here r p c.args.surplus.now l c.requires.labels c.requires.sign_rule s c.args.departure.distance label
     c.requires.from c.requires.farthest (c.if-not-is_open.ensures.0 refl) sum
     c.requires.small inside unsettled better in
     let P : ℕ → Type 0 = λ v. Covers (lowered l (to_of r s) label s) v label in
@@ -97,9 +95,8 @@ note-requires-clause-bound c = λ b is.
     let l = lists_of c.args.self.now in
     let s = c.args.step in
     let label = c.along-label.result in
-    let fits : SFits w64 c.args.distance = search rules in
-    let fits_too : SFits w64 label = search rules in
-    let sum = simp to_z-of_z at c.along-label.ensures in
+    let fits : SFits w64 label = search rules in
+    let sum = c.along-label.ensures in
     let given = simp to_z-of_z at c.lower.ensures.lists in
     let lists : lists_of c.lower.new.self ≡ lowered l (to_of r s) label s =
     given ∙ ap (λ (v : ℕ). lowered l v label s) c.to-node.ensures.node in
@@ -115,7 +112,7 @@ note-requires-clause-bound c = λ b is.
     let inside : to_of r s < r.graph.nodes =
     subst (λ (v : ℕ). v < r.graph.nodes) c.to-node.ensures.node c.to-node.ensures.of_net in
     let low =
-    is_lowered r p c.args.surplus.now l c.requires.labels c.requires.sign_rule s c.args.distance label
+    is_lowered r p c.args.surplus.now l c.requires.labels c.requires.sign_rule s c.args.departure.distance label
     c.requires.from c.requires.farthest (c.if-not-is_open.ensures.0 refl) sum
     c.requires.small inside unsettled better in
     let e : c.args.self.now.bound ≡ Some b = sym c.lower.ensures.bound ∙ is in
@@ -131,9 +128,8 @@ returns-then-is_better-clause-relaxes c =
     let l = lists_of c.args.self.now in
     let s = c.args.step in
     let label = c.along-label.result in
-    let fits : SFits w64 c.args.distance = search rules in
-    let fits_too : SFits w64 label = search rules in
-    let sum = simp to_z-of_z at c.along-label.ensures in
+    let fits : SFits w64 label = search rules in
+    let sum = c.along-label.ensures in
     let given = simp to_z-of_z at c.lower.ensures.lists in
     let lists : lists_of c.lower.new.self ≡ lowered l (to_of r s) label s =
     given ∙ ap (λ (v : ℕ). lowered l v label s) c.to-node.ensures.node in
@@ -148,9 +144,9 @@ returns-then-is_better-clause-relaxes c =
     subst (λ (v : ℕ). IsBetter l v label) c.to-node.ensures.node given_better in
     let inside : to_of r s < r.graph.nodes =
     subst (λ (v : ℕ). v < r.graph.nodes) c.to-node.ensures.node c.to-node.ensures.of_net in
-    let P : Lists → Type 0 = Relaxes r p c.args.surplus.now s c.args.distance l in
+    let P : Lists → Type 0 = Relaxes r p c.args.surplus.now s c.args.departure.distance l in
     subst P (sym (c.note.ensures.lists ∙ lists))
-    (relaxes_lowered r p c.args.surplus.now l c.requires.labels c.requires.sign_rule s c.args.distance label
+    (relaxes_lowered r p c.args.surplus.now l c.requires.labels c.requires.sign_rule s c.args.departure.distance label
     c.requires.from c.requires.farthest (c.if-not-is_open.ensures.0 refl) sum c.requires.small inside unsettled better)
 
 -- it is not
@@ -161,9 +157,8 @@ returns-else-is_better-clause-relaxes c =
     let l = lists_of c.args.self.now in
     let s = c.args.step in
     let label = c.along-label.result in
-    let fits : SFits w64 c.args.distance = search rules in
-    let fits_too : SFits w64 label = search rules in
-    let sum = simp to_z-of_z at c.along-label.ensures in
+    let fits : SFits w64 label = search rules in
+    let sum = c.along-label.ensures in
     let within : c.to-node.result < length l.settled =
     omega (arith, c.to-node.ensures.of_net, c.requires.labels.are_listed.settled) in
     let unsettled : settled_at l (to_of r s) ≡ None =
@@ -174,7 +169,7 @@ returns-else-is_better-clause-relaxes c =
     record {
       labels = c.requires.labels;
       lowered = lowered-same l;
-      relaxed = relaxed_worse r p c.args.surplus.now l c.requires.labels c.requires.sign_rule s c.args.distance label
+      relaxed = relaxed_worse r p c.args.surplus.now l c.requires.labels c.requires.sign_rule s c.args.departure.distance label
           c.requires.from
           c.requires.farthest (c.if-not-is_open.ensures.0 refl) sum unsettled
           (λ better.

@@ -8,7 +8,7 @@ pub returns-in-Some-reaching-clause-along : goal.returns-in-Some-reaching-clause
 returns-in-Some-reaching-clause-along c =
     let inside = c.self.inside in
     let Loaded : Option (Bor Loads) → Type 0 =
-    λ o. IfSome o (λ l. AreLoads inside.net.now inside.flow.now.units.items l.now) in
+    λ o. IfSome o (λ l. AreLoads inside.net.now inside.units.now l.now) in
     along-loads _ c.args.self.now c.self.view_is c.args.node c.in-Some-reaching.arcs.now c.in-Some.loads.now
     (subst Loaded c.in-Some.is c.self.invariant.1) c.in-Some-reaching.ensures.0 c.self.invariant.0
     c.in-Some-reaching.ensures.1
