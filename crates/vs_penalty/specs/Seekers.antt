@@ -12,7 +12,6 @@ use Rattle.vs_penalty.specs.declared.seeking.Seeker.{Seeker}
 -- the best plan is one of the instance, and there is an entry for each trip
 pub record AreChoices (p : Problem) (choices : Choices) : Type 0 where
   pub best : IfSome choices.best (IsPlanOf p)
-  pub last : length choices.last.items ≡ length p.trips
   pub chosen : length choices.chosen.items ≡ length p.trips
 
 -- penalties and choices of an instance

@@ -33,8 +33,8 @@ pub(crate) struct Choices {
     pub best: Option<CheckedPlan>,
     /// The cheapest first.
     kept: Vec<Choice>,
-    /// The choice that was tried last.
-    last: Vec<LayerSet>,
+    /// The choices that were tried.
+    tried: Vec<Vec<LayerSet>>,
     /// The choice that is tried next.
     chosen: Vec<LayerSet>,
 }
@@ -47,7 +47,7 @@ impl Choices {
         Ok(Choices {
             best: None,
             kept: Vec::new(alloc),
-            last: vec![in alloc; LayerSet(0); trips]?,
+            tried: Vec::new(alloc),
             chosen: vec![in alloc; LayerSet(0); trips]?,
         })
     }
@@ -76,7 +76,7 @@ impl Choices {
     }
 
     /// Finds the cheapest plan in which each trip is given to the lowest of the layers that run it, unless that choice
-    /// is the one that was tried last.
+    /// was tried before.
     pub fn draw(
         &mut self,
         case: &Case<'_>,
@@ -89,10 +89,11 @@ impl Choices {
         ensures { AreChoices case.now.instance.now self.new }
     {
         lowest_layers(case.instance, runs, &mut self.chosen);
-        if self.chosen.as_slice() == self.last.as_slice() {
+        if self.was_tried() {
             return Ok(());
         }
-        self.last.copy_from_slice(&self.chosen);
+        let tried = Vec::from_slice(case.alloc, &self.chosen)?;
+        self.tried.push(tried)?;
         let plan = least_plan(case, &self.chosen, work)?;
         if let Some(cost) = cost_of(&plan) {
             self.keep(case.alloc, cost)?;
@@ -102,10 +103,19 @@ impl Choices {
         Ok(())
     }
 
+    /// Whether the choice that is tried next was tried before.
+    fn was_tried(&self) -> bool {
+        for tried in &self.tried {
+            if tried.as_slice() == self.chosen.as_slice() {
+                return true;
+            }
+        }
+        false
+    }
+
     /// Keeps the choice that was tried, if it is among the cheapest.
     fn keep(&mut self, alloc: Global, cost: i64) -> Result<(), Memory>
         ensures best { self.new.best ≡ self.old.best }
-        ensures last { self.new.last ≡ self.old.last }
         ensures chosen { self.new.chosen ≡ self.old.chosen }
     {
         let place = self.place_of(cost);

@@ -62,18 +62,20 @@ impl Penalties {
         self.rate.begin();
     }
 
-    /// Lets the next of so many layers run first from now on, and the rate begin higher once each did.
-    pub fn turn(&mut self, layers: u32)
+    /// Lets the next of so many layers run first from now on, and the rate begin higher once each did. False where it
+    /// can't, so that what comes was there before.
+    pub fn turn(&mut self, layers: u32) -> bool
         ensures multipliers { self.new.multipliers ≡ self.old.multipliers }
         ensures runs { self.new.runs ≡ self.old.runs }
         ensures offers { self.new.offers ≡ self.old.offers }
         ensures marks { self.new.marks ≡ self.old.marks }
     {
         self.first = self.first.saturating_add(1);
-        if self.first >= layers {
-            self.first = 0;
-            self.rate.shift();
+        if self.first < layers {
+            return true;
         }
+        self.first = 0;
+        self.rate.shift()
     }
 
     /// Each layer in turn runs the trips that are worth it at what they are offered for; the next one sees which.

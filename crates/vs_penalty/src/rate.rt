@@ -1,5 +1,5 @@
 //! By how much layers are offered more or less than a multiplier.
-ghost use Rattle.std.specs.Prelude.{◌≡◌, ◌≢◌, ◌/◌, ◌<◌, ◌≤◌, ◌≤ℤ◌, pos};
+ghost use Rattle.std.specs.Prelude.{◌≡◌, ◌≢◌, ◌/◌, ◌<◌, ◌≤◌, ◌≤ℤ◌, pos, false};
 ghost use Rattle.vs_instance.specs.declared.limits.TheConstants.{MAX_MULTIPLIER};
 ghost use Rattle.vs_penalty.specs.Rates.{growth_of, part_of, raised};
 
@@ -113,15 +113,18 @@ impl Rate {
         *self = Rate::new(self.most, pace);
     }
 
-    /// Begins with a third more from now on, as long as that isn't past the greatest rate.
-    pub fn shift(&mut self)
+    /// Begins with a third more from now on, as long as that isn't past the greatest rate. False where it is.
+    pub fn shift(&mut self) -> bool
+        ensures same { result ≡ false → self.new.least ≡ self.old.least }
         ensures most { self.new.most ≡ self.old.most }
         ensures pace { self.new.pace ≡ self.old.pace }
     {
         let shifted = self.least + self.least / 3 + 1;
-        if shifted <= self.most {
-            self.least = shifted;
+        if shifted > self.most {
+            return false;
         }
+        self.least = shifted;
+        true
     }
 
     /// The least again.

@@ -15,7 +15,8 @@ pub(crate) struct Course {
 }
 
 impl Seeker {
-    /// Passes from these multipliers on. After each agreement they begin anew, and the next layer runs first.
+    /// Passes from these multipliers on. After each agreement they begin anew, and the next layer runs first. They end
+    /// where they would only begin as they did before.
     pub fn seek_anew(
         &mut self,
         case: &Case<'_>,
@@ -34,10 +35,10 @@ impl Seeker {
             }
             self.penalties.pass(case, work)?;
             if self.agree(case.instance) {
-                left -= 1;
                 self.choices.draw(case, &self.penalties.runs, work)?;
                 self.penalties.begin(multipliers);
-                self.penalties.turn(case.instance.layers());
+                let goes_on = self.penalties.turn(case.instance.layers());
+                left = if goes_on { left - 1 } else { 0 };
             }
         }
         Ok(())
