@@ -7,8 +7,8 @@ ghost use Rattle.vs_types.specs.declared.numbers.TheConstants.{MAX_LAYERS};
 use vs_bundle::WHOLE;
 use vs_types::{LayerNo, LayerSet, MAX_LAYERS, TripNo};
 
-/// A trip counts as shared out where its greatest share is at least one part in so many, and so much less than a whole
-/// trip: what is nearer to none or to all hardly changes when the layer is chosen.
+/// A trip counts as shared out where other layers than that of its greatest share run at least one part of it in so many:
+/// what is less hardly changes when the layer is chosen.
 const PARTS: i64 = 20;
 
 /// What a climb on a leaf leaves.
@@ -25,20 +25,21 @@ pub(crate) struct Leads {
 pub(crate) struct Candidate {
     pub trip: TripNo,
     pub layer: LayerNo,
-    /// Whether several layers run a part of it.
-    shared: bool,
+    /// How much of it the other layers run, but no more than that layer does, in parts of `WHOLE`; 0 where it isn't
+    /// shared out. A trip that is run twice at no charge, since its multiplier is 0, is shared out by a whole.
+    shared: i64,
     /// What it is paid for.
     multiplier: i64,
 }
 
 impl Candidate {
-    /// Whether a leaf is split by this trip rather than by the other one: by one that is shared out, and among several
-    /// by the one that is paid for most.
+    /// Whether a leaf is split by this trip rather than by the other one: by the one that is shared out more, and among
+    /// several by the one that is paid for most.
     pub fn is_before(&self, other: &Candidate) -> bool {
         if self.shared == other.shared {
             self.multiplier > other.multiplier
         } else {
-            self.shared
+            self.shared > other.shared
         }
     }
 }
@@ -53,11 +54,11 @@ impl Leads {
     {
         let layer = self.greatest(set, trip);
         let share = i64::from(self.share(layer, trip));
-        let least = WHOLE / PARTS;
+        let others = self.total(trip).saturating_sub(share).min(share);
         Candidate {
             trip,
             layer,
-            shared: least <= share && share <= WHOLE - least,
+            shared: if others < WHOLE / PARTS { 0 } else { others },
             multiplier: self.multiplier(trip),
         }
     }
@@ -83,6 +84,15 @@ impl Leads {
         let row = (l.0 as usize).saturating_mul(self.multipliers.len());
         let place = row.saturating_add(trip.0 as usize);
         self.shares.get(place).copied().unwrap_or(0)
+    }
+
+    /// How much of a trip all layers run.
+    fn total(&self, trip: TripNo) -> i64 {
+        let mut total: i64 = 0;
+        for k in 0..MAX_LAYERS {
+            total = total.saturating_add(i64::from(self.share(LayerNo(k), trip)));
+        }
+        total
     }
 
     /// What a trip is paid for.
