@@ -11,6 +11,9 @@ use vs_types::{LayerNo, LayerSet, MAX_LAYERS, TripNo};
 /// what is less hardly changes when the layer is chosen.
 const PARTS: i64 = 20;
 
+/// A trip counts as run twice where all layers together run so much of it.
+const TWICE: i64 = WHOLE + WHOLE / 4;
+
 /// What a climb on a leaf leaves.
 #[derive(Drop)]
 pub(crate) struct Leads {
@@ -25,9 +28,8 @@ pub(crate) struct Leads {
 pub(crate) struct Candidate {
     pub trip: TripNo,
     pub layer: LayerNo,
-    /// How much of it the other layers run, but no more than that layer does, in parts of `WHOLE`; 0 where it isn't
-    /// shared out. A trip that is run twice at no charge, since its multiplier is 0, is shared out by a whole.
-    shared: i64,
+    /// How far it is shared out; 0 where it isn't.
+    shared: i128,
     /// What it is paid for.
     multiplier: i64,
 }
@@ -53,12 +55,10 @@ impl Leads {
         ensures few { result.layer.0 < MAX_LAYERS }
     {
         let layer = self.greatest(set, trip);
-        let share = i64::from(self.share(layer, trip));
-        let others = self.total(trip).saturating_sub(share).min(share);
         Candidate {
             trip,
             layer,
-            shared: if others < WHOLE / PARTS { 0 } else { others },
+            shared: self.shared(layer, trip),
             multiplier: self.multiplier(trip),
         }
     }
@@ -84,6 +84,21 @@ impl Leads {
         let row = (l.0 as usize).saturating_mul(self.multipliers.len());
         let place = row.saturating_add(trip.0 as usize);
         self.shares.get(place).copied().unwrap_or(0)
+    }
+
+    /// How far a trip is shared out, of which this layer runs most: what it is paid for, times how much other layers run
+    /// of it. Most of all where it is run twice, as is a trip whose multiplier is 0: neither part of a split allows that.
+    fn shared(&self, greatest: LayerNo, trip: TripNo) -> i128 {
+        let share = i64::from(self.share(greatest, trip));
+        let total = self.total(trip);
+        let others = total.saturating_sub(share).min(share);
+        if others < WHOLE / PARTS {
+            0
+        } else if total >= TWICE {
+            i128::MAX
+        } else {
+            i128::from(self.multiplier(trip)).saturating_mul(i128::from(others))
+        }
     }
 
     /// How much of a trip all layers run.
