@@ -74,9 +74,8 @@ impl Ascent {
         ensures { IsAscentFor case.now.instance.now self.new }
     {
         self.top = self.trial.value(case, multipliers, work)?;
-        self.bundle.take_parts(&self.trial.found);
-        self.bundle.keep(&mut self.trial.found, WHOLE);
-        self.bundle.set_errors(multipliers);
+        self.bundle.take(&self.trial.found, multipliers);
+        self.bundle.keep(&mut self.trial.found, WHOLE, multipliers);
         Ok(())
     }
 
@@ -126,8 +125,7 @@ impl Ascent {
         ensures marks { self.new.trial.marks ≡ self.old.trial.marks }
         ensures candidate { self.new.candidate ≡ self.old.candidate }
     {
-        self.bundle.keep(&mut self.trial.found, 0);
-        self.bundle.set_errors(multipliers);
+        self.bundle.keep(&mut self.trial.found, 0, multipliers);
     }
 
     /// Round after round, as long as another one may gain something that is asked for. Gives how many there were.
@@ -172,7 +170,7 @@ impl Ascent {
             self.stride.gain(much);
             self.top = value;
             multipliers.copy_from_slice(&self.candidate);
-            self.bundle.take_parts(&self.trial.found);
+            self.bundle.take(&self.trial.found, multipliers);
         } else {
             let errors = self.bundle.errors_of(&self.trial.found, multipliers);
             let far_off = errors > self.forecast && forecast.errors > forecast.far;

@@ -1,6 +1,6 @@
 //! What is lacking of each trip.
 
-use crate::slot::Slot;
+use crate::cut::Cut;
 use crate::trip_set::TripSet;
 use crate::whole::WHOLE;
 use std::alloc::Global;
@@ -13,27 +13,31 @@ pub(crate) struct Lacking {
     pub free: TripSet,
     /// By trip: how much of it no layer runs, in parts of a whole trip; below 0 where several run it.
     of_all: Vec<i64>,
-    /// The same of the free trips, and 0 of the others.
+    /// The same of the free trips, and 0 of the others, as it was when it was taken last.
     pub of_free: Vec<i64>,
 }
 
 impl Lacking {
-    /// Before anything is reckoned, where all of so many trips are free.
+    /// Where all of so many trips are free, and none is run.
     pub fn new(alloc: Global, trips: usize) -> Result<Lacking, Memory> {
         Ok(Lacking {
             free: TripSet::all(alloc, trips)?,
-            of_all: vec![in alloc; 0; trips]?,
-            of_free: vec![in alloc; 0; trips]?,
+            of_all: vec![in alloc; WHOLE; trips]?,
+            of_free: vec![in alloc; WHOLE; trips]?,
         })
     }
 
-    /// Reckons it.
-    pub fn set(&mut self, slots: &[Slot]) {
-        fill(&mut self.of_all, WHOLE);
-        for slot in slots {
-            slot.lower(&mut self.of_all);
+    /// A cut has so much more weight now.
+    pub fn lower(&mut self, cut: &Cut, weight: i64) {
+        cut.lower(weight, &mut self.of_all);
+    }
+
+    /// Takes what is lacking of the free trips.
+    pub fn take_free(&mut self) {
+        let free = &self.free;
+        for (i, (lack, own)) in self.of_all.iter().zip(self.of_free.iter_mut()).enumerate() {
+            *own = if free.has(i) { *lack } else { 0 };
         }
-        take_free(&self.free, &self.of_all, &mut self.of_free);
     }
 
     /// How much is lacking of a trip.
@@ -59,18 +63,4 @@ impl Lacking {
 /// Whether a multiplier isn't held at 0: it is above 0 or would rise, or it was free and would stay.
 fn is_free(multiplier: i64, lack: i64, free: bool) -> bool {
     multiplier > 0 || lack > 0 || (lack == 0 && free)
-}
-
-/// Sets each number.
-fn fill(numbers: &mut [i64], number: i64) {
-    for n in numbers.iter_mut() {
-        *n = number;
-    }
-}
-
-/// Takes what is lacking of the free trips.
-fn take_free(free: &TripSet, of_all: &[i64], of_free: &mut [i64]) {
-    for (i, (lack, own)) in of_all.iter().zip(of_free.iter_mut()).enumerate() {
-        *own = if free.has(i) { *lack } else { 0 };
-    }
 }

@@ -8,7 +8,7 @@ mod cut;
 mod found;
 mod keeping;
 mod lacking;
-mod slot;
+mod layer_cuts;
 mod standing;
 mod trip_set;
 mod weights;

@@ -7,6 +7,8 @@ use crate::whole::part_of;
 pub(crate) struct Standing {
     /// In parts of a whole, which the weights of a layer's cuts are together.
     pub weight: i64,
+    /// The weight by which it counts in what is lacking of its trips.
+    pub counted: i64,
     /// By how much its value at the best multipliers is above the least, in 1/1000 of a cost unit.
     pub error: i64,
     /// How much is lacking of its free trips.
@@ -22,6 +24,7 @@ impl Standing {
     pub fn none() -> Standing {
         Standing {
             weight: 0,
+            counted: 0,
             error: 0,
             slope: 0,
             idle: u32::MAX,
@@ -29,10 +32,23 @@ impl Standing {
         }
     }
 
-    /// That of a further cut.
+    /// That of a further cut, which doesn't count yet.
     pub fn new(weight: i64) -> Standing {
         Standing {
             weight,
+            counted: 0,
+            error: 0,
+            slope: 0,
+            idle: 0,
+            held: true,
+        }
+    }
+
+    /// That of a mixed cut, all of which counted before.
+    pub fn mixed(weight: i64) -> Standing {
+        Standing {
+            weight,
+            counted: weight,
             error: 0,
             slope: 0,
             idle: 0,
@@ -44,6 +60,7 @@ impl Standing {
     pub fn height(&self, step: i64) -> i64 {
         self.error.saturating_sub(part_of(step, self.slope))
     }
+
     /// Counts a round, for which it has had no weight or has some.
     pub fn age(&mut self) {
         self.idle = if self.weight > 0 {

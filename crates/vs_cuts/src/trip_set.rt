@@ -110,26 +110,24 @@ fn word_of(marks: &[bool]) -> u64 {
 
 /// The sum of the numbers of a chunk whose bits are set.
 fn sum_in(word: u64, numbers: &[i64]) -> i64 {
-    if word == 0 {
-        return 0;
-    }
     let mut sum: i64 = 0;
-    for (b, number) in numbers.iter().enumerate() {
-        if is_set(word, b) {
-            sum = sum.saturating_add(*number);
-        }
+    let mut left = word;
+    for _ in 0..word.count_ones() {
+        let b = left.trailing_zeros() as usize;
+        sum = sum.saturating_add(numbers.get(b).copied().unwrap_or(0));
+        left &= left.wrapping_sub(1);
     }
     sum
 }
 
 /// Takes so much off the numbers of a chunk whose bits are set.
 fn lower_in(word: u64, amount: i64, numbers: &mut [i64]) {
-    if word == 0 {
-        return;
-    }
-    for (b, number) in numbers.iter_mut().enumerate() {
-        if is_set(word, b) {
+    let mut left = word;
+    for _ in 0..word.count_ones() {
+        let b = left.trailing_zeros() as usize;
+        if let Some(number) = numbers.get_mut(b) {
             *number = number.saturating_sub(amount);
         }
+        left &= left.wrapping_sub(1);
     }
 }

@@ -1,7 +1,8 @@
 //! The weights of the cuts: moved from cut to cut of a layer until what is forecast can't be brought much nearer.
 
 use crate::bundle::Bundle;
-use crate::slot::Slot;
+use crate::layer_cuts::LayerCuts;
+use crate::standing::Standing;
 use crate::whole::{WHOLE, fitting, part_of};
 
 /// How often all layers move weights at most: the last sweeps gain next to nothing.
@@ -10,11 +11,28 @@ const SWEEPS: u32 = 60;
 /// A layer is done once what a move may gain is so small a part of the tolerance, shared out among the layers.
 const FINE: i64 = 100;
 
-/// A place, and how high the cut there stands.
+/// Two places, and how high the cuts there stand: of the highest cut that has weight, and of the lowest one.
 #[derive(Clone, Copy)]
-struct Peak {
-    place: usize,
-    height: i64,
+struct Peaks {
+    high: usize,
+    highest: i64,
+    low: usize,
+    lowest: i64,
+}
+
+impl Peaks {
+    /// Takes the cut at a place into account.
+    fn see(&mut self, place: usize, standing: &Standing, step: i64) {
+        let height = standing.height(step);
+        if standing.weight > 0 && height > self.highest {
+            self.high = place;
+            self.highest = height;
+        }
+        if height < self.lowest {
+            self.low = place;
+            self.lowest = height;
+        }
+    }
 }
 
 /// What a step is forecast to gain.
@@ -37,30 +55,27 @@ impl Bundle {
     /// Makes the weights such as are best for a step of this length, to within a tolerance. Gives what the step is
     /// forecast to gain.
     pub fn weigh(&mut self, step: i64, tolerance: i64) -> Forecast {
-        self.set_lacks();
-        self.set_slopes();
+        self.lacking.take_free();
         self.balance_all(step, tolerance);
-        self.set_lacks();
-        self.age();
         Forecast {
-            errors: self.errors(),
+            errors: self.end_round(),
             far: part_of(step, square(&self.lacking.of_free)),
         }
     }
 
-    /// What the errors of the cuts come to, each by its weight.
-    fn errors(&self) -> i64 {
+    /// Counts a round. Gives what the errors of the cuts come to, each by its weight.
+    fn end_round(&mut self) -> i64 {
         let mut errors: i64 = 0;
-        for slot in &self.slots {
-            let standing = slot.standing;
-            errors = errors.saturating_add(part_of(standing.error, standing.weight));
+        for layer in self.layers.iter_mut() {
+            layer.age();
+            errors = errors.saturating_add(layer.errors());
         }
         errors
     }
 
     /// Moves weights in all layers until a sweep over them gains less than the tolerance.
     fn balance_all(&mut self, step: i64, tolerance: i64) {
-        let layers = i64::try_from(self.layers()).unwrap_or(i64::MAX);
+        let layers = i64::try_from(self.layers.len()).unwrap_or(i64::MAX);
         let fine = tolerance / FINE / layers.max(1);
         for _ in 0..SWEEPS {
             if self.sweep(step, fine) < tolerance {
@@ -72,17 +87,22 @@ impl Bundle {
     /// Moves weights in each layer in turn. Gives what that gained.
     fn sweep(&mut self, step: i64, fine: i64) -> i64 {
         let mut gained: i64 = 0;
-        for l in 0..self.layers() {
-            gained = gained.saturating_add(self.balance(l, step, fine));
+        for layer in self.layers.iter_mut() {
+            layer.set_slopes(&self.lacking.of_free);
+            gained = gained.saturating_add(layer.balance(step, fine));
+            layer.settle(&mut self.lacking);
+            self.lacking.take_free();
         }
         gained
     }
+}
 
-    /// Moves weights in a layer, at most as often as it has places. Gives what that gained.
-    fn balance(&mut self, l: usize, step: i64, fine: i64) -> i64 {
+impl LayerCuts {
+    /// Moves weights, at most as often as there are places. Gives what that gained.
+    fn balance(&mut self, step: i64, fine: i64) -> i64 {
         let mut gained: i64 = 0;
-        for _ in 0..self.places {
-            let gain = self.shift(l, step, fine);
+        for _ in 0..self.standings.len() {
+            let gain = self.shift(step, fine);
             if gain == 0 {
                 break;
             }
@@ -91,57 +111,34 @@ impl Bundle {
         gained
     }
 
-    /// Moves weight from the highest cut of a layer that has some to the lowest one, where they lie further apart than
-    /// is fine. Gives what that gained.
-    fn shift(&mut self, l: usize, step: i64, fine: i64) -> i64 {
-        let high = self.highest(l, step);
-        let low = self.lowest(l, step);
-        let gap = high.height.saturating_sub(low.height);
+    /// Moves weight from the highest cut that has some to the lowest one, where they lie further apart than is fine.
+    /// Gives what that gained.
+    fn shift(&mut self, step: i64, fine: i64) -> i64 {
+        let peaks = self.peaks(step);
+        let gap = peaks.highest.saturating_sub(peaks.lowest);
         if gap <= fine {
             return 0;
         }
-        let apart = self.apart(high.place, low.place);
-        let amount = best_move(gap, step, apart).min(self.weight(high.place));
-        self.carry(high.place, low.place, amount);
+        let apart = self.apart(peaks.high, peaks.low);
+        let amount = best_move(gap, step, apart).min(self.standing(peaks.high).weight);
+        self.carry(peaks.high, peaks.low, amount);
         part_of(gap, amount)
     }
 
-    /// The lowest cut of a layer. Where there is none, the place of the mixed one, and above all heights.
-    fn lowest(&self, l: usize, step: i64) -> Peak {
-        let mut lowest = Peak {
-            place: self.mixed_of(l),
-            height: i64::MAX,
+    /// The highest cut that has weight and the lowest one.
+    fn peaks(&self, step: i64) -> Peaks {
+        let mut peaks = Peaks {
+            high: 0,
+            highest: i64::MIN,
+            low: 0,
+            lowest: i64::MAX,
         };
-        for place in self.places_of(l) {
-            let standing = self.standing(place);
-            let height = standing.height(step);
-            if standing.held && height < lowest.height {
-                lowest = Peak { place, height };
+        for (place, standing) in self.standings.iter().enumerate() {
+            if standing.held {
+                peaks.see(place, standing, step);
             }
         }
-        lowest
-    }
-
-    /// The highest cut of a layer that has weight. Where there is none, the place of the mixed one, and below all
-    /// heights.
-    fn highest(&self, l: usize, step: i64) -> Peak {
-        let mut highest = Peak {
-            place: self.mixed_of(l),
-            height: i64::MIN,
-        };
-        for place in self.places_of(l) {
-            let standing = self.standing(place);
-            let height = standing.height(step);
-            if standing.weight > 0 && highest.height < height {
-                highest = Peak { place, height };
-            }
-        }
-        highest
-    }
-
-    /// The weight of the cut at a place.
-    pub(crate) fn weight(&self, place: usize) -> i64 {
-        self.standing(place).weight
+        peaks
     }
 
     /// The product of two places.
@@ -163,27 +160,27 @@ impl Bundle {
 
     /// Adds to the weight of the cut at a place.
     fn add_weight(&mut self, place: usize, amount: i64) {
-        if let Some(slot) = self.slots.get_mut(place) {
-            slot.standing.weight = slot.standing.weight.saturating_add(amount);
+        if let Some(standing) = self.standings.get_mut(place) {
+            standing.weight = standing.weight.saturating_add(amount);
         }
     }
 
-    /// Moves so much weight from one cut to another one of its layer.
+    /// Moves so much weight from one cut to another one.
     fn carry(&mut self, from: usize, to: usize, amount: i64) {
         self.add_weight(from, amount.saturating_neg());
         self.add_weight(to, amount);
         if let (Some(left), Some(taken)) = (self.products.get(from), self.products.get(to)) {
-            tilt(&mut self.slots, left, taken, amount);
+            tilt(&mut self.standings, left, taken, amount);
         }
     }
 }
 
-/// Changes how much is lacking of the trips of each cut, where so much weight goes from the cut that has the first
+/// Changes how much is lacking of the trips of each cut of a layer, where so much weight goes from the cut that has the first
 /// products to the one that has the others.
-fn tilt(slots: &mut [Slot], left: &[i64], taken: &[i64], amount: i64) {
-    for ((slot, a), b) in slots.iter_mut().zip(left).zip(taken) {
+fn tilt(standings: &mut [Standing], left: &[i64], taken: &[i64], amount: i64) {
+    for ((standing, a), b) in standings.iter_mut().zip(left).zip(taken) {
         let more = part_of(a.saturating_sub(*b), amount);
-        slot.standing.slope = slot.standing.slope.saturating_add(more);
+        standing.slope = standing.slope.saturating_add(more);
     }
 }
 

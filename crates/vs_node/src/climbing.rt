@@ -23,15 +23,16 @@ const FIRST_STEP: u32 = 1;
 const CUTS: u32 = 50;
 
 /// How many rounds a climb has at most: the first ten gain nothing as a rule, since no circulations are known yet, and
-/// with half as many a timetable of 200 trips is closed by five times as many leaves.
-const MOST_ROUNDS: u32 = 70;
+/// with a third as many a timetable of 200 trips in eight layers takes eight times as many leaves to the same bound.
+const MOST_ROUNDS: u32 = 100;
 
 /// How many rounds a climb has at least: a few that can gain.
 const LEAST_ROUNDS: u32 = 12;
 
-/// How many offers of trips to layers there are in all, where the rounds for them lie between the two limits: the root
-/// has fewer passes the more a pass offers, and 200 leaves are to take no more than four times as long as the root.
-const OFFERS: u32 = 56_000;
+/// How many rounds there are, times the square of how many trips each of them offers to layers, where they lie between
+/// the two limits: the more a round offers the longer it takes and the fewer passes the root has, and 200 leaves are to
+/// take no more than four times as long as the root.
+const ROUNDS_BY_SQUARE: u32 = 256_000_000;
 
 /// How many arcs, times trips, the circulations of a climb look along at most: a tenth of what a step of the root may.
 const EFFORT: u64 = 3_400_000_000;
@@ -94,8 +95,8 @@ fn first_multipliers(case: &Case<'_>, table: &Table) -> Result<Vec<i64>, Memory>
 fn rounds_for(instance: &Instance) -> u32 {
     prove!(instance.trips() <= MAX_TRIPS && instance.layers() <= MAX_LAYERS);
     let offers = instance.trips() * instance.layers();
-    OFFERS
-        .checked_div(offers)
+    ROUNDS_BY_SQUARE
+        .checked_div(offers.saturating_mul(offers))
         .unwrap_or(0)
         .max(LEAST_ROUNDS)
         .min(MOST_ROUNDS)

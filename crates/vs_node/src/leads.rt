@@ -7,9 +7,12 @@ ghost use Rattle.vs_types.specs.declared.numbers.TheConstants.{MAX_LAYERS};
 use vs_bundle::WHOLE;
 use vs_types::{LayerNo, LayerSet, MAX_LAYERS, TripNo};
 
-/// A trip counts as shared out where its greatest share is at least one part in so many, and so much less than a whole
-/// trip: what is nearer to none or to all hardly changes when the layer is chosen.
+/// A trip counts as shared out where other layers than that of its greatest share run at least one part of it in so many:
+/// what is less hardly changes when the layer is chosen.
 const PARTS: i64 = 20;
+
+/// A trip counts as run twice where all layers together run so much of it.
+const TWICE: i64 = WHOLE + WHOLE / 4;
 
 /// What a climb on a leaf leaves.
 #[derive(Drop)]
@@ -25,20 +28,20 @@ pub(crate) struct Leads {
 pub(crate) struct Candidate {
     pub trip: TripNo,
     pub layer: LayerNo,
-    /// Whether several layers run a part of it.
-    shared: bool,
+    /// How far it is shared out; 0 where it isn't.
+    shared: i128,
     /// What it is paid for.
     multiplier: i64,
 }
 
 impl Candidate {
-    /// Whether a leaf is split by this trip rather than by the other one: by one that is shared out, and among several
-    /// by the one that is paid for most.
+    /// Whether a leaf is split by this trip rather than by the other one: by the one that is shared out more, and among
+    /// several by the one that is paid for most.
     pub fn is_before(&self, other: &Candidate) -> bool {
         if self.shared == other.shared {
             self.multiplier > other.multiplier
         } else {
-            self.shared
+            self.shared > other.shared
         }
     }
 }
@@ -52,12 +55,10 @@ impl Leads {
         ensures few { result.layer.0 < MAX_LAYERS }
     {
         let layer = self.greatest(set, trip);
-        let share = i64::from(self.share(layer, trip));
-        let least = WHOLE / PARTS;
         Candidate {
             trip,
             layer,
-            shared: least <= share && share <= WHOLE - least,
+            shared: self.shared(layer, trip),
             multiplier: self.multiplier(trip),
         }
     }
@@ -83,6 +84,30 @@ impl Leads {
         let row = (l.0 as usize).saturating_mul(self.multipliers.len());
         let place = row.saturating_add(trip.0 as usize);
         self.shares.get(place).copied().unwrap_or(0)
+    }
+
+    /// How far a trip is shared out, of which this layer runs most: what it is paid for, times how much other layers run
+    /// of it. Most of all where it is run twice, as is a trip whose multiplier is 0: neither part of a split allows that.
+    fn shared(&self, greatest: LayerNo, trip: TripNo) -> i128 {
+        let share = i64::from(self.share(greatest, trip));
+        let total = self.total(trip);
+        let others = total.saturating_sub(share).min(share);
+        if others < WHOLE / PARTS {
+            0
+        } else if total >= TWICE {
+            i128::MAX
+        } else {
+            i128::from(self.multiplier(trip)).saturating_mul(i128::from(others))
+        }
+    }
+
+    /// How much of a trip all layers run.
+    fn total(&self, trip: TripNo) -> i64 {
+        let mut total: i64 = 0;
+        for k in 0..MAX_LAYERS {
+            total = total.saturating_add(i64::from(self.share(LayerNo(k), trip)));
+        }
+        total
     }
 
     /// What a trip is paid for.

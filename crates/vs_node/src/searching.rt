@@ -11,15 +11,15 @@ use crate::climbing::climb_on;
 use crate::keeping::better;
 use crate::outcome::{Outcome, Task, outcome_of};
 use vs_circ::Work;
-use vs_multi::{Best, Case, few_rounds, of_table, raise, rounds, start};
+use vs_multi::{Best, Case, few_rounds, of_table, raise, start};
 use vs_prices::Table;
 use vs_types::Memory;
 
-/// How many rounds a leaf other than the root begins with: one shows what its first multipliers are worth.
+/// How many rounds a leaf begins with: one shows what its first multipliers are worth.
 const FIRST_ROUNDS: u32 = 1;
 
 /// What comes of a leaf some trip of which may be run in two layers or more: the best of its own table, that of its
-/// first rounds and that of a climb, raised, and the plan of the layers that this one chooses.
+/// first round and that of a climb, raised, and the plan of the layers that this one chooses.
 pub(crate) fn search(case: &Case<'_>, task: &Task, work: &mut Work) -> Result<Outcome, Memory>
     requires leaf { IsAtHand case.now.instance.now case.now.nets.now case.now.sets.now task.now }
     requires choice { (i : ℕ) × (i < length case.now.sets.now) × HasChoice case.now.sets.now i }
@@ -27,7 +27,7 @@ pub(crate) fn search(case: &Case<'_>, task: &Task, work: &mut Work) -> Result<Ou
     ensures next { IfOk result (λ outcome.
         IsFollowedBy case.now.instance.now task.now outcome) }
 {
-    let best = best_round(case, task.root, &task.table, work)?;
+    let best = first_round(case, task.root, &task.table, work)?;
     let (mut table, worth) = better(case, &task.table, best.table, best.worth)?;
     let climbed = climb_on(case, task.known, &mut table, worth, work)?;
     let raised = raise(case, &mut table, climbed.worth, work)?;
@@ -35,9 +35,9 @@ pub(crate) fn search(case: &Case<'_>, task: &Task, work: &mut Work) -> Result<Ou
     Ok(outcome)
 }
 
-/// The best of the first rounds for a leaf: all rounds from the starting multipliers at the root, and else one at those
-/// that the leaf's table stands for.
-fn best_round(case: &Case<'_>, root: bool, own: &Table, work: &mut Work) -> Result<Best, Memory>
+/// The first round for a leaf: at the root from the starting multipliers, and else from those that the leaf's table
+/// stands for.
+fn first_round(case: &Case<'_>, root: bool, own: &Table, work: &mut Work) -> Result<Best, Memory>
     requires case { IsCase case.now.instance.now case.now.nets.now case.now.sets.now }
     requires fits { Fits case.now.instance.now own.now }
     ensures fits { IfOk result (λ best. Fits case.now.instance.now best.table) }
@@ -51,14 +51,7 @@ fn best_round(case: &Case<'_>, root: bool, own: &Table, work: &mut Work) -> Resu
     let multipliers = room.as_mut_slice();
     if root {
         start(case.instance, multipliers);
-        let best = rounds(
-            case.alloc,
-            case.instance,
-            case.nets,
-            case.sets,
-            multipliers,
-            work,
-        )?;
+        let best = few_rounds(case, FIRST_ROUNDS, multipliers, work)?;
         return Ok(best);
     }
     of_table(case.instance, case.sets, own, multipliers);

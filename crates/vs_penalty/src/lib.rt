@@ -14,6 +14,7 @@ mod root;
 mod seeking;
 mod slow_passes;
 mod tally;
+mod turns;
 
 pub use agreeing::agree;
 pub use leaf::seek_plan;

@@ -8,45 +8,38 @@ use vs_circ::Work;
 use vs_multi::Case;
 use vs_types::{LayerSet, Memory};
 
-/// How often the layers are brought to agree within a pool.
-pub(crate) const TURNS: u32 = 8;
+/// Of how many choices a pool is at most, and how many passes are made in it.
+#[derive(Clone, Copy, Debug)]
+pub(crate) struct PoolBounds {
+    pub width: usize,
+    pub passes: u32,
+}
 
-/// Of how many choices the first pool is: fewer leave hardly a trip with several layers, and more much of the instance.
-const FIRST_WIDTH: usize = 6;
-
-/// After how many agreements a turn ends: later ones find what the first ones did.
+/// After how many agreements the passes in a pool end: later ones find what the first ones did.
 const AGREEMENTS: u32 = 4;
 
 impl Seeker {
-    /// Eight turns of so many passes, in each of which a trip may be run by those layers alone that the cheapest
-    /// choices give it to. Where a turn finds no cheaper plan, the next one has one choice more.
+    /// Passes in which each trip may be run by those layers alone that the cheapest so many choices give it to. None
+    /// where fewer than two choices are kept.
     pub fn seek_in_pool(
         &mut self,
         case: &Case<'_>,
-        passes: u32,
+        bounds: PoolBounds,
         multipliers: &[i64],
         work: &mut Work,
     ) -> Result<(), Memory>
         requires { CanSeek case.now.instance.now case.now.nets.now case.now.sets.now multipliers.now self.old }
         ensures { IsSeekerFor case.now.instance.now self.new }
     {
-        let mut pool = vec![in case.alloc; LayerSet(0); multipliers.len()]?;
-        let mut width = FIRST_WIDTH;
-        for _ in 0..TURNS {
-            if self.choices.count() < 2 {
-                break;
-            }
-            let before = self.choices.cost();
-            self.choices.unite(case.instance, width, &mut pool);
-            self.seek_within(case, &pool, passes, multipliers, work)?;
-            if self.choices.cost() == before {
-                width = width.saturating_add(1);
-            }
+        if self.choices.count() < 2 {
+            return Ok(());
         }
-        Ok(())
+        let mut pool = vec![in case.alloc; LayerSet(0); multipliers.len()]?;
+        self.choices.unite(case.instance, bounds.width, &mut pool);
+        self.seek_within(case, &pool, bounds.passes, multipliers, work)
     }
 
-    /// One turn, in which each trip may be run by the layers of its set alone.
+    /// Passes in which each trip may be run by the layers of its set alone.
     fn seek_within(
         &mut self,
         case: &Case<'_>,

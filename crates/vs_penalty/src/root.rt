@@ -4,8 +4,6 @@ ghost use Rattle.vs_multi.specs.Multipliers.{AreMultipliers};
 ghost use Rattle.vs_penalty.specs.Seekers.{CanSeek, IsSeekerFor};
 
 use crate::effort::{affordable, arcs_for, passes};
-use crate::pool::TURNS;
-use crate::rate::Pace;
 use crate::seeking::Seeker;
 use crate::slow_passes::Course;
 use vs_bundle::{Aim, climb};
@@ -20,13 +18,20 @@ const FIRST_STEP: u32 = 2;
 /// round takes longer.
 const CUTS: u32 = 50;
 
-/// How many rounds a climb has: later ones gain next to nothing.
-const ROUNDS: u32 = 300;
+/// How many rounds the first climb has: later ones gain next to nothing.
+const FIRST_ROUNDS: u32 = 300;
+
+/// How many rounds the last climb has: it begins where the first one ended.
+const LAST_ROUNDS: u32 = 40;
+
+/// After how many agreements the first passes end: the first climb needs no more than a plan that is nearly as cheap
+/// as the best, and what later ones gain slow passes find sooner.
+const AGREEMENTS: u32 = 10;
 
 impl Seeker {
     /// Seeks plans and ever better multipliers, in steps: passes from the first multipliers, a climb from where these
-    /// end, slow passes from the best multipliers, passes in pools of the best plans, and another climb, which a
-    /// cheaper plan guides better. What is left is left out as soon as no plan can cost less than the cheapest one.
+    /// end, turns of slow passes and of passes in pools of the best plans, and another climb, which a cheaper plan
+    /// guides better. What is left is left out as soon as no plan can cost less than the cheapest one.
     pub fn seek_all(
         &mut self,
         case: &Case<'_>,
@@ -39,52 +44,25 @@ impl Seeker {
     {
         let passes = passes(case.instance);
         let arcs = arcs_for(case.instance);
-        let first = affordable(case.nets, passes / 2, arcs);
-        self.seek(case, first, work)?;
+        let quick = Course {
+            passes: affordable(case.nets, passes / 2, arcs),
+            agreements: AGREEMENTS,
+        };
+        self.seek(case, quick, work)?;
         multipliers.copy_from_slice(&self.penalties.multipliers);
-        self.climb(case, multipliers, work)?;
+        self.climb(case, FIRST_ROUNDS, multipliers, work)?;
         if self.is_done() {
             return Ok(());
         }
-        self.seek_near(case, passes, multipliers, work)?;
-        self.climb(case, multipliers, work)
+        self.seek_near(case, multipliers, work)?;
+        self.climb(case, LAST_ROUNDS, multipliers, work)
     }
 
-    /// Seeks plans near multipliers that are nearly the best.
-    fn seek_near(
-        &mut self,
-        case: &Case<'_>,
-        passes: u32,
-        multipliers: &[i64],
-        work: &mut Work,
-    ) -> Result<(), Memory>
-        requires { CanSeek case.now.instance.now case.now.nets.now case.now.sets.now multipliers.now self.old }
-        ensures { IsSeekerFor case.now.instance.now self.new }
-    {
-        let arcs = arcs_for(case.instance);
-        let slow = Course {
-            passes: affordable(
-                case.nets,
-                passes.saturating_mul(3) / 2,
-                arcs.saturating_mul(2),
-            ),
-            agreements: u32::MAX,
-        };
-        self.penalties.rate.set(Pace::Slow);
-        self.seek_anew(case, slow, multipliers, work)?;
-        self.penalties.rate.set(Pace::Narrow);
-        let narrow = affordable(
-            case.nets,
-            passes / 4,
-            arcs.saturating_mul(3) / u64::from(TURNS),
-        );
-        self.seek_in_pool(case, narrow, multipliers, work)
-    }
-
-    /// Climbs from these multipliers on to the best.
+    /// Climbs from these multipliers on to the best, by at most so many rounds.
     fn climb(
         &mut self,
         case: &Case<'_>,
+        rounds: u32,
         multipliers: &mut [i64],
         work: &mut Work,
     ) -> Result<(), Memory>
@@ -97,8 +75,8 @@ impl Seeker {
             most: self.penalties.rate.most,
             hundredths: FIRST_STEP,
             cuts: CUTS,
-            rounds: ROUNDS,
-            trial_rounds: ROUNDS,
+            rounds,
+            trial_rounds: rounds,
             arcs: arcs_for(case.instance),
         };
         let climbed = climb(case, &aim, multipliers, work)?;

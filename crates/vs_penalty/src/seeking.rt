@@ -9,6 +9,7 @@ ghost use Rattle.vs_penalty.specs.Seekers.{IsSeekerFor};
 use crate::choices::Choices;
 use crate::penalties::Penalties;
 use crate::rate::{Pace, Rate};
+use crate::slow_passes::Course;
 use crate::tally::Tally;
 use vs_circ::Work;
 use vs_instance::{Instance, MAX_TRIPS};
@@ -48,15 +49,21 @@ impl Seeker {
         self.choices.is_least(self.value)
     }
 
-    /// So many passes. Each time the layers nearly agree, the plan of that is found, and the rate falls.
-    pub fn seek(&mut self, case: &Case<'_>, passes: u32, work: &mut Work) -> Result<(), Memory>
+    /// So many passes, or fewer where they agree so often. Each time the layers nearly agree, the plan of that is
+    /// found, and the rate falls.
+    pub fn seek(&mut self, case: &Case<'_>, course: Course, work: &mut Work) -> Result<(), Memory>
         requires case { IsCase case.now.instance.now case.now.nets.now case.now.sets.now }
         requires seeker { IsSeekerFor case.now.instance.now self.old }
         ensures { IsSeekerFor case.now.instance.now self.new }
     {
-        for _ in 0..passes {
+        let mut left = course.agreements;
+        for _ in 0..course.passes {
+            if left == 0 {
+                break;
+            }
             self.penalties.pass(case, work)?;
             if self.agree(case.instance) {
+                left -= 1;
                 self.penalties.rate.ease();
                 self.choices.draw(case, &self.penalties.runs, work)?;
             }

@@ -1,7 +1,7 @@
 use Rattle.std.proofs.Common.{Bool, sym, subst}
 use Rattle.vs_node.specs.WorkedStep.{AreBegunWith}
 use Rattle.vs_node.proofs.searches.Begun.{worked-by}
-use Rattle.vs_node.proofs.searching.best_round.Goals as goal
+use Rattle.vs_node.proofs.searching.first_round.Goals as goal
 
 pub returns-then-root-clause-worked : goal.returns-then-root-clause-worked
 returns-then-root-clause-worked c =
