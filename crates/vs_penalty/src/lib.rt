@@ -7,9 +7,12 @@ mod choices;
 mod choosing;
 mod effort;
 mod leaf;
+mod paying;
 mod penalties;
 mod pool;
 mod rate;
+mod ray;
+mod reasons;
 mod root;
 mod seeking;
 mod slow_passes;
@@ -17,3 +20,4 @@ mod tally;
 
 pub use agreeing::agree;
 pub use leaf::seek_plan;
+pub use ray::seek_ray;
