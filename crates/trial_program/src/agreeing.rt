@@ -37,7 +37,7 @@ fn agreed_from(
     ensures fits { Fits instance.now table.new }
 {
     let mut work = Work::new(alloc, nets)?;
-    match agree(alloc, instance, nets, table, &mut work)? {
+    match agree(alloc, instance, nets, None, table, &mut work)? {
         Some(plan) => Ok(Some(plan.cost())),
         None => Ok(None),
     }

@@ -11,7 +11,7 @@ use std::thread::Threads;
 use trial_fixtures::texts::{
     BLOCK, END, NOON_HEAD, NOON_TABLE, NOON_TRIPS, RESTING_LAYER, RESTING_STOPS, TRIPS,
 };
-use trial_small::{least_cost, made, text_of};
+use trial_small::{Small, least_cost, made, text_of};
 use vs_crew::NoGate;
 
 /// Layers whose vehicles rest for a minute at least, and for 600.
@@ -216,10 +216,18 @@ fn head_of(alloc: Global, cost: Option<u64>) -> Result<String, Fail> {
 }
 
 /// The text of a small timetable, and the first rows of its document by the count of all plans.
-fn drawn(alloc: Global, number: u64) -> Result<(Vec<u8>, String), Fail> {
-    let small = made(alloc, number)?;
-    let head = head_of(alloc, least_cost(&small))?;
-    Ok((text_of(alloc, &small)?, head))
+fn counted(alloc: Global, small: &Small) -> Result<(Vec<u8>, String), Fail> {
+    let head = head_of(alloc, least_cost(small))?;
+    Ok((text_of(alloc, small)?, head))
+}
+
+/// A small timetable whose layers have one vehicle each, which is too few for most.
+fn short(alloc: Global, number: u64) -> Result<Small, Fail> {
+    let mut small = made(alloc, number)?;
+    for layer in small.layers.iter_mut() {
+        layer.fleet = 1;
+    }
+    Ok(small)
 }
 
 /// What is written for a timetable begins so, and holds.
@@ -240,7 +248,18 @@ fn is_found<R: Abort + Threads + Wait + Sync>(
 #[test]
 fn finds_what_a_count_of_all_plans_finds(rt: HostRuntime) -> Result<(), Fail> {
     for number in 0..DRAWN {
-        let (text, head) = drawn(rt.alloc(), number)?;
+        let small = made(rt.alloc(), number)?;
+        let (text, head) = counted(rt.alloc(), &small)?;
+        is_found(&rt, rt.alloc(), &text, &head, number)?;
+    }
+    Ok(())
+}
+
+#[test]
+fn says_that_there_is_no_plan_just_where_none_is_counted(rt: HostRuntime) -> Result<(), Fail> {
+    for number in 0..DRAWN {
+        let small = short(rt.alloc(), number)?;
+        let (text, head) = counted(rt.alloc(), &small)?;
         is_found(&rt, rt.alloc(), &text, &head, number)?;
     }
     Ok(())

@@ -27,7 +27,7 @@ fn agreed(alloc: Global, parts: &[&str]) -> Result<(Option<i64>, Table), Fail> {
     let nets = layer_nets(alloc, &instance)?;
     let mut work = Work::new(alloc, &nets)?;
     let mut table = Table::zero(alloc, &instance)?;
-    let plan = agree(alloc, &instance, &nets, &mut table, &mut work)?;
+    let plan = agree(alloc, &instance, &nets, None, &mut table, &mut work)?;
     Ok((plan.as_ref().map(|plan| plan.cost()), table))
 }
 

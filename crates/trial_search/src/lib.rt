@@ -10,4 +10,6 @@ mod decompositions;
 #[cfg(test)]
 mod multipliers;
 #[cfg(test)]
+mod rays;
+#[cfg(test)]
 mod roots;

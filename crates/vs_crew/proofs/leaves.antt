@@ -10,3 +10,4 @@ pub mod LeafTables
 pub mod Taking
 pub mod SharedSteps
 pub mod HandedIn
+pub mod ShownLeaves

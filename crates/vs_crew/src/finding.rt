@@ -11,10 +11,14 @@ use vs_connect::lesser;
 use vs_instance::Instance;
 use vs_match::LayerNet;
 use vs_node::{Outcome, Task, work};
-use vs_penalty::{agree, seek_plan};
+use vs_penalty::{agree, seek_plan, seek_ray};
 use vs_plan::{cheaper, cost_of};
 use vs_tree::{Finish, Next};
 use vs_types::Memory;
+
+/// How many rounds prices are sought by on a leaf other than the root that show that there is no plan within its
+/// sets.
+const RAY_ROUNDS: u32 = 30;
 
 /// What the work on a leaf finds, and how the leaf is finished by that: what its new table is worth there, or in the
 /// two parts, is reckoned before the worker has the turn.
@@ -62,11 +66,64 @@ fn outcome_of(
     ensures fits { Fits instance.now task.new.table }
 {
     if task.root {
-        found_at_root(alloc, instance, nets, task, scratch)
-    } else if passes {
+        return found_at_root(alloc, instance, nets, task, scratch);
+    }
+    let outcome = found_on_leaf(alloc, instance, nets, task, passes, scratch)?;
+    closed_by_ray(alloc, instance, task, outcome)
+}
+
+/// What is found on a leaf other than the root.
+fn found_on_leaf(
+    alloc: Global,
+    instance: &Instance,
+    nets: &[LayerNet],
+    task: &Task,
+    passes: bool,
+    scratch: &mut Work,
+) -> Result<Outcome, Memory>
+    requires nets { AreLayerNets instance.now nets.now }
+    requires lawful { IsLawfulTask instance.now task.now }
+    ensures { IfOk result (IsFound instance.now task.now) }
+{
+    if passes {
         found_with_passes(alloc, instance, nets, task, scratch)
     } else {
         work(alloc, instance, nets, task, scratch)
+    }
+}
+
+/// What was found on a leaf; where it is split and no plan is known yet, closed by prices that show that there is none
+/// within its sets, if such are found.
+fn closed_by_ray(
+    alloc: Global,
+    instance: &Instance,
+    task: &Task,
+    outcome: Outcome,
+) -> Result<Outcome, Memory>
+    requires lawful { IsLawfulTask instance.now task.now }
+    requires found { IsFound instance.now task.now outcome }
+    ensures { IfOk result (IsFound instance.now task.now) }
+{
+    if task.known.is_some() || outcome.plan.is_some() || is_closed(&outcome) {
+        return Ok(outcome);
+    }
+    let sets = task.sets.as_slice();
+    let found = seek_ray(alloc, instance, sets, RAY_ROUNDS)?;
+    match found {
+        Some(table) => Ok(Outcome {
+            table,
+            plan: None,
+            next: Next::Close,
+        }),
+        None => Ok(outcome),
+    }
+}
+
+/// Whether the leaf is closed.
+fn is_closed(outcome: &Outcome) -> bool {
+    match outcome.next {
+        Next::Close => true,
+        Next::Split { .. } => false,
     }
 }
 
@@ -112,7 +169,7 @@ fn found_at_root(
     ensures sets { task.new.sets.items ≡ task.old.sets.items }
     ensures fits { Fits instance.now task.new.table }
 {
-    let agreed = agree(alloc, instance, nets, &mut task.table, scratch)?;
+    let agreed = agree(alloc, instance, nets, task.known, &mut task.table, scratch)?;
     task.known = lesser(task.known, cost_of(&agreed));
     let outcome = work(alloc, instance, nets, task, scratch)?;
     let plan = cheaper(agreed, outcome.plan);

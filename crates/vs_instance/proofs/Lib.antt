@@ -4,4 +4,5 @@ pub mod Known
 pub mod costs
 pub mod lagrangian
 pub mod PermittedSets
+pub mod FreeProblems
 pub mod CallerLemmas

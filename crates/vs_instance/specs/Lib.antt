@@ -13,3 +13,4 @@ pub mod HoldingTable
 pub mod Lagrangian
 pub mod Laws
 pub mod Misfits
+pub mod Unrated

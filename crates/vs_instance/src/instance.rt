@@ -3,6 +3,7 @@
 ghost use Rattle.std.specs.Prelude.{◌≡◌, ℕ, ◌<◌, ◌≤◌, length, IfOk, IfErr, OnOk, option_map};
 ghost use Rattle.vs_instance.specs.Instance.{IsInstance};
 ghost use Rattle.vs_instance.specs.Misfits.{AreParts, MakeInstance, problem_of, IsFirstMisfit, IsMisfit};
+ghost use Rattle.vs_instance.specs.Unrated.{without_rates};
 ghost use Rattle.vs_instance.specs.Ways.{way, trip_of, layer_of};
 
 use crate::closure::closure_misfit;
@@ -12,6 +13,7 @@ use crate::misfit::NewError;
 use crate::parts::Parts;
 use crate::ranges::{layers_misfit, trips_misfit};
 use crate::trip::Trip;
+use crate::unrated::unrated_layers;
 use crate::way::Way;
 use crate::ways::Ways;
 use std::alloc::Global;
@@ -81,6 +83,22 @@ impl Instance {
             ways: self.ways.copy(alloc)?,
             layers: Vec::from_slice(alloc, &self.layers)?,
             trips: Vec::from_slice(alloc, &self.trips)?,
+        })
+    }
+
+    /// The same stops, deadheads, fleets and trips where nothing costs anything: the rates of each layer are 0.
+    pub fn without_rates(&self, alloc: Global) -> Result<Instance, Memory>
+        ensures { IfOk result (λ instance. instance ≡ without_rates self.now) }
+    {
+        let own_layers = self.layers.as_slice();
+        let own_trips = self.trips.as_slice();
+        let ways = self.ways.copy(alloc)?;
+        let layers = unrated_layers(alloc, own_layers)?;
+        let trips = Vec::from_slice(alloc, own_trips)?;
+        Ok(Instance {
+            ways,
+            layers,
+            trips,
         })
     }
 

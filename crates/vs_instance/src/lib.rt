@@ -13,6 +13,7 @@ mod misfit;
 mod parts;
 mod ranges;
 mod trip;
+mod unrated;
 mod way;
 mod ways;
 

@@ -1,2 +1,4 @@
 pub mod FewLayers
 pub mod GivenLayers
+pub mod ShownRays
+pub mod EvenMultipliers

@@ -8,10 +8,12 @@ ghost use Rattle.vs_prices.specs.Bounds.{IsWorthNoLess};
 ghost use Rattle.vs_prices.specs.Table.{Fits, HoldingTable};
 ghost use Rattle.vs_penalty.specs.Penalties.{IsPlanOf};
 
+use crate::ray::seek_ray;
 use crate::seeking::Seeker;
 use std::alloc::Global;
 use std::mem::swap;
 use vs_circ::Work;
+use vs_connect::lesser;
 use vs_instance::Instance;
 use vs_match::LayerNet;
 use vs_multi::{Case, few_rounds, keep_better, of_table, raise};
@@ -22,13 +24,18 @@ use vs_types::{Memory, TripNo};
 /// One round shows what the multipliers are worth; they are the best already.
 const ROUNDS: u32 = 1;
 
+/// How many rounds prices are sought by that show that there is no plan: where there is none, a few suffice as a rule.
+const RAY_ROUNDS: u32 = 100;
+
 /// Brings the layers to agree on which of them runs which trip, and gives the cheapest plan that was found on the way,
-/// if any. The table becomes what the multipliers show in the end, where that is worth more. Where no trip has two
-/// layers there is nothing to agree on: no plan is given, and the table stays.
+/// if any. The table becomes what the multipliers show in the end, where that is worth more; or, where neither a plan
+/// of this cost is known nor the first passes find one, what shows that there is none, if that is found. Where no trip
+/// has two layers there is nothing to agree on: no plan is given, and the table stays.
 pub fn agree(
     alloc: Global,
     instance: &Instance,
     nets: &[LayerNet],
+    known: Option<i64>,
     table: &mut Table,
     work: &mut Work,
 ) -> Result<Option<CheckedPlan>, Memory>
@@ -51,13 +58,14 @@ pub fn agree(
         nets,
         sets,
     };
-    let plan = agree_on(&case, table, work)?;
+    let plan = agree_on(&case, known, table, work)?;
     Ok(plan)
 }
 
 /// The same in the layers of these sets.
 fn agree_on(
     case: &Case<'_>,
+    known: Option<i64>,
     table: &mut Table,
     work: &mut Work,
 ) -> Result<Option<CheckedPlan>, Memory>
@@ -70,9 +78,38 @@ fn agree_on(
     ensures worth { IsWorthNoLess case.now.instance.now case.now.sets.now table.new table.old }
 {
     let mut multipliers = first_multipliers(case, table)?;
-    let best = seek_from(case, &mut multipliers, work)?;
+    let mut seeker = Seeker::new(case, &multipliers)?;
+    seeker.begin(case, work)?;
+    if take_ray(case, lesser(known, seeker.choices.cost()), table)? {
+        return Ok(None);
+    }
+    seeker.go_on(case, &mut multipliers, work)?;
     improve(case, &mut multipliers, table, work)?;
+    let best = seeker.choices.best.take();
     Ok(best)
+}
+
+/// Makes the table prices that show that there is no plan, where no plan is known, of this cost, and such prices are
+/// found. Gives whether they are.
+fn take_ray(case: &Case<'_>, known: Option<i64>, table: &mut Table) -> Result<bool, Memory>
+    requires restriction { IsRestriction case.now.instance.now case.now.sets.now }
+    requires fits { Fits case.now.instance.now table.old }
+    requires holds { HoldingTable case.now.instance.now table.old }
+    ensures fits { Fits case.now.instance.now table.new }
+    ensures holds { HoldingTable case.now.instance.now table.new }
+    ensures worth { IsWorthNoLess case.now.instance.now case.now.sets.now table.new table.old }
+{
+    if known.is_some() {
+        return Ok(false);
+    }
+    let found = seek_ray(case.alloc, case.instance, case.sets, RAY_ROUNDS)?;
+    match found {
+        Some(mut ray) => {
+            swap(table, &mut ray);
+            Ok(true)
+        }
+        None => Ok(false),
+    }
 }
 
 /// The multipliers that a table stands for.
@@ -84,23 +121,6 @@ pub(crate) fn first_multipliers(case: &Case<'_>, table: &Table) -> Result<Vec<i6
     let mut first = vec![in case.alloc; 0; case.instance.trips() as usize]?;
     of_table(case.instance, case.sets, table, &mut first);
     Ok(first)
-}
-
-/// The cheapest plan that the search from these multipliers finds, if any. They become nearly the best.
-fn seek_from(
-    case: &Case<'_>,
-    multipliers: &mut [i64],
-    work: &mut Work,
-) -> Result<Option<CheckedPlan>, Memory>
-    requires case { IsCase case.now.instance.now case.now.nets.now case.now.sets.now }
-    requires multipliers { AreMultipliers case.now.instance.now multipliers.old }
-    ensures plan { IfOk result (λ plan. IfSome plan (IsPlanOf case.now.instance.now)) }
-    ensures multipliers { AreMultipliers case.now.instance.now multipliers.new }
-{
-    let mut seeker = Seeker::new(case, multipliers)?;
-    seeker.seek_all(case, multipliers, work)?;
-    let best = seeker.choices.best.take();
-    Ok(best)
 }
 
 /// Makes the table what these multipliers and sweeps from there show, where that is worth more.

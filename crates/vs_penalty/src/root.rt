@@ -1,6 +1,7 @@
 //! The steps by which plans and multipliers are sought at the root.
 
 ghost use Rattle.vs_multi.specs.Multipliers.{AreMultipliers};
+ghost use Rattle.vs_multi.specs.Rounds.{IsCase};
 ghost use Rattle.vs_penalty.specs.Seekers.{CanSeek, IsSeekerFor};
 
 use crate::effort::{affordable, arcs_for, passes};
@@ -29,10 +30,24 @@ const LAST_ROUNDS: u32 = 40;
 const AGREEMENTS: u32 = 10;
 
 impl Seeker {
-    /// Seeks plans and ever better multipliers, in steps: passes from the first multipliers, a climb from where these
-    /// end, turns of slow passes and of passes in pools of the best plans, and another climb, which a cheaper plan
-    /// guides better. What is left is left out as soon as no plan can cost less than the cheapest one.
-    pub fn seek_all(
+    /// Seeks plans by passes from the first multipliers.
+    pub fn begin(&mut self, case: &Case<'_>, work: &mut Work) -> Result<(), Memory>
+        requires case { IsCase case.now.instance.now case.now.nets.now case.now.sets.now }
+        requires seeker { IsSeekerFor case.now.instance.now self.old }
+        ensures { IsSeekerFor case.now.instance.now self.new }
+    {
+        let passes = passes(case.instance) / 2;
+        let quick = Course {
+            passes: affordable(case.nets, passes, arcs_for(case.instance)),
+            agreements: AGREEMENTS,
+        };
+        self.seek(case, quick, work)
+    }
+
+    /// Seeks plans and ever better multipliers from where the first passes end, in steps: a climb, turns of slow passes
+    /// and of passes in pools of the best plans, and another climb, which a cheaper plan guides better. What is left is
+    /// left out as soon as no plan can cost less than the cheapest one.
+    pub fn go_on(
         &mut self,
         case: &Case<'_>,
         multipliers: &mut [i64],
@@ -42,13 +57,6 @@ impl Seeker {
         ensures multipliers { AreMultipliers case.now.instance.now multipliers.new }
         ensures seeker { IsSeekerFor case.now.instance.now self.new }
     {
-        let passes = passes(case.instance);
-        let arcs = arcs_for(case.instance);
-        let quick = Course {
-            passes: affordable(case.nets, passes / 2, arcs),
-            agreements: AGREEMENTS,
-        };
-        self.seek(case, quick, work)?;
         multipliers.copy_from_slice(&self.penalties.multipliers);
         self.climb(case, FIRST_ROUNDS, multipliers, work)?;
         if self.is_done() {

@@ -8,3 +8,4 @@ pub use Rattle.vs_prices.proofs.RealBreaks.{all_broken}
 pub use Rattle.vs_prices.proofs.Rounding.{rounded_up-IsRoundedUp}
 pub use Rattle.vs_prices.proofs.RunningTotals.{product_within, total-map_more}
 pub use Rattle.vs_prices.proofs.Worths.{worth_is, worth_of-IsWorth, worth_once}
+pub use Rattle.vs_prices.proofs.UnratedTables.{is_also_ray}

@@ -9,4 +9,5 @@ pub mod NoBreaks
 pub mod FirstBreaks
 pub mod Worths
 pub mod RealBreaks
+pub mod UnratedTables
 pub mod CallerLemmas

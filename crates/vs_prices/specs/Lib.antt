@@ -3,3 +3,4 @@ pub mod Breaks
 pub mod Worth
 pub mod Laws
 pub mod Bounds
+pub mod Rays

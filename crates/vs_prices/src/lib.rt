@@ -11,6 +11,7 @@ pub use bound::Bound;
 pub use broken_at::{BrokenAt, broken};
 pub use table::Table;
 pub use table_worth::{
-    MAX_TRIP_PRICE, least_price, permitted_sets, prices_bound_plans, trip_price, worth,
+    MAX_TRIP_PRICE, least_price, permitted_sets, prices_bound_plans, trip_price,
+    unrated_tables_are_rays, worth,
 };
 pub use vs_instance::MAX_PRICE;

@@ -4,7 +4,7 @@ ghost use Rattle.std.specs.Prelude.{◌≡◌, ℕ, ◌<◌, IfOk, length, map, 
 ghost use Rattle.vs_instance.specs.Instance.{IsInstance};
 ghost use Rattle.vs_instance.specs.Restriction.{IsRestriction, permitted_sets};
 ghost use Rattle.vs_types.specs.LayerSet.{Has, members};
-ghost use Rattle.vs_prices.specs.Laws.{PricesBoundPlans};
+ghost use Rattle.vs_prices.specs.Laws.{PricesBoundPlans, UnratedTablesAreRays};
 ghost use Rattle.vs_prices.specs.Table.{Fits, HoldingTable};
 ghost use Rattle.vs_prices.specs.Worth.{BoundsPlans, IsRoundedUp, IsWorth};
 ghost use Rattle.vs_prices.specs.Worth.{least, trip_price, trips_pay, vehicles_pay};
@@ -139,4 +139,11 @@ pub fn worth(instance: &Instance, sets: &[LayerSet], table: &Table) -> Bound
 /// This is the weak duality of linear programming, said of plans as lists of blocks.
 pub fn prices_bound_plans()
     ensures { PricesBoundPlans }
+{}
+
+/// A ray is a cost table of the instance without rates, and each such table is a ray: the conditions and the value are
+/// the same. So a ray shows that there is no plan exactly where, with nothing costing anything, the prices would bound
+/// plans above 0.
+pub fn unrated_tables_are_rays()
+    ensures { UnratedTablesAreRays }
 {}
