@@ -1,1 +1,2 @@
+pub mod LeavesTaken
 pub mod Searches

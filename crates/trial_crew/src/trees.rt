@@ -70,13 +70,21 @@ fn give_a_leaf_again_that_was_given_back(rt: HostRuntime) -> Result<(), Fail> {
     Ok(())
 }
 
+/// What worker 1 is told of a search in which both may ask.
+fn told_to_other(alloc: Global, tree: &mut Tree) -> Result<Take, Fail>
+    requires workers { tree.old.opening.workers ≡ 2 }
+    requires none_gone { (state tree.old).gone ≡ [] }
+{
+    answer(alloc, tree, 1)
+}
+
 /// What worker 0 is told of a search in which both may ask, and then worker 1.
 fn both_told(alloc: Global, tree: &mut Tree) -> Result<(Take, Take), Fail>
     requires workers { tree.old.opening.workers ≡ 2 }
     requires none_gone { (state tree.old).gone ≡ [] }
 {
     let first = answer(alloc, tree, 0)?;
-    let second = answer(alloc, tree, 1)?;
+    let second = told_to_other(alloc, tree)?;
     Ok((first, second))
 }
 

@@ -110,7 +110,30 @@ pub fn split(alloc: Global, instance: &Instance, budget: u32) -> Result<Tree, Fa
     Ok(tree)
 }
 
-/// The same, where worker 0 took the left leaf then, and worker 1 the right one; and what they were told.
+/// The same, where worker 0 took the left leaf then; and what it was told.
+fn left_taken(alloc: Global, instance: &Instance) -> Result<(Tree, Told), Fail>
+    requires trips { length instance.now.trips ≡ 1 }
+    ensures tree { IfOk result (λ made. (left : LayerSet) × (made.0 ≡ record {
+      opening = record { problem = instance.now; budget = 5; workers = 2; first = None };
+      steps = full.Took 0 0 ∷ full.Split 0 0 1 (record { 0 = 0 }) left (zero_prices instance.now)
+          ∷ full.Took 0 1 ∷ [];
+    })) }
+    ensures left { IfOk result (λ made. (made.1.sets.items ≡ sets_at (state made.0) 1)
+        × (prices_of made.1.table ≡ prices_at (state made.0) 1)) }
+{
+    let mut tree = split(alloc, instance, 5)?;
+    let lower = ask(alloc, &mut tree, 0)?;
+    let Take::Node {
+        leaf: 1,
+        known: None,
+    } = lower.take
+    else {
+        return Err(Fail::new("no left leaf"));
+    };
+    Ok((tree, lower))
+}
+
+/// The same, where worker 1 took the right leaf then; and what both were told.
 fn both_take(alloc: Global, instance: &Instance) -> Result<(Tree, Told, Told), Fail>
     requires trips { length instance.now.trips ≡ 1 }
     ensures tree { IfOk result (λ made. (left : LayerSet) × (made.0 ≡ record {
@@ -123,15 +146,7 @@ fn both_take(alloc: Global, instance: &Instance) -> Result<(Tree, Told, Told), F
     ensures right { IfOk result (λ made. (made.2.sets.items ≡ sets_at (state made.0) 2)
         × (prices_of made.2.table ≡ prices_at (state made.0) 2)) }
 {
-    let mut tree = split(alloc, instance, 5)?;
-    let lower = ask(alloc, &mut tree, 0)?;
-    let Take::Node {
-        leaf: 1,
-        known: None,
-    } = lower.take
-    else {
-        return Err(Fail::new("no left leaf"));
-    };
+    let (mut tree, lower) = left_taken(alloc, instance)?;
     let upper = ask(alloc, &mut tree, 1)?;
     let Take::Node {
         leaf: 2,

@@ -7,10 +7,9 @@ pub answer-requires-clause-stays : goal.answer-requires-clause-stays
 answer-requires-clause-stays c =
     subst (λ (gone : List ℕ). ¬ (IsAmong 0 gone)) (sym c.requires.none_gone) (none-gone 0)
 
-pub answer-requires-2-clause-workers : goal.answer-requires-2-clause-workers
-answer-requires-2-clause-workers c = ap (λ (o : Opening). o.workers) c.in_ok-first.ensures.opening ∙ c.requires.workers
-
-pub answer-requires-2-clause-stays : goal.answer-requires-2-clause-stays
-answer-requires-2-clause-stays c =
-    subst (λ (gone : List ℕ). ¬ (IsAmong 1 gone)) (sym (c.in_ok-first.ensures.gone ∙ c.requires.none_gone))
-    (none-gone 1)
+pub told_to_other-requires : goal.told_to_other-requires
+told_to_other-requires c =
+    record {
+      workers = ap (λ (o : Opening). o.workers) c.in_ok-first.ensures.opening ∙ c.requires.workers;
+      none_gone = c.in_ok-first.ensures.gone ∙ c.requires.none_gone;
+    }

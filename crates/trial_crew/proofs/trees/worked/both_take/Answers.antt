@@ -1,69 +1,19 @@
-use Rattle.std.proofs.Common.{◌≡◌, ℕ, List, [], ◌∷◌, ◌++◌, sym, ap, ◌∙◌, subst, Option, None, ℤ, rules}
-use Rattle.vs_types.specs.declared.layer_set.LayerSet.{LayerSet}
-use Rattle.vs_instance.specs.Problem.{Problem}
-use Rattle.vs_prices.specs.declared.table.Table.{Table}
-use Rattle.vs_tree.specs.History.{IsAmong, Split, Took, prices_at, sets_at}
-use Rattle.vs_tree.specs.Prices.{prices_of, zero_prices}
+use Rattle.std.proofs.Common.{◌≡◌, ap, ◌∙◌, sym, None, rules}
+use Rattle.vs_tree.specs.History.{prices_at, sets_at}
 use Rattle.vs_tree.specs.Search.{Search, state}
-use Rattle.vs_tree.specs.Takes.{IsTake, taking}
-use Rattle.vs_tree.specs.declared.calls.Take.{Take}
 use Rattle.vs_tree.specs.declared.calls.Take.TheVariants.{Node}
-use Rattle.trial_crew.proofs.Searches.{none-gone}
+use Rattle.trial_crew.proofs.LeavesTaken.{lower_taken, told, took}
 use Rattle.trial_crew.proofs.trees.worked.both_take.Goals as goal
-
--- a search whose root was split, and the same once the left leaf was taken
-abbrev parted : Problem → LayerSet → Search
-parted p left = record {
-  opening = record { problem = p; budget = 5; workers = 2; first = None };
-  steps = Took 0 0 ∷ Split 0 0 1 (record { 0 = 0 }) left (zero_prices p) ∷ [];
-}
-
-abbrev lower_taken : Problem → LayerSet → Search
-lower_taken p left = record (parted p left) { steps = (parted p left).steps ++ Took 0 1 ∷ [] }
-
-abbrev both_taken : Problem → LayerSet → Search
-both_taken p left = record (parted p left) { steps = (lower_taken p left).steps ++ Took 1 2 ∷ [] }
-
--- a search in which one leaf more was taken
-took : (t n x : Search) (worker leaf : ℕ) (take : Take) (cost : Option ℤ) → t ≡ x
-    → n ≡ record t { steps = taking worker t.steps take } → take ≡ Node leaf cost
-    → n ≡ record x { steps = x.steps ++ Took worker leaf ∷ [] }
-took t n x worker leaf take cost begins adds is =
-    adds ∙ ap (λ (k : Take). record t { steps = taking worker t.steps k }) is
-    ∙ ap (λ (s : Search). record s { steps = s.steps ++ Took worker leaf ∷ [] }) begins
-
--- and what its worker was told
-told : (t x : Search) (leaf : ℕ) (sets : List LayerSet) (table : Table) (take : Take) (cost : Option ℤ) → t ≡ x
-    → take ≡ Node leaf cost → IsTake t.opening (state t) sets table take
-    → (sets ≡ sets_at (state x) leaf) × (prices_of table ≡ prices_at (state x) leaf)
-told t x leaf sets table take cost begins is answer =
-    let node : IsTake t.opening (state t) sets table (Node leaf cost) =
-    subst (λ (k : Take). IsTake t.opening (state t) sets table k) is answer in (
-      node.3 ∙ ap (λ (s : Search). sets_at (state s) leaf) begins,
-      node.4 ∙ ap (λ (s : Search). prices_at (state s) leaf) begins,
-    )
-
-pub ask-requires-clause-stays : goal.ask-requires-clause-stays
-ask-requires-clause-stays c =
-    subst (λ (s : Search). ¬ (IsAmong 0 (state s).gone)) (sym c.in_ok-tree.ensures.1) (none-gone 0)
-
-pub ask-requires-2-clause-stays : goal.ask-requires-2-clause-stays
-ask-requires-2-clause-stays c =
-    subst (λ (gone : List ℕ). ¬ (IsAmong 1 gone))
-    (sym (c.in_ok-lower.ensures.gone ∙ ap (λ (s : Search). (state s).gone) c.in_ok-tree.ensures.1)) (none-gone 1)
 
 pub returns-clause-right : goal.returns-clause-right
 returns-clause-right c =
-    let p = c.args.instance.now in
-    let left = c.in_ok-tree.ensures.0 in
-    let lower : c.in_ok-lower.lower.take ≡ Node 1 None = search rules in
-    let upper : c.in_ok-upper.upper.take ≡ Node 2 None = search rules in
-    let before = took c.in_ok-tree.tree c.ask.new.tree (parted p left) 0 1 c.in_ok-lower.lower.take None
-    c.in_ok-tree.ensures.1 c.in_ok-lower.ensures.search lower in
-    let then = took c.ask.new.tree c.ask-2.new.tree (lower_taken p left) 1 2 c.in_ok-upper.upper.take None before
-    c.in_ok-upper.ensures.search upper in
-    let is = told c.ask.new.tree (lower_taken p left) 2 c.in_ok-upper.upper.sets.items c.in_ok-upper.upper.table
-    c.in_ok-upper.upper.take None before upper c.in_ok-upper.ensures.answer in (
+    let before = lower_taken c.args.instance.now c.in_ok-tree.ensures.tree.0 in
+    let begins = c.in_ok-tree.ensures.tree.1 in
+    let right : c.in_ok-upper.upper.take ≡ Node 2 None = search rules in
+    let then = took c.in_ok-tree.tree c.ask.new.tree before 1 2 c.in_ok-upper.upper.take None begins
+    c.in_ok-upper.ensures.search right in
+    let is = told c.in_ok-tree.tree before 2 c.in_ok-upper.upper.sets.items c.in_ok-upper.upper.table
+    c.in_ok-upper.upper.take None begins right c.in_ok-upper.ensures.answer in (
       is.0 ∙ sym (ap (λ (s : Search). sets_at (state s) 2) then),
       is.1 ∙ sym (ap (λ (s : Search). prices_at (state s) 2) then),
     )
