@@ -1,4 +1,4 @@
-use Rattle.std.proofs.Common.{◌≡◌, sym, subst}
+use Rattle.std.proofs.Common.{sym, subst}
 use Rattle.vs_tree.specs.History.{IsAmong}
 use Rattle.vs_tree.specs.Search.{Search, state}
 use Rattle.trial_crew.proofs.Searches.{none-gone}
