@@ -23,16 +23,16 @@ const FIRST_STEP: u32 = 1;
 const CUTS: u32 = 50;
 
 /// How many rounds a climb has at most: the first ten gain nothing as a rule, since no circulations are known yet, and
-/// with a third as many a timetable of 200 trips in eight layers takes eight times as many leaves to the same bound.
-const MOST_ROUNDS: u32 = 100;
+/// what both parts of a split gain shows after some hundred. With 35 a timetable of 200 trips in eight layers takes eight
+/// times as many leaves to the same bound.
+const MOST_ROUNDS: u64 = 150;
 
 /// How many rounds a climb has at least: a few that can gain.
-const LEAST_ROUNDS: u32 = 12;
+const LEAST_ROUNDS: u64 = 4;
 
-/// How many rounds there are, times the square of how many trips each of them offers to layers, where they lie between
-/// the two limits: the more a round offers the longer it takes and the fewer passes the root has, and 200 leaves are to
-/// take no more than four times as long as the root.
-const ROUNDS_BY_SQUARE: u32 = 256_000_000;
+/// How many rounds there are, times the cube of how many trips each of them offers to layers, where they lie between the
+/// two limits. On large timetables further leaves hardly raise the bound, and are to take little.
+const ROUNDS_BY_CUBE: u64 = 600_000_000_000;
 
 /// How many arcs, times trips, the circulations of a climb look along at most: a tenth of what a step of the root may.
 const EFFORT: u64 = 3_400_000_000;
@@ -94,12 +94,13 @@ fn first_multipliers(case: &Case<'_>, table: &Table) -> Result<Vec<i64>, Memory>
 /// How many rounds a climb has, the fewer the more each of them offers.
 fn rounds_for(instance: &Instance) -> u32 {
     prove!(instance.trips() <= MAX_TRIPS && instance.layers() <= MAX_LAYERS);
-    let offers = instance.trips() * instance.layers();
-    ROUNDS_BY_SQUARE
-        .checked_div(offers.saturating_mul(offers))
+    let offers = u64::from(instance.trips() * instance.layers());
+    let cube = offers.saturating_mul(offers).saturating_mul(offers);
+    ROUNDS_BY_CUBE
+        .checked_div(cube)
         .unwrap_or(0)
         .max(LEAST_ROUNDS)
-        .min(MOST_ROUNDS)
+        .min(MOST_ROUNDS) as u32
 }
 
 /// What the climb is to come to, where the cheapest plan that is known costs so much.
