@@ -24,8 +24,8 @@ returns-then-is_some-clause-relaxes c =
       lowered = lowered-same l;
       relaxed = λ is_open from.
           settled_already r p c.args.surplus.now l c.requires.labels c.requires.sign_rule s c.args.departure.distance
-          (c.args.departure.distance +ℤ reduced r p s) c.requires.from c.requires.farthest is_open refl some.0 is is_open
-          refl;
+          (c.args.departure.distance +ℤ reduced r p s) c.requires.from c.requires.farthest is_open refl some.0 is
+          is_open refl;
     }
 
 -- no unit can take the step
