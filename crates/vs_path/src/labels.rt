@@ -276,7 +276,9 @@ impl Labels {
         requires price { departure.price ≡ price_at prices.now (from_of residual.now step) }
         ensures { result ≡ departure.distance +ℤ reduced residual.now prices.now step }
     {
-        departure.distance + residual.reduced_by(prices, departure.price, step)
+        let base = departure.distance + departure.price;
+        let away = base + residual.cost(step);
+        away - prices[residual.to(step) as usize]
     }
 
     /// Relaxes the steps forward from a node that is settled at this distance, the farthest so far.

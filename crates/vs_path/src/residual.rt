@@ -4,7 +4,7 @@ ghost use Rattle.std.specs.Prelude.{◌≡◌, ◌<◌, ◌≤◌, ◌↔◌, �
 ghost use Rattle.vs_path.specs.Labels.{IsSmall};
 ghost use Rattle.vs_path.specs.Loads.{AreAlong, AreLoads};
 ghost use Rattle.vs_path.specs.declared.step.Way.TheVariants.{Back};
-ghost use Rattle.vs_path.specs.Residual.{HasSignRule, IsResidual, IsOpen, IsWithin, AllWithin, arc_no, arcs_along, from_of, to_of, cost_of, price_at, reduced};
+ghost use Rattle.vs_path.specs.Residual.{HasSignRule, IsResidual, IsOpen, IsWithin, AllWithin, arc_no, arcs_along, from_of, to_of, cost_of, reduced};
 
 use crate::loads::Loads;
 use crate::step::{Step, Way};
@@ -189,21 +189,9 @@ impl<'a> Residual<'a> {
         requires prices { AllWithin MAX_SEARCH_PRICE prices.now }
         ensures { result ≡ reduced self.now prices.now step }
     {
-        let price = prices[self.from(step) as usize];
-        self.reduced_by(prices, price, step)
-    }
-
-    /// The same where the price of the node that the step leaves is at hand.
-    pub(crate) fn reduced_by(&self, prices: &[i64], price: i64, step: Step) -> i64
-        requires arc { arc_no step < length self.now.graph.arcs }
-        requires cost { AllWithin MAX_STEP_COST self.now.cost }
-        requires each_node { length prices.now ≡ self.now.graph.nodes }
-        requires prices { AllWithin MAX_SEARCH_PRICE prices.now }
-        requires price { price ≡ price_at prices.now (from_of self.now step) }
-        ensures { result ≡ reduced self.now prices.now step }
-    {
+        let from = prices[self.from(step) as usize];
         let to = prices[self.to(step) as usize];
-        self.cost(step) + price - to
+        self.cost(step) + from - to
     }
 
     /// The numbers of the arcs along which steps that go this way leave a node, in order.

@@ -8,7 +8,7 @@ use Rattle.vs_path.specs.declared.step.Step.TheVariants.{Forward, Back}
 use Rattle.vs_path.specs.declared.residual.TheConstants.{MAX_STEP_COST}
 use Rattle.vs_path.specs.declared.labels.Settled.{Settled}
 use Rattle.vs_path.specs.Keys.{IsNotAfter}
-use Rattle.vs_path.specs.Residual.{ResidualNet, IsOpen, IsWithin, AllWithin, HasSignRule, from_of, to_of, cost_of, reduced}
+use Rattle.vs_path.specs.Residual.{ResidualNet, IsOpen, IsWithin, AllWithin, HasSignRule, from_of, to_of, cost_of, price_at, reduced}
 use Rattle.vs_path.proofs.labelling.Settling.{order-≤}
 use Rattle.vs_path.specs.Labels.{Lists, AreLabels, IsArrival, Covers, IsBetter, IsBound, IsFarthest, IsLowered, IsNear, IsRelaxed, IsSettledAt, IsSmall, Relaxes, label_of, label_at, lowered, settled_at, source_of, step_at, waiting_at}
 
@@ -59,6 +59,23 @@ along-fits r prices l s distance small labels from =
       near-fits r prices (source_of l) from.0.place (from_of r s) distance small (omega arith) near,
       near-fits r prices (source_of l) (length l.order) (to_of r s) (distance +ℤ reduced r prices s) small few
           (near-step r prices (source_of l) from.0.place (length l.order) s distance small.cost less near),
+    )
+
+-- so do the distance with the price of its node, and both with what the step costs
+pub parts-fit : (r : ResidualNet) (prices : List ℤ) (l : Lists) (s : Step) (distance : ℤ) → IsSmall r prices
+    → AreLabels r prices l → IsSettledAt l (from_of r s) distance
+    → FitsSigned w64 (distance +ℤ price_at prices (from_of r s))
+    × FitsSigned w64 ((distance +ℤ price_at prices (from_of r s)) +ℤ cost_of r s)
+parts-fit r prices l s distance small labels from =
+    let near : IsNear prices (source_of l) from.0.place (from_of r s) distance =
+    subst (λ (d : ℤ). IsNear prices (source_of l) from.0.place (from_of r s) d) from.2
+    (labels.near (from_of r s) from.0 from.1) in
+    let less : from.0.place < length l.order = (labels.are_listed.placed (from_of r s) from.0 from.1).0 in
+    let few = order-≤ r.graph.nodes l labels.are_listed in
+    let source = small.each_price (source_of l) in
+    let c = cost-within r s small.cost in (
+      omega (arith, ints, source.low, source.high, near.low, near.high, less, few, small.nodes),
+      omega (arith, ints, source.low, source.high, near.low, near.high, less, few, small.nodes, c.low, c.high),
     )
 
 -- a better label is taken no later than the one that is there

@@ -24,7 +24,8 @@ returns-then-is_some-clause-relaxes c =
       lowered = lowered-same l;
       relaxed = λ is_open from.
           settled_already r p c.args.surplus.now l c.requires.labels c.requires.sign_rule s c.args.departure.distance
-          (c.args.departure.distance +ℤ reduced r p s) c.requires.from c.requires.farthest is_open refl some.0 is is_open refl;
+          (c.args.departure.distance +ℤ reduced r p s) c.requires.from c.requires.farthest is_open refl some.0 is
+          is_open refl;
     }
 
 -- no unit can take the step
@@ -169,9 +170,9 @@ returns-else-is_better-clause-relaxes c =
     record {
       labels = c.requires.labels;
       lowered = lowered-same l;
-      relaxed = relaxed_worse r p c.args.surplus.now l c.requires.labels c.requires.sign_rule s c.args.departure.distance label
-          c.requires.from
-          c.requires.farthest (c.if-not-is_open.ensures.0 refl) sum unsettled
+      relaxed = relaxed_worse r p c.args.surplus.now l c.requires.labels c.requires.sign_rule s
+          c.args.departure.distance label c.requires.from c.requires.farthest (c.if-not-is_open.ensures.0 refl) sum
+          unsettled
           (λ better.
           let P : ℕ → Type 0 = λ v. IsBetter l v label in
           let e : false ≡ true = given_worse (subst P (sym c.to-node.ensures.node) better) in

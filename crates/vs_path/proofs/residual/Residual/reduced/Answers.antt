@@ -1,11 +1,29 @@
-use Rattle.std.proofs.Common.{ap, rules, SFits, w64}
-use Rattle.std.proofs.lemmas.Int.{to_z-of_z}
-use Rattle.vs_path.specs.Residual.{price_at}
+use Rattle.std.proofs.Common.{◌≡◌, ap, arith}
+use Rattle.std.proofs.lemmas.Int.{ints}
+use Rattle.vs_path.specs.Residual.{from_of, to_of, price_at}
 use Rattle.vs_path.proofs.residual.Residual.reduced.Goals as goal
 
--- the price is that of the node that the step leaves
-pub reduced_by-requires-clause-price : goal.reduced_by-requires-clause-price
-reduced_by-requires-clause-price c =
+pub returns : goal.returns
+returns c =
+    let r = c.args.self.now in
+    let s = c.args.step in
     let p = c.args.prices.now in
-    let fits : SFits w64 (price_at p c.from.result) = search rules in
-    rw to_z-of_z (ap (price_at p) c.from.ensures.node)
+    let from : price_at p c.from.result ≡ price_at p (from_of r s) = ap (price_at p) c.from.ensures.node in
+    let to : price_at p c.to.result ≡ price_at p (to_of r s) = ap (price_at p) c.to.ensures.node in
+    omega (
+      arith,
+      ints,
+      c.cost.ensures.cost,
+      from,
+      to,
+      c.requires.prices c.from.result,
+      c.requires.prices
+          c.to.result,
+      c.cost.ensures.few,
+    )
+
+pub overflow_sub-result : goal.overflow_sub-result
+overflow_sub-result c =
+    let from = c.requires.prices c.from.result in
+    let to = c.requires.prices c.to.result in
+    omega (arith, ints, c.cost.ensures.few, from.low, from.high, to.low, to.high)
