@@ -3,6 +3,7 @@
 ghost use Rattle.std.specs.Prelude.{◌≡◌, ℕ, ◌*◌, ◌^◌, ◌<◌, ◌≤◌, ◌≤ℤ◌, ◌*ℤ◌, pos, nat_abs, IfOk, length, slice_index};
 ghost use Rattle.vs_types.specs.declared.numbers.LayerNo.{LayerNo};
 ghost use Rattle.vs_layer.specs.Circulation.{flow_cost};
+ghost use Rattle.vs_layer.specs.Graph.{arc_of};
 ghost use Rattle.vs_instance.specs.Problem.{Problem};
 ghost use Rattle.vs_instance.specs.Instance.{IsInstance};
 ghost use Rattle.vs_match.specs.LawfulNets.{IsLawful};
@@ -99,9 +100,23 @@ pub(crate) fn cost_of(net: &LayerNet, flow: &Flow) -> i128
 {
     let mut cost = 0;
     for k in 0..net.net().arcs() {
-        cost += units_cost(net.net().arc(k), flow.units[k as usize]);
+        cost += cost_on(net, k, flow.units[k as usize]);
     }
     cost
+}
+
+/// What so many units on an arc cost, in 1/1000 of a cost unit. Most arcs carry none, and aren't looked at then.
+fn cost_on(net: &LayerNet, k: u32, units: u32) -> i128
+    requires arcs { HasSmallArcs net.now }
+    requires arc { k < length net.now.graph.arcs }
+    ensures value { result ≡ (arc_of net.now.graph k).cost *ℤ pos units }
+    ensures low { pos 0 ≤ℤ result }
+    ensures high { result ≤ℤ pos (nat_abs MAX_ARC_COST * 2 ^ 32) }
+{
+    if units == 0 {
+        return 0;
+    }
+    units_cost(net.net().arc(k), units)
 }
 
 /// What so many units on an arc cost, in 1/1000 of a cost unit.

@@ -1,16 +1,15 @@
 //! How many trips change where a call begins with given units and prices.
 
-ghost use Rattle.std.specs.Prelude.{◌≡◌, length};
+ghost use Rattle.std.specs.Prelude.{◌≡◌, ◌<◌, length};
 ghost use Rattle.vs_layer.specs.Graph.{IsNet};
-ghost use Rattle.vs_path.specs.Residual.{AllWithin};
-ghost use Rattle.vs_ship.specs.declared.shipment.TheConstants.{MAX_FIRST_PRICE};
 ghost use Rattle.vs_ship.specs.Works.{IsReadyFor};
 ghost use Rattle.vs_circ.specs.shipping.Prepared.{AreSmallOffers, HasSmallArcs};
 
 use crate::preparing::{offered_cost, offered_room};
 use vs_instance::MAX_TRIPS;
+use vs_layer::Arc;
 use vs_match::{ArcKind, LayerNet};
-use vs_ship::{Kept, are_first_prices, loss_on, suiting};
+use vs_ship::{Kept, suiting};
 use vs_types::TripNo;
 
 /// Lets a call begin with the units and prices that the last call left or with those that the one before it did,
@@ -21,59 +20,64 @@ pub(crate) fn recall(net: &LayerNet, offers: &[Option<i64>], kept: &mut Kept)
     requires kept { IsReadyFor net.now.graph kept.old }
     ensures kept { IsReadyFor net.now.graph kept.new }
 {
-    let shipment = &kept.shipment;
-    let last = misfits(net, offers, &shipment.flow.units, &shipment.prices);
-    let before = misfits(net, offers, &kept.before.units, &kept.before.prices);
-    if before < last {
+    if is_before_nearer(net, offers, kept) {
         kept.exchange();
     } else {
         kept.before.take(&kept.shipment);
     }
 }
 
-/// How many trips change from being run to not being run, or the other way, where a call with these offers begins with
-/// these units and prices. It decides only how long the call takes.
-fn misfits(net: &LayerNet, offers: &[Option<i64>], units: &[u32], prices: &[i64]) -> u32
+/// Whether fewer trips change from being run to not being run, or the other way, where a call with these offers begins
+/// with what the call before the last one left. It decides only how long the call takes.
+fn is_before_nearer(net: &LayerNet, offers: &[Option<i64>], kept: &Kept) -> bool
     requires arcs { HasSmallArcs net.now }
     requires offers { AreSmallOffers offers.now }
-    requires units { length units.now ≡ length net.now.graph.arcs }
-    requires each_node { length prices.now ≡ net.now.graph.nodes }
+    requires kept { IsReadyFor net.now.graph kept.now }
 {
-    let arcs = net.net().arcs();
-    if !are_first_prices(prices) {
-        return arcs;
-    }
+    // for the proof: its contract says that a net is one
+    let _ = net.net().nodes();
     let trips = offers.len().min(MAX_TRIPS as usize) as u32;
-    let mut count = 0;
+    let mut fewer: i32 = 0;
     for i in 0..trips {
-        if is_misfit(net, offers, units, prices, TripNo(i)) {
-            count += 1;
-        }
+        fewer = fewer.saturating_add(changes_saved(net, offers, kept, TripNo(i)));
     }
-    count
+    0 < fewer
 }
 
-/// Whether the units on the arc of a trip don't suit it.
-fn is_misfit(
-    net: &LayerNet,
-    offers: &[Option<i64>],
-    units: &[u32],
-    prices: &[i64],
-    trip: TripNo,
-) -> bool
+/// How many changes of a trip are saved where a call begins with what the call before the last one left: 1, 0 or -1.
+fn changes_saved(net: &LayerNet, offers: &[Option<i64>], kept: &Kept, trip: TripNo) -> i32
     requires net { IsNet net.now.graph }
     requires arcs { HasSmallArcs net.now }
     requires offers { AreSmallOffers offers.now }
-    requires units { length units.now ≡ length net.now.graph.arcs }
-    requires each_node { length prices.now ≡ net.now.graph.nodes }
-    requires prices { AllWithin MAX_FIRST_PRICE prices.now }
+    requires kept { IsReadyFor net.now.graph kept.now }
 {
     let Some(k) = net.trip_arc(trip) else {
-        return false;
+        return 0;
     };
     let arc = net.net().arc(k);
     let kind = ArcKind::Trip(trip);
-    let loss = loss_on(arc, offered_cost(offers, kind, arc), prices);
-    let n = units[k as usize];
-    suiting(loss, offered_room(offers, kind, arc), arc.room, n) != Some(n)
+    let cost = offered_cost(offers, kind, arc);
+    let room = offered_room(offers, kind, arc);
+    let shipment = &kept.shipment;
+    let before = &kept.before;
+    let units = shipment.flow.units[k as usize];
+    let last = is_misfit(arc, cost, room, units, &shipment.prices);
+    let units = before.units[k as usize];
+    let earlier = is_misfit(arc, cost, room, units, &before.prices);
+    match (last, earlier) {
+        (true, false) => 1,
+        (false, true) => -1,
+        _ => 0,
+    }
+}
+
+/// Whether so many units on an arc of this cost and room don't suit it.
+fn is_misfit(arc: Arc, cost: i64, room: u32, units: u32, prices: &[i64]) -> bool
+    requires from { arc.from < length prices.now }
+    requires to { arc.to < length prices.now }
+{
+    let from = prices[arc.from as usize];
+    let to = prices[arc.to as usize];
+    let loss = cost.saturating_add(from).saturating_sub(to);
+    suiting(loss, room, arc.room, units) != Some(units)
 }

@@ -39,13 +39,7 @@ pub(crate) fn offered_room(offers: &[Option<i64>], kind: ArcKind, arc: Arc) -> u
             _ => 0,
         },
         ArcKind::Return => arc.room,
-        ArcKind::Waiting
-        | ArcKind::Deadhead
-        | ArcKind::PullOut
-        | ArcKind::PullIn
-        | ArcKind::RestIn
-        | ArcKind::RestWait
-        | ArcKind::RestOut => UNLIMITED,
+        _ => UNLIMITED,
     }
 }
 

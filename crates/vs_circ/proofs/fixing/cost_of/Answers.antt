@@ -1,8 +1,7 @@
-use Rattle.std.proofs.Common.{◌≡◌, ◌<◌, ◌∙◌, ◌*ℤ◌, ℕ, ℤ, length, map, get_or, pos, sym, ap, arith}
+use Rattle.std.proofs.Common.{◌≡◌, ◌<◌, ◌∙◌, ◌*ℤ◌, ℕ, length, map, get_or, pos, sym, ap, arith}
 use Rattle.std.specs.List.{range_with_len}
 use Rattle.std.proofs.lemmas.Int.{ints}
 use Rattle.std.proofs.lemmas.List.{get_or_default}
-use Rattle.vs_layer.specs.declared.arc.Arc.{Arc}
 use Rattle.vs_layer.specs.Graph.{Graph, arc_of}
 use Rattle.vs_instance.specs.Lagrangian.{total}
 use Rattle.vs_circ.proofs.low.Costs.{cost-in_order, cost_on, sum-fits, total-range_next}
@@ -14,10 +13,10 @@ loop-k-preserved c =
     let units = c.args.flow.now.units.items in
     let k = c.loop-k.k in
     let inv = c.loop-k.invariant in
-    let cost = c.units_cost-cost.ensures in
+    let cost = c.cost_on-cost.ensures in
     let few = c.arcs-k-end.ensures.net.few_arcs in
     let added =
-    (sum-fits c.loop-k.cost-bits k c.units_cost-cost.result
+    (sum-fits c.loop-k.cost-bits k c.cost_on-cost.result
     (omega (arith, c.loop-k-test.true, c.arcs-k-end.ensures.count, few))
     inv.low inv.high cost.low cost.high).1 in
     let inside : k < length g.arcs =
@@ -27,14 +26,10 @@ loop-k-preserved c =
       c.arcs-k-end.ensures.count,
       ap (λ (h : Graph). length h.arcs) c.net.ensures.graph,
     ) in
-    let arc : c.arc.result.cost ≡ (arc_of g k).cost =
-    ap (λ (a : Arc). a.cost) c.arc.ensures
-    ∙ ap (λ (h : Graph). (arc_of h k).cost) c.net-in-loop-k.ensures.graph in
     let unit : c.index.result.now ≡ get_or units k 0 =
     sym (get_or_default units k 0 c.index.result.now (omega (arith, inside, c.requires.units)) ∙ sym c.index.ensures) in
-    let here : c.units_cost-cost.result ≡ cost_on g.arcs units k =
-    cost.value ∙ ap (λ (x : ℤ). x *ℤ pos c.index.result.now) arc
-    ∙ ap (λ (u : ℕ). (arc_of g k).cost *ℤ pos u) unit in
+    let here : c.cost_on-cost.result ≡ cost_on g.arcs units k =
+    cost.value ∙ ap (λ (u : ℕ). (arc_of g k).cost *ℤ pos u) unit in
     let next = total-range_next (cost_on g.arcs units) k in
     record {
       cost = let before = inv.cost in omega (arith, ints, added, here, next, before);
