@@ -28,7 +28,7 @@ pub fn suiting(loss: i64, room: u32, most: u32, units: u32) -> Option<u32>
 }
 
 /// What a unit more on an arc costs by the prices of the nodes.
-pub fn loss_on(arc: Arc, cost: i64, prices: &[i64]) -> i64
+fn loss_on(arc: Arc, cost: i64, prices: &[i64]) -> i64
     requires from { arc.from < length prices.now }
     requires to { arc.to < length prices.now }
     requires cost { IsWithin MAX_STEP_COST cost }
@@ -69,7 +69,7 @@ fn suit(net: &Net, costs: &Costs, prices: &[i64], units: &mut [u32], surplus: &m
 }
 
 /// Whether units can be sent from these prices on.
-pub fn are_first_prices(prices: &[i64]) -> bool
+fn are_first_prices(prices: &[i64]) -> bool
     ensures { IsTrue result ↔ AllWithin MAX_FIRST_PRICE prices.now }
 {
     for price in prices {
