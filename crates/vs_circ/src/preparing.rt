@@ -8,7 +8,7 @@ ghost use Rattle.vs_ship.specs.Shipments.{CanShip, IsSized};
 
 use vs_layer::Arc;
 use vs_match::{ArcKind, LayerNet, MAX_ARC_COST};
-use vs_ship::{Shipment, fit, leave};
+use vs_ship::{Shipment, fit};
 
 /// The room of an arc that takes as many units as there are.
 pub(crate) const UNLIMITED: u32 = 4_294_967_295;
@@ -79,7 +79,6 @@ pub(crate) fn prepare(net: &LayerNet, offers: &[Option<i64>], shipment: &mut Shi
     let arcs = net.net();
     let prices: &mut [i64] = &mut shipment.prices;
     let units: &mut [u32] = &mut shipment.flow.units;
-    fit(arcs, &shipment.costs, prices, units);
     let surplus: &mut [i64] = &mut shipment.surplus;
-    leave(arcs, units, surplus);
+    fit(arcs, &shipment.costs, prices, units, surplus);
 }

@@ -1,6 +1,7 @@
 -- Units that suit the arcs of a net at prices of its nodes.
 use Rattle.std.specs.Prelude.{ℕ, ◌<◌, ◌≤◌, List, length, slice_index, ℤ, pos, ◌+ℤ◌, ◌-ℤ◌, ◌≤ℤ◌, ◌<ℤ◌}
 use Rattle.vs_layer.specs.Graph.{Graph, arc_of}
+use Rattle.vs_instance.specs.declared.limits.TheConstants.{MAX_FLEET}
 use Rattle.vs_path.specs.Residual.{price_at}
 
 -- what a unit more on arc k costs by the prices of the nodes
@@ -32,3 +33,7 @@ pub record HasGain (g : Graph) (cost : List ℤ) (room : List ℕ) (prices : Lis
   pub within : k < length g.arcs
   pub unlimited : (arc_of g k).room < slice_index room k
   pub gains : worth_less g cost prices k <ℤ pos 0
+
+-- no arc of the net takes more units than a fleet has vehicles
+abbrev pub HasFewUnits : Graph → Type 0
+HasFewUnits g = (k : ℕ) → k < length g.arcs → (arc_of g k).room ≤ MAX_FLEET

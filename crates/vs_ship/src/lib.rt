@@ -15,7 +15,7 @@ mod work;
 
 pub use centring::{MAX_RAISED_PRICE, centre};
 pub use draining::drain;
-pub use fitting::{are_first_prices, fit, loss_on, suiting};
+pub use fitting::{fit, suiting};
 pub use gaps::{MAX_NODE_PRICE, bring_near};
 pub use leaving::{clear, leave};
 pub use shipment::{MAX_FIRST_PRICE, Shipment};
