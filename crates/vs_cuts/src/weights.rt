@@ -175,8 +175,8 @@ impl LayerCuts {
     }
 }
 
-/// Changes how much is lacking of the trips of each cut of a layer, where so much weight goes from the cut that has the first
-/// products to the one that has the others.
+/// Changes how much is lacking of the trips of each cut of a layer, where so much weight goes from the cut that has the
+/// first products to the one that has the others.
 fn tilt(standings: &mut [Standing], left: &[i64], taken: &[i64], amount: i64) {
     for ((standing, a), b) in standings.iter_mut().zip(left).zip(taken) {
         let more = part_of(a.saturating_sub(*b), amount);

@@ -23,15 +23,15 @@ const FIRST_STEP: u32 = 1;
 const CUTS: u32 = 50;
 
 /// How many rounds a climb has at most: the first ten gain nothing as a rule, since no circulations are known yet, and
-/// what both parts of a split gain shows after some hundred. With 35 a timetable of 200 trips in eight layers takes eight
-/// times as many leaves to the same bound.
+/// what both parts of a split gain shows after some hundred. With 35 a timetable of 200 trips in eight layers takes
+/// eight times as many leaves to the same bound.
 const MOST_ROUNDS: u64 = 150;
 
 /// How many rounds a climb has at least: a few that can gain.
 const LEAST_ROUNDS: u64 = 4;
 
-/// How many rounds there are, times the cube of how many trips each of them offers to layers, where they lie between the
-/// two limits. On large timetables further leaves hardly raise the bound, and are to take little.
+/// How many rounds there are, times the cube of how many trips each of them offers to layers, where they lie between
+/// the two limits. On large timetables further leaves hardly raise the bound, and are to take little.
 const ROUNDS_BY_CUBE: u64 = 600_000_000_000;
 
 /// How many arcs, times trips, the circulations of a climb look along at most: a tenth of what a step of the root may.

@@ -7,8 +7,8 @@ ghost use Rattle.vs_types.specs.declared.numbers.TheConstants.{MAX_LAYERS};
 use vs_bundle::WHOLE;
 use vs_types::{LayerNo, LayerSet, MAX_LAYERS, TripNo};
 
-/// A trip counts as shared out where other layers than that of its greatest share run at least one part of it in so many:
-/// what is less hardly changes when the layer is chosen.
+/// A trip counts as shared out where other layers than that of its greatest share run at least one part of it in so
+/// many: what is less hardly changes when the layer is chosen.
 const PARTS: i64 = 20;
 
 /// A trip counts as run twice where all layers together run so much of it.
@@ -86,8 +86,9 @@ impl Leads {
         self.shares.get(place).copied().unwrap_or(0)
     }
 
-    /// How far a trip is shared out, of which this layer runs most: what it is paid for, times how much other layers run
-    /// of it. Most of all where it is run twice, as is a trip whose multiplier is 0: neither part of a split allows that.
+    /// How far a trip is shared out, of which this layer runs most: what it is paid for, times how much other layers
+    /// run of it. Most of all where it is run twice, as may be a trip that is paid for by nothing: neither part of a
+    /// split allows that.
     fn shared(&self, greatest: LayerNo, trip: TripNo) -> i128 {
         let share = i64::from(self.share(greatest, trip));
         let total = self.total(trip);

@@ -33,10 +33,10 @@ pub(crate) fn arcs_for(instance: &Instance) -> u64 {
     EFFORT / u64::from(instance.trips()).max(1)
 }
 
-/// How many arcs the circulations of the passes on a leaf look along at most: a 400th of what a step of the root may.
-/// On timetables so large that this cuts them short, they found no cheaper plan.
+/// How many arcs the circulations of the passes on a leaf look along at most: a hundredth of what a step of the root
+/// may, so that 200 leaves take no more than four times as long as the root.
 pub(crate) fn arcs_for_leaf(instance: &Instance) -> u64 {
-    arcs_for(instance) / 400
+    arcs_for(instance) / 100
 }
 
 /// So many passes, or as many as so many arcs suffice for where that is less.
