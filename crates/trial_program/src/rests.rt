@@ -221,7 +221,7 @@ fn counted(alloc: Global, small: &Small) -> Result<(Vec<u8>, String), Fail> {
     Ok((text_of(alloc, small)?, head))
 }
 
-/// A small timetable whose layers have one vehicle each, which is too few for most.
+/// A small timetable whose layers have one vehicle each, which is too few for some.
 fn short(alloc: Global, number: u64) -> Result<Small, Fail> {
     let mut small = made(alloc, number)?;
     for layer in small.layers.iter_mut() {
