@@ -13,6 +13,16 @@ const LEAST_PASSES: u32 = 400;
 /// How many passes there are at most: the layers of a small instance agree long before.
 const MOST_PASSES: u32 = 2_000;
 
+/// For so many offers of trips to layers the last climb has a round: the larger an instance is, the further its first
+/// climb stays behind, and the fewer rounds its leaves have.
+const OFFERS_A_ROUND: u32 = 40;
+
+/// How many rounds the last climb has at least: it begins where the first one ended.
+const LEAST_LAST_ROUNDS: u32 = 40;
+
+/// How many rounds it has at most, as many as the first one.
+const MOST_LAST_ROUNDS: u32 = 300;
+
 /// How many arcs, times trips, the circulations of a step look along at most. The steps on 2,000 trips of a city take
 /// three to four fifths of it; of an instance that is a hundred times as large a step has a few passes left.
 const EFFORT: u64 = 34_000_000_000;
@@ -26,6 +36,14 @@ pub(crate) fn passes(instance: &Instance) -> u32 {
         .unwrap_or(0)
         .max(LEAST_PASSES)
         .min(MOST_PASSES)
+}
+
+/// How many rounds the last climb has, the more the more each of them offers.
+pub(crate) fn last_rounds(instance: &Instance) -> u32 {
+    prove!(instance.trips() <= MAX_TRIPS && instance.layers() <= MAX_LAYERS);
+    (instance.trips() * instance.layers() / OFFERS_A_ROUND)
+        .max(LEAST_LAST_ROUNDS)
+        .min(MOST_LAST_ROUNDS)
 }
 
 /// How many arcs the circulations of a step look along at most.

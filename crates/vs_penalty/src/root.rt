@@ -4,7 +4,7 @@ ghost use Rattle.vs_multi.specs.Multipliers.{AreMultipliers};
 ghost use Rattle.vs_multi.specs.Rounds.{IsCase};
 ghost use Rattle.vs_penalty.specs.Seekers.{CanSeek, IsSeekerFor};
 
-use crate::effort::{affordable, arcs_for, passes};
+use crate::effort::{affordable, arcs_for, last_rounds, passes};
 use crate::seeking::Seeker;
 use crate::slow_passes::Course;
 use vs_bundle::{Aim, climb};
@@ -20,10 +20,7 @@ const FIRST_STEP: u32 = 2;
 const CUTS: u32 = 50;
 
 /// How many rounds the first climb has: later ones gain next to nothing.
-const FIRST_ROUNDS: u32 = 300;
-
-/// How many rounds the last climb has: it begins where the first one ended.
-const LAST_ROUNDS: u32 = 40;
+const ROUNDS: u32 = 300;
 
 /// After how many agreements the first passes end: the first climb needs no more than a plan that is nearly as cheap
 /// as the best, and what later ones gain slow passes find sooner.
@@ -58,12 +55,12 @@ impl Seeker {
         ensures seeker { IsSeekerFor case.now.instance.now self.new }
     {
         multipliers.copy_from_slice(&self.penalties.multipliers);
-        self.climb(case, FIRST_ROUNDS, multipliers, work)?;
+        self.climb(case, ROUNDS, multipliers, work)?;
         if self.is_done() {
             return Ok(());
         }
         self.seek_near(case, multipliers, work)?;
-        self.climb(case, LAST_ROUNDS, multipliers, work)
+        self.climb(case, last_rounds(case.instance), multipliers, work)
     }
 
     /// Climbs from these multipliers on to the best, by at most so many rounds.
