@@ -27,12 +27,16 @@ const CUTS: u32 = 50;
 /// eight times as many leaves to the same bound.
 const MOST_ROUNDS: u64 = 150;
 
-/// How many rounds a climb has at least: a few that can gain.
-const LEAST_ROUNDS: u64 = 4;
-
-/// How many rounds there are, times the cube of how many trips each of them offers to layers, where they lie between
-/// the two limits. On large timetables further leaves hardly raise the bound, and are to take little.
+/// How many rounds there are, times the cube of how many trips each of them offers to layers, where these are fewer than
+/// the most.
 const ROUNDS_BY_CUBE: u64 = 600_000_000_000;
+
+/// How many trips a round offers to layers at most, all layers together, for a climb of several rounds. On larger
+/// timetables further leaves hardly raise the bound, and a climb took two thirds of their time.
+const SMALL: u64 = 2_400;
+
+/// How many rounds a climb has on a larger timetable: one shows by which trip the leaf is split.
+const ROUNDS_ON_LARGE: u32 = 1;
 
 /// How many arcs, times trips, the circulations of a climb look along at most: a tenth of what a step of the root may.
 const EFFORT: u64 = 3_400_000_000;
@@ -95,11 +99,13 @@ fn first_multipliers(case: &Case<'_>, table: &Table) -> Result<Vec<i64>, Memory>
 fn rounds_for(instance: &Instance) -> u32 {
     prove!(instance.trips() <= MAX_TRIPS && instance.layers() <= MAX_LAYERS);
     let offers = u64::from(instance.trips() * instance.layers());
+    if offers > SMALL {
+        return ROUNDS_ON_LARGE;
+    }
     let cube = offers.saturating_mul(offers).saturating_mul(offers);
     ROUNDS_BY_CUBE
         .checked_div(cube)
         .unwrap_or(0)
-        .max(LEAST_ROUNDS)
         .min(MOST_ROUNDS) as u32
 }
 
