@@ -1,7 +1,6 @@
 //! A climb on a leaf: to better multipliers, and to what shows by which trip the leaf is split.
 
 ghost use Rattle.std.specs.Prelude.{IfOk};
-ghost use Rattle.vs_instance.specs.Restriction.{IsRestriction};
 ghost use Rattle.vs_multi.specs.Multipliers.{AreMultipliers};
 ghost use Rattle.vs_multi.specs.Rounds.{IsCase};
 ghost use Rattle.vs_prices.specs.Bounds.{IsWorthNoLess};
@@ -12,7 +11,7 @@ use crate::leads::Leads;
 use vs_bundle::{Aim, climb};
 use vs_circ::Work;
 use vs_instance::{Instance, MAX_LAYERS, MAX_TRIPS};
-use vs_multi::{Case, few_rounds, greatest_step, keep_better, of_table};
+use vs_multi::{Case, few_rounds, greatest_step, keep_better, multipliers_of};
 use vs_prices::{Bound, Table};
 use vs_types::{Memory, SCALE};
 
@@ -71,7 +70,7 @@ pub(crate) fn climb_on(
     ensures worth { IfOk result (λ climb.
         IsWorth case.now.instance.now case.now.sets.now table.new climb.worth) }
 {
-    let mut multipliers = first_multipliers(case, table)?;
+    let mut multipliers = multipliers_of(case, table)?;
     let aim = aim_for(case, known)?;
     let climbed = climb(case, &aim, &mut multipliers, work)?;
     let mut last = Vec::from_slice(case.alloc, &multipliers)?;
@@ -82,17 +81,6 @@ pub(crate) fn climb_on(
         shares: climbed.shares,
     };
     Ok(Climb { worth, leads })
-}
-
-/// The multipliers that a table stands for.
-fn first_multipliers(case: &Case<'_>, table: &Table) -> Result<Vec<i64>, Memory>
-    requires restriction { IsRestriction case.now.instance.now case.now.sets.now }
-    requires fits { Fits case.now.instance.now table.now }
-    ensures { IfOk result (λ first. AreMultipliers case.now.instance.now first.items) }
-{
-    let mut first = vec![in case.alloc; 0; case.instance.trips() as usize]?;
-    of_table(case.instance, case.sets, table, &mut first);
-    Ok(first)
 }
 
 /// How many rounds a climb has, the fewer the more each of them offers.
