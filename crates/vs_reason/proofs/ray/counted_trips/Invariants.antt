@@ -1,6 +1,5 @@
-use Rattle.std.proofs.Common.{◌≡◌, ℕ, map}
+use Rattle.std.proofs.Common.{◌≡◌, map}
 use Rattle.std.specs.List.{filter, range_with_len}
-use Rattle.vs_types.specs.declared.numbers.TripNo.{TripNo}
 use Rattle.vs_reason.specs.Reasons.{AreTripsOf, counts, numbered}
 use Rattle.vs_reason.proofs.ray.counted_trips.Given as goal
 

@@ -1,4 +1,4 @@
-use Rattle.std.proofs.Common.{◌≡◌, Bool, false, take}
+use Rattle.std.proofs.Common.{◌≡◌, false, take}
 use Rattle.vs_reason.specs.Reasons.{may_run_some}
 use Rattle.vs_reason.proofs.ray.may_run_some.Given as goal
 
