@@ -17,7 +17,7 @@ AUDIT = [
     "vs_prices", "vs_match",
 ]
 SEARCH = {
-    "vs_path", "vs_ship", "vs_circ", "vs_decomp", "vs_multi", "vs_cuts", "vs_bundle", "vs_node", "vs_penalty",
+    "vs_path", "vs_ship", "vs_circ", "vs_decomp", "vs_multi", "vs_cuts", "vs_bundle", "vs_node", "vs_ray", "vs_penalty",
     "vs_turn", "vs_tree", "vs_crew", "vs_cert", "vs_answer", "atomic_table",
 }
 

@@ -27,6 +27,7 @@ mod vs_multi;
 mod vs_node;
 mod vs_path;
 mod vs_penalty;
+mod vs_ray;
 mod vs_plan;
 mod vs_prices;
 mod vs_ship;

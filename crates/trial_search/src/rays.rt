@@ -4,8 +4,8 @@ use std::alloc::Global;
 use std::test::Fail;
 use trial_fixtures::instance_of;
 use trial_fixtures::texts::STOPS;
-use vs_penalty::seek_ray;
 use vs_prices::{Table, permitted_sets};
+use vs_ray::seek_ray;
 
 /// Two layers of one depot with one vehicle each.
 const ONE_EACH: &str = "layer,L1,D,1,1000,1,0\nlayer,L2,D,1,1000,1,0\n";

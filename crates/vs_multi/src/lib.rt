@@ -15,6 +15,6 @@ pub use best::{Best, few_rounds, greatest_step, keep_better, rounds};
 pub use offering::offer;
 pub use raising::raise;
 pub use round::Case;
-pub use starting::{of_table, start};
+pub use starting::{multipliers_of, of_table, start};
 pub use steps::{Steps, moved};
 pub use vs_instance::MAX_MULTIPLIER;

@@ -1,13 +1,14 @@
 //! The multipliers to begin with: what a block of each trip alone costs, or what a table of prices stands for.
-ghost use Rattle.std.specs.Prelude.{◌≡◌, ◌<◌, IfSome, length, pos, ◌≤ℤ◌};
+ghost use Rattle.std.specs.Prelude.{◌≡◌, ◌<◌, IfOk, IfSome, length, pos, ◌≤ℤ◌};
 ghost use Rattle.vs_instance.specs.Restriction.{IsRestriction};
 ghost use Rattle.vs_prices.specs.Table.{Fits};
 ghost use Rattle.vs_multi.specs.Multipliers.{AreMultipliers, AreOfTable, AreStarts, IsLeastOwnCost, IsOwnCost, MayCostAlone};
 
+use crate::round::Case;
 use vs_connect::{MAX_PIECE, in_cost, lesser, out_cost, trip_cost};
 use vs_instance::{Instance, MAX_MULTIPLIER};
 use vs_prices::{Table, least_price};
-use vs_types::{LayerNo, LayerSet, SCALE, TripNo};
+use vs_types::{LayerNo, LayerSet, Memory, SCALE, TripNo};
 
 /// What a block of one trip costs at most, in cost units: a pull-out, the trip and a pull-in.
 const MAX_OWN_COST: i64 = 3 * MAX_PIECE;
@@ -67,4 +68,15 @@ pub fn of_table(instance: &Instance, sets: &[LayerSet], table: &Table, multiplie
         let pays = least_price(instance, sets[i as usize], table, TripNo(i));
         multipliers[i as usize] = pays.max(0).min(MAX_MULTIPLIER);
     }
+}
+
+/// The multipliers that a table stands for, in a list of their own.
+pub fn multipliers_of(case: &Case<'_>, table: &Table) -> Result<Vec<i64>, Memory>
+    requires restriction { IsRestriction case.now.instance.now case.now.sets.now }
+    requires fits { Fits case.now.instance.now table.now }
+    ensures { IfOk result (λ multipliers. AreMultipliers case.now.instance.now multipliers.items) }
+{
+    let mut multipliers = vec![in case.alloc; 0; case.instance.trips() as usize]?;
+    of_table(case.instance, case.sets, table, &mut multipliers);
+    Ok(multipliers)
 }

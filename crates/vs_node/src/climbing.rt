@@ -1,7 +1,6 @@
 //! A climb on a leaf: to better multipliers, and to what shows by which trip the leaf is split.
 
 ghost use Rattle.std.specs.Prelude.{IfOk};
-ghost use Rattle.vs_instance.specs.Restriction.{IsRestriction};
 ghost use Rattle.vs_multi.specs.Multipliers.{AreMultipliers};
 ghost use Rattle.vs_multi.specs.Rounds.{IsCase};
 ghost use Rattle.vs_prices.specs.Bounds.{IsWorthNoLess};
@@ -12,7 +11,7 @@ use crate::leads::Leads;
 use vs_bundle::{Aim, climb};
 use vs_circ::Work;
 use vs_instance::{Instance, MAX_LAYERS, MAX_TRIPS};
-use vs_multi::{Case, few_rounds, greatest_step, keep_better, of_table};
+use vs_multi::{Case, few_rounds, greatest_step, keep_better, multipliers_of};
 use vs_prices::{Bound, Table};
 use vs_types::{Memory, SCALE};
 
@@ -27,12 +26,16 @@ const CUTS: u32 = 50;
 /// eight times as many leaves to the same bound.
 const MOST_ROUNDS: u64 = 150;
 
-/// How many rounds a climb has at least: a few that can gain.
-const LEAST_ROUNDS: u64 = 4;
-
-/// How many rounds there are, times the cube of how many trips each of them offers to layers, where they lie between
-/// the two limits. On large timetables further leaves hardly raise the bound, and are to take little.
+/// How many rounds there are, times the cube of how many trips each of them offers to layers, where these are fewer than
+/// the most.
 const ROUNDS_BY_CUBE: u64 = 600_000_000_000;
+
+/// How many trips a round offers to layers at most, all layers together, for a climb of several rounds. On larger
+/// timetables further leaves hardly raise the bound, and a climb took two thirds of their time.
+const SMALL: u64 = 2_400;
+
+/// How many rounds a climb has on a larger timetable: one shows by which trip the leaf is split.
+const ROUNDS_ON_LARGE: u32 = 1;
 
 /// How many arcs, times trips, the circulations of a climb look along at most: a tenth of what a step of the root may.
 const EFFORT: u64 = 3_400_000_000;
@@ -67,7 +70,7 @@ pub(crate) fn climb_on(
     ensures worth { IfOk result (λ climb.
         IsWorth case.now.instance.now case.now.sets.now table.new climb.worth) }
 {
-    let mut multipliers = first_multipliers(case, table)?;
+    let mut multipliers = multipliers_of(case, table)?;
     let aim = aim_for(case, known)?;
     let climbed = climb(case, &aim, &mut multipliers, work)?;
     let mut last = Vec::from_slice(case.alloc, &multipliers)?;
@@ -80,26 +83,17 @@ pub(crate) fn climb_on(
     Ok(Climb { worth, leads })
 }
 
-/// The multipliers that a table stands for.
-fn first_multipliers(case: &Case<'_>, table: &Table) -> Result<Vec<i64>, Memory>
-    requires restriction { IsRestriction case.now.instance.now case.now.sets.now }
-    requires fits { Fits case.now.instance.now table.now }
-    ensures { IfOk result (λ first. AreMultipliers case.now.instance.now first.items) }
-{
-    let mut first = vec![in case.alloc; 0; case.instance.trips() as usize]?;
-    of_table(case.instance, case.sets, table, &mut first);
-    Ok(first)
-}
-
 /// How many rounds a climb has, the fewer the more each of them offers.
 fn rounds_for(instance: &Instance) -> u32 {
     prove!(instance.trips() <= MAX_TRIPS && instance.layers() <= MAX_LAYERS);
     let offers = u64::from(instance.trips() * instance.layers());
+    if offers > SMALL {
+        return ROUNDS_ON_LARGE;
+    }
     let cube = offers.saturating_mul(offers).saturating_mul(offers);
     ROUNDS_BY_CUBE
         .checked_div(cube)
         .unwrap_or(0)
-        .max(LEAST_ROUNDS)
         .min(MOST_ROUNDS) as u32
 }
 

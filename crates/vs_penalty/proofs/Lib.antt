@@ -1,4 +1,2 @@
 pub mod FewLayers
 pub mod GivenLayers
-pub mod ShownRays
-pub mod EvenMultipliers

@@ -4,4 +4,3 @@ pub mod Penalties
 pub mod Rates
 pub mod Seekers
 pub mod Tallies
-pub mod Rays

@@ -8,7 +8,6 @@ ghost use Rattle.vs_prices.specs.Bounds.{IsWorthNoLess};
 ghost use Rattle.vs_prices.specs.Table.{Fits, HoldingTable};
 ghost use Rattle.vs_penalty.specs.Penalties.{IsPlanOf};
 
-use crate::ray::seek_ray;
 use crate::seeking::Seeker;
 use std::alloc::Global;
 use std::mem::swap;
@@ -16,9 +15,10 @@ use vs_circ::Work;
 use vs_connect::lesser;
 use vs_instance::Instance;
 use vs_match::LayerNet;
-use vs_multi::{Case, few_rounds, keep_better, of_table, raise};
+use vs_multi::{Case, few_rounds, keep_better, multipliers_of, raise};
 use vs_plan::CheckedPlan;
 use vs_prices::{Table, permitted_sets, worth};
+use vs_ray::seek_ray;
 use vs_types::{Memory, TripNo};
 
 /// One round shows what the multipliers are worth; they are the best already.
@@ -77,7 +77,7 @@ fn agree_on(
     ensures holds { HoldingTable case.now.instance.now table.new }
     ensures worth { IsWorthNoLess case.now.instance.now case.now.sets.now table.new table.old }
 {
-    let mut multipliers = first_multipliers(case, table)?;
+    let mut multipliers = multipliers_of(case, table)?;
     let mut seeker = Seeker::new(case, &multipliers)?;
     seeker.begin(case, work)?;
     if take_ray(case, lesser(known, seeker.choices.cost()), table)? {
@@ -110,17 +110,6 @@ fn take_ray(case: &Case<'_>, known: Option<i64>, table: &mut Table) -> Result<bo
         }
         None => Ok(false),
     }
-}
-
-/// The multipliers that a table stands for.
-pub(crate) fn first_multipliers(case: &Case<'_>, table: &Table) -> Result<Vec<i64>, Memory>
-    requires restriction { IsRestriction case.now.instance.now case.now.sets.now }
-    requires fits { Fits case.now.instance.now table.now }
-    ensures { IfOk result (λ first. AreMultipliers case.now.instance.now first.items) }
-{
-    let mut first = vec![in case.alloc; 0; case.instance.trips() as usize]?;
-    of_table(case.instance, case.sets, table, &mut first);
-    Ok(first)
 }
 
 /// Makes the table what these multipliers and sweeps from there show, where that is worth more.

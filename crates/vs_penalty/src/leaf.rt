@@ -6,7 +6,6 @@ ghost use Rattle.vs_match.specs.LayerNets.{AreLayerNets};
 ghost use Rattle.vs_prices.specs.Table.{Fits};
 ghost use Rattle.vs_penalty.specs.Penalties.{IsPlanOf};
 
-use crate::agreeing::first_multipliers;
 use crate::effort::{affordable, arcs_for_leaf};
 use crate::rate::Pace;
 use crate::seeking::Seeker;
@@ -15,7 +14,7 @@ use std::alloc::Global;
 use vs_circ::Work;
 use vs_instance::Instance;
 use vs_match::LayerNet;
-use vs_multi::Case;
+use vs_multi::{Case, multipliers_of};
 use vs_plan::CheckedPlan;
 use vs_prices::Table;
 use vs_types::{LayerSet, Memory};
@@ -49,7 +48,7 @@ pub fn seek_plan(
         nets,
         sets,
     };
-    let multipliers = first_multipliers(&case, table)?;
+    let multipliers = multipliers_of(&case, table)?;
     let mut seeker = Seeker::new(&case, &multipliers)?;
     seeker.penalties.rate.set(Pace::Leaf);
     let course = Course {

@@ -7,12 +7,9 @@ mod choices;
 mod choosing;
 mod effort;
 mod leaf;
-mod paying;
 mod penalties;
 mod pool;
 mod rate;
-mod ray;
-mod reasons;
 mod root;
 mod seeking;
 mod slow_passes;
@@ -21,4 +18,3 @@ mod turns;
 
 pub use agreeing::agree;
 pub use leaf::seek_plan;
-pub use ray::seek_ray;

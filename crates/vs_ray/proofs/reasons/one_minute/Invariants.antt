@@ -1,6 +1,6 @@
 use Rattle.std.proofs.Common.{◌≡◌, length}
 use Rattle.vs_multi.specs.Multipliers.{AreMultipliers}
-use Rattle.vs_penalty.proofs.reasons.one_minute.Given as goal
+use Rattle.vs_ray.proofs.reasons.one_minute.Given as goal
 
 -- there is a multiplier and a count for each trip
 abbrev pub invariant-loop : goal.invariant-loop

@@ -1,7 +1,7 @@
 use Rattle.std.proofs.Common.{ℕ, ℤ, replicate, ap, ◌∙◌, rules, w64}
 use Rattle.std.proofs.lemmas.Int.{to_z-of_z}
-use Rattle.vs_penalty.proofs.EvenMultipliers.{even-AreMultipliers}
-use Rattle.vs_penalty.proofs.paying.evenly.Goals as goal
+use Rattle.vs_ray.proofs.EvenMultipliers.{even-AreMultipliers}
+use Rattle.vs_ray.proofs.paying.evenly.Goals as goal
 
 pub returns : goal.returns
 returns c =

@@ -5,9 +5,8 @@ ghost use Rattle.vs_instance.specs.Restriction.{IsRestriction};
 ghost use Rattle.vs_instance.specs.Unrated.{without_rates};
 ghost use Rattle.vs_multi.specs.Rounds.{IsCase};
 ghost use Rattle.vs_prices.specs.Table.{Fits, HoldingTable};
-ghost use Rattle.vs_penalty.specs.Rays.{ShowsNoPlan};
+ghost use Rattle.vs_ray.specs.Rays.{ShowsNoPlan};
 
-use crate::effort::arcs_for;
 use crate::paying::evenly;
 use crate::reasons::plain_reason;
 use std::alloc::Global;
@@ -28,6 +27,10 @@ const FIRST_STEP: u32 = 2;
 
 /// How many circulations a layer keeps.
 const CUTS: u32 = 50;
+
+/// How many arcs, times trips, the circulations of the climb look along at most: as many as those of a step of the
+/// search at the root.
+const EFFORT: u64 = 34_000_000_000;
 
 /// How many rounds of prices there are at the best multipliers.
 const LAST_ROUNDS: u32 = 1;
@@ -84,7 +87,7 @@ fn climbed_table(case: &Case<'_>, rounds: u32, work: &mut Work) -> Result<Table,
         cuts: CUTS,
         rounds,
         trial_rounds: rounds,
-        arcs: arcs_for(case.instance),
+        arcs: EFFORT / u64::from(case.instance.trips()).max(1),
     };
     if let Some(table) = plain_reason(case, work)? {
         return Ok(table);

@@ -4,7 +4,7 @@
 ghost use Rattle.std.specs.Prelude.{◌≡◌, ◌<◌, IfOk, IfSome, length};
 ghost use Rattle.vs_multi.specs.Multipliers.{AreMultipliers};
 ghost use Rattle.vs_multi.specs.Rounds.{IsCase};
-ghost use Rattle.vs_penalty.specs.Rays.{IsHolding};
+ghost use Rattle.vs_ray.specs.Rays.{IsHolding};
 
 use crate::paying::{evenly, is_under_way, pay_at, pay_one};
 use vs_circ::Work;

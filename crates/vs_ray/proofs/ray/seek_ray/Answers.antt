@@ -2,8 +2,8 @@ use Rattle.std.proofs.Common.{sym, subst}
 use Rattle.vs_instance.specs.Problem.{Problem}
 use Rattle.vs_instance.specs.Restriction.{IsRestriction}
 use Rattle.vs_prices.specs.Table.{Fits, HoldingTable}
-use Rattle.vs_penalty.proofs.ShownRays.{unrated-IsRestriction}
-use Rattle.vs_penalty.proofs.ray.seek_ray.Goals as goal
+use Rattle.vs_ray.proofs.ShownRays.{unrated-IsRestriction}
+use Rattle.vs_ray.proofs.ray.seek_ray.Goals as goal
 
 pub unrated_table-requires : goal.unrated_table-requires
 unrated_table-requires c =

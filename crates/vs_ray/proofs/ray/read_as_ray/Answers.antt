@@ -1,5 +1,5 @@
-use Rattle.vs_penalty.proofs.ShownRays.{read-fits, read-shows}
-use Rattle.vs_penalty.proofs.ray.read_as_ray.Goals as goal
+use Rattle.vs_ray.proofs.ShownRays.{read-fits, read-shows}
+use Rattle.vs_ray.proofs.ray.read_as_ray.Goals as goal
 
 pub worth-requires-clause-fits : goal.worth-requires-clause-fits
 worth-requires-clause-fits c = read-fits c.args.instance.now c.args.table c.requires.fits
