@@ -1,6 +1,7 @@
 //! The program `mdvsp`: it plans the vehicles of a bus company for one timetable, and judges such plans.
 #![tactic(auto)]
 
+use kept::{Kept, KeptSink, KeptSource};
 use mdvsp::{Status, run};
 use progress::Progress;
 use std::alloc::Global;
@@ -9,7 +10,9 @@ use std::process::ExitCode;
 use std::rt::Env;
 use std::{env, io};
 use vs_io::{StdSink, StdSource};
+use vs_reason::reason_text;
 
+mod kept;
 mod progress;
 
 /// The version of the program.
@@ -34,20 +37,23 @@ exit status:
   10 solve: there is no plan   11 solve: open, the cases ran out";
 
 /// Runs the words after the program's name over standard input and output, and ends with the run's code. Where standard
-/// error is a terminal, it tells there how far the run has come, and where the words are wrong, it tells on standard
-/// error how the program is called.
+/// error is a terminal, it tells there how far the run has come, and why there is no plan where there is none; where the
+/// words are wrong, it tells on standard error how the program is called.
 fn main(rt: HostRuntime) -> ExitCode {
     let words = match given_words(&rt) {
         Ok(words) => words,
         Err(status) => return ExitCode::from(status.code()),
     };
-    let mut input = StdSource::new(rt.stdin());
-    let mut output = StdSink::new(rt.stdout());
-    let progress = Progress::new(&rt, rt.stderr().is_terminal());
+    let shown = rt.stderr().is_terminal();
+    let mut input = KeptSource::new(StdSource::new(rt.stdin()), Kept::new(rt.alloc(), shown));
+    let mut output = KeptSink::new(StdSink::new(rt.stdout()), Kept::new(rt.alloc(), shown));
+    let progress = Progress::new(&rt, shown);
     let status = run(&rt, rt.alloc(), &words, &mut input, &mut output, &progress);
     progress.end();
-    if status == Status::BadWords {
-        tell_usage(&rt, &words);
+    match status {
+        Status::BadWords => tell_usage(&rt, &words),
+        Status::Infeasible => tell_reason(&rt, rt.alloc(), input.kept(), output.kept()),
+        _ => {}
     }
     ExitCode::from(status.code())
 }
@@ -62,6 +68,17 @@ fn tell_usage<R: Eprint>(rt: &R, words: &[String]) {
         let _ = eprintln!(rt; "mdvsp {VERSION}");
     }
     let _ = eprintln!(rt; "{USAGE}");
+}
+
+/// Tells on standard error why an instance has no plan, by the document that was written for it; nothing where they
+/// weren't kept. Whether standard error takes it doesn't matter.
+fn tell_reason<R: Eprint>(rt: &R, alloc: Global, input: &Kept, document: &Kept) {
+    let (Some(input), Some(document)) = (input.bytes(), document.bytes()) else {
+        return;
+    };
+    if let Ok(Some(words)) = reason_text(alloc, input, document) {
+        let _ = eprintln!(rt; "{words}");
+    }
 }
 
 /// The words after the program's name. Words that aren't text are bad ones.

@@ -1,5 +1,5 @@
 //! Tests of what judges: worked examples of documents, plans, prices and verdicts, and that each call can answer
-//! something else than `Memory`.
+//! something else than `Memory`; and of the words that tell why there is no plan.
 #![tactic(auto)]
 
 #[cfg(test)]
@@ -8,5 +8,7 @@ mod documents;
 mod plans;
 #[cfg(test)]
 mod prices;
+#[cfg(test)]
+mod reasons;
 #[cfg(test)]
 mod verdicts;
