@@ -123,7 +123,10 @@ def cost_of(fields, kind):
 
 
 def read_document(path):
-    """Returns what a document claims, and its blocks; what stands before `result` and from the first table on isn't read."""
+    """Returns what a document claims, and its blocks.
+
+    What stands before `result`, and from the first table on, isn't read.
+    """
     rows = [fields for _, fields in records_of(path)]
     begin = next((place for place, fields in enumerate(rows) if fields[0] == "result"), None)
     if begin is None:
@@ -173,9 +176,9 @@ class Figures:
 
 
 def rest_between(layer, first, second, ways):
-    """Returns when a vehicle is back in its depot between two trips and when it leaves again, or None where it doesn't rest.
+    """Returns when a vehicle is back in its depot between two trips and when it leaves again.
 
-    It rests where there is time for the stay and where that is cheaper than to go straight.
+    None where it doesn't rest: there is no time for the stay, or to go straight is no dearer.
     """
     back, out = ways.get((first.finish, layer.depot)), ways.get((layer.depot, second.begin))
     straight = ways[first.finish, second.begin]
@@ -426,7 +429,7 @@ def unit_of(word):
 
 def main():
     parser = argparse.ArgumentParser(description=__doc__, formatter_class=argparse.RawDescriptionHelpFormatter)
-    parser.add_argument("--unit", type=unit_of, default=1, metavar="N", help="how many cost units make one of the money")
+    parser.add_argument("--unit", type=unit_of, default=1, metavar="N", help="so many cost units are told as 1.00")
     parser.add_argument("timetable", metavar="TIMETABLE")
     parser.add_argument("plan", metavar="PLAN")
     parser.add_argument("other", metavar="OTHER", nargs="?")

@@ -65,7 +65,7 @@ TOWN_NOTES = """\
 {0}/drives.csv: added Harbour to School, by way of Station: 18 minutes, 7700 metres
 {0}/drives.csv: shortened Depot to School: 14 in place of 15 minutes by way of Station
 {0}/drives.csv: shortened School to Depot: 14 in place of 15 minutes by way of Station
-{0}/drives.csv: minutes rounded up, of 2 drives
+{0}/drives.csv: rounded up the minutes of 2 drives
 """
 
 # Two plans of the town without rests, and one with rests. Block by block, in cost units:
@@ -281,6 +281,17 @@ class SmallText(Folder):
         sheet = b"Metres,Minutes,TO, From\n500,10,P,D\n500,10,D,P\n"
         self.assertEqual(self.make(drives=sheet), (0, self.TEXT, ""))
 
+    def test_separators(self):
+        for sign in ",;\t|":
+            sheet = f"sep={sign}\r\nfrom{sign}to{sign}minutes{sign}metres\r\nD{sign}P{sign}10{sign}500\r\n"
+            sheet += f"P{sign}D{sign}10{sign}500\r\n"
+            self.assertEqual(self.make(drives=sheet.encode()), (0, self.TEXT, ""))
+
+    def test_numbers(self):
+        for metres in ("500", "0500", "500.0", "500.00", '"500,00"'):
+            self.assertEqual(self.make(drives=f"D,P,10,{metres}\nP,D,9.01,500\n"), (
+                0, self.TEXT, "drives.csv: rounded up the minutes of 1 drive\n"), metres)
+
     def test_blank_rows_and_times_after_midnight(self):
         status, text, _ = self.make(trips="\n,,,,,,\nt1,P,23:59:00,P,47:59,0,Bus\n")
         self.assertEqual((status, text.splitlines()[-1]), (0, "trip,t1,P,23:59,P,47:59,0,Bus"))
@@ -319,8 +330,15 @@ class SheetFaults(Folder):
         self.check(["drives.csv:1: the column to stands twice"], drives=b"from,to,to,minutes,metres\nD,P,P,10,500\n")
         self.check(["groups.csv:1: the column group stands twice"],
                    groups=b"group,group,depot,vehicles,fixed,per_minute,per_metre\nBus,Bus,D,2,1000,1,0\n")
-        self.check(["trips.csv:1: the sheet is empty; its first row names the columns: "
+        self.check(["trips.csv:1: the sheet is empty; its first row has to name the columns: "
                     "trip, from, start, to, end, metres, group"], trips=b"")
+
+    def test_numbers(self):
+        for metres in ("500.000", '"4,500"', "5e2", "+500", "-500", "9" * 5000):
+            shown = metres.strip('"')
+            shown = shown if len(shown) <= 40 else shown[:37] + "..."
+            self.check([f"drives.csv:2: D to P: metres `{shown}` aren't a number; write digits alone"],
+                       drives=f"D,P,10,{metres}\nP,D,10,500\n")
 
     def test_a_workbook(self):
         self.check(["stops.csv:1: this is a workbook; export the sheet as CSV"], stops=b"PK\x03\x04 and so on")
@@ -483,7 +501,7 @@ class Summaries(Folder):
         self.assertEqual("\n".join(text.splitlines()[4:21]) + "\n", RESTING_SUMMARY)
 
     def test_a_stay_to_the_minute(self):
-        # From 8:30 in Q the depot is reached at 8:40; to be in Q at 12:00 a vehicle leaves it at 11:50, 190 minutes later.
+        # From Q at 8:30 the depot is reached at 8:40; for Q at 12:00 a vehicle leaves it at 11:50, 190 minutes later.
         for stay, resting, cost in ((190, "3:10", 1100), (191, "0:00", 1290)):
             text = ("instance,2\nstop,D\nstop,P\nstop,Q\ndeadhead,D,P,10,0\ndeadhead,P,D,10,0\ndeadhead,D,Q,10,0\n"
                     "deadhead,Q,D,10,0\ndeadhead,P,Q,15,0\ndeadhead,Q,P,15,0\n"
@@ -507,7 +525,8 @@ class Summaries(Folder):
 
     def test_depots(self):
         text = ("instance,1\nstop,D\nstop,E\ndeadhead,D,E,5,0\ndeadhead,E,D,5,0\nlayer,A,D,2,7,0,0\nlayer,B,D,2,8,0,0\n"
-                "layer,C,E,2,9,0,0\ntrip,t1,D,8:00,D,8:30,0,A,B\ntrip,t2,D,8:10,D,8:40,0,A,B\ntrip,t3,E,8:20,E,8:30,0,C\n")
+                "layer,C,E,2,9,0,0\ntrip,t1,D,8:00,D,8:30,0,A,B\ntrip,t2,D,8:10,D,8:40,0,A,B\n"
+                "trip,t3,E,8:20,E,8:30,0,C\n")
         plan = self.document("plan.csv", [("A", "t1"), ("B", "t2"), ("C", "t3")], 24)
         lines = run("summary", self.write("depots.csv", text), plan)[1].splitlines()
         heads = [it for it in lines[3:] if it and it[0] != " "]
@@ -517,7 +536,8 @@ class Summaries(Folder):
     def test_a_printed_cost_that_is_another(self):
         plan = self.document("present.csv", PRESENT, 0)
         status, _, told = run("summary", self.town, plan)
-        self.assertEqual((status, told), (0, f"{plan}: it says that its plan costs 0; its blocks cost {PRESENT_COST}\n"))
+        self.assertEqual((status, told),
+                         (0, f"{plan}: it says that its plan costs 0; its blocks cost {PRESENT_COST}\n"))
 
     def test_a_document_behind_its_timetable(self):
         plan = self.document("good.csv", GOOD, GOOD_COST)
@@ -533,8 +553,8 @@ class Summaries(Folder):
                          [["claim", "infeasible"], ["cost", "none"], ["bound", "none"]])
 
     def test_blocks_that_are_no_plan(self):
-        blocks = [("Minibus", "S1", "S2"), ("Bus", "S3", "H1"), ("Bus", "H1"), ("Bus", "H2"), ("Bus", "S4"), ("Tram", "H3"),
-                  ("Bus", "N9"), ("Bus",)]
+        blocks = [("Minibus", "S1", "S2"), ("Bus", "S3", "H1"), ("Bus", "H1"), ("Bus", "H2"), ("Bus", "S4"),
+                  ("Tram", "H3"), ("Bus", "N9"), ("Bus",)]
         plan = self.document("plan.csv", blocks, 0)
         status, text, told = run("summary", self.town, plan)
         self.assertEqual((status, text), (1, ""))
@@ -567,7 +587,8 @@ class Summaries(Folder):
         for text, told in (
             ("", "the first record is neither instance,1 nor instance,2"),
             ("instance,1\nstop,D\ndeadhead,D,E,1,1\n", "record 3: unknown stop E"),
-            ("instance,1\nstop,D\nlayer,L,D,1,1,1,1,60\n", "record 3: `layer,L,D,1,1,1,1,60` is no record of an instance"),
+            ("instance,1\nstop,D\nlayer,L,D,1,1,1,1,60\n",
+             "record 3: `layer,L,D,1,1,1,1,60` is no record of an instance"),
             ("instance,1\nstop,D\nlayer,L,D,1,1,x,1\n", "record 3: `x` is no number"),
             ("instance,1\nstop,D\nlayer,L,D,1,1,1,1\ntrip,t,D,8,D,9:00,1,L\n", "record 4: `8` is no time"),
         ):
@@ -575,7 +596,8 @@ class Summaries(Folder):
             self.assertEqual(run("summary", path, plan), (3, "", f"{path}: {told}\n"))
         for text, told in (
             (TOWN_TEXT, "there is no record `result`"),
-            ("result,1,open\ncost,1\n", "this is no document of a plan: its first rows aren't result, cost, bound and nodes"),
+            ("result,1,open\ncost,1\n",
+             "this is no document of a plan: its first rows aren't result, cost, bound and nodes"),
             ("result,1,open\ncost,x\nbound,1\nnodes,1\n", "this is no document of a plan: no row cost,N or cost,none"),
         ):
             path = self.write("wrong.csv", text)

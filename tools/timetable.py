@@ -33,8 +33,9 @@ MAX_VEHICLES, MAX_FIXED, MAX_PER_MINUTE, MAX_PER_METRE, MAX_STAY = 2000, 10**9, 
 LAST_MINUTE = 48 * 60 - 1
 
 NAME = re.compile(r"[A-Za-z0-9_.:-]{1,32}")
-NUMBER = re.compile(r"([0-9]+)(?:[.,]([0-9]{1,2}))?")
-LENGTH = re.compile(r"([0-9]+):([0-5][0-9]):([0-5][0-9])")
+NUMBER = re.compile(r"([0-9]{1,15})(?:[.,]([0-9]{1,2}))?")
+LENGTH = re.compile(r"([0-9]{1,3}):([0-5][0-9]):([0-5][0-9])")
+SEPARATOR = re.compile(r"\ufeff?sep=([,;\t|])\s*")
 TIME = re.compile(r"([0-9]{1,2}):([0-5][0-9])(?::([0-5][0-9]))?")
 
 # A drive is counted in parts of a minute, so that hundredths of one and seconds are whole.
@@ -118,11 +119,10 @@ def separator_of(line, columns):
 def records_of(sheet, text, faults):
     """Returns the records of a sheet that aren't blank, each with its line, as far as quotes are closed."""
     lines = list(io.StringIO(text, newline=""))
-    sign, begin = None, 0
-    if lines and re.fullmatch(r"sep=.\s*", trimmed(lines[0])):
-        sign, begin = trimmed(lines[0])[4], 1
+    told = SEPARATOR.fullmatch(lines[0]) if lines else None
+    begin = 1 if told else 0
     head = next((it for it in lines[begin:] if it.strip(" \t\r\n,;\"")), "")
-    sign = sign or separator_of(head, COLUMNS[sheet.kind])
+    sign = told[1] if told else separator_of(head, COLUMNS[sheet.kind])
     rows = csv.reader(lines[begin:], delimiter=sign, skipinitialspace=True, strict=True)
     records, line = [], begin + 1
     try:
@@ -194,7 +194,8 @@ def read_sheet(order, path, faults):
     records = records_of(sheet, text_of(data), faults)
     if not records:
         if sheet.whole:
-            faults.add(sheet, 1, f"the sheet is empty; its first row names the columns: {', '.join(COLUMNS[sheet.kind])}")
+            wanted = ", ".join(it for it in COLUMNS[sheet.kind] if it != OPTIONAL)
+            faults.add(sheet, 1, f"the sheet is empty; its first row has to name the columns: {wanted}")
         sheet.whole = False
         return sheet
     columns = columns_of(sheet, *records[0], faults)
@@ -232,8 +233,8 @@ class Row:
         elif len(text) > 32:
             self.fault(f"the {kind} {shown(text)} has {len(text)} signs; a name has at most 32")
         else:
-            bad = sorted({"a blank" if it.isspace() else it for it in text if not NAME.fullmatch(it)})
-            self.fault(f"the {kind} {shown(text)} has {', '.join(bad)}; names have letters a to z, digits and _ . : - alone")
+            bad = ", ".join(sorted({"a blank" if it.isspace() else it for it in text if not NAME.fullmatch(it)}))
+            self.fault(f"the {kind} {shown(text)} has {bad}; names have letters a to z, digits and _ . : - alone")
         return None
 
     def known(self, kind, text, names, whole):
@@ -342,7 +343,7 @@ def read_drives(sheet, stops, whole, faults):
 
 
 def read_groups(sheet, stops, whole, faults):
-    """Returns the vehicle groups: by name the fields of their records, in order, with None for a stay that isn't given."""
+    """Returns the vehicle groups: by name the fields of their records, in order, and None for a stay not given."""
     groups, lines = {}, {}
     cost = "count costs in a smaller unit"
     for line, fields in sheet.rows:
@@ -538,7 +539,7 @@ def tell_changes(sheets, closed, groups, trips, every):
     tell_some(drives, "added", closed.added, closed.told_added, every)
     tell_some(drives, "shortened", closed.shortened, closed.told_shortened, every)
     if closed.rounded:
-        tell(f"{drives}: minutes rounded up, of {closed.rounded} drives")
+        tell(f"{drives}: rounded up the minutes of {closed.rounded} drive{'s' if closed.rounded > 1 else ''}")
     without = [name for name, group in groups.items() if group[5] is None]
     if 0 < len(without) < len(groups):
         tell(f"{group_sheet}: no stay, so {MAX_STAY} minutes are written, for {', '.join(without)}")
