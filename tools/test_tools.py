@@ -309,6 +309,8 @@ class SmallText(Folder):
         self.assertEqual(told, "trips.csv: there are no rows below the headings\n")
 
     def test_trips_that_no_vehicle_can_run(self):
+        told = self.make(groups="Bus,D,0,1000,1,0\nVan,P,1,1,1,1\n", trips=SMALL["trips.csv"])[2]
+        self.assertEqual(told, "trips.csv:2: no vehicle can run trip t1: Bus has no vehicle\n")
         trips = "t1,P,0:09,P,8:30,0,Bus\nt2,P,0:10,P,8:30,0,Bus\nt3,Q,9:00,P,9:30,0,Bus\nt4,P,9:00,Q,9:30,0,Bus\n"
         status, _, told = self.make(stops="D\nP\nQ\n", trips=trips)
         self.assertEqual((status, told.splitlines()), (0, [

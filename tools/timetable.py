@@ -483,7 +483,9 @@ def unreachable(trip, groups, drives):
     for name in permitted:
         depot = groups[name][0]
         out = 0 if depot == begin else drives.get((depot, begin), (None,))[0]
-        if out is None:
+        if groups[name][1] == 0:
+            reasons.append(f"{name} has no vehicle")
+        elif out is None:
             reasons.append(f"{name} has no drive from {depot} to {begin}")
         elif out > start:
             reasons.append(f"{name} would leave {depot} before 0:00")
