@@ -42,7 +42,7 @@ fn tell<R: Print>(rt: &R, alloc: Global, text: &[u8]) -> io::Result<()>
 /// The timetable, with its names and the rows behind it.
 fn timetable_of(alloc: Global, text: &[u8]) -> Result<Input, ReadError>
     requires { length text.now ≤ MAX_BYTES }
-    ensures input { IfOk result IsInput }
+    ensures { IfOk result IsInput }
 {
     match vs_reader::read(alloc, text) {
         Ok(input) => Ok(input),

@@ -1,8 +1,8 @@
 use Rattle.vs_reader.proofs.CallerLemmas.{stands_counts}
 use Rattle.example_judge.proofs.timetable_of.Goals as goal
 
-pub returns-in-Ok-clause-input : goal.returns-in-Ok-clause-input
-returns-in-Ok-clause-input c =
+pub returns-in-Ok : goal.returns-in-Ok
+returns-in-Ok c =
     let input = c.in-Ok.input in
     let e = c.in-Ok.ensures in
     record {
