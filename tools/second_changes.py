@@ -1,0 +1,262 @@
+"""Changes of texts, for tools/test_second_check.py: each yields what was changed and the changed text."""
+
+# Records that are put before each other record: each kind of each part, well formed for the two trips and not.
+STRANGE_RECORDS = ["", '""', ",", "stop,N\u00e9", "stop," + "n" * 32, "stop," + "n" * 33, *"""
+instance,1
+instance,2
+stop,New
+stop,D
+stop,
+stop,New,1
+stop,a b
+Stop,New
+ stop,New
+stop,New\x20
+deadhead,D,P,10,0
+deadhead,D,D,10,0
+deadhead,D,D,0,0
+deadhead,D,X,10,0
+deadhead,D,P,0,0
+deadhead,D,P,1441,1000001
+deadhead,D,P,10
+layer,New,D,1,1,1,1
+layer,New,D,1,1,1,1,60
+layer,New,D,2001,1000000001,1000001,10001,601
+layer,L1,D,1,1,1,1
+layer,New,X,1,1,1,1
+trip,New,P,8:00,P,8:01,0,L1
+trip,t1,P,8:00,P,8:01,0,L1
+trip,New,P,8:00,P,8:00,0,L1
+trip,New,P,8:00,P,8:01,0
+trip,New,P,8:00,P,8:01,0,
+trip,New,P,8:00,P,8:01,0,L1,L1
+trip,New,P,8:00,P,8:01,1000001,L1
+trip,New,P,8:00,P,8:00,1000001,L1
+result,1,open
+result
+result,2,open
+result,1,maybe
+cost,1
+cost,none
+cost,None
+bound,1
+bound,none
+nodes,1
+nodes,none
+block,L1,t1
+block,L1
+block,L1,t1,t1
+block,L1,nobody
+block,nobody,t1
+table,1,cost
+table,2,ray
+table,3,ray
+table,0,cost
+table,-1,cost
+table,1,other
+table,1
+fleet,L1,0
+fleet,L1,-1
+fleet,L1,1000000000000000001
+fleet,L1
+price,L1,t1,0,0
+price,L1,t1,0
+price,L1,t1,0,9999999999999999999
+split,t1,L1
+split,t1,L1,L1
+split,t1
+split,nobody,L1
+leaf,1
+leaf,0
+leaf,-1
+leaf,2
+leaf,1000000000
+leaf,1000000001
+leaf,01
+leaf
+end
+end,
+End
+""".strip("\n").splitlines()]
+
+# What is put into records. The sign \udc80 stands for a byte 128 alone, which is no UTF-8.
+STRANGE_SIGNS = [
+    '"', '""', '"""', '"x"', '"\n"', '","', "\r", "\r\r", "\n", "\r\n",
+    ",", "\0", "\x80", "\udc80", "\u00e9", " ", "'",
+]
+
+# What each field is exchanged for, whatever stands there.
+STRANGE_FIELDS = ["", "1 ", " 1", "9" * 60, "\u0661", *"""
+none nobody optimal infeasible open Open cost ray end a.b a_b a-b a:b a/b
+0 -0 1 -1 00 01 +1 1.0 1e3 0x1
+0:00 8:00 8:0 08:00 008:00 23:59 24:00 47:59 48:00 7:60 8.00 8:00:00 :00 8: -8:00
+600 601 1440 1441 2000 2001 10000 10001 1000000 1000001 1000000000 1000000001
+9999999999 10000000000 0000000001 00000000001
+100000000000000000 100000000000000001
+1000000000000000000 1000000000000000001 -1000000000000000000 -1000000000000000001
+9223372036854775807 9223372036854775808 9999999999999999999 -9999999999999999999
+10000000000000000000 -10000000000000000000 18446744073709551615 18446744073709551616
+100000000000000000000 100000000000000000001 -100000000000000000000 -100000000000000000001
+999999999999999999999 1000000000000000000000 170141183460469231731687303715884105728
+""".split()]
+
+
+def rows_of(text):
+    return text.splitlines()
+
+
+def joined(rows):
+    return "".join(row + "\n" for row in rows)
+
+
+def row_changes(rows):
+    """Yields each record left out, doubled, exchanged with the next and put at the end, and all cut off behind it."""
+    for at, row in enumerate(rows):
+        yield f"without record {at + 1}", joined(rows[:at] + rows[at + 1 :])
+        yield f"record {at + 1} twice", joined(rows[: at + 1] + rows[at:])
+        yield f"record {at + 1} at the end", joined(rows[:at] + rows[at + 1 :] + [row])
+        yield f"the first {at} records", joined(rows[:at])
+        if at + 1 < len(rows):
+            yield f"records {at + 1} and {at + 2} exchanged", joined(rows[:at] + [rows[at + 1], row] + rows[at + 2 :])
+
+
+def strange_records(rows):
+    """Yields other records put before each record and behind the last, and in the place of each."""
+    for at in range(len(rows) + 1):
+        for strange in STRANGE_RECORDS:
+            yield f"{strange!r} before record {at + 1}", joined(rows[:at] + [strange] + rows[at:])
+            yield f"{strange!r} in place of record {at + 1}", joined(rows[:at] + [strange] + rows[at + 1 :])
+
+
+def field_changes(rows):
+    """Yields each field dropped, doubled, exchanged with the next, and if it is a number changed by one or in sign."""
+    for at, row in enumerate(rows):
+        fields = row.split(",")
+        for place, value in enumerate(fields):
+            for changed in changed_fields(fields, place):
+                yield f"{','.join(changed)!r} for record {at + 1}", with_row(rows, at, changed)
+            for value in nearby(value):
+                changed = fields[:place] + [value] + fields[place + 1 :]
+                yield f"{','.join(changed)!r} for record {at + 1}", with_row(rows, at, changed)
+
+
+def changed_fields(fields, place):
+    """Returns the fields with the one at a place dropped, doubled, moved and exchanged with the next."""
+    before, value, behind = fields[:place], fields[place], fields[place + 1 :]
+    lists = [before + behind, before + [value, value] + behind, before + behind + [value]]
+    if behind:
+        lists.append(before + [behind[0], value] + behind[1:])
+    return lists
+
+
+def nearby(value):
+    """Returns what a number is changed to: one more, one less, of the other sign, with a sign or a zero before it."""
+    if ":" in value and value.replace(":", "").isdigit():
+        hour, minute = value.split(":")
+        minutes = [f"{hour}:{(int(minute) + by) % 60:02}" for by in (1, 59)]
+        return minutes + [f"{int(hour) + by}:{minute}" for by in (1, -1)]
+    if not value.lstrip("-").isdigit():
+        return []
+    number = int(value)
+    numbers = [number + 1, number - 1, number + 1000, number - 1000, -number, 2 * number]
+    return [str(number) for number in numbers] + ["0" + value, "-" + value]
+
+
+def strange_fields(rows):
+    """Yields each field exchanged for others that may or may not stand there."""
+    for at, row in enumerate(rows):
+        fields = row.split(",")
+        for place in range(len(fields)):
+            for strange in STRANGE_FIELDS:
+                yield f"{strange!r} for field {place + 1} of record {at + 1}", with_row(
+                    rows, at, fields[:place] + [strange] + fields[place + 1 :]
+                )
+
+
+def name_changes(rows):
+    """Yields each name exchanged for each other one of the text."""
+    names = []
+    for row in rows:
+        fields = row.split(",")
+        if fields[0] in ("stop", "layer", "trip") and fields[1] not in names:
+            names.append(fields[1])
+    for at, row in enumerate(rows):
+        fields = row.split(",")
+        for place, value in enumerate(fields):
+            for name in names if value in names else []:
+                if name != value:
+                    changed = fields[:place] + [name] + fields[place + 1 :]
+                    yield f"{','.join(changed)!r} for record {at + 1}", with_row(rows, at, changed)
+
+
+def with_row(rows, at, fields):
+    return joined(rows[:at] + [",".join(fields)] + rows[at + 1 :])
+
+
+def text_changes(rows):
+    """Yields the whole text written otherwise: line ends, quotes, empty lines, a byte order mark."""
+    text = joined(rows)
+    quoted = [",".join(f'"{value}"' for value in row.split(",")) for row in rows]
+    yield "as it is", text
+    yield "no line end at the end", text[:-1]
+    yield "carriage returns", text.replace("\n", "\r\n")
+    yield "carriage returns, none at the end", text.replace("\n", "\r\n")[:-1]
+    yield "carriage returns alone", text.replace("\n", "\r")
+    yield "two carriage returns", text.replace("\n", "\r\r\n")
+    yield "empty lines", text.replace("\n", "\n\n")
+    yield "empty lines with carriage returns", "\r\n" + text.replace("\n", "\r\n\r\n")
+    yield "an empty line at the front", "\n" + text
+    yield "a byte order mark", "\ufeff" + text
+    yield "two byte order marks", "\ufeff\ufeff" + text
+    yield "a byte order mark behind an empty line", "\n\ufeff" + text
+    yield "a byte order mark alone", "\ufeff"
+    yield "all quoted", joined(quoted)
+    yield "all quoted, carriage returns", joined(quoted).replace("\n", "\r\n")
+    yield "all quoted, no line end at the end", joined(quoted)[:-1]
+    yield "all quoted, no quote at the end", joined(quoted)[:-2]
+    yield "a byte order mark and quotes", "\ufeff" + joined(quoted)
+    yield "a zero byte at the end", text + "\0"
+    yield "a blank at the end", text + " "
+    yield "a blank line at the end", text + " \n"
+    yield "a comma at the end", text + ","
+    yield "a carriage return at the end", text + "\r"
+    yield "a quote at the end", text + '"'
+    yield "two quotes at the end", text + '""'
+    yield "three quotes at the end", text + '"""'
+    yield "blanks at the ends of lines", text.replace("\n", " \n")
+    yield "commas at the ends of lines", text.replace("\n", ",\n")
+    yield "nothing", ""
+    yield "a line end alone", "\n"
+    yield "a carriage return alone", "\r"
+    yield "twice", text + text
+
+
+def sign_changes(rows):
+    """Yields signs of texts put into the fields: quotes, line ends, commas, other bytes."""
+    for at, row in enumerate(rows):
+        for cut in sorted({0, 1, len(row) // 2, len(row) - 1, len(row)}):
+            for sign in STRANGE_SIGNS:
+                changed = row[:cut] + sign + row[cut:]
+                yield f"{changed!r} for record {at + 1}", joined(rows[:at] + [changed] + rows[at + 1 :])
+        for value in quotings(row):
+            yield f"{value!r} for record {at + 1}", joined(rows[:at] + [value] + rows[at + 1 :])
+
+
+def quotings(row):
+    """Returns a record with one of its fields quoted well or badly."""
+    found = []
+    fields = row.split(",")
+    for place in {0, len(fields) // 2, len(fields) - 1}:
+        value = fields[place]
+        ways = ['"{}"', '"{}" ', ' "{}"', '"{}', '{}"', '"{}"x', '"{}""', '"{}"""', '"{}"x"']
+        found.extend(",".join(fields[:place] + [way.format(value)] + fields[place + 1 :]) for way in ways)
+    return found
+
+
+WAYS = [row_changes, strange_records, field_changes, strange_fields, name_changes, text_changes, sign_changes]
+
+
+def spread(changes, most):
+    """Returns the changes, or where they are more than so many, about as many, spread over them by a fixed rule."""
+    changes = list(changes)
+    return [change for at, change in enumerate(changes) if at * 2654435761 % 2**32 * len(changes) < most * 2**32]
