@@ -3,7 +3,8 @@
 
     tools/test_second_check.py [PROGRAM] [--kinds]
 
-PROGRAM is the built program; without it bin/mdvsp is taken, else crates/mdvsp_main/out/mdvsp_main. Both checkers judge
+PROGRAM is the built program; without it bin/mdvsp or crates/mdvsp_main/out/mdvsp_main is taken, the newer where both are
+there. Both checkers judge
 
 - the examples that the pages print, of which the row is known,
 - the timetables of examples/ and some small ones, with documents that stand beside them or that `solve` writes,
@@ -142,10 +143,11 @@ def compare_drawn(comparison):
 
 def find_program(words):
     """Returns the path of the built program, or ends."""
-    for place in words or [os.path.join(second_texts.TOP, place) for place in PLACES]:
-        if os.path.isfile(place) and os.access(place, os.X_OK):
-            return place
-    sys.exit(f"second_check: the program isn't built: there is no {' and no '.join(words or PLACES)}")
+    places = words or [os.path.join(second_texts.TOP, place) for place in PLACES]
+    built = [place for place in places if os.path.isfile(place) and os.access(place, os.X_OK)]
+    if not built:
+        sys.exit(f"second_check: the program isn't built: there is no {' and no '.join(words or PLACES)}")
+    return max(built, key=os.path.getmtime)
 
 
 def main():
