@@ -52,7 +52,7 @@ QUOTED = re.compile(r'"([^"]*(?:""[^"]*)*)"?')
 
 
 def records(text):
-    """Yields the records of a text, each a list of fields. Any text has some or none; empty lines are none."""
+    """Yields the records of a text, each a list of fields. Empty lines are none, and no text is refused here."""
     at = LINE_ENDS.match(text).end()
     while at < len(text):
         fields, at = record_from(text, at)

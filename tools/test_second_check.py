@@ -3,8 +3,8 @@
 
     tools/test_second_check.py [PROGRAM] [--kinds]
 
-PROGRAM is the built program; without it bin/mdvsp or crates/mdvsp_main/out/mdvsp_main is taken, the newer where both are
-there. Both checkers judge
+PROGRAM is the built program; without it bin/mdvsp or crates/mdvsp_main/out/mdvsp_main is taken, where both are there
+the newer. Both checkers judge
 
 - the examples that the pages print, of which the row is known,
 - the timetables of examples/ and some small ones, with documents that stand beside them or that `solve` writes,
@@ -133,7 +133,8 @@ def compare_drawn(comparison):
         words = ["solve", "--workers", "1", "--nodes", str(number % 4)]
         document = comparison.run(f"drawn {number}", *words, text=timetable)
         comparison.compare(f"drawn {number}, solved:\n{timetable}{document}", timetable + document)
-        for change, changed in second_changes.spread(second_changes.field_changes(document.splitlines()), DOCUMENTS // 2):
+        changes = second_changes.field_changes(document.splitlines())
+        for change, changed in second_changes.spread(changes, DOCUMENTS // 2):
             comparison.compare(f"drawn {number}, solved, {change}:\n{timetable}{changed}", timetable + changed)
         instance = second_texts.instance_of(timetable)
         for _ in range(DOCUMENTS):
