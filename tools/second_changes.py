@@ -101,8 +101,19 @@ none nobody optimal infeasible open Open cost ray end a.b a_b a-b a:b a/b
 """.split()]
 
 
-def rows_of(text):
-    return text.splitlines()
+# The limits of the numbers and times of each record, by its kind and the place of the field, and what is one past.
+TIMES = ["0:00", "47:59", "48:00"]
+TABLE_NUMBERS = [-1, 0, 10**9, 10**9 + 1]
+PRICES = [sign * size for size in (10**18, 10**18 + 1, 10**19 - 1, 10**19) for sign in (1, -1)]
+LIMITS = {
+    ("deadhead", 3): [0, 1, 1440, 1441], ("deadhead", 4): [0, 10**6, 10**6 + 1],
+    ("layer", 3): [0, 2000, 2001], ("layer", 4): [0, 10**9, 10**9 + 1], ("layer", 5): [0, 10**6, 10**6 + 1],
+    ("layer", 6): [0, 10**4, 10**4 + 1], ("layer", 7): [0, 1, 600, 601],
+    ("trip", 3): TIMES, ("trip", 5): TIMES, ("trip", 6): [0, 10**6, 10**6 + 1],
+    ("cost", 1): [-1, 0, 10**17, 10**17 + 1], ("bound", 1): [10**20, 10**20 + 1, -(10**20), -(10**20) - 1],
+    ("nodes", 1): [-1, 0, 10**18, 10**18 + 1], ("table", 1): TABLE_NUMBERS, ("leaf", 1): TABLE_NUMBERS,
+    ("fleet", 2): PRICES, ("price", 3): PRICES, ("price", 4): PRICES,
+}
 
 
 def joined(rows):
@@ -160,6 +171,16 @@ def nearby(value):
     number = int(value)
     numbers = [number + 1, number - 1, number + 1000, number - 1000, -number, 2 * number]
     return [str(number) for number in numbers] + ["0" + value, "-" + value]
+
+
+def limit_changes(rows):
+    """Yields each number and time at its limits and one past."""
+    for at, row in enumerate(rows):
+        fields = row.split(",")
+        for place in range(1, len(fields)):
+            for value in LIMITS.get((fields[0], place), []):
+                changed = fields[:place] + [str(value)] + fields[place + 1 :]
+                yield f"{','.join(changed)!r} for record {at + 1}", with_row(rows, at, changed)
 
 
 def strange_fields(rows):
@@ -253,7 +274,9 @@ def quotings(row):
     return found
 
 
-WAYS = [row_changes, strange_records, field_changes, strange_fields, name_changes, text_changes, sign_changes]
+WAYS = [
+    row_changes, strange_records, field_changes, limit_changes, strange_fields, name_changes, text_changes, sign_changes,
+]
 
 
 def spread(changes, most):

@@ -31,7 +31,7 @@ import second_texts
 PLACES = ["bin/mdvsp", "crates/mdvsp_main/out/mdvsp_main"]
 SECOND = os.path.join(second_texts.TOP, "tools", "second_check.py")
 # How many changes of each way are made of a small text, about, how many timetables are drawn, and documents for each.
-CHANGES, TIMETABLES, DOCUMENTS = 120, 60, 10
+CHANGES, TIMETABLES, DOCUMENTS = 80, 60, 10
 # Differences beyond so many are counted and not told.
 MOST_TOLD = 20
 
