@@ -275,7 +275,8 @@ def quotings(row):
 
 
 WAYS = [
-    row_changes, strange_records, field_changes, limit_changes, strange_fields, name_changes, text_changes, sign_changes,
+    row_changes, strange_records, field_changes, limit_changes,
+    strange_fields, name_changes, text_changes, sign_changes,
 ]
 
 
