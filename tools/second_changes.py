@@ -1,4 +1,9 @@
-"""Changes of texts, for tools/test_second_check.py: each yields what was changed and the changed text."""
+"""Changes of texts, for tools/test_second_check.py.
+
+A way to change a text yields all its changes of this way, from its records, each with a name that says what it is.
+"""
+
+from dataclasses import dataclass
 
 # Records that are put before each other record: each kind of each part, well formed for the two trips and not.
 STRANGE_RECORDS = ["", '""', ",", "stop,N\u00e9", "stop," + "n" * 32, "stop," + "n" * 33, *"""
@@ -85,6 +90,9 @@ STRANGE_SIGNS = [
     ",", "\0", "\x80", "\udc80", "\u00e9", " ", "'",
 ]
 
+# How a field is quoted, well or badly.
+QUOTINGS = ['"{}"', '"{}" ', ' "{}"', '"{}', '{}"', '"{}"x', '"{}""', '"{}"""', '"{}"x"']
+
 # What each field is exchanged for, whatever stands there.
 STRANGE_FIELDS = ["", "1 ", " 1", "9" * 60, "\u0661", *"""
 none nobody optimal infeasible open Open cost ray end a.b a_b a-b a:b a/b
@@ -116,43 +124,64 @@ LIMITS = {
 }
 
 
-def joined(rows):
-    return "".join(row + "\n" for row in rows)
+@dataclass(frozen=True)
+class Change:
+    """Some records of a text, from one on to before another, exchanged for others."""
+
+    name: str
+    begin: int
+    end: int
+    records: list
+
+    def text(self, records):
+        """Returns the changed text."""
+        return joined(records[: self.begin] + self.records + records[self.end :])
 
 
-def row_changes(rows):
-    """Yields each record left out, doubled, exchanged with the next and put at the end, and all cut off behind it."""
-    for at, row in enumerate(rows):
-        yield f"without record {at + 1}", joined(rows[:at] + rows[at + 1 :])
-        yield f"record {at + 1} twice", joined(rows[: at + 1] + rows[at:])
-        yield f"record {at + 1} at the end", joined(rows[:at] + rows[at + 1 :] + [row])
-        yield f"the first {at} records", joined(rows[:at])
-        if at + 1 < len(rows):
-            yield f"records {at + 1} and {at + 2} exchanged", joined(rows[:at] + [rows[at + 1], row] + rows[at + 2 :])
+def joined(records):
+    """Returns the text of records."""
+    return "".join(record + "\n" for record in records)
 
 
-def strange_records(rows):
-    """Yields other records put before each record and behind the last, and in the place of each."""
-    for at in range(len(rows) + 1):
+def in_place(at, record):
+    """Returns the change that puts a record in the place of another."""
+    return Change(f"{record!r} for record {at + 1}", at, at + 1, [record])
+
+
+def with_field(at, fields, place, value):
+    """Returns the change that puts a value in the place of a field."""
+    return in_place(at, ",".join(fields[:place] + [str(value)] + fields[place + 1 :]))
+
+
+def row_changes(records):
+    """Yields each record left out, doubled, exchanged with the next and put at the end, and all cut off before it."""
+    for at, record in enumerate(records):
+        yield Change(f"without record {at + 1}", at, at + 1, [])
+        yield Change(f"record {at + 1} twice", at, at, [record])
+        yield Change(f"record {at + 1} at the end", at, len(records), records[at + 1 :] + [record])
+        yield Change(f"the first {at} records", at, len(records), [])
+        yield Change(f"record {at + 1} behind the next", at, at + 2, records[at + 1 : at + 2] + [record])
+
+
+def strange_records(records):
+    """Yields other records put before each record, in the place of each, and behind the last."""
+    for at in range(len(records) + 1):
         for strange in STRANGE_RECORDS:
-            yield f"{strange!r} before record {at + 1}", joined(rows[:at] + [strange] + rows[at:])
-            yield f"{strange!r} in place of record {at + 1}", joined(rows[:at] + [strange] + rows[at + 1 :])
+            yield Change(f"{strange!r} before record {at + 1}", at, at, [strange])
+            yield in_place(at, strange)
 
 
-def field_changes(rows):
-    """Yields each field dropped, doubled, exchanged with the next, and if it is a number changed by one or in sign."""
-    for at, row in enumerate(rows):
-        fields = row.split(",")
+def field_changes(records):
+    """Yields each field dropped, doubled, moved, and if it is a number changed by one or in sign."""
+    for at, record in enumerate(records):
+        fields = record.split(",")
         for place, value in enumerate(fields):
-            for changed in changed_fields(fields, place):
-                yield f"{','.join(changed)!r} for record {at + 1}", with_row(rows, at, changed)
-            for value in nearby(value):
-                changed = fields[:place] + [value] + fields[place + 1 :]
-                yield f"{','.join(changed)!r} for record {at + 1}", with_row(rows, at, changed)
+            yield from (in_place(at, ",".join(changed)) for changed in moved(fields, place))
+            yield from (with_field(at, fields, place, near) for near in nearby(value))
 
 
-def changed_fields(fields, place):
-    """Returns the fields with the one at a place dropped, doubled, moved and exchanged with the next."""
+def moved(fields, place):
+    """Returns the fields with the one at a place dropped, doubled, put at the end and exchanged with the next."""
     before, value, behind = fields[:place], fields[place], fields[place + 1 :]
     lists = [before + behind, before + [value, value] + behind, before + behind + [value]]
     if behind:
@@ -161,7 +190,7 @@ def changed_fields(fields, place):
 
 
 def nearby(value):
-    """Returns what a number is changed to: one more, one less, of the other sign, with a sign or a zero before it."""
+    """Returns what a number or a time is changed to: some more, some less, the other sign, a sign before it."""
     if ":" in value and value.replace(":", "").isdigit():
         hour, minute = value.split(":")
         minutes = [f"{hour}:{(int(minute) + by) % 60:02}" for by in (1, 59)]
@@ -169,56 +198,51 @@ def nearby(value):
     if not value.lstrip("-").isdigit():
         return []
     number = int(value)
-    numbers = [number + 1, number - 1, number + 1000, number - 1000, -number, 2 * number]
-    return [str(number) for number in numbers] + ["0" + value, "-" + value]
+    return [number + 1, number - 1, number + 1000, number - 1000, -number, 2 * number, f"0{value}", f"-{value}"]
 
 
-def limit_changes(rows):
+def limit_changes(records):
     """Yields each number and time at its limits and one past."""
-    for at, row in enumerate(rows):
-        fields = row.split(",")
+    for at, record in enumerate(records):
+        fields = record.split(",")
         for place in range(1, len(fields)):
-            for value in LIMITS.get((fields[0], place), []):
-                changed = fields[:place] + [str(value)] + fields[place + 1 :]
-                yield f"{','.join(changed)!r} for record {at + 1}", with_row(rows, at, changed)
+            limits = LIMITS.get((fields[0], place), [])
+            yield from (with_field(at, fields, place, value) for value in limits)
 
 
-def strange_fields(rows):
+def strange_fields(records):
     """Yields each field exchanged for others that may or may not stand there."""
-    for at, row in enumerate(rows):
-        fields = row.split(",")
+    for at, record in enumerate(records):
+        fields = record.split(",")
         for place in range(len(fields)):
-            for strange in STRANGE_FIELDS:
-                yield f"{strange!r} for field {place + 1} of record {at + 1}", with_row(
-                    rows, at, fields[:place] + [strange] + fields[place + 1 :]
-                )
+            yield from (with_field(at, fields, place, strange) for strange in STRANGE_FIELDS)
 
 
-def name_changes(rows):
+def name_changes(records):
     """Yields each name exchanged for each other one of the text."""
-    names = []
-    for row in rows:
-        fields = row.split(",")
-        if fields[0] in ("stop", "layer", "trip") and fields[1] not in names:
-            names.append(fields[1])
-    for at, row in enumerate(rows):
-        fields = row.split(",")
-        for place, value in enumerate(fields):
-            for name in names if value in names else []:
-                if name != value:
-                    changed = fields[:place] + [name] + fields[place + 1 :]
-                    yield f"{','.join(changed)!r} for record {at + 1}", with_row(rows, at, changed)
+    declared = [record.split(",")[1] for record in records if record.startswith(("stop,", "layer,", "trip,"))]
+    names = list(dict.fromkeys(declared))
+    for at, record in enumerate(records):
+        fields = record.split(",")
+        for place in (place for place, value in enumerate(fields) if value in names):
+            others = (name for name in names if name != fields[place])
+            yield from (with_field(at, fields, place, name) for name in others)
 
 
-def with_row(rows, at, fields):
-    return joined(rows[:at] + [",".join(fields)] + rows[at + 1 :])
+def sign_changes(records):
+    """Yields signs put into each record, and one of its fields quoted well or badly."""
+    for at, record in enumerate(records):
+        for cut in sorted({0, 1, len(record) // 2, len(record) - 1, len(record)}):
+            yield from (in_place(at, record[:cut] + sign + record[cut:]) for sign in STRANGE_SIGNS)
+        fields = record.split(",")
+        for place in sorted({0, len(fields) // 2, len(fields) - 1}):
+            yield from (with_field(at, fields, place, way.format(fields[place])) for way in QUOTINGS)
 
 
-def text_changes(rows):
-    """Yields the whole text written otherwise: line ends, quotes, empty lines, a byte order mark."""
-    text = joined(rows)
-    quoted = [",".join(f'"{value}"' for value in row.split(",")) for row in rows]
-    yield "as it is", text
+def text_changes(records):
+    """Yields the whole text written otherwise: its name, and the text."""
+    text = joined(records)
+    quoted = joined(",".join(f'"{value}"' for value in record.split(",")) for record in records)
     yield "no line end at the end", text[:-1]
     yield "carriage returns", text.replace("\n", "\r\n")
     yield "carriage returns, none at the end", text.replace("\n", "\r\n")[:-1]
@@ -231,11 +255,11 @@ def text_changes(rows):
     yield "two byte order marks", "\ufeff\ufeff" + text
     yield "a byte order mark behind an empty line", "\n\ufeff" + text
     yield "a byte order mark alone", "\ufeff"
-    yield "all quoted", joined(quoted)
-    yield "all quoted, carriage returns", joined(quoted).replace("\n", "\r\n")
-    yield "all quoted, no line end at the end", joined(quoted)[:-1]
-    yield "all quoted, no quote at the end", joined(quoted)[:-2]
-    yield "a byte order mark and quotes", "\ufeff" + joined(quoted)
+    yield "all quoted", quoted
+    yield "all quoted, carriage returns", quoted.replace("\n", "\r\n")
+    yield "all quoted, no line end at the end", quoted[:-1]
+    yield "all quoted, no quote at the end", quoted[:-2]
+    yield "a byte order mark and quotes", "\ufeff" + quoted
     yield "a zero byte at the end", text + "\0"
     yield "a blank at the end", text + " "
     yield "a blank line at the end", text + " \n"
@@ -252,32 +276,7 @@ def text_changes(rows):
     yield "twice", text + text
 
 
-def sign_changes(rows):
-    """Yields signs of texts put into the fields: quotes, line ends, commas, other bytes."""
-    for at, row in enumerate(rows):
-        for cut in sorted({0, 1, len(row) // 2, len(row) - 1, len(row)}):
-            for sign in STRANGE_SIGNS:
-                changed = row[:cut] + sign + row[cut:]
-                yield f"{changed!r} for record {at + 1}", joined(rows[:at] + [changed] + rows[at + 1 :])
-        for value in quotings(row):
-            yield f"{value!r} for record {at + 1}", joined(rows[:at] + [value] + rows[at + 1 :])
-
-
-def quotings(row):
-    """Returns a record with one of its fields quoted well or badly."""
-    found = []
-    fields = row.split(",")
-    for place in {0, len(fields) // 2, len(fields) - 1}:
-        value = fields[place]
-        ways = ['"{}"', '"{}" ', ' "{}"', '"{}', '{}"', '"{}"x', '"{}""', '"{}"""', '"{}"x"']
-        found.extend(",".join(fields[:place] + [way.format(value)] + fields[place + 1 :]) for way in ways)
-    return found
-
-
-WAYS = [
-    row_changes, strange_records, field_changes, limit_changes,
-    strange_fields, name_changes, text_changes, sign_changes,
-]
+WAYS = [row_changes, strange_records, field_changes, limit_changes, strange_fields, name_changes, sign_changes]
 
 
 def spread(changes, most):

@@ -19,7 +19,7 @@ def page(name):
 
 # A command on a page, and what the page says that it prints.
 CONSOLE = re.compile(r"^```console\n(.*?)^```", re.MULTILINE | re.DOTALL)
-JUDGED = re.compile(r"^\$ (.*) \| bin/mdvsp check\n([^$]*)", re.MULTILINE)
+JUDGED = re.compile(r"^\$ (.*) \| bin/mdvsp check\n(.*)$", re.MULTILINE)
 
 
 def printed():
@@ -32,10 +32,16 @@ def printed():
 
 
 def commands(text):
-    """Yields the commands of a page whose output `check` judges, with the row that it shows."""
+    """Yields the commands of a page whose output `check` judges, with the row that it shows.
+
+    Those that read other files than examples/ has, or run the program themselves, are left out: they go on from the
+    commands before them.
+    """
     for block in CONSOLE.findall(text):
         for command, row in JUDGED.findall(block):
-            yield command, row.strip()
+            files = re.findall(r"\S+\.csv", command)
+            if all(file.startswith("examples/") for file in files) and "mdvsp" not in command:
+                yield command, row.strip()
 
 
 def shipped():
@@ -198,9 +204,10 @@ def limits():
         yield f"{layers} layers", rows + head + prices + tail
         yield f"{layers} layers, one twice", rows.replace(f"l{layers - 1}", "l0") + head + prices + tail
     for trips in (2000, 2001):
-        rows = "instance,1\nstop,D\nlayer,L,D,1,0,0,0\n"
-        rows += "".join(f"trip,t{no},D,{clock(no)},D,{clock(no + 1)},0,L\n" for no in range(trips))
-        prices = "fleet,L,0\n" + "".join(f"price,L,t{no},0,0\n" for no in range(trips))
+        rows = "instance,1\nstop,D\n" + "".join(f"layer,l{no},D,1,1,1,1\n" for no in range(16))
+        rows += "".join(f"trip,t{no},D,{clock(no)},D,{clock(no + 1)},0,l{no % 16}\n" for no in range(trips))
+        whose = [[f"price,l{layer},t{no},0,0\n" for no in range(layer, trips, 16)] for layer in range(16)]
+        prices = "".join(f"fleet,l{layer},0\n" + "".join(prices) for layer, prices in enumerate(whose))
         yield f"{trips} trips", rows + head + prices + tail
 
 

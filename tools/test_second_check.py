@@ -119,10 +119,12 @@ def texts(comparison):
 def compare_changed(comparison, name, text, most):
     """Judges a text as it is and changed in so many ways of each kind."""
     comparison.compare_run(name, text)
-    rows = text.splitlines()
-    for changes in second_changes.WAYS:
-        for change, changed in second_changes.spread(changes(rows), most):
-            comparison.compare(f"{name}: {change}", changed)
+    records = text.splitlines()
+    for way in second_changes.WAYS:
+        for change in second_changes.spread(way(records), most):
+            comparison.compare(f"{name}: {change.name}", change.text(records))
+    for change, changed in second_changes.text_changes(records):
+        comparison.compare(f"{name}: {change}", changed)
 
 
 def compare_drawn(comparison):
@@ -133,9 +135,10 @@ def compare_drawn(comparison):
         words = ["solve", "--workers", "1", "--nodes", str(number % 4)]
         document = comparison.run(f"drawn {number}", *words, text=timetable)
         comparison.compare(f"drawn {number}, solved:\n{timetable}{document}", timetable + document)
-        changes = second_changes.field_changes(document.splitlines())
-        for change, changed in second_changes.spread(changes, DOCUMENTS // 2):
-            comparison.compare(f"drawn {number}, solved, {change}:\n{timetable}{changed}", timetable + changed)
+        records = document.splitlines()
+        for change in second_changes.spread(second_changes.field_changes(records), DOCUMENTS // 2):
+            text = timetable + change.text(records)
+            comparison.compare(f"drawn {number}, solved, {change.name}:\n{text}", text)
         instance = second_texts.instance_of(timetable)
         for _ in range(DOCUMENTS):
             document = second_texts.drawn_document(draws, instance)
