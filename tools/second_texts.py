@@ -24,8 +24,8 @@ JUDGED = re.compile(r"^\$ (.*) \| bin/mdvsp check\n(.*)$", re.MULTILINE)
 
 def printed():
     """Yields what README and the pages of docs/ show of `check`: the page, the text that is judged, and the row."""
-    pages = ["README.md", *sorted(f"docs/{name}" for name in os.listdir(os.path.join(TOP, "docs")))]
-    for name in pages:
+    names = sorted(os.listdir(os.path.join(TOP, "docs")))
+    for name in ["README.md", *(f"docs/{name}" for name in names if name.endswith(".md"))]:
         for command, row in commands(page(name)):
             made = subprocess.run(["bash", "-c", command], cwd=TOP, capture_output=True, check=True)
             yield f"{name}: {command}", made.stdout.decode(), row
