@@ -175,12 +175,12 @@ end
 
 # What is known of some texts, as a page says in its words or as counted by hand: a name, the text, and its row.
 KNOWN = [
-    ("README, two trips", TWO_TRIPS + TWO_TRIPS_PLAN, "yes,optimal,1080,1080"),
+    ("two trips", TWO_TRIPS + TWO_TRIPS_PLAN, "yes,optimal,1080,1080"),
     (
-        "README, a price changed", TWO_TRIPS + TWO_TRIPS_PLAN.replace("t1,1010000,0", "t1,1010000,-1"),
+        "two trips, a price changed", TWO_TRIPS + TWO_TRIPS_PLAN.replace("t1,1010000,0", "t1,1010000,-1"),
         "no,3,TableBroken,1,link,L1,t1,t2",
     ),
-    ("docs/formats.md, three trips at once", THREE_AT_ONCE + THREE_AT_ONCE_RAY, "yes,infeasible,none,none"),
+    ("three trips at once", THREE_AT_ONCE + THREE_AT_ONCE_RAY, "yes,infeasible,none,none"),
     ("splits", SPLITS + SPLITS_PLAN, "yes,open,330,70"),
 ]
 
