@@ -117,6 +117,30 @@ trip,e,D,7:00,D,7:01,1,A
 trip,f,D,8:01,P,8:20,1,A,B
 """
 
+# From a to b there are 80 minutes: two ways of 10 and the stay. So the vehicle is out for 140 minutes, and rests 60.
+JUST_A_REST = """instance,2
+stop,D
+stop,P
+deadhead,D,P,10,0
+deadhead,P,D,10,0
+layer,L,D,1,0,1,0,60
+trip,a,P,8:00,P,8:30,0,L
+trip,b,P,9:50,P,10:00,0,L
+"""
+
+JUST_A_REST_PLAN = """result,1,optimal
+cost,80
+bound,80
+nodes,1
+block,L,a,b
+table,1,cost
+fleet,L,0
+price,L,a,10000,-10000
+price,L,b,10000,-10000
+leaf,1
+end
+"""
+
 # Three trips in three layers, with prices of 0 for all trips: they hold, and show what the trips themselves cost.
 SPLITS = """instance,1
 stop,D
@@ -182,6 +206,12 @@ KNOWN = [
     ),
     ("three trips at once", THREE_AT_ONCE + THREE_AT_ONCE_RAY, "yes,infeasible,none,none"),
     ("splits", SPLITS + SPLITS_PLAN, "yes,open,330,70"),
+    ("just a rest", JUST_A_REST + JUST_A_REST_PLAN, "yes,optimal,80,80"),
+    ("a stay too long", JUST_A_REST.replace(",60\n", ",61\n") + JUST_A_REST_PLAN, "no,2,CostDiffers,80,140"),
+    (
+        "a way by the depot too dear", JUST_A_REST + JUST_A_REST_PLAN.replace("a,10000,-10000", "a,10000,-10001"),
+        "no,3,TableBroken,1,link,L,a,b",
+    ),
 ]
 
 

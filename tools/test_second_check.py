@@ -6,7 +6,7 @@
 PROGRAM is the built program; without it bin/mdvsp or crates/mdvsp_main/out/mdvsp_main is taken, where both are there
 the newer. Both checkers judge
 
-- the examples that the pages print, of which the row is known,
+- the examples that the pages print and texts with several faults, of which the row is known from the pages,
 - the timetables of examples/ and some small ones, with documents that stand beside them or that `solve` writes,
 - each of these changed in small ways: a record left out, doubled, moved, exchanged with the next, another one before
   it or in its place; each number one more, one less, of the other sign, at its limits and one past; each field another
@@ -26,6 +26,7 @@ from collections import Counter
 
 import second_check
 import second_changes
+import second_orders
 import second_texts
 
 PLACES = ["bin/mdvsp", "crates/mdvsp_main/out/mdvsp_main"]
@@ -58,22 +59,21 @@ class Comparison:
         return run.stdout.decode("latin-1"), run.returncode
 
     def compare(self, name, text):
-        """Judges a text by the program, and here."""
+        """Judges a text by the program and here, and returns what is answered here."""
         data = text.encode("utf-8", "surrogateescape")
         row, status = second_check.check(second_check.text_of(data))
         here = ",".join(str(value) for value in row) + "\n", status
         self.note(name, self.judge([self.program, "check"], data), here)
+        return here[0]
 
     def compare_run(self, name, text):
-        """Judges a text by the program and by the second checker as it is called, and returns what that answers."""
+        """Judges a text by the program and by the second checker as it is called."""
         data = text.encode()
-        answer = self.judge([sys.executable, SECOND], data)
-        self.note(name, self.judge([self.program, "check"], data), answer)
-        return answer[0]
+        self.note(name, self.judge([self.program, "check"], data), self.judge([sys.executable, SECOND], data))
 
     def compare_known(self, name, text, row):
         """Judges a text of which the row is known."""
-        found = self.compare_run(name, text)
+        found = self.compare(name, text)
         if found != row + "\n":
             self.tell(f"{name}: {found!r} is answered, and {row!r} is known")
 
@@ -103,6 +103,7 @@ def kind_of(row):
 def texts(comparison):
     """Yields the texts that are changed: a name, a timetable with a document, and how many changes of each way."""
     yield "splits", second_texts.SPLITS + second_texts.SPLITS_PLAN, 2 * CHANGES
+    yield "just a rest", second_texts.JUST_A_REST + second_texts.JUST_A_REST_PLAN, CHANGES // 2
     for name, text in second_texts.shipped():
         yield name, text, 2 * CHANGES if name == "two_trips_plan.csv" else CHANGES // 3
     no_vehicle = second_texts.TWO_TRIPS.replace("layer,L1,D,2,", "layer,L1,D,0,")
@@ -157,7 +158,7 @@ def find_program(words):
 def main():
     begin = time.monotonic()
     comparison = Comparison(find_program([word for word in sys.argv[1:] if word != "--kinds"]))
-    for name, text, row in [*second_texts.KNOWN, *second_texts.printed()]:
+    for name, text, row in [*second_texts.KNOWN, *second_orders.orders(), *second_texts.printed()]:
         comparison.compare_known(name, text, row)
     for name, text in second_texts.limits():
         comparison.compare(name, text)
