@@ -6,7 +6,7 @@ or with the answer that it gives with ample memory.
 
 PROGRAM is bin/mdvsp, or what the gate built, where it isn't given. A small C library (tests/refuse_nth.c, built by gcc)
 is preloaded, which refuses the call of a number. Each number is tried twice: that call alone is refused, and it and all
-later ones are. First the calls of a run with ample memory are counted. Up to 800 calls all are tried; of more the first
+later ones are. First the calls of a run with ample memory are counted. Up to 1,000 calls all are tried; of more the first
 400, the last 100, and 300 evenly between. A number past the last call has to meet no refusal.
 
 A run of one worker has to print the same bytes where it ends well. Of two workers the documents may differ: the claim,
@@ -124,8 +124,8 @@ def told(document):
 
 
 def numbers(calls):
-    """The calls to refuse: all of up to 800, else the first 400, the last 100 and 300 evenly between."""
-    if calls <= 800:
+    """The calls to refuse: all of up to 1,000, else the first 400, the last 100 and 300 evenly between."""
+    if calls <= 1000:
         return list(range(1, calls + 1))
     between = [400 + k * (calls - 500) // 300 for k in range(1, 301)]
     return [*range(1, 401), *between, *range(calls - 99, calls + 1)]

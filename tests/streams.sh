@@ -145,15 +145,16 @@ within() {
   (ulimit -v "$much" && exec "$program" "$@" < "$file" > "$work/out") 2> "$work/err"
 }
 
-# The least address space, in KB, in which the program begins at all, to 16 KB: where it doesn't, its loader tells so, or the
-# system kills it, and it isn't the program that ends.
+# The least address space, in KB, in which the program begins at all. Below, its loader tells that it can't, or the system kills it,
+# and it isn't the program that ends.
 least=1024
-for step in 16384 1024 128 16; do
-  while within "$least" /dev/null make 0; [ "$?" -ne 0 ] && [ "$?" -ne 6 ]; do
-    least=$((least + step))
-    [ "$least" -gt 4194304 ] && { echo "ulimit -v: the program doesn't begin within 4 GB"; exit 1; }
-  done
-  [ "$step" -gt 16 ] && [ "$least" -gt $((1024 + step)) ] && least=$((least - step))
+within "$least" /dev/null make 0
+status=$?
+while [ "$status" -ne 0 ] && [ "$status" -ne 6 ]; do
+  least=$((least + 32))
+  [ "$least" -gt 65536 ] && { echo "ulimit -v: the program doesn't begin within 64 MB"; exit 1; }
+  within "$least" /dev/null make 0
+  status=$?
 done
 
 "$program" solve --workers 2 < "$work/timetable" > "$work/solved"
@@ -169,8 +170,12 @@ for command in "solve --workers 2 timetable" "check both" "network made" "make 2
   answered=0
   much=$least
   step=16
-  # Steps of 16 KB that grow by an eighth, till four runs one behind the other give the answer.
-  while [ "$answered" -lt 4 ] && [ "$much" -lt 16777216 ]; do
+  # Where a second worker has to start, its thread is refused at first; 40 MB have room for it.
+  most=0
+  [ "$what" = "solve --workers 2" ] && most=40960
+  # Steps of 16 KB that grow by a sixteenth, till four runs one behind the other give the answer.
+  while [ "$answered" -lt 4 ] || [ "$much" -lt "$most" ]; do
+    [ "$much" -gt 4194304 ] && { echo "$what: no answer within 4 GB"; exit 1; }
     within "$much" "$file" "${words[@]}"
     status=$?
     ended "$what within $much KB" "$status" 6 "$wanted"
@@ -187,9 +192,9 @@ for command in "solve --workers 2 timetable" "check both" "network made" "make 2
       fi
     fi
     much=$((much + step))
-    step=$((step + step / 8))
+    step=$((step + step / 16))
   done
-  echo "streams: $what answers within $much KB of address space"
+  echo "streams: $what: from $least to $much KB of address space, with status 6 and then with the answer"
 done
 
 echo "streams: $runs runs, $wrong wrong"
