@@ -4,7 +4,7 @@ or with the answer that it gives with ample memory.
 
     tests/each_allocation.py [PROGRAM]
 
-PROGRAM is bin/mdvsp, or what the gate built, where it isn't given. A small C library (tests/refuse_nth.c, built by gcc)
+PROGRAM is bin/mdvsp, or what the gate built, where it isn't given. A small C library (tests/refuse_nth.c, built by gcc or another C compiler)
 is preloaded, which refuses the call of a number. Each number is tried twice: that call alone is refused, and it and all
 later ones are. First the calls of a run with ample memory are counted. Up to 1,000 calls all are tried; of more the first
 400, the last 100, and 300 evenly between. A number past the last call has to meet no refusal.
@@ -19,6 +19,7 @@ isn't, and how to repeat it. It takes well under a minute.
 
 import concurrent.futures
 import os
+import shutil
 import struct
 import subprocess
 import sys
@@ -92,7 +93,11 @@ class Trial:
         self.path, self.room = path, room
         self.library = os.path.join(room, "refuse_nth.so")
         source = os.path.join(TOP, "tests", "refuse_nth.c")
-        subprocess.run(["gcc", "-O2", "-shared", "-fPIC", "-o", self.library, source, "-ldl"], check=True)
+        known = [shutil.which(name) for name in (os.environ.get("CC", "gcc"), "cc", "clang")]
+        compiler = next((path for path in known if path), None)
+        if not compiler:
+            sys.exit("each_allocation: no C compiler is found, by which the library is built that refuses calls")
+        subprocess.run([compiler, "-O2", "-shared", "-fPIC", "-o", self.library, source, "-ldl"], check=True)
 
     def run(self, words, text, at=0, on=False):
         """Runs the words with the call of this number refused; gives how it ended, and the calls and refusals."""
