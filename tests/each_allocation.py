@@ -4,9 +4,9 @@ or with the answer that it gives with ample memory.
 
     tests/each_allocation.py [PROGRAM]
 
-PROGRAM is bin/mdvsp, or what the gate built, where it isn't given. A small C library (tests/refuse_nth.c, built by gcc or another C compiler)
-is preloaded, which refuses the call of a number. Each number is tried twice: that call alone is refused, and it and all
-later ones are. First the calls of a run with ample memory are counted. Up to 1,000 calls all are tried; of more the first
+PROGRAM is bin/mdvsp, or what the gate built, where it isn't given. A small C library (tests/refuse_nth.c, built by gcc
+or another C compiler) is preloaded, which refuses the call of a number. Each number is tried twice: that call alone is
+refused, and it and all later ones are. First the calls of a run with ample memory are counted. Up to 1,000 calls all are tried; of more the first
 400, the last 100, and 300 evenly between. A number past the last call has to meet no refusal.
 
 A run of one worker has to print the same bytes where it ends well. Of two workers the documents may differ: the claim,
@@ -14,7 +14,7 @@ the cost and the bound have to be the same, and `check` has to say yes to each d
 in another order each time, so there a number stands for another call in each run.
 
 Nothing of the program is made of this. It ends with 0 where all is as promised, with 1 and a line for each run that
-isn't, and how to repeat it. It takes well under a minute.
+isn't, and how to repeat it. It takes some ten seconds.
 """
 
 import concurrent.futures
