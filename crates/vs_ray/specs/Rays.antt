@@ -1,5 +1,5 @@
 -- Tables that show that there is no plan.
-use Rattle.std.specs.Prelude.{◌≡◌, List, true}
+use Rattle.std.specs.Prelude.{List}
 use Rattle.vs_types.specs.declared.layer_set.LayerSet.{LayerSet}
 use Rattle.vs_instance.specs.Problem.{Problem}
 use Rattle.vs_prices.specs.declared.bound.Bound.TheVariants.{NoPlan}
