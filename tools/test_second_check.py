@@ -24,6 +24,9 @@ import sys
 import time
 from collections import Counter
 
+# What Python compiles isn't kept beside the sources.
+sys.dont_write_bytecode = True
+
 import second_check
 import second_changes
 import second_orders
