@@ -32,8 +32,8 @@ struct Departure {
 /// What a search for least paths (Dijkstra 1959) knows of the nodes of a net.
 #[derive(Drop)]
 pub struct Labels {
-    /// What is known of each node, and in a heap those that were reached and aren't settled, by the least distance found
-    /// so far.
+    /// What is known of each node. Those that were reached and aren't settled stand in a heap, by the least distance
+    /// found so far.
     pub nodes: NodeHeap,
     /// The settled nodes in order.
     pub order: Vec<u32>,

@@ -85,7 +85,7 @@ impl NodeHeap {
         ensures waiting { self.new.waiting ≡ set self.old.waiting node (Some key) }
         ensures steps { self.new.steps ≡ set self.old.steps node (Some step) }
     {
-        if self.table.key(node as usize) == Some(key) {
+        if self.table.has_key(node, key) {
             self.table.wait(node, key, step);
             return;
         }

@@ -1,6 +1,6 @@
 //! What a search keeps of each node, side by side in one record.
 
-ghost use Rattle.std.specs.Prelude.{◌≡◌, ◌<◌, length, set, replicate, slice_index_or, IfOk, Some, None};
+ghost use Rattle.std.specs.Prelude.{◌≡◌, ◌<◌, ◌↔◌, IsTrue, length, set, replicate, slice_index_or, IfOk, Some, None};
 ghost use Rattle.vs_path.specs.Keys.{key_at};
 ghost use Rattle.vs_path.specs.NodeLists.{key_of, settled_of, without_key, without_place};
 
@@ -103,6 +103,14 @@ impl NodeTable {
         ensures { result ≡ key_at self.now.waiting node }
     {
         self.records[node].key()
+    }
+
+    /// Whether a node has this key.
+    pub fn has_key(&self, node: u32, key: i64) -> bool
+        requires { node < length self.now.waiting }
+        ensures { IsTrue result ↔ key_at self.now.waiting node ≡ Some key }
+    {
+        self.key(node as usize) == Some(key)
     }
 
     /// The distance and the place of a node, where it is settled.

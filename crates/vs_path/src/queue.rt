@@ -209,7 +209,7 @@ fn counts(table: &NodeTable, entry: Entry) -> bool
     requires { entry.node < length table.now.waiting }
     ensures { IsTrue result ↔ key_at table.now.waiting entry.node ≡ Some entry.key.0 }
 {
-    table.key(entry.node as usize) == Some(entry.key.0)
+    table.has_key(entry.node, entry.key.0)
 }
 
 /// A node with the least key. None where no node has one.

@@ -1,4 +1,4 @@
-use Rattle.std.proofs.Common.{◌≡◌, ◌<◌, ◌∙◌, Some, None, ℤ, pos, [], ◌∷◌, length, get_or, refl, sym, ap, subst, rules, arith, true, false, ◌<ℤ◌, SFits, w64, length-append, length-replicate}
+use Rattle.std.proofs.Common.{◌≡◌, ◌<◌, ◌∙◌, Option, Some, None, ℤ, pos, [], ◌∷◌, length, get_or, refl, sym, ap, subst, rules, arith, true, false, ◌<ℤ◌, SFits, w64, length-append, length-replicate}
 use Rattle.std.proofs.lemmas.Int.{ints, to_z-of_z}
 use Rattle.std.specs.Prelude.{vec_capacity}
 use lib.Signed.{lt_z}
@@ -17,7 +17,7 @@ lt_z-false a b test less = grind (arith, ints)
 pub settle-requires-clause-node : goal.settle-requires-clause-node
 settle-requires-clause-node c =
     let all = ap length c.requires.fresh.waiting in
-    omega (arith, all, length-replicate c.args.residual.now.graph.nodes None, c.requires.source)
+    omega (arith, all, length-replicate {A = Option ℤ} c.args.residual.now.graph.nodes None, c.requires.source)
 
 pub settle-requires-clause-taken : goal.settle-requires-clause-taken
 settle-requires-clause-taken c =

@@ -1,4 +1,4 @@
-use Rattle.std.proofs.Common.{◌∙◌, set, sym, ap, subst, rules, Option, Some, None, ℤ, refl, SFits, w64}
+use Rattle.std.proofs.Common.{◌∙◌, set, sym, ap, subst, rules, Option, None, ℤ, refl, SFits, w64}
 use Rattle.std.proofs.lemmas.Int.{to_z-of_z}
 use Rattle.std.proofs.lemmas.List.{set-get_or}
 use Rattle.vs_path.specs.Keys.{Keys}
@@ -12,10 +12,10 @@ invariant_of-self c =
     let node = c.args.node in
     let fits : SFits w64 c.args.key = search rules in
     let waiting = simp to_z-of_z at c.wait.ensures.waiting in
-    let has = simp to_z-of_z at c.if-key.true in
+    let has = simp to_z-of_z at (c.if-has_key.ensures.0 refl) in
     let P : Keys → Type 0 = λ k. IsQueue k c.self.inside.queue in
-    let same = ap (λ (o : Option ℤ). set keys node o) (sym (c.key.ensures) ∙ has) in
-    subst P (sym (waiting ∙ sym same ∙ set-get_or keys node None)) c.self.invariant
+    subst P (sym (waiting ∙ ap (λ (o : Option ℤ). set keys node o) (sym has) ∙ set-get_or keys node None))
+    c.self.invariant
 
 -- it gets a lesser one
 pub invariant_of-self-2 : goal.invariant_of-self-2
