@@ -85,10 +85,6 @@ impl NodeHeap {
         ensures waiting { self.new.waiting ≡ set self.old.waiting node (Some key) }
         ensures steps { self.new.steps ≡ set self.old.steps node (Some step) }
     {
-        if self.table.has_key(node, key) {
-            self.table.wait(node, key, step);
-            return;
-        }
         self.queue.lower(&self.table, node, key);
         self.table.wait(node, key, step);
     }

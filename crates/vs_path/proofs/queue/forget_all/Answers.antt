@@ -31,5 +31,5 @@ returns-clause-none c v =
     elim (cases_lt v c.loop-v.v) [
       | inl below ↦ inv.none v below
       | inr past ↦
-          get_or_past keys v None (omega (arith, past, inv.size, c.loop-v-test.false, c.len.ensures.waiting))
+          get_or_past keys v None (omega (arith, past, inv.size, c.loop-v-test.false, c.len-v-end.ensures.waiting))
     ]

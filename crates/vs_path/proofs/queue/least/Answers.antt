@@ -1,4 +1,4 @@
-use Rattle.std.proofs.Common.{◌≡◌, ℕ, Option, ℤ, subst, arith}
+use Rattle.std.proofs.Common.{ℕ, Option, ℤ, subst, arith}
 use Rattle.vs_path.specs.Queues.{IsLesser, IsLeastUpTo}
 use Rattle.vs_path.proofs.heap.Queuing.{least-more}
 use Rattle.vs_path.proofs.queue.least.Goals as goal
@@ -14,4 +14,4 @@ pub returns : goal.returns
 returns c =
     let keys = c.args.table.now.waiting in
     let P : ℕ → Type 0 = λ count. IsLeastUpTo keys count c.loop-v.least in
-    subst P c.len.ensures.waiting (subst P (omega (arith, c.loop-v-test.false)) c.loop-v.invariant)
+    subst P c.len-v-end.ensures.waiting (subst P (omega (arith, c.loop-v-test.false)) c.loop-v.invariant)

@@ -1,4 +1,5 @@
-use Rattle.std.proofs.Common.{◌≡◌, ◌<◌, ◌∙◌, Option, Some, None, ℤ, pos, [], ◌∷◌, length, get_or, refl, sym, ap, subst, rules, arith, true, false, ◌<ℤ◌, SFits, w64, length-append, length-replicate}
+use Rattle.std.proofs.Common.{◌≡◌, ◌<◌, ◌∙◌, Option, Some, None, ℤ, pos, [], ◌∷◌, length, get_or, refl, sym, ap, subst, rules, arith, true, false, ◌<ℤ◌, SFits, w64, length-append}
+use Rattle.std.proofs.lemmas.List.{length-replicate}
 use Rattle.std.proofs.lemmas.Int.{ints, to_z-of_z}
 use Rattle.std.specs.Prelude.{vec_capacity}
 use lib.Signed.{lt_z}

@@ -25,4 +25,4 @@ returns c =
     let l = lists_of c.args.self.now in
     let fits : SFits w64 c.args.least = search rules in
     let upto = simp to_z-of_z at c.loop-v.invariant in
-    greatest-all l c.loop-v.v c.args.least _ upto (omega (arith, c.len.ensures.settled, c.loop-v-test.false))
+    greatest-all l c.loop-v.v c.args.least _ upto (omega (arith, c.len-v-end.ensures.settled, c.loop-v-test.false))

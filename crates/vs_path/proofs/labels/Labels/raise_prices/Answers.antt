@@ -1,4 +1,4 @@
-use Rattle.std.proofs.Common.{◌≡◌, ◌<◌, ◌∙◌, ◌+ℤ◌, ℤ, get_or, pos, ap, sym, arith, rules, length, SFits, w64}
+use Rattle.std.proofs.Common.{◌≡◌, ◌∙◌, ◌+ℤ◌, ℤ, get_or, pos, ap, arith, rules, SFits, w64}
 use Rattle.std.proofs.lemmas.Int.{ints, to_z-of_z}
 use Rattle.vs_path.specs.Labels.{lists_of, settled_at}
 use Rattle.vs_path.specs.Raising.{rise_of}

@@ -1,4 +1,4 @@
-use Rattle.std.proofs.Common.{◌≡◌, ◌<◌, ◌∙◌, ◌+ℤ◌, refl, ap, sym, subst, arith, rules, ℕ, Some, None, true, false, length, SFits, w64}
+use Rattle.std.proofs.Common.{◌≡◌, ◌<◌, ◌∙◌, ◌+ℤ◌, refl, ap, sym, subst, arith, rules, ℕ, Some, None, true, false, SFits, w64}
 use Rattle.std.proofs.lemmas.Int.{to_z-of_z}
 use Rattle.vs_path.specs.Residual.{to_of, reduced}
 use Rattle.vs_path.specs.Labels.{Lists, Covers, IsBetter, Relaxes, lists_of, lowered, settled_at}

@@ -1,4 +1,5 @@
-use Rattle.std.proofs.Common.{◌∙◌, ap, map, length, length-map, length-replicate, pos}
+use Rattle.std.proofs.Common.{◌∙◌, ap, map, length, pos}
+use Rattle.std.proofs.lemmas.List.{length-map, length-replicate}
 use Rattle.vs_path.specs.declared.node_table.Mark.TheVariants.{Unknown}
 use Rattle.vs_path.specs.declared.node_table.NodeRecord.{NodeRecord}
 use Rattle.vs_path.specs.declared.step.Step.TheVariants.{Forward}

@@ -1,4 +1,5 @@
-use Rattle.std.proofs.Common.{ap, arith}
+use Rattle.std.proofs.Common.{ap, arith, rules, SFits, w64}
+use Rattle.std.proofs.lemmas.Int.{to_z-of_z}
 use Rattle.vs_path.specs.NodeLists.{NodeLists}
 use Rattle.vs_path.proofs.heap.Records.{count-waiting, lists-settled}
 use Rattle.vs_path.proofs.node_table.NodeTable.settle.Goals as goal
@@ -13,18 +14,24 @@ index_mut-requires c =
 
 pub returns-clause-settled : goal.returns-clause-settled
 returns-clause-settled c =
-    ap (λ (k : NodeLists). k.settled)
-    (lists-settled c.self.inside.records.items c.args.self.now c.self.view_is c.args.node c.index-known.result.now
-    c.requires.node c.index-known.ensures c.args.settled c.requires.taken)
+    let fits : SFits w64 c.args.settled.distance = search rules in
+    let is =
+    lists-settled c.self.inside.records.items c.args.self.now c.self.view_is c.args.node c.index-known.result.now
+    c.requires.node c.index-known.ensures c.args.settled c.requires.taken in
+    rw to_z-of_z (ap (λ (k : NodeLists). k.settled) is)
 
 pub returns-clause-waiting : goal.returns-clause-waiting
 returns-clause-waiting c =
-    ap (λ (k : NodeLists). k.waiting)
-    (lists-settled c.self.inside.records.items c.args.self.now c.self.view_is c.args.node c.index-known.result.now
-    c.requires.node c.index-known.ensures c.args.settled c.requires.taken)
+    let fits : SFits w64 c.args.settled.distance = search rules in
+    let is =
+    lists-settled c.self.inside.records.items c.args.self.now c.self.view_is c.args.node c.index-known.result.now
+    c.requires.node c.index-known.ensures c.args.settled c.requires.taken in
+    rw to_z-of_z (ap (λ (k : NodeLists). k.waiting) is)
 
 pub returns-clause-steps : goal.returns-clause-steps
 returns-clause-steps c =
-    ap (λ (k : NodeLists). k.steps)
-    (lists-settled c.self.inside.records.items c.args.self.now c.self.view_is c.args.node c.index-known.result.now
-    c.requires.node c.index-known.ensures c.args.settled c.requires.taken)
+    let fits : SFits w64 c.args.settled.distance = search rules in
+    let is =
+    lists-settled c.self.inside.records.items c.args.self.now c.self.view_is c.args.node c.index-known.result.now
+    c.requires.node c.index-known.ensures c.args.settled c.requires.taken in
+    rw to_z-of_z (ap (λ (k : NodeLists). k.steps) is)

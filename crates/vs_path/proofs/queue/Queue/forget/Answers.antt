@@ -1,4 +1,4 @@
-use Rattle.std.proofs.Common.{◌≡◌, ◌∙◌, ℕ, List, length, get_or, subst, ap, arith, Bool}
+use Rattle.std.proofs.Common.{ℕ, List, get_or, subst, arith, Bool}
 use Rattle.std.proofs.lemmas.List.Elements.{Contains-get_or}
 use Rattle.std.specs.BinaryHeap.{heap_items}
 use Rattle.std.specs.List.{Contains}
