@@ -123,7 +123,7 @@ impl Labels {
         Some((node, distance))
     }
 
-    /// Settles a node that doesn't wait at a distance.
+    /// Settles a node, which doesn't wait, at a distance.
     fn settle(&mut self, node: u32, distance: i64)
         requires node { node < length self.old.nodes.waiting }
         requires taken { waiting_at (lists_of self.old) node ≡ None }
