@@ -304,8 +304,9 @@ fn may_lower(known: Option<i64>, key: i64) -> bool
 
 /// Takes a node out of a heap, and out of a plain list of the nodes' keys. Gives its key in the heap and in the list.
 fn take_of_both(heap: &mut NodeHeap, keys: &mut [Option<i64>; 7]) -> (Option<i64>, Option<i64>)
-    requires { length heap.old ≡ 7 }
-    ensures { length heap.new ≡ 7 }
+    requires { length heap.old.waiting ≡ 7 }
+    ensures size { length heap.new.waiting ≡ 7 }
+    ensures settled { heap.new.settled ≡ heap.old.settled }
 {
     let Some((node, key)) = heap.take() else {
         return (None, None);
@@ -329,7 +330,7 @@ fn take_nodes_by_their_keys(rt: HostRuntime) -> Result<(), Fail> {
             let least: Option<i64> = keys.iter().flatten().copied().min();
             assert_eq!(rt; take_of_both(&mut heap, &mut keys), (least, least));
         } else if may_lower(heap.key(node), key) {
-            heap.lower(node, key);
+            heap.lower(node, key, Step::Forward(node));
             keys[node as usize] = Some(key);
         }
         assert_eq!(rt; heap.key(node), keys[node as usize]);

@@ -13,6 +13,13 @@ use vs_ship::{Shipment, fit};
 /// The room of an arc that takes as many units as there are.
 pub(crate) const UNLIMITED: u32 = 4_294_967_295;
 
+/// What a unit costs on an arc, and how many units the arc takes.
+#[derive(Clone, Copy)]
+struct Offered {
+    cost: i64,
+    room: u32,
+}
+
 /// What an arc costs once a trip's multiplier is taken off, in 1/1000 of a cost unit.
 pub(crate) fn offered_cost(offers: &[Option<i64>], kind: ArcKind, arc: Arc) -> i64
     requires no_gain { pos 0 ≤ℤ arc.cost }
@@ -43,6 +50,30 @@ pub(crate) fn offered_room(offers: &[Option<i64>], kind: ArcKind, arc: Arc) -> u
     }
 }
 
+/// What an arc costs and how many units it takes. Most arcs are no trip's, and no offer is looked up for these.
+fn offer_on(offers: &[Option<i64>], kind: ArcKind, arc: Arc) -> Offered
+    requires no_gain { pos 0 ≤ℤ arc.cost }
+    requires cost { arc.cost ≤ℤ MAX_ARC_COST }
+    requires offers { AreSmallOffers offers.now }
+    ensures cost { result.cost ≡ offered_cost offers.now kind arc }
+    ensures room { result.room ≡ offered_room offers.now kind arc }
+{
+    match kind {
+        ArcKind::Trip(_) => Offered {
+            cost: offered_cost(offers, kind, arc),
+            room: offered_room(offers, kind, arc),
+        },
+        ArcKind::Return => Offered {
+            cost: arc.cost,
+            room: arc.room,
+        },
+        _ => Offered {
+            cost: arc.cost,
+            room: UNLIMITED,
+        },
+    }
+}
+
 /// Sets what the arcs cost and how many units they take where these trips are offered.
 pub(crate) fn offer_arcs(net: &LayerNet, offers: &[Option<i64>], cost: &mut [i64], room: &mut [u32])
     requires arcs { HasSmallArcs net.now }
@@ -56,8 +87,9 @@ pub(crate) fn offer_arcs(net: &LayerNet, offers: &[Option<i64>], cost: &mut [i64
     for k in 0..graph.arcs() {
         let kind = net.kind(k);
         let arc = graph.arc(k);
-        cost[k as usize] = offered_cost(offers, kind, arc);
-        room[k as usize] = offered_room(offers, kind, arc);
+        let offered = offer_on(offers, kind, arc);
+        cost[k as usize] = offered.cost;
+        room[k as usize] = offered.room;
     }
 }
 

@@ -1,4 +1,5 @@
 pub mod Emptying
 pub mod Entries
 pub mod Queuing
+pub mod Records
 pub mod Stacked

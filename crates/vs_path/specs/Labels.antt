@@ -16,7 +16,12 @@ pub record Lists : Type 0 where
   pub order : List ℕ
 
 abbrev pub lists_of : Labels → Lists
-lists_of l = record { settled = l.settled.items; waiting = l.waiting; steps = l.steps.items; order = l.order.items }
+lists_of l = record {
+  settled = l.nodes.settled;
+  waiting = l.nodes.waiting;
+  steps = l.nodes.steps;
+  order = l.order.items;
+}
 
 abbrev pub settled_at : Lists → ℕ → Option Settled
 settled_at l v = slice_index_or l.settled v None

@@ -1,4 +1,5 @@
 pub mod Keys
+pub mod NodeLists
 pub mod Queues
 pub mod Residual
 pub mod Loads

@@ -7,23 +7,23 @@ use Rattle.vs_path.specs.LeastPaths.{LeastPaths, IsSized}
 use Rattle.vs_path.specs.Search.{Outcome}
 
 abbrev pub outcome_of : Labels → List Step → Outcome
-outcome_of l path = record { nodes = length l.settled.items; path = path; reached = l.order.items }
+outcome_of l path = record { nodes = length l.nodes.settled; path = path; reached = l.order.items }
 
 -- the labels can be cleared, there is space for all nodes in the order and in the path, and by the zeros no node lacks
 -- a unit
 pub record CanSearch (l : Labels) (order path : ℕ) (zeros : List ℤ) : Type 0 where
-  pub some : 0 < length l.settled.items
-  pub are_listed : AreListed (length l.settled.items) (lists_of l)
-  pub for_order : length l.settled.items ≤ order
-  pub for_path : length l.settled.items ≤ path
-  pub none_lacks : zeros ≡ replicate (length l.settled.items) (pos 0)
+  pub some : 0 < length l.nodes.settled
+  pub are_listed : AreListed (length l.nodes.settled) (lists_of l)
+  pub for_order : length l.nodes.settled ≤ order
+  pub for_path : length l.nodes.settled ≤ path
+  pub none_lacks : zeros ≡ replicate (length l.nodes.settled) (pos 0)
 
 -- the labels can be cleared, there is space for all nodes in the order, for the paths to all of them, and for their
 -- prices, and by the zeros no node lacks a unit
 pub record CanFindAll (l : Labels) (order : ℕ) (paths : LeastPaths) (prices zeros : List ℤ) : Type 0 where
-  pub some : 0 < length l.settled.items
-  pub are_listed : AreListed (length l.settled.items) (lists_of l)
-  pub for_order : length l.settled.items ≤ order
-  pub size : IsSized (length l.settled.items) paths
-  pub for_prices : length prices ≡ length l.settled.items
-  pub none_lacks : zeros ≡ replicate (length l.settled.items) (pos 0)
+  pub some : 0 < length l.nodes.settled
+  pub are_listed : AreListed (length l.nodes.settled) (lists_of l)
+  pub for_order : length l.nodes.settled ≤ order
+  pub size : IsSized (length l.nodes.settled) paths
+  pub for_prices : length prices ≡ length l.nodes.settled
+  pub none_lacks : zeros ≡ replicate (length l.nodes.settled) (pos 0)

@@ -32,12 +32,9 @@ struct Departure {
 /// What a search for least paths (Dijkstra 1959) knows of the nodes of a net.
 #[derive(Drop)]
 pub struct Labels {
-    /// By node, where it is settled.
-    pub settled: Vec<Option<Settled>>,
-    /// The nodes that were reached and aren't settled, by the least distance found so far.
-    pub waiting: NodeHeap,
-    /// By node, the last step of a least path found so far.
-    pub steps: Vec<Option<Step>>,
+    /// What is known of each node. Those that were reached and aren't settled stand in a heap, by the least distance
+    /// found so far.
+    pub nodes: NodeHeap,
     /// The settled nodes in order.
     pub order: Vec<u32>,
     /// The least distance to a node that lacks a unit that was found so far.
@@ -52,9 +49,7 @@ impl Labels {
         ensures space { IfOk result (λ labels. vec_capacity labels.order ≡ nodes) }
     {
         Ok(Labels {
-            settled: vec![in alloc; None; nodes as usize]?,
-            waiting: NodeHeap::new(alloc, nodes)?,
-            steps: vec![in alloc; None; nodes as usize]?,
+            nodes: NodeHeap::new(alloc, nodes)?,
             order: Vec::with_capacity(alloc, nodes as usize)?,
             bound: None,
         })
@@ -62,14 +57,14 @@ impl Labels {
 
     /// Forgets all, at a cost of what is known.
     pub fn clear(&mut self)
-        requires { AreListed (length self.old.settled.items) (lists_of self.old) }
-        ensures fresh { AreFresh (length self.old.settled.items) (lists_of self.new) }
+        requires { AreListed (length self.old.nodes.settled) (lists_of self.old) }
+        ensures fresh { AreFresh (length self.old.nodes.settled) (lists_of self.new) }
         ensures space { vec_capacity self.new.order ≡ vec_capacity self.old.order }
         ensures bound { self.new.bound ≡ None }
     {
-        forget(&mut self.settled, &self.order);
+        forget(&mut self.nodes, &self.order);
         self.order.clear();
-        self.waiting.clear();
+        self.nodes.clear();
         self.bound = None;
     }
 
@@ -110,39 +105,40 @@ impl Labels {
 
     /// Settles the nearest node that waits, and gives it and its distance.
     fn settle_next(&mut self) -> Option<(u32, i64)>
-        requires listed { AreListed (length self.old.waiting) (lists_of self.old) }
-        requires few { length self.old.waiting ≤ MAX_SEARCH_NODES }
-        requires space { length self.old.waiting ≤ vec_capacity self.old.order }
+        requires listed { AreListed (length self.old.nodes.waiting) (lists_of self.old) }
+        requires few { length self.old.nodes.waiting ≤ MAX_SEARCH_NODES }
+        requires space { length self.old.nodes.waiting ≤ vec_capacity self.old.order }
         requires unsettled { (v : ℕ) (key : ℤ) → waiting_at (lists_of self.old) v ≡ Some key
             → settled_at (lists_of self.old) v ≡ None }
-        ensures next { MatchOption result (IsEmpty self.old.waiting)
-            (λ t. IsLeast self.old.waiting t.0 t.1) }
+        ensures next { MatchOption result (IsEmpty self.old.nodes.waiting)
+            (λ t. IsLeast self.old.nodes.waiting t.0 t.1) }
         ensures lists { MatchOption result (lists_of self.new ≡ lists_of self.old)
             (λ t. lists_of self.new ≡ settle_in (lists_of self.old) t.0 t.1) }
-        ensures node { IfSome result (λ t. t.0 < length self.old.waiting) }
+        ensures node { IfSome result (λ t. t.0 < length self.old.nodes.waiting) }
         ensures space { vec_capacity self.old.order ≤ vec_capacity self.new.order }
         ensures bound { self.new.bound ≡ self.old.bound }
     {
-        let (node, distance) = self.waiting.take()?;
+        let (node, distance) = self.nodes.take()?;
         self.settle(node, distance);
         Some((node, distance))
     }
 
-    /// Settles a node at a distance.
+    /// Settles a node, which doesn't wait, at a distance.
     fn settle(&mut self, node: u32, distance: i64)
-        requires node { node < length self.old.settled.items }
+        requires node { node < length self.old.nodes.waiting }
+        requires taken { waiting_at (lists_of self.old) node ≡ None }
         requires few { length self.old.order.items < MAX_SEARCH_NODES }
         requires space { length self.old.order.items < vec_capacity self.old.order }
-        ensures settled { self.new.settled.items ≡ set self.old.settled.items node
+        ensures settled { self.new.nodes.settled ≡ set self.old.nodes.settled node
             (Some (record { distance = distance; place = length self.old.order.items })) }
         ensures order { self.new.order.items ≡ self.old.order.items ++ node ∷ [] }
-        ensures waiting { self.new.waiting ≡ self.old.waiting }
-        ensures steps { self.new.steps.items ≡ self.old.steps.items }
+        ensures waiting { self.new.nodes.waiting ≡ self.old.nodes.waiting }
+        ensures steps { self.new.nodes.steps ≡ self.old.nodes.steps }
         ensures space { vec_capacity self.old.order ≤ vec_capacity self.new.order }
         ensures bound { self.new.bound ≡ self.old.bound }
     {
         let place = self.order.len() as u32;
-        self.settled[node as usize] = Some(Settled { distance, place });
+        self.nodes.settle(node, Settled { distance, place });
         let _ = self.order.push(node);
     }
 
@@ -177,10 +173,10 @@ impl Labels {
 
     /// Whether a node has no distance yet, or a greater one.
     fn is_better(&self, node: u32, label: i64) -> bool
-        requires { node < length self.now.waiting }
+        requires { node < length self.now.nodes.waiting }
         ensures { IsTrue result ↔ IsBetter (lists_of self.now) node label }
     {
-        match self.waiting.key(node) {
+        match self.nodes.key(node) {
             None => true,
             Some(known) => label < known,
         }
@@ -227,7 +223,7 @@ impl Labels {
         if self.is_past(label) {
             return;
         }
-        if self.settled[node as usize].is_some() {
+        if self.nodes.settled(node as usize).is_some() {
             return;
         }
         if !residual.is_open(step) {
@@ -255,15 +251,14 @@ impl Labels {
 
     /// Gives a node a lesser distance, along this step.
     fn lower(&mut self, node: u32, label: i64, step: Step)
-        requires node { node < length self.old.waiting }
-        requires each_node { length self.old.steps.items ≡ length self.old.waiting }
+        requires node { node < length self.old.nodes.waiting }
+        requires unsettled { settled_at (lists_of self.old) node ≡ None }
         requires better { IsBetter (lists_of self.old) node label }
         ensures lists { lists_of self.new ≡ lowered (lists_of self.old) node label step }
         ensures order { self.new.order ≡ self.old.order }
         ensures bound { self.new.bound ≡ self.old.bound }
     {
-        self.waiting.lower(node, label);
-        self.steps[node as usize] = Some(step);
+        self.nodes.lower(node, label, step);
     }
 
     /// The distance along a step.
@@ -348,15 +343,17 @@ impl Labels {
     }
 }
 
-/// Empties the places of these nodes, which are all that aren't empty.
-fn forget(settled: &mut [Option<Settled>], nodes: &[u32])
+/// Forgets that these nodes are settled, which are all that are.
+fn forget(heap: &mut NodeHeap, nodes: &[u32])
     requires within { (i : ℕ) → i < length nodes.now
-        → slice_index nodes.now i < length settled.old }
-    requires all { (v : ℕ) (a : Settled) → slice_index_or settled.old v None ≡ Some a
+        → slice_index nodes.now i < length heap.old.waiting }
+    requires all { (v : ℕ) (a : Settled) → slice_index_or heap.old.settled v None ≡ Some a
         → (i : ℕ) × (i < length nodes.now) × (slice_index nodes.now i ≡ v) }
-    ensures { settled.new ≡ replicate (length settled.old) None }
+    ensures settled { heap.new.settled ≡ replicate (length heap.old.settled) None }
+    ensures waiting { heap.new.waiting ≡ heap.old.waiting }
+    ensures steps { heap.new.steps ≡ heap.old.steps }
 {
     for node in nodes {
-        settled[*node as usize] = None;
+        heap.unsettle(*node);
     }
 }

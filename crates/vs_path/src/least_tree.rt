@@ -54,11 +54,11 @@ impl Labels {
         ensures { (a : Settled) → settled_at (lists_of self.now) goal ≡ Some a
             → AreMoved (lists_of self.now) a.distance prices.old prices.new }
     {
-        let Some(farthest) = self.settled[goal as usize] else {
+        let Some(farthest) = self.nodes.settled(goal as usize) else {
             return;
         };
         for node in &self.order {
-            let known = self.settled[*node as usize];
+            let known = self.nodes.settled(*node as usize);
             if let Some(settled) = known {
                 let price = prices[*node as usize];
                 prices[*node as usize] = lowered_price(price, &farthest, &settled);
@@ -69,25 +69,25 @@ impl Labels {
     /// By node what a least path to it costs without the prices, None where it isn't settled.
     pub fn least_costs(&self, prices: &[i64], source: u32, costs: &mut [Option<i64>])
         requires source { source < length prices.now }
-        requires settled { length self.now.settled.items ≡ length prices.now }
+        requires settled { length self.now.nodes.settled ≡ length prices.now }
         requires costs { length costs.old ≡ length prices.now }
         requires space { CanCost (lists_of self.now) source prices.now }
         ensures { AreCosts (lists_of self.now) prices.now source costs.new }
     {
         let from = prices[source as usize];
         for (v, cost) in costs.iter_mut().enumerate() {
-            *cost = cost_to(&self.settled[v], from, prices[v]);
+            *cost = cost_to(self.nodes.settled(v), from, prices[v]);
         }
     }
 
     /// By node the last step of a least path to it, None where it isn't settled.
     pub fn settled_steps(&self, steps: &mut [Option<Step>])
-        requires settled { length self.now.settled.items ≡ length steps.old }
-        requires steps { length self.now.steps.items ≡ length steps.old }
+        requires settled { length self.now.nodes.settled ≡ length steps.old }
+        requires steps { length self.now.nodes.steps ≡ length steps.old }
         ensures { AreSettledSteps (lists_of self.now) steps.new }
     {
         for (v, step) in steps.iter_mut().enumerate() {
-            *step = if_settled(&self.settled[v], self.steps[v]);
+            *step = if_settled(self.nodes.settled(v), self.nodes.step(v));
         }
     }
 
@@ -105,11 +105,9 @@ impl Labels {
         let source = self.order[0];
         let mut node = goal;
         while node != source {
-            let Some(step) = self.steps[node as usize] else {
-                return;
-            };
-            let _ = path.push(step);
-            node = residual.from(step);
+            let last = self.nodes.step(node as usize);
+            let _ = path.push(last);
+            node = residual.from(last);
         }
     }
 }
@@ -124,19 +122,19 @@ fn lowered_price(price: i64, farthest: &Settled, settled: &Settled) -> i64
 }
 
 /// The last step of a path to a node, where it is settled.
-fn if_settled(settled: &Option<Settled>, step: Option<Step>) -> Option<Step>
-    ensures { result ≡ if_settled settled.now step }
+fn if_settled(settled: Option<Settled>, step: Step) -> Option<Step>
+    ensures { result ≡ if_settled settled (Some step) }
 {
     match settled {
         None => None,
-        Some(_) => step,
+        Some(_) => Some(step),
     }
 }
 
 /// What a least path costs without the prices of the nodes where it begins and ends.
-fn cost_to(settled: &Option<Settled>, from: i64, to: i64) -> Option<i64>
-    requires { CanCostTo settled.now from to }
-    ensures { result ≡ cost_to settled.now from to }
+fn cost_to(settled: Option<Settled>, from: i64, to: i64) -> Option<i64>
+    requires { CanCostTo settled from to }
+    ensures { result ≡ cost_to settled from to }
 {
     match settled {
         None => None,

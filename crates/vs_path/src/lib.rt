@@ -9,6 +9,7 @@ mod labels;
 mod least_tree;
 mod loads;
 mod node_heap;
+mod node_table;
 mod path_tree;
 mod paths;
 mod queue;

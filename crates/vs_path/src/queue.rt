@@ -4,6 +4,7 @@ ghost use Rattle.std.specs.Prelude.{◌≡◌, ◌≢◌, ℕ, ◌+◌, ◌^◌,
 ghost use Rattle.vs_path.specs.Keys.{IsEmpty, IsLeast, IsNotAfter, key_at};
 ghost use Rattle.vs_path.specs.Queues.{AreForgotten, AreEntriesForgotten, IsLeastUpTo, IsLesser, IsOn, IsPut, IsQueue, IsTaken};
 
+use crate::node_table::NodeTable;
 use std::alloc::Global;
 use std::cmp::Reverse;
 use std::collections::BinaryHeap;
@@ -45,15 +46,29 @@ impl Queue {
         })
     }
 
-    /// Puts in a node, or moves it, before it is given this lesser key.
-    pub fn lower(&mut self, keys: &[Option<i64>], node: u32, key: i64)
-        requires queue { IsQueue keys.now self.old }
-        requires node { node < length keys.now }
-        requires lower { IsNotAfter (Some key) (key_at keys.now node) }
-        requires less { key_at keys.now node ≢ Some key }
-        ensures { IsQueue (set keys.now node (Some key)) self.new }
+    /// Puts in a node, or moves it, before it is given this key, which is no greater than the one it has.
+    #[inline(always)]
+    pub fn lower(&mut self, table: &NodeTable, node: u32, key: i64)
+        requires queue { IsQueue table.now.waiting self.old }
+        requires node { node < length table.now.waiting }
+        requires lower { IsNotAfter (Some key) (key_at table.now.waiting node) }
+        ensures { IsQueue (set table.now.waiting node (Some key)) self.new }
     {
-        self.lower_floor(keys, key);
+        if table.has_key(node, key) {
+            return;
+        }
+        self.bring_nearer(table, node, key);
+    }
+
+    /// Puts in a node, or moves it, before it is given this lesser key.
+    fn bring_nearer(&mut self, table: &NodeTable, node: u32, key: i64)
+        requires queue { IsQueue table.now.waiting self.old }
+        requires node { node < length table.now.waiting }
+        requires lower { IsNotAfter (Some key) (key_at table.now.waiting node) }
+        requires less { key_at table.now.waiting node ≢ Some key }
+        ensures { IsQueue (set table.now.waiting node (Some key)) self.new }
+    {
+        self.lower_floor(table, key);
         if !self.stack(node, key) {
             self.put(node, key);
         }
@@ -84,47 +99,47 @@ impl Queue {
     }
 
     /// Takes out a node with the least key, before it is without a key. None where the queue is empty.
-    pub fn take(&mut self, keys: &[Option<i64>]) -> Option<(u32, i64)>
-        requires { IsQueue keys.now self.old }
-        ensures taken { MatchOption result (IsEmpty keys.now)
-            (λ t. IsTaken keys.now t.0 t.1 self.new) }
-        ensures else_same { MatchOption result (IsQueue keys.now self.new)
-            (λ t. t.0 < length keys.now) }
+    pub fn take(&mut self, table: &NodeTable) -> Option<(u32, i64)>
+        requires { IsQueue table.now.waiting self.old }
+        ensures taken { MatchOption result (IsEmpty table.now.waiting)
+            (λ t. IsTaken table.now.waiting t.0 t.1 self.new) }
+        ensures else_same { MatchOption result (IsQueue table.now.waiting self.new)
+            (λ t. t.0 < length table.now.waiting) }
     {
         match self.near.pop() {
             Some(node) => Some((node, self.floor)),
-            None => self.take_far(keys),
+            None => self.take_far(table),
         }
     }
 
     /// Takes out a node with the least key where none is on the stack.
-    fn take_far(&mut self, keys: &[Option<i64>]) -> Option<(u32, i64)>
-        requires queue { IsQueue keys.now self.old }
+    fn take_far(&mut self, table: &NodeTable) -> Option<(u32, i64)>
+        requires queue { IsQueue table.now.waiting self.old }
         requires none_near { self.old.near.items ≡ [] }
-        ensures taken { MatchOption result (IsEmpty keys.now)
-            (λ t. IsTaken keys.now t.0 t.1 self.new) }
-        ensures else_same { MatchOption result (IsQueue keys.now self.new)
-            (λ t. t.0 < length keys.now) }
+        ensures taken { MatchOption result (IsEmpty table.now.waiting)
+            (λ t. IsTaken table.now.waiting t.0 t.1 self.new) }
+        ensures else_same { MatchOption result (IsQueue table.now.waiting self.new)
+            (λ t. t.0 < length table.now.waiting) }
     {
         if self.complete {
-            self.pop(keys)
+            self.pop(table)
         } else {
-            self.find(keys)
+            self.find(table)
         }
     }
 
     /// Takes entries out of the heap up to the first that counts.
-    fn pop(&mut self, keys: &[Option<i64>]) -> Option<(u32, i64)>
-        requires queue { IsQueue keys.now self.old }
+    fn pop(&mut self, table: &NodeTable) -> Option<(u32, i64)>
+        requires queue { IsQueue table.now.waiting self.old }
         requires none_near { self.old.near.items ≡ [] }
         requires complete { self.old.complete ≡ true }
-        ensures taken { MatchOption result (IsEmpty keys.now)
-            (λ t. IsTaken keys.now t.0 t.1 self.new) }
-        ensures else_same { MatchOption result (IsQueue keys.now self.new)
-            (λ t. t.0 < length keys.now) }
+        ensures taken { MatchOption result (IsEmpty table.now.waiting)
+            (λ t. IsTaken table.now.waiting t.0 t.1 self.new) }
+        ensures else_same { MatchOption result (IsQueue table.now.waiting self.new)
+            (λ t. t.0 < length table.now.waiting) }
     {
         while let Some(entry) = self.far.pop() {
-            if counts(keys, entry) {
+            if counts(table, entry) {
                 self.floor = entry.key.0;
                 return Some((entry.node, entry.key.0));
             }
@@ -133,36 +148,36 @@ impl Queue {
     }
 
     /// Takes out a node with the least key where the heap has been short of memory.
-    fn find(&mut self, keys: &[Option<i64>]) -> Option<(u32, i64)>
-        requires queue { IsQueue keys.now self.old }
+    fn find(&mut self, table: &NodeTable) -> Option<(u32, i64)>
+        requires queue { IsQueue table.now.waiting self.old }
         requires none_near { self.old.near.items ≡ [] }
         requires incomplete { self.old.complete ≡ false }
-        ensures taken { MatchOption result (IsEmpty keys.now)
-            (λ t. IsTaken keys.now t.0 t.1 self.new) }
-        ensures else_same { MatchOption result (IsQueue keys.now self.new)
-            (λ t. t.0 < length keys.now) }
+        ensures taken { MatchOption result (IsEmpty table.now.waiting)
+            (λ t. IsTaken table.now.waiting t.0 t.1 self.new) }
+        ensures else_same { MatchOption result (IsQueue table.now.waiting self.new)
+            (λ t. t.0 < length table.now.waiting) }
     {
-        let (node, key) = least(keys)?;
+        let (node, key) = least(table)?;
         self.floor = key;
         Some((node, key))
     }
 
     /// Lowers the floor to a key that is less.
-    fn lower_floor(&mut self, keys: &[Option<i64>], key: i64)
-        requires { IsQueue keys.now self.old }
-        ensures queue { IsQueue keys.now self.new }
+    fn lower_floor(&mut self, table: &NodeTable, key: i64)
+        requires { IsQueue table.now.waiting self.old }
+        ensures queue { IsQueue table.now.waiting self.new }
         ensures floor { self.new.floor ≤ℤ key }
     {
         if key < self.floor {
-            self.unstack(keys);
+            self.unstack(table);
             self.floor = key;
         }
     }
 
     /// Moves the nodes on the stack into the heap.
-    fn unstack(&mut self, keys: &[Option<i64>])
-        requires { IsQueue keys.now self.old }
-        ensures queue { IsQueue keys.now self.new }
+    fn unstack(&mut self, table: &NodeTable)
+        requires { IsQueue table.now.waiting self.old }
+        ensures queue { IsQueue table.now.waiting self.new }
         ensures none_near { self.new.near.items ≡ [] }
         ensures floor { self.new.floor ≡ self.old.floor }
     {
@@ -172,12 +187,14 @@ impl Queue {
     }
 
     /// Takes out all nodes, and their keys, at a cost of a few steps for each.
-    pub fn clear(&mut self, keys: &mut [Option<i64>])
-        requires { IsQueue keys.old self.old }
-        ensures queue { IsQueue keys.new self.new }
-        ensures none { keys.new ≡ replicate (length keys.old) None }
+    pub fn clear(&mut self, table: &mut NodeTable)
+        requires { IsQueue table.old.waiting self.old }
+        ensures queue { IsQueue table.new.waiting self.new }
+        ensures none { table.new.waiting ≡ replicate (length table.old.waiting) None }
+        ensures settled { table.new.settled ≡ table.old.settled }
+        ensures steps { table.new.steps ≡ table.old.steps }
     {
-        self.forget(keys);
+        self.forget(table);
         self.near.clear();
         self.far.clear();
         self.floor = 0;
@@ -185,35 +202,38 @@ impl Queue {
     }
 
     /// Takes the keys of all nodes.
-    fn forget(&self, keys: &mut [Option<i64>])
-        requires { IsQueue keys.old self.now }
-        ensures { (v : ℕ) → key_at keys.new v ≡ None }
+    fn forget(&self, table: &mut NodeTable)
+        requires { IsQueue table.old.waiting self.now }
+        ensures none { (v : ℕ) → key_at table.new.waiting v ≡ None }
+        ensures size { length table.new.waiting ≡ length table.old.waiting }
+        ensures settled { table.new.settled ≡ table.old.settled }
+        ensures steps { table.new.steps ≡ table.old.steps }
     {
         if self.complete {
-            forget_nodes(keys, &self.near);
-            forget_entries(keys, self.far.as_slice());
+            forget_nodes(table, &self.near);
+            forget_entries(table, self.far.as_slice());
         } else {
-            keys.fill(None);
+            forget_all(table);
         }
     }
 }
 
 /// Whether the node of an entry still has its key.
-fn counts(keys: &[Option<i64>], entry: Entry) -> bool
-    requires { entry.node < length keys.now }
-    ensures { IsTrue result ↔ key_at keys.now entry.node ≡ Some entry.key.0 }
+fn counts(table: &NodeTable, entry: Entry) -> bool
+    requires { entry.node < length table.now.waiting }
+    ensures { IsTrue result ↔ key_at table.now.waiting entry.node ≡ Some entry.key.0 }
 {
-    keys[entry.node as usize] == Some(entry.key.0)
+    table.has_key(entry.node, entry.key.0)
 }
 
 /// A node with the least key. None where no node has one.
-fn least(keys: &[Option<i64>]) -> Option<(u32, i64)>
-    requires { length keys.now < 2 ^ 32 }
-    ensures { IsLeastUpTo keys.now (length keys.now) result }
+fn least(table: &NodeTable) -> Option<(u32, i64)>
+    requires { length table.now.waiting < 2 ^ 32 }
+    ensures { IsLeastUpTo table.now.waiting (length table.now.waiting) result }
 {
     let mut least = None;
-    for v in 0..keys.len() {
-        least = lesser(least, v as u32, keys[v]);
+    for v in 0..table.len() {
+        least = lesser(least, v as u32, table.key(v));
     }
     least
 }
@@ -235,22 +255,41 @@ fn lesser(least: Option<(u32, i64)>, node: u32, key: Option<i64>) -> Option<(u32
     }
 }
 
+/// Takes the keys of all nodes, one by one.
+fn forget_all(table: &mut NodeTable)
+    requires { length table.old.waiting < 2 ^ 32 }
+    ensures none { (v : ℕ) → key_at table.new.waiting v ≡ None }
+    ensures size { length table.new.waiting ≡ length table.old.waiting }
+    ensures settled { table.new.settled ≡ table.old.settled }
+    ensures steps { table.new.steps ≡ table.old.steps }
+{
+    for v in 0..table.len() {
+        table.take_key(v as u32);
+    }
+}
+
 /// Takes the keys of these nodes.
-fn forget_nodes(keys: &mut [Option<i64>], nodes: &[u32])
-    requires { (v : ℕ) → IsOn nodes.now v → v < length keys.old }
-    ensures { AreForgotten nodes.now keys.old keys.new }
+fn forget_nodes(table: &mut NodeTable, nodes: &[u32])
+    requires { (v : ℕ) → IsOn nodes.now v → v < length table.old.waiting }
+    ensures forgotten { AreForgotten nodes.now table.old.waiting table.new.waiting }
+    ensures size { length table.new.waiting ≡ length table.old.waiting }
+    ensures settled { table.new.settled ≡ table.old.settled }
+    ensures steps { table.new.steps ≡ table.old.steps }
 {
     for node in nodes {
-        keys[*node as usize] = None;
+        table.take_key(*node);
     }
 }
 
 /// Takes the keys of the nodes of these entries.
-fn forget_entries(keys: &mut [Option<i64>], entries: &[Entry])
-    requires { All (λ entry. entry.node < length keys.old) entries.now }
-    ensures { AreEntriesForgotten entries.now keys.old keys.new }
+fn forget_entries(table: &mut NodeTable, entries: &[Entry])
+    requires { All (λ entry. entry.node < length table.old.waiting) entries.now }
+    ensures forgotten { AreEntriesForgotten entries.now table.old.waiting table.new.waiting }
+    ensures size { length table.new.waiting ≡ length table.old.waiting }
+    ensures settled { table.new.settled ≡ table.old.settled }
+    ensures steps { table.new.steps ≡ table.old.steps }
 {
     for entry in entries {
-        keys[entry.node as usize] = None;
+        table.take_key(entry.node);
     }
 }

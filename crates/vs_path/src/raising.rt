@@ -12,27 +12,27 @@ impl Labels {
         ensures { IsGreatest (lists_of self.now) least result }
     {
         let mut greatest = least;
-        for settled in &self.settled {
-            greatest = greater(greatest, settled);
+        for v in 0..self.nodes.len() {
+            greatest = greater(greatest, self.nodes.settled(v));
         }
         greatest
     }
 
     /// Raises the price of each settled node by its distance, and that of each other node by `rise`.
     pub fn raise_prices(&self, rise: i64, prices: &mut [i64])
-        requires settled { length self.now.settled.items ≡ length prices.old }
+        requires settled { length self.now.nodes.settled ≡ length prices.old }
         requires space { CanRaise (lists_of self.now) rise prices.old }
         ensures { AreRaised (lists_of self.now) rise prices.old prices.new }
     {
         for (v, price) in prices.iter_mut().enumerate() {
-            *price += rise_of(&self.settled[v], rise);
+            *price += rise_of(self.nodes.settled(v), rise);
         }
     }
 }
 
 /// The greater of a distance and that of a node, where it is settled.
-fn greater(distance: i64, settled: &Option<Settled>) -> i64
-    ensures { IsGreater distance settled.now result }
+fn greater(distance: i64, settled: Option<Settled>) -> i64
+    ensures { IsGreater distance settled result }
 {
     match settled {
         None => distance,
@@ -41,8 +41,8 @@ fn greater(distance: i64, settled: &Option<Settled>) -> i64
 }
 
 /// By how much the price of a node rises: by its distance where it is settled.
-fn rise_of(settled: &Option<Settled>, rise: i64) -> i64
-    ensures { result ≡ rise_of settled.now rise }
+fn rise_of(settled: Option<Settled>, rise: i64) -> i64
+    ensures { result ≡ rise_of settled rise }
 {
     match settled {
         None => rise,

@@ -111,7 +111,7 @@ impl Search {
     pub fn nodes(&self) -> usize
         ensures { result ≡ self.now.nodes }
     {
-        self.labels.settled.len()
+        self.labels.nodes.len()
     }
 
     /// The steps of the path that was found last, the last step first.

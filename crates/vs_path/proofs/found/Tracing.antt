@@ -62,12 +62,6 @@ module _ (r : ResidualNet) (prices : List ℤ) (l : Lists) (goal node : ℕ) (pa
         omega (arith, place, more);
   }
 
-  -- before it there is a step
-  pub traced-step : node ≢ source_of l → (step_at l node ≡ None) → ⊥
-  traced-step away none =
-      let arrival = labels.arrived node traced.at traced.at_is away in
-      let e : None ≡ Some arrival.step = sym none ∙ arrival.is in cc
-
   module _ (away : node ≢ source_of l) (step : Step) (is : step_at l node ≡ Some step) where
     abbrev after : List Step
     after = path ++ step ∷ []

@@ -22,17 +22,17 @@ loop-k-preserved c =
     ) in
     let arc : c.arc-arc.result ≡ arc_of n.graph k =
     c.arc-arc.ensures ∙ ap (λ (g : Graph). arc_of g k) c.net-graph.ensures.graph in
-    let fits : SFits w64 c.offered_cost.result = search rules in
-    let word = to_z-of_z w64 c.offered_cost.result fits in
+    let fits : SFits w64 c.offer_on-offered.result.cost = search rules in
+    let word = to_z-of_z w64 c.offer_on-offered.result.cost fits in
     record {
       cost = done-more (pos 0) (λ (j : ℕ) (z : ℤ). z ≡ offered_cost offers (kind_of n j) (arc_of n.graph j))
           c.loop-k.cost k _ (omega (arith, inside, c.requires.cost_size)) c.loop-k.invariant.cost
-          (word ∙ c.offered_cost.ensures
+          (word ∙ c.offer_on-offered.ensures.cost
           ∙ ap (λ (kind : ArcKind). offered_cost offers kind c.arc-arc.result) c.kind-kind.ensures
           ∙ ap (λ (a : Arc). offered_cost offers (kind_of n k) a) arc);
       room = done-more 0 (λ (j r : ℕ). r ≡ offered_room offers (kind_of n j) (arc_of n.graph j)) c.loop-k.room k _
           (omega (arith, inside, c.requires.room_size)) c.loop-k.invariant.room
-          (c.offered_room.ensures
+          (c.offer_on-offered.ensures.room
           ∙ ap (λ (kind : ArcKind). offered_room offers kind c.arc-arc.result) c.kind-kind.ensures
           ∙ ap (λ (a : Arc). offered_room offers (kind_of n k) a) arc);
     }

@@ -4,7 +4,9 @@ use Rattle.vs_path.proofs.labels.forget.Given as goal
 
 abbrev pub invariant-loop-node : goal.invariant-loop-node
 invariant-loop-node l = record {
-  size : length l.settled ≡ length l.fn.settled;
-  kept : (v : ℕ) (a : Settled) → get_or l.settled v None ≡ Some a → get_or l.fn.settled v None ≡ Some a;
-  gone : (j : ℕ) → j < l.node-index → get_or l.settled (get_or l.nodes j 0) None ≡ None;
+  size : length l.heap.settled ≡ length l.fn.heap.settled;
+  kept : (v : ℕ) (a : Settled) → get_or l.heap.settled v None ≡ Some a → get_or l.fn.heap.settled v None ≡ Some a;
+  gone : (j : ℕ) → j < l.node-index → get_or l.heap.settled (get_or l.nodes j 0) None ≡ None;
+  waiting : l.heap.waiting ≡ l.fn.heap.waiting;
+  steps : l.heap.steps ≡ l.fn.heap.steps;
 }

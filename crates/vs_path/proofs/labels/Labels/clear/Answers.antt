@@ -1,6 +1,5 @@
-use Rattle.std.proofs.Common.{◌≡◌, ◌∙◌, ℕ, List, length, get_or, sym, ap, arith, Option, Some, None}
-use Rattle.vs_path.specs.declared.labels.Settled.{Settled}
-use Rattle.vs_path.specs.Labels.{lists_of, settled_at}
+use Rattle.std.proofs.Common.{◌≡◌, ◌∙◌, ℕ, List, length, get_or, ap, arith}
+use Rattle.vs_path.specs.Labels.{lists_of}
 use Rattle.vs_path.proofs.labelling.Lowering.{some_within}
 use Rattle.vs_path.proofs.labels.Labels.clear.Goals as goal
 
@@ -11,14 +10,11 @@ forget-requires-clause-within c = λ i inside.
     let within = some_within l.settled (get_or l.order i 0) is.0 is.1 in
     let same : get_or c.deref.result.now i 0 ≡ get_or l.order i 0 =
     ap (λ (xs : List ℕ). get_or xs i 0) c.deref.ensures.value in
-    omega (arith, within, same, ap length c.deref_mut.ensures.value)
+    omega (arith, within, same, c.requires.waiting)
 
 pub forget-requires-clause-all : goal.forget-requires-clause-all
 forget-requires-clause-all c = λ v a is.
-    let l = lists_of c.args.self.now in
-    let same : settled_at l v ≡ Some a =
-    ap (λ (xs : List (Option Settled)). get_or xs v None) (sym c.deref_mut.ensures.value) ∙ is in
-    let at = c.requires.placed v a same in (
+    let at = c.requires.placed v a is in (
       a.place,
       omega (arith, at.0, ap length c.deref.ensures.value),
       ap (λ (xs : List ℕ). get_or xs a.place 0) c.deref.ensures.value ∙ at.1,

@@ -1,10 +1,12 @@
-use Rattle.std.proofs.Common.{◌≡◌, ◌<◌, ◌∙◌, Some, None, ℤ, pos, [], ◌∷◌, length, get_or, refl, sym, ap, subst, rules, arith, true, false, ◌<ℤ◌, SFits, w64, length-append}
+use Rattle.std.proofs.Common.{◌≡◌, ◌<◌, ◌∙◌, Option, Some, None, ℤ, pos, [], ◌∷◌, length, get_or, refl, sym, ap, subst, rules, arith, true, false, ◌<ℤ◌, SFits, w64, length-append}
+use Rattle.std.proofs.lemmas.List.{length-replicate}
 use Rattle.std.proofs.lemmas.Int.{ints, to_z-of_z}
 use Rattle.std.specs.Prelude.{vec_capacity}
 use lib.Signed.{lt_z}
+use Rattle.vs_path.specs.Keys.{Keys, key_at}
 use Rattle.vs_path.specs.Labels.{Lists, AreLabels, Covers, IsReached, IsSettledAt, IsFarthest, IsLowered, Lacks, lists_of, settle_in}
 use Rattle.vs_path.proofs.labelling.Settling.{room-left}
-use Rattle.vs_path.proofs.labelling.Exploring.{begun_at, is_begun, begun_labels, begun_farthest, begun_settled, begun_relaxed, begun_lack, expanded, next_bound, next_labels, next_relaxed, next_settled, next_farthest, next_from, next_lack, next_reached}
+use Rattle.vs_path.proofs.labelling.Exploring.{get_or-none, begun_at, is_begun, begun_labels, begun_farthest, begun_settled, begun_relaxed, begun_lack, expanded, next_bound, next_labels, next_relaxed, next_settled, next_farthest, next_from, next_lack, next_reached}
 use Rattle.vs_path.proofs.labels.Labels.explore.Goals as goal
 
 lt_z-true : (a b : ℤ) → lt_z a b ≡ true → a <ℤ b
@@ -12,6 +14,16 @@ lt_z-true a b test = grind (arith, ints)
 
 lt_z-false : (a b : ℤ) → lt_z a b ≡ false → a <ℤ b → ⊥
 lt_z-false a b test less = grind (arith, ints)
+
+pub settle-requires-clause-node : goal.settle-requires-clause-node
+settle-requires-clause-node c =
+    let all = ap length c.requires.fresh.waiting in
+    omega (arith, all, length-replicate {A = Option ℤ} c.args.residual.now.graph.nodes None, c.requires.source)
+
+pub settle-requires-clause-taken : goal.settle-requires-clause-taken
+settle-requires-clause-taken c =
+    ap (λ (k : Keys). key_at k c.args.source) c.requires.fresh.waiting
+    ∙ get_or-none c.args.residual.now.graph.nodes c.args.source
 
 pub expand-requires-clause-labels : goal.expand-requires-clause-labels
 expand-requires-clause-labels c =

@@ -1,18 +1,23 @@
-use Rattle.std.proofs.Common.{ap, rules, SFits, w64}
+use Rattle.std.proofs.Common.{refl, rules, SFits, w64}
 use Rattle.std.proofs.lemmas.Int.{to_z-of_z}
-use Rattle.vs_path.specs.Keys.{Keys, key_at}
-use Rattle.vs_path.specs.Labels.{lists_of, lowered}
+use Rattle.vs_path.specs.Keys.{key_at}
+use Rattle.vs_path.specs.Labels.{Lists, lists_of, lowered}
+use Rattle.vs_path.proofs.labelling.Exploring.{lists-same}
 use Rattle.vs_path.proofs.labelling.Lowering.{better-not_after}
 use Rattle.vs_path.proofs.labels.Labels.lower.Goals as goal
 
 pub lower-requires-clause-lower : goal.lower-requires-clause-lower
 lower-requires-clause-lower c =
     let fits : SFits w64 c.args.label = search rules in
-    rw to_z-of_z (better-not_after (key_at c.args.self.now.waiting c.args.node) c.args.label c.requires.better)
+    rw to_z-of_z (better-not_after (key_at c.args.self.now.nodes.waiting c.args.node) c.args.label c.requires.better)
 
 pub returns-clause-lists : goal.returns-clause-lists
 returns-clause-lists c =
     let fits : SFits w64 c.args.label = search rules in
-    let waiting = simp to_z-of_z at c.lower.ensures in
-    ap (λ (w : Keys). record (lowered (lists_of c.args.self.now) c.args.node c.args.label c.args.step)
-    { waiting = w }) waiting
+    let waiting = simp to_z-of_z at c.lower.ensures.waiting in
+    let new = c.lower.new.self in
+    let l = lists_of c.args.self.now in
+    let after : Lists =
+    record { settled = new.settled; waiting = new.waiting; steps = new.steps; order = l.order } in
+    lists-same after (lowered l c.args.node c.args.label c.args.step) c.lower.ensures.settled waiting
+    c.lower.ensures.steps refl

@@ -4,13 +4,12 @@ use Rattle.vs_path.specs.declared.labels.Settled.{Settled}
 use Rattle.vs_path.specs.Residual.{price_at}
 use Rattle.vs_path.specs.Labels.{lists_of, settled_at}
 use Rattle.vs_path.specs.Search.{AreMoved}
-use Rattle.vs_path.proofs.labelling.Lowering.{read_at}
 use Rattle.vs_path.proofs.found.Moving.{AreMovedUpTo, moved-all, moved-kept, moved-more, moved-skip, listed-within}
 use Rattle.vs_path.proofs.labels.Labels.lower_prices.Goals as goal
 use Rattle.vs_path.proofs.labels.Labels.lower_prices.Goals.{in-Some-known, in_default-known}
 
-pub index-known-requires : goal.index-known-requires
-index-known-requires c =
+pub settled-known-requires : goal.settled-known-requires
+settled-known-requires c =
     let l = lists_of c.args.self.now in
     let i = c.loop-node.node-index in
     let nodes = c.deref-node-items.result.now in
@@ -57,14 +56,11 @@ lowered_price-requires-clause-nearer c =
     ap (λ (xs : List ℕ). get_or xs i 0) c.deref-node-items.ensures.value in
     let within = listed-within (length c.args.prices.now) l i c.requires.listed inside in
     let goal_is : settled_at l c.args.goal ≡ Some c.in-Some.farthest =
-    read_at l.settled c.args.goal c.index.result.now (omega (arith, c.requires.goal, c.requires.listed.settled))
-    c.index.ensures
+    sym c.settled.ensures
     ∙ c.in-Some.is in
     let is : settled_at l (get_or l.order i 0) ≡ Some a =
     ap (settled_at l) (sym at)
-    ∙ read_at l.settled (get_or nodes i 0) c.index-known.result.now
-    (omega (arith, at, within, c.requires.listed.settled))
-    c.index-known.ensures ∙ c.in-Some-known.is in
+    ∙ sym c.settled-known.ensures ∙ c.in-Some-known.is in
     (c.requires.space c.in-Some.farthest goal_is (get_or l.order i 0) a is).0
 
 pub lowered_price-requires-clause-fits : goal.lowered_price-requires-clause-fits
@@ -79,14 +75,11 @@ lowered_price-requires-clause-fits c =
     ap (λ (xs : List ℕ). get_or xs i 0) c.deref-node-items.ensures.value in
     let within = listed-within (length c.args.prices.now) l i c.requires.listed inside in
     let goal_is : settled_at l c.args.goal ≡ Some c.in-Some.farthest =
-    read_at l.settled c.args.goal c.index.result.now (omega (arith, c.requires.goal, c.requires.listed.settled))
-    c.index.ensures
+    sym c.settled.ensures
     ∙ c.in-Some.is in
     let is : settled_at l (get_or l.order i 0) ≡ Some a =
     ap (settled_at l) (sym at)
-    ∙ read_at l.settled (get_or nodes i 0) c.index-known.result.now
-    (omega (arith, at, within, c.requires.listed.settled))
-    c.index-known.ensures ∙ c.in-Some-known.is in
+    ∙ sym c.settled-known.ensures ∙ c.in-Some-known.is in
     let kept =
     moved-kept (length c.args.prices.now) l c.in-Some.farthest.distance c.args.prices.now c.loop-node.prices i a
     c.requires.listed inside is c.loop-node.invariant in
@@ -112,9 +105,7 @@ loop-node-preserved c =
           let a = w.in-Some-known.settled in
           let is : settled_at l (get_or l.order i 0) ≡ Some a =
           ap (settled_at l) (sym at)
-          ∙ read_at l.settled (get_or nodes i 0) c.index-known.result.now
-          (omega (arith, at, within, c.requires.listed.settled))
-          c.index-known.ensures ∙ w.in-Some-known.is in
+          ∙ sym c.settled-known.ensures ∙ w.in-Some-known.is in
           let fits : SFits w64 (price_at c.loop-node.prices (get_or nodes i 0)) = search rules in
           let fits_too : SFits w64 w.lowered_price.result = search rules in
           let price = simp to_z-of_z at w.lowered_price.ensures in
@@ -133,9 +124,7 @@ loop-node-preserved c =
       | in_default-known w ↦
           let none : settled_at l (get_or l.order i 0) ≡ None =
           ap (settled_at l) (sym at)
-          ∙ read_at l.settled (get_or nodes i 0) c.index-known.result.now
-          (omega (arith, at, within, c.requires.listed.settled))
-          c.index-known.ensures ∙ w.in_default-known.is in
+          ∙ sym c.settled-known.ensures ∙ w.in_default-known.is in
           absurd (moved-skip (length c.args.prices.now) l i c.requires.listed inside none)
     ]
 
@@ -143,8 +132,7 @@ pub returns : goal.returns
 returns c = λ a is.
     let l = lists_of c.args.self.now in
     let goal_is : settled_at l c.args.goal ≡ Some c.in-Some.farthest =
-    read_at l.settled c.args.goal c.index.result.now (omega (arith, c.requires.goal, c.requires.listed.settled))
-    c.index.ensures
+    sym c.settled.ensures
     ∙ c.in-Some.is in
     let e : Some c.in-Some.farthest ≡ Some a = sym goal_is ∙ is in
     let same : c.in-Some.farthest ≡ a = cc in

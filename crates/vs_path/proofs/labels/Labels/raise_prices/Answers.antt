@@ -1,8 +1,7 @@
-use Rattle.std.proofs.Common.{◌≡◌, ◌<◌, ◌∙◌, ◌+ℤ◌, ℤ, get_or, pos, ap, sym, arith, rules, length, SFits, w64}
+use Rattle.std.proofs.Common.{◌≡◌, ◌∙◌, ◌+ℤ◌, ℤ, get_or, pos, ap, arith, rules, SFits, w64}
 use Rattle.std.proofs.lemmas.Int.{ints, to_z-of_z}
 use Rattle.vs_path.specs.Labels.{lists_of, settled_at}
 use Rattle.vs_path.specs.Raising.{rise_of}
-use Rattle.vs_path.proofs.labelling.Lowering.{read_at}
 use Rattle.vs_path.proofs.raised.RaisingUpTo.{raised-more}
 use Rattle.vs_path.proofs.labels.Labels.raise_prices.Goals as goal
 
@@ -14,9 +13,8 @@ overflow_add-price c =
     let fits_too : SFits w64 c.rise_of.result = search rules in
     let fits_rise : SFits w64 c.args.rise = search rules in
     let rise = simp to_z-of_z at c.rise_of.ensures in
-    let within : v < length l.settled = omega (arith, c.requires.settled, c.loop-v-test.true) in
     let is : c.rise_of.result ≡ rise_of (settled_at l v) c.args.rise =
-    rise ∙ ap (λ s. rise_of s c.args.rise) (sym (read_at l.settled v c.index.result.now within c.index.ensures)) in
+    rise ∙ ap (λ s. rise_of s c.args.rise) c.settled.ensures in
     let kept = c.loop-v.invariant.kept v (omega arith) in
     let space = c.requires.space v c.loop-v-test.true in
     simp to_z-of_z (omega (arith, ints, kept, is, space))
@@ -30,9 +28,8 @@ loop-v-preserved c =
     let fits_too : SFits w64 c.rise_of.result = search rules in
     let fits_rise : SFits w64 c.args.rise = search rules in
     let rise = simp to_z-of_z at c.rise_of.ensures in
-    let within : v < length l.settled = omega (arith, c.requires.settled, c.loop-v-test.true) in
     let is : c.rise_of.result ≡ rise_of (settled_at l v) c.args.rise =
-    rise ∙ ap (λ s. rise_of s c.args.rise) (sym (read_at l.settled v c.index.result.now within c.index.ensures)) in
+    rise ∙ ap (λ s. rise_of s c.args.rise) c.settled.ensures in
     let kept = c.loop-v.invariant.kept v (omega arith) in
     let space = c.requires.space v c.loop-v-test.true in
     let fits_sum : SFits w64 (price +ℤ c.rise_of.result) = omega (arith, ints, kept, is, space) in

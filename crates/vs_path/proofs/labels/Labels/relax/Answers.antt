@@ -1,9 +1,16 @@
-use Rattle.std.proofs.Common.{◌≡◌, ◌<◌, ◌∙◌, ◌+ℤ◌, refl, ap, sym, subst, arith, rules, ℕ, Some, None, true, false, length, SFits, w64}
+use Rattle.std.proofs.Common.{◌≡◌, ◌<◌, ◌∙◌, ◌+ℤ◌, refl, ap, sym, subst, arith, rules, ℕ, Some, None, true, false, SFits, w64}
 use Rattle.std.proofs.lemmas.Int.{to_z-of_z}
 use Rattle.vs_path.specs.Residual.{to_of, reduced}
 use Rattle.vs_path.specs.Labels.{Lists, Covers, IsBetter, Relaxes, lists_of, lowered, settled_at}
-use Rattle.vs_path.proofs.labelling.Lowering.{covers_here, is_lowered, relaxed_past, relaxed_worse, settled_already, relaxes_lowered, lowered-same, read_at, when_some, when_none}
+use Rattle.vs_path.proofs.labelling.Lowering.{covers_here, is_lowered, relaxed_past, relaxed_worse, settled_already, relaxes_lowered, lowered-same, when_some, when_none}
 use Rattle.vs_path.proofs.labels.Labels.relax.Goals as goal
+
+pub settled-requires : goal.settled-requires
+settled-requires c = omega (arith, c.to-node.ensures.of_net, c.requires.labels.are_listed.settled)
+
+pub lower-requires-clause-unsettled : goal.lower-requires-clause-unsettled
+lower-requires-clause-unsettled c =
+    sym c.settled.ensures ∙ when_none c.settled.result (sym c.is_some.ensures ∙ c.if-is_some.false)
 
 -- the node is settled
 pub returns-then-is_some-clause-relaxes : goal.returns-then-is_some-clause-relaxes
@@ -12,12 +19,10 @@ returns-then-is_some-clause-relaxes c =
     let p = c.args.prices.now in
     let l = lists_of c.args.self.now in
     let s = c.args.step in
-    let within : c.to-node.result < length l.settled =
-    omega (arith, c.to-node.ensures.of_net, c.requires.labels.are_listed.settled) in
-    let some = when_some c.index.result.now (sym c.is_some.ensures ∙ c.if-is_some.true) in
+    let some = when_some c.settled.result (sym c.is_some.ensures ∙ c.if-is_some.true) in
     let is : settled_at l (to_of r s) ≡ Some some.0 =
     ap (settled_at l) (sym c.to-node.ensures.node)
-    ∙ read_at l.settled c.to-node.result c.index.result.now within c.index.ensures
+    ∙ sym c.settled.ensures
     ∙ some.1 in
     record {
       labels = c.requires.labels;
@@ -70,12 +75,10 @@ note-requires-clause-covers c =
     let given = simp to_z-of_z at c.lower.ensures.lists in
     let lists : lists_of c.lower.new.self ≡ lowered l (to_of r s) label s =
     given ∙ ap (λ (v : ℕ). lowered l v label s) c.to-node.ensures.node in
-    let within : c.to-node.result < length l.settled =
-    omega (arith, c.to-node.ensures.of_net, c.requires.labels.are_listed.settled) in
     let unsettled : settled_at l (to_of r s) ≡ None =
     ap (settled_at l) (sym c.to-node.ensures.node)
-    ∙ read_at l.settled c.to-node.result c.index.result.now within c.index.ensures
-    ∙ when_none c.index.result.now (sym c.is_some.ensures ∙ c.if-is_some.false) in
+    ∙ sym c.settled.ensures
+    ∙ when_none c.settled.result (sym c.is_some.ensures ∙ c.if-is_some.false) in
     let given_better = simp to_z-of_z at (c.if-is_better.ensures.0 refl) in
     let better : IsBetter l (to_of r s) label =
     subst (λ (v : ℕ). IsBetter l v label) c.to-node.ensures.node given_better in
@@ -101,12 +104,10 @@ note-requires-clause-bound c = λ b is.
     let given = simp to_z-of_z at c.lower.ensures.lists in
     let lists : lists_of c.lower.new.self ≡ lowered l (to_of r s) label s =
     given ∙ ap (λ (v : ℕ). lowered l v label s) c.to-node.ensures.node in
-    let within : c.to-node.result < length l.settled =
-    omega (arith, c.to-node.ensures.of_net, c.requires.labels.are_listed.settled) in
     let unsettled : settled_at l (to_of r s) ≡ None =
     ap (settled_at l) (sym c.to-node.ensures.node)
-    ∙ read_at l.settled c.to-node.result c.index.result.now within c.index.ensures
-    ∙ when_none c.index.result.now (sym c.is_some.ensures ∙ c.if-is_some.false) in
+    ∙ sym c.settled.ensures
+    ∙ when_none c.settled.result (sym c.is_some.ensures ∙ c.if-is_some.false) in
     let given_better = simp to_z-of_z at (c.if-is_better.ensures.0 refl) in
     let better : IsBetter l (to_of r s) label =
     subst (λ (v : ℕ). IsBetter l v label) c.to-node.ensures.node given_better in
@@ -134,12 +135,10 @@ returns-then-is_better-clause-relaxes c =
     let given = simp to_z-of_z at c.lower.ensures.lists in
     let lists : lists_of c.lower.new.self ≡ lowered l (to_of r s) label s =
     given ∙ ap (λ (v : ℕ). lowered l v label s) c.to-node.ensures.node in
-    let within : c.to-node.result < length l.settled =
-    omega (arith, c.to-node.ensures.of_net, c.requires.labels.are_listed.settled) in
     let unsettled : settled_at l (to_of r s) ≡ None =
     ap (settled_at l) (sym c.to-node.ensures.node)
-    ∙ read_at l.settled c.to-node.result c.index.result.now within c.index.ensures
-    ∙ when_none c.index.result.now (sym c.is_some.ensures ∙ c.if-is_some.false) in
+    ∙ sym c.settled.ensures
+    ∙ when_none c.settled.result (sym c.is_some.ensures ∙ c.if-is_some.false) in
     let given_better = simp to_z-of_z at (c.if-is_better.ensures.0 refl) in
     let better : IsBetter l (to_of r s) label =
     subst (λ (v : ℕ). IsBetter l v label) c.to-node.ensures.node given_better in
@@ -160,12 +159,10 @@ returns-else-is_better-clause-relaxes c =
     let label = c.along-label.result in
     let fits : SFits w64 label = search rules in
     let sum = c.along-label.ensures in
-    let within : c.to-node.result < length l.settled =
-    omega (arith, c.to-node.ensures.of_net, c.requires.labels.are_listed.settled) in
     let unsettled : settled_at l (to_of r s) ≡ None =
     ap (settled_at l) (sym c.to-node.ensures.node)
-    ∙ read_at l.settled c.to-node.result c.index.result.now within c.index.ensures
-    ∙ when_none c.index.result.now (sym c.is_some.ensures ∙ c.if-is_some.false) in
+    ∙ sym c.settled.ensures
+    ∙ when_none c.settled.result (sym c.is_some.ensures ∙ c.if-is_some.false) in
     let given_worse = simp to_z-of_z at c.if-is_better.ensures.1 in
     record {
       labels = c.requires.labels;

@@ -1,11 +1,10 @@
-use Rattle.std.proofs.Common.{rules, ◌≡◌, ◌≢◌, ◌<◌, ◌∙◌, ℕ, List, [], ◌∷◌, ◌++◌, length, get_or, sym, ap, subst, arith, Some, None}
+use Rattle.std.proofs.Common.{rules, ◌≡◌, ◌≢◌, ◌<◌, ◌∙◌, ℕ, List, [], ◌∷◌, ◌++◌, length, get_or, sym, ap, subst, arith, Some}
 use Rattle.std.proofs.lemmas.List.{get_or_default}
 use Rattle.vs_path.specs.declared.step.Step.{Step}
 use Rattle.vs_path.specs.Labels.{Lists, lists_of, settled_at, source_of, step_at}
-use Rattle.vs_path.proofs.labelling.Lowering.{read_at}
 use Rattle.vs_path.proofs.labelling.Settling.{order-≤}
 use Rattle.vs_path.proofs.found.Moving.{node-<}
-use Rattle.vs_path.proofs.found.Tracing.{IsTraced, place_of, traced-none, traced-path, traced-step, traced-more, step-open, step-from}
+use Rattle.vs_path.proofs.found.Tracing.{IsTraced, place_of, traced-none, traced-path, traced-more, step-open, step-from}
 use Rattle.vs_path.proofs.labels.Labels.trace.Goals as goal
 
 pub loop-node-init : goal.loop-node-init
@@ -25,22 +24,13 @@ from_source : (l : Lists) (first node : ℕ) → 0 < length l.order → first �
 from_source l first node some is away same =
     away (same ∙ get_or_default l.order 0 0 first some ∙ sym is)
 
--- there is a step to each settled node but the source
-pub returns-in_default-clause-path : goal.returns-in_default-clause-path
-returns-in_default-clause-path c =
+pub step-last-requires : goal.step-last-requires
+step-last-requires c =
     let l = lists_of c.args.self.now in
     let traced = c.loop-node.invariant.traced in
-    let away =
-    from_source l c.index-source.result.now c.loop-node.node c.requires.labels.some c.index-source.ensures
-    c.loop-node-test.true in
     let within =
     node-< c.args.residual.now.graph.nodes l c.loop-node.node traced.at c.requires.labels.are_listed traced.at_is in
-    let none : step_at l c.loop-node.node ≡ None =
-    read_at l.steps c.loop-node.node c.index.result.now (omega (arith, within, c.requires.labels.are_listed.steps))
-    c.index.ensures
-    ∙ c.in_default.is in
-    absurd (traced-step c.args.residual.now c.args.prices.now l c.args.goal c.loop-node.node c.loop-node.path.items
-    c.requires.labels traced away none)
+    omega (arith, within, c.requires.labels.are_listed.steps)
 
 pub from-node-requires : goal.from-node-requires
 from-node-requires c =
@@ -50,14 +40,11 @@ from-node-requires c =
     let away =
     from_source l c.index-source.result.now c.loop-node.node c.requires.labels.some c.index-source.ensures
     c.loop-node-test.true in
-    let within = node-< r.graph.nodes l c.loop-node.node traced.at c.requires.labels.are_listed traced.at_is in
-    let is : step_at l c.loop-node.node ≡ Some c.in-Some.step =
-    read_at l.steps c.loop-node.node c.index.result.now (omega (arith, within, c.requires.labels.are_listed.steps))
-    c.index.ensures
-    ∙ c.in-Some.is in
+    let is : step_at l c.loop-node.node ≡ Some c.step-last.result =
+    c.step-last.ensures in
     let open_ =
     step-open r c.args.prices.now l c.args.goal c.loop-node.node c.loop-node.path.items c.requires.labels traced away
-    c.in-Some.step is in
+    c.step-last.result is in
     omega (arith, open_.arc, c.requires.residual.arcs)
 
 pub loop-node-smaller : goal.loop-node-smaller
@@ -68,14 +55,11 @@ loop-node-smaller c =
     let away =
     from_source l c.index-source.result.now c.loop-node.node c.requires.labels.some c.index-source.ensures
     c.loop-node-test.true in
-    let within = node-< r.graph.nodes l c.loop-node.node traced.at c.requires.labels.are_listed traced.at_is in
-    let is : step_at l c.loop-node.node ≡ Some c.in-Some.step =
-    read_at l.steps c.loop-node.node c.index.result.now (omega (arith, within, c.requires.labels.are_listed.steps))
-    c.index.ensures
-    ∙ c.in-Some.is in
+    let is : step_at l c.loop-node.node ≡ Some c.step-last.result =
+    c.step-last.ensures in
     let from =
     step-from r c.args.prices.now l c.args.goal c.loop-node.node c.loop-node.path.items c.requires.labels traced away
-    c.in-Some.step is in
+    c.step-last.result is in
     let less = from.2 in
     let before = ap place_of traced.at_is in
     let after = ap (λ (v : ℕ). place_of (settled_at l v)) c.from-node.ensures.node ∙ ap place_of from.1 in
@@ -90,19 +74,16 @@ loop-node-preserved c =
     let away =
     from_source l c.index-source.result.now c.loop-node.node c.requires.labels.some c.index-source.ensures
     c.loop-node-test.true in
-    let within = node-< r.graph.nodes l c.loop-node.node traced.at c.requires.labels.are_listed traced.at_is in
-    let is : step_at l c.loop-node.node ≡ Some c.in-Some.step =
-    read_at l.steps c.loop-node.node c.index.result.now (omega (arith, within, c.requires.labels.are_listed.steps))
-    c.index.ensures
-    ∙ c.in-Some.is in
+    let is : step_at l c.loop-node.node ≡ Some c.step-last.result =
+    c.step-last.ensures in
     let more =
-    traced-more r c.args.prices.now l c.args.goal c.loop-node.node path c.requires.labels traced away c.in-Some.step
+    traced-more r c.args.prices.now l c.args.goal c.loop-node.node path c.requires.labels traced away c.step-last.result
     is in
     let count = traced.count in
     let few = order-≤ r.graph.nodes l c.requires.labels.are_listed in
-    let P : ℕ → Type 0 = λ v. IsTraced r c.args.prices.now l c.args.goal v (path ++ c.in-Some.step ∷ []) in
+    let P : ℕ → Type 0 = λ v. IsTraced r c.args.prices.now l c.args.goal v (path ++ c.step-last.result ∷ []) in
     let Q : List Step → Type 0 = λ ss. IsTraced r c.args.prices.now l c.args.goal c.from-node.result ss in
-    let pushed : c.push.new.self.items ≡ path ++ c.in-Some.step ∷ [] =
+    let pushed : c.push.new.self.items ≡ path ++ c.step-last.result ∷ [] =
     let ok = c.push.ensures.succeeds (omega (arith, count, few, c.requires.space, c.loop-node.invariant.space)) in
     search rules in
     record {

@@ -4,4 +4,5 @@ use Rattle.vs_path.proofs.queue.Queue.clear.Goals as goal
 
 pub returns-clause-none : goal.returns-clause-none
 returns-clause-none c =
-    all-none c.forget.new.keys c.forget.ensures ∙ ap (λ (n : ℕ). replicate n None) c.forget.auto.keys
+    all-none c.forget.new.table.waiting c.forget.ensures.none
+    ∙ ap (λ (n : ℕ). replicate n None) c.forget.ensures.size

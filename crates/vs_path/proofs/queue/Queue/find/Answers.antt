@@ -7,7 +7,7 @@ use Rattle.vs_path.proofs.queue.Queue.find.Goals as goal
 
 pub returns-clause-taken : goal.returns-clause-taken
 returns-clause-taken c =
-    let keys = c.args.keys.now in
+    let keys = c.args.table.now.waiting in
     let now = c.args.self.now in
     let v = c.in_ok-node.node in
     let key = c.in_ok-node.key in

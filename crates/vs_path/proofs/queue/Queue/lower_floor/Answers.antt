@@ -10,5 +10,5 @@ returns-then-key-self-clause-queue c =
     let fits : SFits w64 c.args.key = search rules in
     let lower : c.args.key ≤ℤ new.floor = omega (arith, ints, c.if-key-self.true, c.unstack.ensures.floor) in
     rw to_z-of_z
-    (floor-lowered c.args.keys.now new.near.items new.floor c.args.key (heap_items new.far) new.complete
+    (floor-lowered c.args.table.now.waiting new.near.items new.floor c.args.key (heap_items new.far) new.complete
     c.unstack.ensures.queue c.unstack.ensures.none_near lower)

@@ -8,7 +8,7 @@ use Rattle.vs_path.proofs.queue.Queue.pop.Goals as goal
 
 pub counts-requires : goal.counts-requires
 counts-requires c =
-    let keys = c.args.keys.now in
+    let keys = c.args.table.now.waiting in
     let now = c.loop-entry.self in
     let inv = c.loop-entry.invariant in
     let q = far-alone keys now.near.items now.floor (heap_items now.far) now.complete inv.queue inv.none_near
@@ -18,7 +18,7 @@ counts-requires c =
 
 pub returns-then-counts-clause-taken : goal.returns-then-counts-clause-taken
 returns-then-counts-clause-taken c =
-    let keys = c.args.keys.now in
+    let keys = c.args.table.now.waiting in
     let now = c.loop-entry.self in
     let inv = c.loop-entry.invariant in
     let x = c.in-Some.entry in
@@ -41,7 +41,7 @@ returns-then-counts-clause-taken c =
 
 pub loop-entry-preserved : goal.loop-entry-preserved
 loop-entry-preserved c =
-    let keys = c.args.keys.now in
+    let keys = c.args.table.now.waiting in
     let now = c.loop-entry.self in
     let inv = c.loop-entry.invariant in
     let x = c.in-Some.entry in

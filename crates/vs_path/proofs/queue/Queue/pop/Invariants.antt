@@ -6,7 +6,7 @@ use Rattle.vs_path.proofs.queue.Queue.pop.Given as goal
 -- what is left is a queue
 abbrev pub invariant-loop-entry : goal.invariant-loop-entry
 invariant-loop-entry l = record {
-  queue : IsQueue l.keys l.self;
+  queue : IsQueue l.table.waiting l.self;
   none_near : l.self.near.items ≡ [];
   complete : l.self.complete ≡ true;
 }

@@ -7,7 +7,7 @@ use Rattle.vs_path.proofs.queue.Queue.take.Goals as goal
 
 pub returns-in-Some-clause-taken : goal.returns-in-Some-clause-taken
 returns-in-Some-clause-taken c =
-    let keys = c.args.keys.now in
+    let keys = c.args.table.now.waiting in
     let now = c.args.self.now in
     let rest = c.pop.new.self.items in
     let v = c.in-Some.node in
@@ -25,7 +25,7 @@ returns-in-Some-clause-taken c =
 
 pub returns-in-Some-clause-else_same : goal.returns-in-Some-clause-else_same
 returns-in-Some-clause-else_same c =
-    let keys = c.args.keys.now in
+    let keys = c.args.table.now.waiting in
     let now = c.args.self.now in
     let far = heap_items now.far in
     let P : List ℕ → Type 0 = λ stack. AreQueued keys stack now.floor far now.complete in

@@ -9,7 +9,7 @@ loop-node-preserved c =
     let fits : SFits w64 now.floor = search rules in
     let put = simp to_z-of_z at c.put.ensures.put in
     record {
-      queue = moved-queue c.args.keys.now now _ c.put.new.self c.in-Some.node c.loop-node.invariant.queue
+      queue = moved-queue c.args.table.now.waiting now _ c.put.new.self c.in-Some.node c.loop-node.invariant.queue
           c.in-Some.ensures.items refl refl refl put;
       floor = put.floor ∙ c.loop-node.invariant.floor;
     }

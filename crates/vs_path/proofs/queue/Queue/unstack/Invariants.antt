@@ -5,7 +5,7 @@ use Rattle.vs_path.proofs.queue.Queue.unstack.Given as goal
 -- the nodes so far are in the heap
 abbrev pub invariant-loop-node : goal.invariant-loop-node
 invariant-loop-node l = record {
-  queue : IsQueue l.keys l.self;
+  queue : IsQueue l.table.waiting l.self;
   floor : l.self.floor ≡ l.fn.self.floor;
 }
 

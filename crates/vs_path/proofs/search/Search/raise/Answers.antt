@@ -11,7 +11,7 @@ raise_prices-requires-clause-space c =
     let p = c.args.prices.now in
     let l = lists_of c.explore.new.self in
     let over =
-    always-over r p c.deref.result.now c.args.source l (length c.self.inside.labels.settled.items) c.explore.result
+    always-over r p c.deref.result.now c.args.source l (length c.self.inside.labels.nodes.settled) c.explore.result
     (c.deref.ensures.value ∙ c.self.invariant.none_lacks) c.explore.ensures.found in
     let fits : SFits w64 c.args.beyond = search rules in
     let fits_too : SFits w64 c.greatest_distance-rise.result = search rules in
@@ -27,7 +27,7 @@ returns-clause-raised c =
     let p = c.args.prices.now in
     let l = lists_of c.explore.new.self in
     let over =
-    always-over r p c.deref.result.now c.args.source l (length c.self.inside.labels.settled.items) c.explore.result
+    always-over r p c.deref.result.now c.args.source l (length c.self.inside.labels.nodes.settled) c.explore.result
     (c.deref.ensures.value ∙ c.self.invariant.none_lacks) c.explore.ensures.found in
     let fits : SFits w64 c.args.beyond = search rules in
     let fits_too : SFits w64 c.greatest_distance-rise.result = search rules in
@@ -43,7 +43,7 @@ returns-clause-sign_rule c =
     let p = c.args.prices.now in
     let l = lists_of c.explore.new.self in
     let over =
-    always-over r p c.deref.result.now c.args.source l (length c.self.inside.labels.settled.items) c.explore.result
+    always-over r p c.deref.result.now c.args.source l (length c.self.inside.labels.nodes.settled) c.explore.result
     (c.deref.ensures.value ∙ c.self.invariant.none_lacks) c.explore.ensures.found in
     let fits : SFits w64 c.args.beyond = search rules in
     let fits_too : SFits w64 c.greatest_distance-rise.result = search rules in
@@ -60,7 +60,7 @@ returns-clause-source c =
     let p = c.args.prices.now in
     let l = lists_of c.explore.new.self in
     let over =
-    always-over r p c.deref.result.now c.args.source l (length c.self.inside.labels.settled.items) c.explore.result
+    always-over r p c.deref.result.now c.args.source l (length c.self.inside.labels.nodes.settled) c.explore.result
     (c.deref.ensures.value ∙ c.self.invariant.none_lacks) c.explore.ensures.found in
     let fits : SFits w64 c.args.beyond = search rules in
     let fits_too : SFits w64 c.greatest_distance-rise.result = search rules in
