@@ -9,6 +9,6 @@ returns-in-Some c =
     let is = c.in-Some.ensures in (
       λ some. (k, is, ltb-true 0 (get_or units k 0) some),
       λ run.
-      let same = c.requires.of_layer.2.one_arc c.args.trip.0 run.0 k run.1 is in
-      lt-ltb 0 (get_or units k 0) (subst (λ (j : ℕ). 0 < get_or units j 0) same run.2),
+          let same = c.requires.of_layer.2.one_arc c.args.trip.0 run.0 k run.1 is in
+          lt-ltb 0 (get_or units k 0) (subst (λ (j : ℕ). 0 < get_or units j 0) same run.2),
     )
