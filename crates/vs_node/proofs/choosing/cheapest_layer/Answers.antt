@@ -36,8 +36,7 @@ loop-k-preserved c =
           let word : to_z w64 (of_z w64 w.trip_price-price.result) ≡ w.trip_price-price.result =
           omega (arith, ints, price.low, price.high) in
           let has : Has set k = search rules in
-          let less : w.trip_price-price.result <ℤ to_z w64 c.loop-k.least-bits =
-          omega (arith, ints, word, w.if-price-least.true) in
+          let less : w.trip_price-price.result <ℤ to_z w64 c.loop-k.least-bits = grind (arith, ints) in
           subst (λ (least : ℤ). Claim least c.if-has.cheapest) (sym w.least-is)
           (subst (Claim (to_z w64 (of_z w64 w.trip_price-price.result))) (sym w.cheapest-is)
           (so_far-taken p set table i (to_z w64 c.loop-k.least-bits) k c.loop-k.cheapest.0 so_far
@@ -47,8 +46,7 @@ loop-k-preserved c =
           let price = w.trip_price-price.ensures in
           let word : to_z w64 (of_z w64 w.trip_price-price.result) ≡ w.trip_price-price.result =
           omega (arith, ints, price.low, price.high) in
-          let no_less : to_z w64 c.loop-k.least-bits ≤ℤ w.trip_price-price.result =
-          omega (arith, ints, word, w.if-price-least.false) in
+          let no_less : to_z w64 c.loop-k.least-bits ≤ℤ w.trip_price-price.result = grind (arith, ints) in
           subst (λ (least : ℤ). Claim least c.if-has.cheapest) (sym w.least-is)
           (subst (Claim (to_z w64 c.loop-k.least-bits)) (sym w.cheapest-is)
           (so_far-kept p set table i (to_z w64 c.loop-k.least-bits) k c.loop-k.cheapest.0 so_far
