@@ -1,4 +1,4 @@
-use Rattle.std.proofs.Common.{List, refl, subst}
+use Rattle.std.proofs.Common.{List, subst}
 use Rattle.vs_types.specs.declared.layer_set.LayerSet.{LayerSet}
 use Rattle.vs_instance.specs.Restriction.{IsRestriction}
 use Rattle.vs_node.specs.LeastPlans.{ShowsPlan}
@@ -47,6 +47,3 @@ returns-clause-full c =
     shown-closed c.args.case.now.instance.now c.args.task.now.sets.items c.in_ok-settled.settled.table
     c.requires.leaf.case.nets.instance (restricted c) c.in_ok-settled.ensures.fits c.in_ok-settled.ensures.holds
     c.in_ok-settled.settled.plan (shows c) c.args.task.now.known
-
-pub returns-clause-closed : goal.returns-clause-closed
-returns-clause-closed c = refl
