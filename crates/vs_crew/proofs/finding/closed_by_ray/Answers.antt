@@ -13,3 +13,6 @@ returns-in-Some c =
     c.in_ok-found.ensures in
     shown-IsFound p c.args.task.now table
     (subst (λ (sets : List LayerSet). ShowsNoPlan p sets table) c.as_slice-sets.ensures.value shows)
+
+pub returns-in-None : goal.returns-in-None
+returns-in-None c = c.requires.found

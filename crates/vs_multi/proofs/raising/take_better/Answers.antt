@@ -1,7 +1,12 @@
 use Rattle.std.proofs.Common.{◌∙◌}
-use Rattle.vs_multi.proofs.BoundOrder.{worth_along}
+use Rattle.vs_multi.proofs.BoundOrder.{else_no_less, worth_along}
 use Rattle.vs_multi.proofs.Exchanged.{fleet_back, from_back, into_back}
 use Rattle.vs_multi.proofs.raising.take_better.Goals as goal
+
+pub returns-then-gains-clause-no_less : goal.returns-then-gains-clause-no_less
+returns-then-gains-clause-no_less c =
+    else_no_less c.args.least c.worth-raised.result
+    (λ more. let never = c.if-gains.ensures.1 more in absurd cc)
 
 pub returns-else-gains-clause-worth : goal.returns-else-gains-clause-worth
 returns-else-gains-clause-worth c =

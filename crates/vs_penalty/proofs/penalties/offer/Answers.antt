@@ -14,3 +14,9 @@ returns-clause-bid c = record {
     | else-count-eq0 w ↦ omega (arith, ints, clamps, w.offered-is, c.max.ensures.value, c.min.ensures.value)
   ];
 }
+
+pub returns-clause-within : goal.returns-clause-within
+returns-clause-within c = (
+  omega (arith, ints, clamps, c.max.ensures.value, c.min.ensures.value),
+  omega (arith, ints, clamps, c.max.ensures.value, c.min.ensures.value),
+)
