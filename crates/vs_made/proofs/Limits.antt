@@ -121,7 +121,8 @@ deadheads_are_made = all_made (range_with_len 0 12) (all_below 12)
 -- a way that is given is one of these
 given : (pair : ℕ × ℕ) (w : Way) → map.get (deadheads_of made_deadheads) pair ≡ option.Some w → IsMadeWay pair w
 given pair w is =
-    given_all IsMadeWay map.empty made_deadheads (λ q v none. absurd (none-some v (sym (map.get-empty pair_cmp q) ∙ none)))
+    given_all IsMadeWay map.empty made_deadheads
+    (λ q v none. absurd (none-some v (sym (map.get-empty pair_cmp q) ∙ none)))
     deadheads_are_made pair w is
 
 -- and between distinct stops there is one
@@ -182,24 +183,25 @@ module _ (n : ℕ) (few : n ≤ 2000) where
         to = is.to;
         apart = is.apart;
         some_minutes = some_of w.minutes (distance k s) some is.minutes;
-        minutes = up_to w.minutes (6 * distance k s) 30 1440 is.minutes (few_minutes (distance k s) steps) (omega arith);
-        metres =
-            up_to w.metres (2500 * distance k s) 12500 1000000 is.metres (few_metres (distance k s) steps) (omega arith);
+        minutes = up_to w.minutes 30 1440 (rw is.minutes (few_minutes (distance k s) steps)) (omega arith);
+        metres = up_to w.metres 12500 1000000 (rw is.metres (few_metres (distance k s) steps)) (omega arith);
       }
     where
       some_of : (minutes steps : ℕ) → 1 ≤ steps → minutes ≡ 6 * steps → 1 ≤ minutes
       some_of minutes steps some is = omega arith
 
-      up_to : (x y m most : ℕ) → x ≡ y → y ≤ m → m ≤ most → x ≤ most
-      up_to x y m most is few below = omega arith
+      up_to : (x m most : ℕ) → x ≤ m → m ≤ most → x ≤ most
+      up_to x m most few below = omega arith
 
   no_longer : (k s t : ℕ) (a b : Way) → IsMadeWay (k, s) a → IsMadeWay (s, t) b
       → IsNoLonger a b (record { minutes = 6 * distance k t; metres = 2500 * distance k t })
   no_longer k s t a b first second =
       let less = no_detour k s t in
+      let first_steps : ℕ = distance k s in
+      let next_steps : ℕ = distance s t in
       record {
-        minutes = six a.minutes b.minutes (distance k s) (distance s t) (distance k t) first.minutes second.minutes less;
-        metres = many a.metres b.metres (distance k s) (distance s t) (distance k t) first.metres second.metres less;
+        minutes = six a.minutes b.minutes first_steps next_steps (distance k t) first.minutes second.minutes less;
+        metres = many a.metres b.metres first_steps next_steps (distance k t) first.metres second.metres less;
       }
     where
       six : (x y i j l : ℕ) → x ≡ 6 * i → y ≡ 6 * j → l ≤ i + j → 6 * l ≤ x + y

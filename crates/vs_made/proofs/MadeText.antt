@@ -96,7 +96,8 @@ after_quiet s (b ∷ bytes) rest is quiet =
 
 quiet_field : (field : Field) → All IsPlain field → All IsQuiet field
 quiet_field field plain =
-    All-weaker IsPlain IsQuiet (λ b is. record { no_return = is.no_carriage_return; no_quote = is.no_quote }) field plain
+    All-weaker IsPlain IsQuiet (λ b is. record { no_return = is.no_carriage_return; no_quote = is.no_quote })
+    field plain
 
 quiet_row : (row : Row) → All (λ f. All IsPlain f) row → All IsQuiet (join_with_byte 44 row)
 quiet_row [] plain = All-nil IsQuiet
