@@ -2,3 +2,4 @@
 pub mod OwedAnswers
 pub mod BlocksOwed
 pub mod RunEnds
+pub mod TrialOwed

@@ -11,6 +11,10 @@ use Rattle.mdvsp.specs.Outcome.{Told}
 use Rattle.vs_instance.specs.Problem.{Problem}
 use Rattle.vs_rows.specs.declared.document.Document.{Document}
 use Rattle.vs_rows.specs.DocumentRows.{document_rows}
+use Rattle.vs_rows.specs.DocumentText.{HasText}
+use Rattle.vs_check.specs.HoldingDocument.{HoldingDocument}
+use Rattle.vs_document.specs.Alike.{AreAlike}
+use Rattle.vs_made.specs.Made.{IsWholeText}
 use Rattle.vs_reader.specs.Names.{NameLists}
 use Rattle.mdvsp.specs.SolveAnswer.{SolveAnswer}
 use Rattle.mdvsp.specs.declared.case.CaseError.{CaseError}
@@ -74,3 +78,19 @@ pub record IsDocumentOf (problem : Problem) (names : NameLists) (budget workers 
   pub solves : SolveAnswer problem budget workers document
   pub status_is : answer.status ≡ status_of document.claim
   pub text_is : answer.text.items ≡ lines (document_rows problem names document)
+
+-- one text is an instance text and no more, and the other that of a document for this instance, which holds
+pub record IsWritten (made written : List ℕ) (p : Problem) (names : NameLists) (d : Document) : Type 0 where
+  pub whole : IsWholeText made p names
+  pub has_text : HasText p d
+  pub holds : HoldingDocument p d
+  pub written_is : written ≡ lines (document_rows p names d)
+
+-- the same of some instance and some document
+abbrev pub AreWritten : List ℕ → List ℕ → Type 0
+AreWritten made written = (p : Problem) × (names : NameLists) × (d : Document) × IsWritten made written p names d
+
+-- whatever document was written, this one is alike
+abbrev pub IsReadOf : List ℕ → List ℕ → Document → Type 0
+IsReadOf made written e =
+    (p : Problem) (names : NameLists) (d : Document) → IsWritten made written p names d → AreAlike p d e

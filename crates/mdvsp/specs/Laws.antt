@@ -12,7 +12,7 @@ use Rattle.vs_rows.specs.declared.document.Document.{Document}
 use Rattle.vs_reader.specs.Rows.{Row}
 use Rattle.vs_words.specs.declared.command.Command.{Command}
 use Rattle.vs_words.specs.declared.command.Effort.{Effort}
-use Rattle.vs_words.specs.declared.command.Command.TheVariants.{Solve}
+use Rattle.vs_words.specs.declared.command.Command.TheVariants.{Solve, Trial}
 use Rattle.mdvsp.specs.declared.status.Status.{Status}
 use Rattle.mdvsp.specs.declared.status.Status.TheVariants as status
 use Rattle.mdvsp.specs.Owed.{OwesDocument}
@@ -41,9 +41,11 @@ pub record IsDoneWhereShown (effort : Effort) (bytes : List ℕ) (answer : Statu
   pub done_there : IsSomeAnd owed.document.cost (λ cost. cost ≤ℤ n) → answer ≡ status.Done
   pub or_open : (answer ≡ status.Done) ⊎ (answer ≡ status.StillOpen)
 
--- what the command owes is one thing; of `solve` the definition leaves open which of several searches is made
+-- what the command owes is one thing; of `solve` and `trial` the definition leaves open which of several searches is
+-- made
 abbrev pub IsDetermined : Command → Type 0
 IsDetermined (Solve effort) = ⊥
+IsDetermined (Trial n) = ⊥
 IsDetermined _ = Unit {0}
 
 -- the answer settles what plans there are

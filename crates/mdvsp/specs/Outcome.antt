@@ -1,7 +1,7 @@
 -- How a run may end: with what was read, and what was written.
 use Rattle.std.specs.Prelude.{◌≡◌, ℕ, ◌<◌, ◌≤◌, List, [], ◌∷◌, length, Option, ◌⊎◌}
 use Rattle.vs_words.specs.declared.command.Command.{Command}
-use Rattle.vs_words.specs.declared.command.Command.TheVariants.{Make}
+use Rattle.vs_words.specs.declared.command.Command.TheVariants.{Make, Trial}
 use Rattle.vs_reader.specs.declared.limits.TheConstants.{MAX_BYTES}
 use Rattle.vs_io.specs.Bytes.{Takes, TakesAll, Appends, AppendsPrefix}
 use Rattle.vs_io.specs.Faults.{Rose}
@@ -30,9 +30,14 @@ TookFew left left_after = (gone : List ℕ) × Takes left left_after gone × (le
 abbrev pub TookTooMany : Told → Told → Type 0
 TookTooMany left left_after = (gone : List ℕ) × Takes left left_after gone × (input_limit < length gone)
 
--- a command reads all bytes that are left, of which there may be so many; `make` reads none
+-- nothing was read
+abbrev pub ReadNone : Told → Told → List ℕ → Type 0
+ReadNone left left_after bytes = (bytes ≡ []) × (left_after ≡ left)
+
+-- a command reads all bytes that are left, of which there may be so many; `make` and `trial` read none
 abbrev pub HasRead : Command → Told → Told → List ℕ → Type 0
-HasRead (Make n) left left_after bytes = (bytes ≡ []) × (left_after ≡ left)
+HasRead (Make n) left left_after bytes = ReadNone left left_after bytes
+HasRead (Trial n) left left_after bytes = ReadNone left left_after bytes
 HasRead _ left left_after bytes = TakesAll left left_after bytes × (length bytes ≤ input_limit)
 
 -- why it couldn't, with the count of the source's faults before and after it

@@ -1,5 +1,5 @@
 -- What a call has to answer, and what it has to write.
-use Rattle.std.specs.Prelude.{◌≡◌, ℕ, List, [], ◌∷◌, codes, Some, None, IsSome, IfSome, ◌⊎◌}
+use Rattle.std.specs.Prelude.{◌≡◌, ℕ, List, [], ◌∷◌, codes, decimal, Some, None, IsSome, IfSome, ◌⊎◌}
 use Rattle.vs_instance.specs.Problem.{Problem}
 use Rattle.vs_cases.specs.declared.claim.Claim.{Claim}
 use Rattle.vs_cases.specs.declared.claim.Claim.TheVariants.{Optimal, Infeasible, StillOpen}
@@ -11,7 +11,7 @@ use Rattle.vs_check.specs.declared.flaw.Flaw.{Flaw}
 use Rattle.vs_instance.specs.Firsts.{first}
 use Rattle.mdvsp.specs.declared.status.Status.{Status}
 use Rattle.mdvsp.specs.declared.status.Status.TheVariants as status
-use Rattle.vs_reader.specs.Rows.{Row}
+use Rattle.vs_reader.specs.Rows.{Row, lines}
 use Rattle.vs_reader.specs.Names.{NameLists}
 use Rattle.vs_rows.specs.DocumentRows.{claim_field, number_field, document_rows}
 use Rattle.vs_document.specs.declared.refused.DocWhy.{DocWhy}
@@ -22,9 +22,10 @@ use Rattle.vs_report.specs.RefusalRows.{document_refusal_row, refusal_row, too_l
 use Rattle.vs_report.specs.FlawRows.{no_row}
 use Rattle.mdvsp.specs.Budgets.{budget_of}
 use Rattle.mdvsp.specs.SolveAnswer.{SolveAnswer}
+use Rattle.mdvsp.specs.declared.trial.TheConstants.{TRIAL_NODES, TRIAL_WORKERS}
 use Rattle.vs_words.specs.declared.command.Command.{Command}
 use Rattle.vs_words.specs.declared.command.Effort.{Effort}
-use Rattle.vs_words.specs.declared.command.Command.TheVariants.{Check, Solve, Network, Blocks, Make}
+use Rattle.vs_words.specs.declared.command.Command.TheVariants.{Check, Solve, Network, Blocks, Make, Trial}
 use Rattle.vs_make.specs.Generator.{make_rows}
 use Rattle.vs_report.specs.Network.{AreNetworkRows}
 use Rattle.vs_report.specs.Timetable.{timetable_of}
@@ -167,6 +168,30 @@ abbrev pub MakeOwes : ℕ → Status → List Row → Type 0
 MakeOwes n status.Done rows = rows ≡ make_rows n
 MakeOwes n _ rows = ⊥
 
+-- `trial`, N, CLAIM, COST, BOUND, NODES, `yes`
+abbrev pub trial_row : ℕ → Document → Row
+trial_row n d = codes "trial" ∷ decimal n ∷ claim_field d.claim ∷ number_field d.cost ∷ number_field d.bound
+    ∷ decimal d.nodes ∷ codes "yes" ∷ []
+
+-- `trial n` is owed the row of a document that a search by one worker within 20 nodes answers for the instance for which
+-- the text of `make n` stands, with the status of its claim; such a document holds and proves what it claims
+pub record OwesTrial (n : ℕ) (answer : Status) (rows : List Row) : Type 0 where
+  pub problem : Problem
+  pub names : NameLists
+  pub document : Document
+  pub text : SolveText (lines (make_rows n)) problem names
+  pub solves : SolveAnswer problem TRIAL_NODES TRIAL_WORKERS document
+  pub proves : ProvesItsClaim problem document
+  pub status_is : answer ≡ status_of document.claim
+  pub rows_are : rows ≡ trial_row n document ∷ []
+
+-- of `trial n`, whatever the input, which is never refused
+abbrev pub TrialOwes : ℕ → Status → List Row → Type 0
+TrialOwes n status.Done rows = OwesTrial n status.Done rows
+TrialOwes n status.Infeasible rows = OwesTrial n status.Infeasible rows
+TrialOwes n status.StillOpen rows = OwesTrial n status.StillOpen rows
+TrialOwes n _ rows = ⊥
+
 -- what a command has to answer for the bytes that it read, and which rows it has to write
 abbrev pub Owes : Command → List ℕ → Status → List Row → Type 0
 Owes Check bytes answer rows = CheckOwes bytes answer rows
@@ -174,3 +199,4 @@ Owes (Solve effort) bytes answer rows = SolveOwes effort bytes answer rows
 Owes Network bytes answer rows = NetworkOwes bytes answer rows
 Owes Blocks bytes answer rows = BlocksOwes bytes answer rows
 Owes (Make n) bytes answer rows = MakeOwes n answer rows
+Owes (Trial n) bytes answer rows = TrialOwes n answer rows

@@ -12,6 +12,7 @@ mod running;
 mod solving;
 mod status;
 mod timetable;
+mod trial;
 
 pub use laws::{
     bounds_never_pass_costs, done_where_shown, enough_nodes_leave_nothing_open, one_answer,

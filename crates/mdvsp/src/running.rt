@@ -12,6 +12,7 @@ use crate::network::answer_network;
 use crate::solving::answer_solve;
 use crate::status::Status;
 use crate::timetable::answer_blocks;
+use crate::trial::answer_trial;
 use std::alloc::Global;
 use std::sync::Wait;
 use std::thread::Threads;
@@ -24,8 +25,8 @@ use vs_types::Memory;
 use vs_words::{Command, Effort, command_of};
 
 /// Does what the words ask for, and says how it ended. The input is read to its end, and nothing is
-/// written before the whole output stands. Where the words are wrong, and by `make`, nothing is read. The workers of a
-/// search pass the gate before each leaf that they work on.
+/// written before the whole output stands. Where the words are wrong, and by `make` and `trial`, nothing is read. The
+/// workers of a search pass the gate before each leaf that they work on.
 pub fn run<R: Threads + Wait + Sync, I: Source, O: Sink, G: Gate + Sync>(
     rt: &R,
     alloc: Global,
@@ -52,6 +53,7 @@ pub fn run<R: Threads + Wait + Sync, I: Source, O: Sink, G: Gate + Sync>(
     match command_of(words) {
         Ok(command) => match command {
             Command::Solve(effort) => search(rt, alloc, effort, input, output, gate),
+            Command::Trial(n) => say(answer_trial(rt, alloc, n, gate), output),
             _ => obey(alloc, command, input, output),
         },
         Err(bad) => say(Answer::bad_word(alloc, bad), output),
@@ -88,7 +90,7 @@ fn search<R: Threads + Wait + Sync, I: Source, O: Sink, G: Gate + Sync>(
     }
 }
 
-/// Reads what a command other than `solve` takes, does what it asks for, and says how it ended. It starts no thread and
+/// Reads what a command other than `solve` and `trial` takes, does what it asks for, and says how it ended. It starts no thread and
 /// waits for none.
 fn obey<I: Source, O: Sink>(
     alloc: Global,
@@ -130,7 +132,7 @@ fn unread(error: SlurpError) -> Status
     }
 }
 
-/// What the command takes of the input: all that is left, and nothing for `make`.
+/// What the command takes of the input: all that is left, and nothing for `make` and `trial`.
 fn input_of<I: Source>(
     alloc: Global,
     command: Command,
@@ -146,11 +148,12 @@ fn input_of<I: Source>(
 {
     match command {
         Command::Make(_) => Ok(Vec::new(alloc)),
+        Command::Trial(_) => Ok(Vec::new(alloc)),
         _ => slurp(alloc, input, MAX_BYTES as u64),
     }
 }
 
-/// What a command other than `solve` answers for the bytes of its input.
+/// What a command other than `solve` and `trial` answers for the bytes of its input.
 fn answer_to(alloc: Global, command: Command, bytes: &[u8]) -> Result<Answer, Memory>
     requires few { length bytes.now ≤ input_limit }
     requires limits { IsWithinLimits command }
@@ -163,6 +166,7 @@ fn answer_to(alloc: Global, command: Command, bytes: &[u8]) -> Result<Answer, Me
         Command::Blocks => answer_blocks(alloc, bytes),
         Command::Make(n) => answer_make(alloc, n),
         Command::Solve(_) => unreachable!(),
+        Command::Trial(_) => unreachable!(),
     }
 }
 

@@ -50,7 +50,7 @@ pub fn answer_solve<R: Threads + Wait + Sync, G: Gate + Sync>(
 }
 
 /// The answer for an instance that was read, by a search with this budget that so many workers share.
-fn plan_of<R: Threads + Wait + Sync, G: Gate + Sync>(
+pub fn plan_of<R: Threads + Wait + Sync, G: Gate + Sync>(
     rt: &R,
     alloc: Global,
     timetable: &Timetable,

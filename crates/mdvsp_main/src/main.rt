@@ -30,11 +30,12 @@ commands:
   blocks    print the timetable of a plan's vehicles
   network   tell how large a timetable's networks are
   make N    write a timetable of N trips, 0 to 2000, to try the program on
+  trial N   make such a timetable, plan it by one worker and 20 cases, check the plan, and tell how it went
 
 exit status:
-  0 done, solve: the plan is optimal   1 check, blocks: no   2 wrong words   3 the input is refused
+  0 done, solve, trial: the plan is optimal   1 check, blocks: no   2 wrong words   3 the input is refused
   4 reading failed   5 writing failed   6 no memory   7 the input is too long
-  10 solve: there is no plan   11 solve: open, the cases ran out";
+  10 solve, trial: there is no plan   11 solve, trial: open, the cases ran out";
 
 /// Runs the words after the program's name over standard input and output, and ends with the run's code. Where standard
 /// error is a terminal, it tells there how far the run has come, and why there is no plan where there is none; where the

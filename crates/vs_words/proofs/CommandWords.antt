@@ -8,11 +8,13 @@ use Rattle.std.proofs.lemmas.List.{length-map, get_or-map}
 use Rattle.std.proofs.lemmas.List.Elements.{All-nil, All-cons}
 use Rattle.vs_instance.specs.declared.limits.TheConstants.{MAX_BUDGET, MAX_TRIPS, MAX_WORKERS}
 use Rattle.vs_words.specs.declared.command.Command.{Command}
-use Rattle.vs_words.specs.declared.command.Command.TheVariants.{Check, Solve, Network, Blocks, Make}
+use Rattle.vs_words.specs.declared.command.Command.TheVariants.{Check, Solve, Network, Blocks, Make, Trial}
 use Rattle.vs_words.specs.declared.command.Effort.{Effort}
+use Rattle.vs_words.specs.declared.words.Counting.{Counting}
+use Rattle.vs_words.specs.declared.words.Counting.TheVariants as counting
 use Rattle.vs_words.specs.declared.words.Setting.{Setting}
 use Rattle.vs_words.specs.declared.words.Setting.TheVariants.{Workers, Nodes}
-use Rattle.vs_words.specs.Words.{Word, AreAccepted, AreBadAt, AreFurther, AreOptions, AskFor, Begin, IsNumberFor, IsNumberUpTo, IsWordAt, command_name, default_effort, other_setting, setting_name, with_setting, words_of}
+use Rattle.vs_words.specs.Words.{Word, AreAccepted, AreBadAt, AreFurther, AreOptions, AskFor, Begin, IsCount, IsNumberFor, IsNumberUpTo, IsWordAt, command_name, counted, default_effort, other_setting, setting_name, with_setting, words_of}
 
 -- words that ask for a command have its name first
 pub record BeginsAs (name : Word) (further : List Word) : Type 0 where
@@ -51,10 +53,34 @@ solve_further : (d : Command) (words : List Word) → command_name d ≡ codes "
 solve_further (Solve effort) words e f = (effort, f)
 solve_further _ words e f = absurd (omega (arith, ap sum e))
 
-make_further : (d : Command) (words : List Word) → command_name d ≡ codes "make" → AreFurther d words
-    → (n : ℕ) × (count : Word) × (words ≡ count ∷ []) × IsNumberUpTo MAX_TRIPS count n
-make_further (Make n) words e f = (n, f.0, f.1, f.2)
+-- a count of trips
+record Counts (words : List Word) : Type 0 where
+  n : ℕ
+  count : Word
+  words_are : words ≡ count ∷ []
+  number_is : IsNumberUpTo MAX_TRIPS count n
+
+make_further : (d : Command) (words : List Word) → command_name d ≡ codes "make" → AreFurther d words → Counts words
+make_further (Make n) words e f = record { n = n; count = f.0; words_are = f.1; number_is = f.2 }
 make_further _ words e f = absurd (omega (arith, ap sum e))
+
+trial_further : (d : Command) (words : List Word) → command_name d ≡ codes "trial" → AreFurther d words → Counts words
+trial_further (Trial n) words e f = record { n = n; count = f.0; words_are = f.1; number_is = f.2 }
+trial_further _ words e f = absurd (omega (arith, ap sum e))
+
+count_further : (kind : Counting) (d : Command) (words : List Word) → command_name d ≡ command_name (counted kind 0)
+    → AreFurther d words → Counts words
+count_further counting.Make d words e f = make_further d words e f
+count_further counting.Trial d words e f = trial_further d words e f
+
+-- such a command has one name, and takes its count
+counted_name : (kind : Counting) (n : ℕ) → command_name (counted kind 0) ≡ command_name (counted kind n)
+counted_name counting.Make n = refl
+counted_name counting.Trial n = refl
+
+takes_count : (kind : Counting) (n : ℕ) (words : List Word) → IsCount n words → AreFurther (counted kind n) words
+takes_count counting.Make n words is = is
+takes_count counting.Trial n words is = is
 
 -- a short number
 one_up_to : (most : ℕ) → 1 ≤ most → IsNumberUpTo most (codes "1") 1
@@ -375,75 +401,87 @@ solve_bad_sixth (a ∷ b ∷ c ∷ d ∷ x ∷ y ∷ words) s m n o g more = rec
 pub length-words : (words : List (String Global)) → length (words_of words) ≡ length words
 length-words words = rw length-map refl
 
--- `make` and a count
-make_begins : (a : Word) → a ≡ codes "make" → Begin (a ∷ [])
-make_begins a is = (
-  codes "1" ∷ [],
-  (
-    Make 1,
-    asks a (codes "1" ∷ []) (Make 1) is
-        (codes "1", refl, one_up_to MAX_TRIPS (omega arith)),
-  ),
-)
+-- `make` or `trial`, and a count
+count_asks : (kind : Counting) (a b : Word) (n : ℕ) → a ≡ command_name (counted kind 0)
+    → IsNumberUpTo MAX_TRIPS b n → AskFor (a ∷ b ∷ []) (counted kind n)
+count_asks kind a b n is number =
+    asks a (b ∷ []) (counted kind n) (is ∙ counted_name kind n) (takes_count kind n (b ∷ []) (b, refl, number))
+
+count_begins : (kind : Counting) (a : Word) → a ≡ command_name (counted kind 0) → Begin (a ∷ [])
+count_begins kind a is =
+    (codes "1" ∷ [], (counted kind 1, count_asks kind a (codes "1") 1 is (one_up_to MAX_TRIPS (omega arith))))
 
 -- it is missing, or is none
-pub make_bad_second : (words : List Word) → IsWordAt words 0 (codes "make")
+pub count_bad_second : (kind : Counting) (words : List Word) → IsWordAt words 0 (command_name (counted kind 0))
     → ((count : Word) → IsWordAt words 1 count → (n : ℕ) → ¬ (IsNumberUpTo MAX_TRIPS count n)) → AreBadAt words 2
-make_bad_second [] first none = absurd (let w = first.within in omega arith)
-make_bad_second (a ∷ []) first none = record {
+count_bad_second kind [] first none = absurd (let w = first.within in omega arith)
+count_bad_second kind (a ∷ []) first none = record {
   some = omega arith;
   within = omega arith;
-  before = make_begins a first.word_is;
+  before = count_begins kind a first.word_is;
   bad = λ within. absurd (omega arith);
   missing = λ end accepted.
       let b = accepted_as a [] accepted in
-      let m = make_further b.command [] (b.name_is ∙ first.word_is) b.are_further in
-      omega (arith, ap length m.2);
+      let m = count_further kind b.command [] (b.name_is ∙ first.word_is) b.are_further in
+      omega (arith, ap length m.words_are);
 }
-make_bad_second (a ∷ b ∷ words) first none = record {
+count_bad_second kind (a ∷ b ∷ words) first none = record {
   some = omega arith;
   within = omega arith;
-  before = make_begins a first.word_is;
+  before = count_begins kind a first.word_is;
   bad = λ within begin.
       let x = begun_as a (b ∷ []) begin in
-      let m = make_further x.1.command (b ∷ x.0) (x.1.name_is ∙ first.word_is) x.1.are_further in
-      none m.1 (record { within = omega arith; word_is = let e = m.2 in cc }) m.0 m.3;
+      let m = count_further kind x.1.command (b ∷ x.0) (x.1.name_is ∙ first.word_is) x.1.are_further in
+      none m.count (record { within = omega arith; word_is = let e = m.words_are in cc }) m.n m.number_is;
   missing = λ end. absurd (omega arith);
 }
 
-pub make_bad_third : (words : List Word) (count : Word) (n : ℕ) → IsWordAt words 0 (codes "make")
+pub count_bad_third : (kind : Counting) (words : List Word) (count : Word) (n : ℕ)
+    → IsWordAt words 0 (command_name (counted kind 0))
     → IsWordAt words 1 count → IsNumberUpTo MAX_TRIPS count n → ¬ (length words ≡ 2) → AreBadAt words 3
-make_bad_third [] count n first second is many = absurd (let w = first.within in omega arith)
-make_bad_third (a ∷ []) count n first second is many = absurd (let w = second.within in omega arith)
-make_bad_third (a ∷ b ∷ []) count n first second is many = absurd (many refl)
-make_bad_third (a ∷ b ∷ c ∷ words) count n first second is many = record {
+count_bad_third kind [] count n first second is many = absurd (let w = first.within in omega arith)
+count_bad_third kind (a ∷ []) count n first second is many = absurd (let w = second.within in omega arith)
+count_bad_third kind (a ∷ b ∷ []) count n first second is many = absurd (many refl)
+count_bad_third kind (a ∷ b ∷ c ∷ words) count n first second is many = record {
   some = omega arith;
   within = omega arith;
   before = (
     [],
     (
-      Make n,
-      asks a (b ∷ []) (Make n) first.word_is
-          (b, refl, subst (λ (x : Word). IsNumberUpTo MAX_TRIPS x n) (sym second.word_is) is),
+      counted kind n,
+      count_asks kind a b n first.word_is
+          (subst (λ (x : Word). IsNumberUpTo MAX_TRIPS x n) (sym second.word_is) is),
     ),
   );
   bad = λ within begin.
       let x = begun_as a (b ∷ c ∷ []) begin in
-      let m = make_further x.1.command (b ∷ c ∷ x.0) (x.1.name_is ∙ first.word_is) x.1.are_further in
-      omega (arith, ap length m.2);
+      let m = count_further kind x.1.command (b ∷ c ∷ x.0) (x.1.name_is ∙ first.word_is) x.1.are_further in
+      omega (arith, ap length m.words_are);
   missing = λ end. absurd (omega arith);
 }
+
+-- with nothing behind it, it asks for its command
+pub count_accepted : (kind : Counting) (words : List Word) (count : Word) (n : ℕ) (command : Command)
+    → IsWordAt words 0 (command_name (counted kind 0)) → IsWordAt words 1 count
+    → IsNumberUpTo MAX_TRIPS count n → length words ≡ 2 → command ≡ counted kind n → AskFor words command
+count_accepted kind [] count n command first second is two same = absurd (omega arith)
+count_accepted kind (a ∷ []) count n command first second is two same = absurd (omega arith)
+count_accepted kind (a ∷ b ∷ []) count n command first second is two same =
+    subst (λ (c : Command). AskFor (a ∷ b ∷ []) c) (sym same)
+    (count_asks kind a b n first.word_is (subst (λ (x : Word). IsNumberUpTo MAX_TRIPS x n) (sym second.word_is) is))
+count_accepted kind (a ∷ b ∷ c ∷ words) count n command first second is two same = absurd (omega arith)
 
 -- words of which the first is no command's
 not_the_name : (words : List Word) (c : Command) → ¬ (IsWordAt words 0 (codes "check"))
     → ¬ (IsWordAt words 0 (codes "network")) → ¬ (IsWordAt words 0 (codes "blocks"))
     → ¬ (IsWordAt words 0 (codes "solve")) → ¬ (IsWordAt words 0 (codes "make"))
-    → ¬ (IsWordAt words 0 (command_name c))
-not_the_name words Check check network blocks solve make = check
-not_the_name words Network check network blocks solve make = network
-not_the_name words Blocks check network blocks solve make = blocks
-not_the_name words (Solve effort) check network blocks solve make = solve
-not_the_name words (Make n) check network blocks solve make = make
+    → ¬ (IsWordAt words 0 (codes "trial")) → ¬ (IsWordAt words 0 (command_name c))
+not_the_name words Check check network blocks solve make trial = check
+not_the_name words Network check network blocks solve make trial = network
+not_the_name words Blocks check network blocks solve make trial = blocks
+not_the_name words (Solve effort) check network blocks solve make trial = solve
+not_the_name words (Make n) check network blocks solve make trial = make
+not_the_name words (Trial n) check network blocks solve make trial = trial
 
 pub first_bad : (words : List Word) → ((c : Command) → ¬ (IsWordAt words 0 (command_name c))) → AreBadAt words 1
 first_bad [] none = record {
@@ -465,9 +503,10 @@ first_bad (a ∷ words) none = record {
 
 pub no_command : (words : List Word) → ¬ (IsWordAt words 0 (codes "check"))
     → ¬ (IsWordAt words 0 (codes "network")) → ¬ (IsWordAt words 0 (codes "blocks"))
-    → ¬ (IsWordAt words 0 (codes "solve")) → ¬ (IsWordAt words 0 (codes "make")) → AreBadAt words 1
-no_command words check network blocks solve make =
-    first_bad words (λ c. not_the_name words c check network blocks solve make)
+    → ¬ (IsWordAt words 0 (codes "solve")) → ¬ (IsWordAt words 0 (codes "make"))
+    → ¬ (IsWordAt words 0 (codes "trial")) → AreBadAt words 1
+no_command words check network blocks solve make trial =
+    first_bad words (λ c. not_the_name words c check network blocks solve make trial)
 
 -- a word that was read, as bytes
 pub word_read : (words : List (String Global)) (place : ℕ) (word : String Global) → place < length words

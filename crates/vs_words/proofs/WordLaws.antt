@@ -3,10 +3,10 @@ use Rattle.std.proofs.Common.{◌≡◌, ℕ, ◌+◌, ◌-◌, ◌<◌, ◌≤�
 use Rattle.std.specs.Str.Parse.{digits_value}
 use Rattle.std.proofs.lemmas.List.{append-nil, take-append-drop, take-take}
 use Rattle.vs_words.specs.declared.command.Command.{Command}
-use Rattle.vs_words.specs.declared.command.Command.TheVariants.{Check, Solve, Network, Blocks, Make}
+use Rattle.vs_words.specs.declared.command.Command.TheVariants.{Check, Solve, Network, Blocks, Make, Trial}
 use Rattle.vs_words.specs.declared.command.Effort.{Effort}
 use Rattle.vs_words.specs.declared.words.Setting.{Setting}
-use Rattle.vs_words.specs.Words.{Word, AreAccepted, AreBadAt, AreFurther, AreOptions, AskFor, Begin, IsNumberFor, command_name, other_setting, setting_name}
+use Rattle.vs_words.specs.Words.{Word, AreAccepted, AreBadAt, AreFurther, AreOptions, AskFor, Begin, IsCount, IsNumberFor, command_name, other_setting, setting_name}
 use Rattle.vs_words.proofs.CommandWords.{same_setting}
 
 -- a word writes one number of an option
@@ -49,6 +49,12 @@ one_effort words c d (inr (inr both)) (inr (inr also)) =
     let f = also.effort_is in
     cc
 
+-- one word writes one count
+one_count : (words : List Word) (m n : ℕ) → IsCount m words → IsCount n words → m ≡ n
+one_count words m n f g =
+    let count : f.0 ≡ g.0 = let h : words ≡ f.0 ∷ [] = f.1 in let k : words ≡ g.0 ∷ [] = g.1 in cc in
+    f.2.value ∙ ap (digits_value 10) count ∙ sym g.2.value
+
 -- one list of further words is one command's
 one_further : (c d : Command) (words : List Word) → command_name c ≡ command_name d → AreFurther c words
     → AreFurther d words → c ≡ d
@@ -56,10 +62,8 @@ one_further Check Check words e f g = refl
 one_further (Solve effort) (Solve also) words e f g = ap Solve (one_effort words effort also f g)
 one_further Network Network words e f g = refl
 one_further Blocks Blocks words e f g = refl
-one_further (Make m) (Make n) words e f g =
-    let count : f.0 ≡ g.0 = let h : words ≡ f.0 ∷ [] = f.1 in let k : words ≡ g.0 ∷ [] = g.1 in cc in
-    let same : m ≡ n = f.2.value ∙ ap (digits_value 10) count ∙ sym g.2.value in
-    ap Make same
+one_further (Make m) (Make n) words e f g = ap Make (one_count words m n f g)
+one_further (Trial m) (Trial n) words e f g = ap Trial (one_count words m n f g)
 one_further _ _ words e f g = absurd (omega (arith, ap sum e))
 
 pub one_command : (words : List Word) (c d : Command) → AskFor words c → AskFor words d → c ≡ d

@@ -5,9 +5,11 @@ use Rattle.std.specs.declared.alloc.Global.{Global}
 use Rattle.vs_instance.specs.declared.limits.TheConstants.{MAX_BUDGET, MAX_TRIPS, MAX_WORKERS}
 use Rattle.vs_reader.specs.Numbers.{AreDigits}
 use Rattle.vs_words.specs.declared.command.Command.{Command}
-use Rattle.vs_words.specs.declared.command.Command.TheVariants.{Check, Solve, Network, Blocks, Make}
+use Rattle.vs_words.specs.declared.command.Command.TheVariants.{Check, Solve, Network, Blocks, Make, Trial}
 use Rattle.vs_words.specs.declared.command.Effort.{Effort}
 use Rattle.vs_words.specs.declared.words.BadWord.{BadWord}
+use Rattle.vs_words.specs.declared.words.Counting.{Counting}
+use Rattle.vs_words.specs.declared.words.Counting.TheVariants as counting
 use Rattle.vs_words.specs.declared.words.Setting.{Setting}
 use Rattle.vs_words.specs.declared.words.Setting.TheVariants.{Workers, Nodes}
 use Rattle.vs_words.specs.declared.words.TheConstants.{DEFAULT_WORKERS, MAX_DIGITS}
@@ -23,6 +25,12 @@ command_name (Solve effort) = codes "solve"
 command_name Network = codes "network"
 command_name Blocks = codes "blocks"
 command_name (Make n) = codes "make"
+command_name (Trial n) = codes "trial"
+
+-- the command of so many trips
+abbrev pub counted : Counting → ℕ → Command
+counted counting.Make n = Make n
+counted counting.Trial n = Trial n
 
 -- 1 to 6 digits, with leading zeros or without, that write n, which is no greater than `most`
 pub record IsNumberUpTo (most : ℕ) (word : Word) (n : ℕ) : Type 0 where
@@ -88,13 +96,18 @@ pub record SetBoth (effort : Effort) (words : List Word) : Type 0 where
 abbrev pub AreOptions : Effort → List Word → Type 0
 AreOptions effort words = ((words ≡ []) × (effort ≡ default_effort)) ⊎ SetOne effort words ⊎ SetBoth effort words
 
+-- one word, which writes how many trips
+abbrev pub IsCount : ℕ → List Word → Type 0
+IsCount n words = (count : Word) × (words ≡ count ∷ []) × IsNumberUpTo MAX_TRIPS count n
+
 -- the words behind the first
 abbrev pub AreFurther : Command → List Word → Type 0
 AreFurther Check words = words ≡ []
 AreFurther (Solve effort) words = AreOptions effort words
 AreFurther Network words = words ≡ []
 AreFurther Blocks words = words ≡ []
-AreFurther (Make n) words = (count : Word) × (words ≡ count ∷ []) × IsNumberUpTo MAX_TRIPS count n
+AreFurther (Make n) words = IsCount n words
+AreFurther (Trial n) words = IsCount n words
 
 -- the words ask for the command
 pub record AskFor (words : List Word) (command : Command) : Type 0 where
@@ -133,6 +146,7 @@ IsAlone _ = ⊥
 -- an instance may have as many trips as the command asks for, and a search as many workers and nodes
 abbrev pub IsWithinLimits : Command → Type 0
 IsWithinLimits (Make n) = n ≤ MAX_TRIPS
+IsWithinLimits (Trial n) = n ≤ MAX_TRIPS
 IsWithinLimits (Solve effort) = (1 ≤ effort.workers) × (effort.workers ≤ MAX_WORKERS) × IfSome effort.nodes
     (λ n. n ≤ MAX_BUDGET)
 IsWithinLimits _ = Unit {0}
@@ -140,6 +154,7 @@ IsWithinLimits _ = Unit {0}
 -- the command takes input
 abbrev pub Reads : Command → Type 0
 Reads (Make n) = ⊥
+Reads (Trial n) = ⊥
 Reads _ = Unit {0}
 
 -- the words ask for a command that takes input

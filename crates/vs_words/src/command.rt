@@ -21,4 +21,6 @@ pub enum Command {
     Blocks,
     /// Write the generator's instance of so many trips, 0 to 2,000.
     Make(u32),
+    /// Plan the generator's instance of so many trips, 0 to 2,000, judge the document, and tell the outcome in one row.
+    Trial(u32),
 }

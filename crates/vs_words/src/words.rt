@@ -1,7 +1,7 @@
 //! Words, read as a command.
 
 ghost use Rattle.std.specs.Prelude.{◌≡◌, ℕ, ◌≤◌, codes, IsTrue, MatchOption, ◌↔◌};
-ghost use Rattle.vs_words.specs.Words.{Answers, IsAlone, IsNumberFor, IsNumberUpTo, IsWordAt, Word, command_name, least_of, most_of, other_setting, setting_name, with_setting, words_of};
+ghost use Rattle.vs_words.specs.Words.{Answers, IsAlone, IsNumberFor, IsNumberUpTo, IsWordAt, Word, command_name, counted, least_of, most_of, other_setting, setting_name, with_setting, words_of};
 
 use crate::command::{Command, Effort};
 use vs_instance::{MAX_BUDGET, MAX_TRIPS, MAX_WORKERS};
@@ -89,7 +89,27 @@ impl Setting {
     }
 }
 
-/// What the words ask for: `check`, `network`, `blocks`, `solve` with or without its options, or `make` and a number.
+/// A command that takes a count of trips.
+#[derive(Clone, Copy, Debug, PartialEq, Eq)]
+pub enum Counting {
+    Make,
+    Trial,
+}
+
+impl Counting {
+    /// The command of so many trips.
+    fn command(self, n: u32) -> Command
+        ensures { result ≡ counted self n }
+    {
+        match self {
+            Counting::Make => Command::Make(n),
+            Counting::Trial => Command::Trial(n),
+        }
+    }
+}
+
+/// What the words ask for: `check`, `network`, `blocks`, `solve` with or without its options, or `make` or `trial` and
+/// a number.
 #[tactic(auto, using(crate::proofs::CommandWords::no_command))]
 pub fn command_of(words: &[String]) -> Result<Command, BadWord>
     ensures { Answers (words_of words.now) result }
@@ -103,7 +123,9 @@ pub fn command_of(words: &[String]) -> Result<Command, BadWord>
     } else if is_word(words, 0, "solve") {
         solve_of(words)
     } else if is_word(words, 0, "make") {
-        make_of(words)
+        count_of(words, Counting::Make)
+    } else if is_word(words, 0, "trial") {
+        count_of(words, Counting::Trial)
     } else {
         Err(BadWord(1))
     }
@@ -180,9 +202,9 @@ fn number_at(words: &[String], place: usize, setting: Setting) -> Option<u32>
     if setting.least() <= n { Some(n) } else { None }
 }
 
-/// `make`, with a count of trips.
-fn make_of(words: &[String]) -> Result<Command, BadWord>
-    requires { IsWordAt (words_of words.now) 0 (codes "make") }
+/// `make` or `trial`, with a count of trips.
+fn count_of(words: &[String], kind: Counting) -> Result<Command, BadWord>
+    requires { IsWordAt (words_of words.now) 0 (command_name (counted kind 0)) }
     ensures { Answers (words_of words.now) result }
 {
     let Some(count) = words.get(1) else {
@@ -190,7 +212,7 @@ fn make_of(words: &[String]) -> Result<Command, BadWord>
     };
     match number_up_to(count.as_str(), MAX_TRIPS) {
         None => Err(BadWord(2)),
-        Some(n) if words.len() == 2 => Ok(Command::Make(n)),
+        Some(n) if words.len() == 2 => Ok(kind.command(n)),
         _ => Err(BadWord(3)),
     }
 }

@@ -7,7 +7,7 @@ use Rattle.vs_reader.specs.Rows.{Row}
 use Rattle.vs_reader.specs.declared.refused.Refused.{Refused}
 use Rattle.vs_reader.proofs.CallerLemmas.{one_reading, refused_none}
 use Rattle.vs_words.specs.declared.command.Command.{Command}
-use Rattle.vs_words.specs.declared.command.Command.TheVariants.{Check, Solve, Network, Blocks, Make}
+use Rattle.vs_words.specs.declared.command.Command.TheVariants.{Check, Solve, Network, Blocks, Make, Trial}
 use Rattle.mdvsp.specs.declared.status.Status.{Status}
 use Rattle.mdvsp.specs.declared.status.Status.TheVariants as status
 use Rattle.vs_report.specs.Network.{AreNetworkRows}
@@ -217,7 +217,7 @@ make_done : (n : ℕ) (answer : Status) (r : List Row) → MakeOwes n answer r
 make_done n status.Done r owed = (refl, owed)
 make_done n _ r owed = absurd owed
 
--- a command but `solve` is owed one status and one list of rows for the bytes that it read
+-- a command but `solve` and `trial` is owed one status and one list of rows for the bytes that it read
 pub one_answer : (command : Command) (bytes : List ℕ) (a b : Status) (r s : List Row) → IsDetermined command
     → Owes command bytes a r → Owes command bytes b s → (a ≡ b) × (r ≡ s)
 one_answer Check bytes a b r s is x y =
@@ -229,3 +229,4 @@ one_answer Blocks bytes a b r s is x y =
 one_answer (Make n) bytes a b r s is x y =
     let one = make_done n a r x in let other = make_done n b s y in (one.0 ∙ sym other.0, one.1 ∙ sym other.1)
 one_answer (Solve effort) bytes a b r s is x y = absurd is
+one_answer (Trial n) bytes a b r s is x y = absurd is

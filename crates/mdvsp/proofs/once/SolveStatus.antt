@@ -5,8 +5,9 @@ use Rattle.vs_instance.specs.Plan.{IsPlan, LayerBlock, plan_cost}
 use Rattle.vs_instance.specs.Problem.{Problem}
 use Rattle.vs_instance.specs.Restriction.{permitted_sets}
 use Rattle.vs_plan.specs.Blocks.{blocks_of}
-use Rattle.vs_reader.specs.Rows.{Row}
+use Rattle.vs_reader.specs.Rows.{Row, lines}
 use Rattle.vs_reader.proofs.CallerLemmas.{one_reading, refused_none}
+use Rattle.vs_make.specs.Generator.{make_rows}
 use Rattle.vs_cases.specs.declared.claim.Claim.{Claim}
 use Rattle.vs_cases.specs.declared.claim.Claim.TheVariants.{Optimal, Infeasible, StillOpen}
 use Rattle.vs_rows.specs.declared.document.Document.{Document}
@@ -18,7 +19,7 @@ use Rattle.mdvsp.specs.declared.status.Status.{Status}
 use Rattle.mdvsp.specs.declared.status.Status.TheVariants as status
 use Rattle.mdvsp.specs.Budgets.{budget_of}
 use Rattle.mdvsp.specs.Laws.{MayBothBe, NeverPasses}
-use Rattle.mdvsp.specs.Owed.{OwesDocument, OwesNoSearch, SolveOwes, status_of}
+use Rattle.mdvsp.specs.Owed.{OwesDocument, OwesNoSearch, OwesTrial, SolveOwes, TrialOwes, status_of}
 
 -- what two documents prove of the same instance
 bound_and_cost : (p : Problem) (d e : Document) (bound cost : Option ℤ) → d.bound ≡ bound → e.cost ≡ cost
@@ -38,6 +39,12 @@ bound_and_cost p d e (Some b) (Some c) is so proves also =
 never_passes : (p : Problem) (d e : Document) → ProvesItsClaim p d → ProvesItsClaim p e → NeverPasses d e
 never_passes p d e proves also = bound_and_cost p d e d.bound e.cost refl refl proves also
 
+-- no document proves that a plan is optimal where another proves that there is none
+never_both : (p : Problem) (d e : Document) → ProvesItsClaim p d → ProvesItsClaim p e → d.claim ≡ Optimal
+    → e.claim ≡ Infeasible → ⊥
+never_both p d e proves also optimal infeasible =
+    also.infeasible infeasible (blocks_of d.plan) (proves.has_plan optimal)
+
 module _ (bytes : List ℕ) (m n : Effort) (a b : Status) (r s : List Row) (owed : OwesDocument m bytes a r)
     (also : OwesDocument n bytes b s) where
   same : also.problem ≡ owed.problem
@@ -52,8 +59,7 @@ module _ (bytes : List ℕ) (m n : Effort) (a b : Status) (r s : List Row) (owed
 
   -- none is optimal where the other shows that there is no plan
   pub not_both : owed.document.claim ≡ Optimal → also.document.claim ≡ Infeasible → ⊥
-  not_both optimal infeasible =
-      proves.infeasible infeasible (blocks_of owed.document.plan) (owed.proves.has_plan optimal)
+  not_both = never_both owed.problem owed.document also.document owed.proves proves
 
 -- the statuses of two claims
 claims_agree : (c d : Claim) → (c ≡ Optimal → d ≡ Infeasible → ⊥) → (d ≡ Optimal → c ≡ Infeasible → ⊥)
@@ -115,6 +121,29 @@ pub solve_status : (effort : Effort) (bytes : List ℕ) (a b : Status) (r s : Li
     → SolveOwes effort bytes b s → MayBothBe a b
 solve_status effort bytes a b r s owed also =
     one_of_two effort bytes a b r s (solved effort bytes a r owed) (solved effort bytes b s also)
+
+-- what `trial` may owe
+trial_owed : (n : ℕ) (answer : Status) (rows : List Row) → TrialOwes n answer rows → OwesTrial n answer rows
+trial_owed n status.Done rows owed = owed
+trial_owed n status.Infeasible rows owed = owed
+trial_owed n status.StillOpen rows owed = owed
+trial_owed n _ rows owed = absurd owed
+
+tried_both : (n : ℕ) (a b : Status) (r s : List Row) → OwesTrial n a r → OwesTrial n b s → MayBothBe a b
+tried_both n a b r s owed also =
+    let bytes : List ℕ = lines (make_rows n) in
+    let same =
+    (one_reading bytes owed.problem also.problem owed.names also.names owed.text.before also.text.before
+    owed.text.rest also.text.rest owed.text.instance also.text.instance).0 in
+    let proves : ProvesItsClaim owed.problem also.document =
+    subst (λ (x : Problem). ProvesItsClaim x also.document) same also.proves in
+    rw (owed.status_is, also.status_is)
+    (claims_agree owed.document.claim also.document.claim
+    (never_both owed.problem owed.document also.document owed.proves proves)
+    (never_both owed.problem also.document owed.document proves owed.proves))
+
+pub trial_status : (n : ℕ) (a b : Status) (r s : List Row) → TrialOwes n a r → TrialOwes n b s → MayBothBe a b
+trial_status n a b r s owed also = tried_both n a b r s (trial_owed n a r owed) (trial_owed n b s also)
 
 -- enough nodes leave nothing open
 open_claim : (claim : Claim) → status_of claim ≡ status.StillOpen → claim ≡ StillOpen

@@ -10,7 +10,7 @@ use Rattle.mdvsp.specs.declared.status.Status.{Status}
 use Rattle.mdvsp.specs.declared.status.Status.TheVariants.{Done, SaysNo, BadWords, BadInput, Infeasible, StillOpen}
 use Rattle.vs_words.specs.declared.command.Command.{Command}
 use Rattle.vs_words.specs.declared.command.Effort.{Effort}
-use Rattle.vs_words.specs.declared.command.Command.TheVariants.{Check, Solve, Network, Blocks, Make}
+use Rattle.vs_words.specs.declared.command.Command.TheVariants.{Check, Solve, Network, Blocks, Make, Trial}
 use Rattle.mdvsp.specs.Answered.{IsOwedFor, IsSaid}
 use Rattle.mdvsp.specs.Laws.{IsDetermined}
 use Rattle.mdvsp.specs.Outcome.{Run, Told, Answered, CouldNotRead, Ends, HasRead, IsOwed, IsTold, TookFew, unread_status}
@@ -40,6 +40,10 @@ answered_ends run Blocks bytes BadInput rows o w = w
 answered_ends run Blocks bytes _ rows o w = absurd o
 answered_ends run (Make n) bytes Done rows o w = w
 answered_ends run (Make n) bytes _ rows o w = absurd o
+answered_ends run (Trial n) bytes Done rows o w = w
+answered_ends run (Trial n) bytes Infeasible rows o w = w
+answered_ends run (Trial n) bytes StillOpen rows o w = w
+answered_ends run (Trial n) bytes _ rows o w = absurd o
 
 ends_answered : (run : Run) (answer : Status) (rows : List Row) → IsOwed run answer rows
     → Appends run.taken run.taken_after (lines rows) → Ends run answer
@@ -55,11 +59,15 @@ takes_none : (left : Told) → Takes left left []
 takes_none None = refl
 takes_none (Some left) = refl
 
+took_none : (left left_after : Told) → left_after ≡ left → TookFew left left_after
+took_none left left_after same =
+    ([], subst (λ (told : Told). Takes left told []) (sym same) (takes_none left), omega arith)
+
 -- what a command read is gone, and isn't too much
 took_few : (command : Command) (left left_after : Told) (bytes : List ℕ) → HasRead command left left_after bytes
     → TookFew left left_after
-took_few (Make n) left left_after bytes h =
-    ([], subst (λ (told : Told). Takes left told []) (sym h.1) (takes_none left), omega arith)
+took_few (Make n) left left_after bytes h = took_none left left_after h.1
+took_few (Trial n) left left_after bytes h = took_none left left_after h.1
 took_few Check left left_after bytes h = (bytes, takes_all left left_after bytes h.0, h.1)
 took_few (Solve effort) left left_after bytes h = (bytes, takes_all left left_after bytes h.0, h.1)
 took_few Network left left_after bytes h = (bytes, takes_all left left_after bytes h.0, h.1)
@@ -88,7 +96,7 @@ pub wrong_words_end : (run : Run) (place : ℕ) (answer : Result Answer Memory) 
     → IsSaid answer said run.taken run.taken_after run.sink_faults run.sink_faults_after → Ends run said
 wrong_words_end run place (Err m) said same bad says said_so =
     subst (Ends run) (sym said_so.0)
-    (said_so.1, ([], subst (λ (left : Told). Takes run.left left []) (sym same) (takes_none run.left), omega arith))
+    (said_so.1, took_none run.left run.left_after same)
 wrong_words_end run place (Ok a) said same bad says said_so =
     let told : IsTold run (words_row place) = record { place = place; bad = bad; row_is = refl } in
     ⊎_elim
@@ -113,10 +121,12 @@ pub unread_ends : (run : Run) (command : Command) (error : SlurpError) (said : S
 unread_ends run command error said is asked same could =
     subst (Ends run) (sym is) (unread_so run command error asked same could)
 
--- a command that isn't `solve` is owed one thing
-pub not_solve : (command : Command) → ((effort : Effort) → ¬ (command ≡ Solve effort)) → IsDetermined command
-not_solve Check other = tt
-not_solve (Solve effort) other = other effort refl
-not_solve Network other = tt
-not_solve Blocks other = tt
-not_solve (Make n) other = tt
+-- a command that searches nothing is owed one thing
+pub no_search : (command : Command) → ((effort : Effort) → ¬ (command ≡ Solve effort))
+    → ((n : ℕ) → ¬ (command ≡ Trial n)) → IsDetermined command
+no_search Check other also = tt
+no_search (Solve effort) other also = other effort refl
+no_search Network other also = tt
+no_search Blocks other also = tt
+no_search (Make n) other also = tt
+no_search (Trial n) other also = also n refl

@@ -3,10 +3,10 @@ use Rattle.vs_reader.specs.Rows.{Row}
 use Rattle.mdvsp.specs.Laws.{MayBothBe}
 use Rattle.mdvsp.specs.Owed.{Owes}
 use Rattle.vs_words.specs.declared.command.Command.{Command}
-use Rattle.vs_words.specs.declared.command.Command.TheVariants.{Check, Solve, Network, Blocks, Make}
+use Rattle.vs_words.specs.declared.command.Command.TheVariants.{Check, Solve, Network, Blocks, Make, Trial}
 use Rattle.mdvsp.specs.declared.status.Status.{Status}
 use Rattle.mdvsp.proofs.once.OneAnswer.{one_answer}
-use Rattle.mdvsp.proofs.once.SolveStatus.{solve_status}
+use Rattle.mdvsp.proofs.once.SolveStatus.{solve_status, trial_status}
 use Rattle.mdvsp.proofs.laws.one_status.Goals as goal
 
 by_command : (command : Command) (bytes : List ℕ) (a b : Status) (r s : List Row) → Owes command bytes a r
@@ -16,6 +16,7 @@ by_command (Solve effort) bytes a b r s owed also = solve_status effort bytes a 
 by_command Network bytes a b r s owed also = inl (one_answer Network bytes a b r s tt owed also).0
 by_command Blocks bytes a b r s owed also = inl (one_answer Blocks bytes a b r s tt owed also).0
 by_command (Make n) bytes a b r s owed also = inl (one_answer (Make n) bytes a b r s tt owed also).0
+by_command (Trial n) bytes a b r s owed also = trial_status n a b r s owed also
 
 pub returns : goal.returns
 returns c = by_command

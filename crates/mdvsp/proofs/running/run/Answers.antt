@@ -1,9 +1,12 @@
-use Rattle.std.proofs.Common.{refl}
-use Rattle.mdvsp.proofs.owing.RunEnds.{not_solve, wrong_words_end}
+use Rattle.std.proofs.Common.{[], refl, subst}
+use Rattle.mdvsp.proofs.owing.RunEnds.{command_ends, no_search, wrong_words_end}
+use Rattle.vs_words.specs.Words.{AskFor, words_of}
+use Rattle.vs_words.specs.declared.command.Command.TheVariants.{Trial}
 use Rattle.mdvsp.proofs.running.run.Goals as goal
 
 pub obey-requires-clause-determined : goal.obey-requires-clause-determined
-obey-requires-clause-determined g c = not_solve c.in-Ok.command c.in_default.not-Solve
+obey-requires-clause-determined g c =
+    no_search c.in-Ok.command c.in_default.not-Solve c.in_default.not-Trial
 
 pub returns-in_default-clause-untouched : goal.returns-in_default-clause-untouched
 returns-in_default-clause-untouched g c =
@@ -11,8 +14,14 @@ returns-in_default-clause-untouched g c =
 
 pub returns-in-Err-clause-ends : goal.returns-in-Err-clause-ends
 returns-in-Err-clause-ends g c =
-    wrong_words_end _ c.in-Err.bad.0 c.bad_word.result c.say.result refl c.in-Err.ensures c.bad_word.ensures
-    c.say.ensures.said
+    wrong_words_end _ c.in-Err.bad.0 c.bad_word.result c.say-in-Err.result refl c.in-Err.ensures c.bad_word.ensures
+    c.say-in-Err.ensures.said
 
 pub returns-in_default-clause-ends : goal.returns-in_default-clause-ends
 returns-in_default-clause-ends g c = c.obey.ensures.ends _ c.in-Ok.ensures
+
+pub returns-in-Trial-clause-ends : goal.returns-in-Trial-clause-ends
+returns-in-Trial-clause-ends g c =
+    command_ends _ (Trial c.in-Trial.n) [] c.answer_trial.result c.say.result
+    (subst (AskFor (words_of c.args.words.now)) c.in-Trial.is c.in-Ok.ensures) (refl, refl)
+    (c.answer_trial.ensures []) c.say.ensures.said

@@ -1,0 +1,26 @@
+use Rattle.std.proofs.Common.{ℕ, List, [], refl, sym, subst}
+use Rattle.vs_reader.proofs.CallerLemmas.{stands_counts}
+use Rattle.mdvsp.specs.Answered.{AreWritten, IsReadOf}
+use Rattle.mdvsp.proofs.owing.TrialOwed.{planned_written, trial_owed}
+use Rattle.mdvsp.proofs.trial.trial_of.Goals as goal
+
+pub plan_of-requires-clause-counts : goal.plan_of-requires-clause-counts
+plan_of-requires-clause-counts g c lifetimes outlive =
+    let timetable = c.in_ok-timetable.timetable in
+    let whole = c.in_ok-timetable.ensures in
+    stands_counts c.args.made.now timetable.instance timetable.names whole.before [] whole.stands
+
+pub read_back-requires : goal.read_back-requires
+read_back-requires g c =
+    let timetable = c.in_ok-timetable.timetable in
+    subst (AreWritten c.args.made.now) (sym c.deref.ensures.value)
+    (planned_written c.args.made.now timetable.instance timetable.names c.in_ok-planned.planned c.in_ok-timetable.ensures
+    c.in_ok-planned.ensures)
+
+pub returns : goal.returns
+returns g c = λ bytes.
+    let timetable = c.in_ok-timetable.timetable in
+    trial_owed c.args.n bytes c.args.made.now timetable.instance timetable.names c.in_ok-planned.planned _
+    c.in_ok-document.document c.requires.made c.in_ok-timetable.ensures c.in_ok-planned.ensures
+    (subst (λ (written : List ℕ). IsReadOf c.args.made.now written c.in_ok-document.document) c.deref.ensures.value
+    c.in_ok-document.ensures) refl c.in_ok-text.ensures
