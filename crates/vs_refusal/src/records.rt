@@ -1,0 +1,156 @@
+//! Records of a text, looked for by their number or by how they begin.
+
+ghost use Rattle.std.specs.Prelude.{◌≡◌, IfOk};
+ghost use Rattle.std.specs.Str.{bytes_eq};
+ghost use Rattle.csv.specs.Records.{fields_of};
+ghost use Rattle.vs_reader.specs.Rows.{field_of};
+ghost use Rattle.vs_refusal.specs.Told.{first_row};
+
+use csv::{ByteRecord, Reader, ReaderBuilder};
+use std::alloc::Global;
+use vs_types::Memory;
+
+/// The records of a text, one after another.
+#[derive(Drop)]
+struct Records<'t> {
+    reader: Reader<&'t [u8]>,
+    /// The record that came last, empty before the first.
+    current: ByteRecord,
+}
+
+impl<'t> Records<'t> {
+    /// All records of a text.
+    fn new(alloc: Global, text: &'t [u8]) -> Records<'t> {
+        let reader = ReaderBuilder::new()
+            .has_headers(false)
+            .flexible(true)
+            .from_reader(alloc, text);
+        Records {
+            reader,
+            current: ByteRecord::new(alloc),
+        }
+    }
+
+    /// Goes on to the next record, and answers whether there was one.
+    fn next(&mut self) -> Result<bool, Memory> {
+        // Bytes in memory have no fault, so the only error is want of memory.
+        let Ok(found) = self.reader.read_byte_record(&mut self.current) else {
+            return Err(Memory);
+        };
+        Ok(found)
+    }
+
+    /// The record that came last.
+    fn into_current(self) -> ByteRecord {
+        self.current
+    }
+}
+
+/// A record of a text, and its number, counted from 1.
+#[derive(Drop)]
+pub struct Found {
+    pub number: u64,
+    pub fields: ByteRecord,
+}
+
+/// The first record of a text. It has no fields where the text has no record.
+pub fn first_record(alloc: Global, text: &[u8]) -> Result<ByteRecord, Memory>
+    ensures { IfOk result (λ row. fields_of row ≡ first_row text.now) }
+{
+    let mut reader = ReaderBuilder::new()
+        .has_headers(false)
+        .flexible(true)
+        .from_reader(alloc, text);
+    let mut row = ByteRecord::new(alloc);
+    match reader.read_byte_record(&mut row) {
+        Ok(true) => Ok(row),
+        Ok(false) => Ok(ByteRecord::new(alloc)),
+        // Bytes in memory have no fault, so the only error is want of memory.
+        Err(_) => Err(Memory),
+    }
+}
+
+/// The record of a text with this number, counted from 1. None where the text has fewer.
+pub fn record_at(alloc: Global, text: &[u8], number: u64) -> Result<Option<ByteRecord>, Memory> {
+    let mut records = Records::new(alloc, text);
+    for _count in 0..number {
+        if !records.next()? {
+            return Ok(None);
+        }
+    }
+    Ok(Some(records.into_current()))
+}
+
+/// The first record of an instance that begins with these fields. None where no record before the first `result` record
+/// does.
+pub fn record_like(alloc: Global, text: &[u8], first: &[&[u8]]) -> Result<Option<Found>, Memory> {
+    let mut records = Records::new(alloc, text);
+    for number in 1..u64::MAX {
+        if !records.next()? || is_text(field(&records.current, 0), "result") {
+            return Ok(None);
+        }
+        if begins_with(&records.current, first) {
+            let fields = records.into_current();
+            return Ok(Some(Found { number, fields }));
+        }
+    }
+    Ok(None)
+}
+
+/// Record number `place`, counted from 1, of those whose first field is this one. None where there are fewer.
+pub fn record_of_kind(
+    alloc: Global,
+    text: &[u8],
+    kind: &[u8],
+    place: u64,
+) -> Result<Option<ByteRecord>, Memory> {
+    let mut records = Records::new(alloc, text);
+    let mut seen: u64 = 0;
+    for _number in 1..u64::MAX {
+        if !records.next()? {
+            return Ok(None);
+        }
+        if field(&records.current, 0) == kind {
+            seen = seen.saturating_add(1);
+        }
+        if seen == place {
+            return Ok(Some(records.into_current()));
+        }
+    }
+    Ok(None)
+}
+
+/// Whether a record begins with these fields.
+fn begins_with(row: &ByteRecord, first: &[&[u8]]) -> bool {
+    if row.len() < first.len() {
+        return false;
+    }
+    for (k, wanted) in first.iter().enumerate() {
+        if field(row, k) != *wanted {
+            return false;
+        }
+    }
+    true
+}
+
+/// A field of a record, empty where the record has fewer.
+pub fn field(row: &ByteRecord, k: usize) -> &[u8]
+    ensures { result.now ≡ field_of (fields_of row.now) k }
+{
+    row.get(k).unwrap_or(&[])
+}
+
+/// Whether a field is this text.
+pub fn is_text(field: &[u8], text: &str) -> bool
+    ensures { result ≡ bytes_eq field.now text.now }
+{
+    field == text.as_bytes()
+}
+
+/// The number that a field writes in digits. 0 where it writes none that 64 bits have.
+pub fn number_of(field: &[u8]) -> u64 {
+    match str::from_utf8(field) {
+        Ok(digits) => digits.parse().unwrap_or(0),
+        Err(_) => 0,
+    }
+}
