@@ -11,7 +11,7 @@ use vs_instance::{MAX_STOPS, MAX_TRIPS};
 use vs_types::{MAX_LAYERS, Memory};
 
 /// A record of an instance that is refused.
-#[derive(Clone, Copy)]
+#[derive(Drop)]
 struct Refusal<'r> {
     /// The whole text.
     input: &'r [u8],
@@ -50,11 +50,11 @@ pub fn instance_words(
         kind,
         at,
     };
-    record_words(alloc, name, refusal)
+    record_words(alloc, name, &refusal)
 }
 
 /// The words for a refusal of this name, of a record of one of the kinds.
-fn record_words(alloc: Global, name: &[u8], refusal: Refusal<'_>) -> Result<String, Memory> {
+fn record_words(alloc: Global, name: &[u8], refusal: &Refusal<'_>) -> Result<String, Memory> {
     if is_text(name, "FieldCount") {
         return count_words(alloc, refusal);
     }
@@ -77,7 +77,7 @@ fn record_words(alloc: Global, name: &[u8], refusal: Refusal<'_>) -> Result<Stri
 }
 
 /// The words for a record that has too many fields or too few.
-fn count_words(alloc: Global, refusal: Refusal<'_>) -> Result<String, Memory> {
+fn count_words(alloc: Global, refusal: &Refusal<'_>) -> Result<String, Memory> {
     let (found, kind) = (refusal.at.len(), refusal.kind.name());
     let wanted = match refusal.kind {
         Kind::Stop => "2",
@@ -97,7 +97,7 @@ fn layer_fields(alloc: Global, input: &[u8]) -> Result<&'static str, Memory> {
 }
 
 /// The words for a name that is declared twice, or for a layer that stands twice in a trip.
-fn twice_words(alloc: Global, refusal: Refusal<'_>) -> Result<String, Memory> {
+fn twice_words(alloc: Global, refusal: &Refusal<'_>) -> Result<String, Memory> {
     let at = refusal.at;
     let first = declared_at(alloc, refusal, refusal.kind, field(at, 1))?;
     if first < refusal.number {
@@ -132,7 +132,7 @@ fn stands_before(at: &ByteRecord, k: usize) -> bool {
 /// The number of the first record that declares the name in this kind, and the greatest number where none does.
 fn declared_at(
     alloc: Global,
-    refusal: Refusal<'_>,
+    refusal: &Refusal<'_>,
     kind: Kind,
     name: &[u8],
 ) -> Result<u64, Memory> {
@@ -143,7 +143,7 @@ fn declared_at(
 }
 
 /// The words for the first name of a record that no record before it declares.
-fn unknown_words(alloc: Global, refusal: Refusal<'_>) -> Result<String, Memory> {
+fn unknown_words(alloc: Global, refusal: &Refusal<'_>) -> Result<String, Memory> {
     let at = refusal.at;
     for k in 1..at.len() {
         let Some(kind) = refusal.kind.column(k).declared() else {
@@ -192,7 +192,7 @@ fn time_words(alloc: Global, at: &ByteRecord) -> Result<String, Memory> {
 }
 
 /// The words for a deadhead from a stop to itself, or for one that is given twice.
-fn deadhead_words(alloc: Global, refusal: Refusal<'_>) -> Result<String, Memory> {
+fn deadhead_words(alloc: Global, refusal: &Refusal<'_>) -> Result<String, Memory> {
     let at = refusal.at;
     let (from, to) = (shown_field(alloc, at, 1)?, shown_field(alloc, at, 2)?);
     if field(at, 1) == field(at, 2) {
@@ -209,7 +209,7 @@ fn deadhead_words(alloc: Global, refusal: Refusal<'_>) -> Result<String, Memory>
 }
 
 /// The words for the first field of a record that isn't written as it has to be: a name, a number or a time.
-fn form_words(alloc: Global, name: &[u8], refusal: Refusal<'_>) -> Result<String, Memory> {
+fn form_words(alloc: Global, name: &[u8], refusal: &Refusal<'_>) -> Result<String, Memory> {
     let at = refusal.at;
     let k = first_bad(name, refusal.kind, at);
     let shown = shown_field(alloc, at, k)?;

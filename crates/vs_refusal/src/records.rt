@@ -1,9 +1,11 @@
 //! Records of a text, looked for by their number or by how they begin.
 
-ghost use Rattle.std.specs.Prelude.{◌≡◌, IfOk};
+ghost use Rattle.std.specs.Prelude.{◌≡◌, ◌<◌, List, length, IfOk, MatchOption};
 ghost use Rattle.std.specs.Str.{bytes_eq};
 ghost use Rattle.csv.specs.Records.{fields_of};
-ghost use Rattle.vs_reader.specs.Rows.{field_of};
+ghost use Rattle.vs_reader.specs.Rows.{Row, field_of};
+ghost use Rattle.vs_reader.specs.Texts.{HasRows};
+ghost use Rattle.vs_refusal.specs.Left.{AreLeft, GivesNext, IsAt};
 ghost use Rattle.vs_refusal.specs.Told.{first_row};
 
 use csv::{ByteRecord, Reader, ReaderBuilder};
@@ -12,15 +14,17 @@ use vs_types::Memory;
 
 /// The records of a text, one after another.
 #[derive(Drop)]
-struct Records<'t> {
-    reader: Reader<&'t [u8]>,
+pub struct Records<'t> {
+    pub reader: Reader<&'t [u8]>,
     /// The record that came last, empty before the first.
-    current: ByteRecord,
+    pub current: ByteRecord,
 }
 
 impl<'t> Records<'t> {
     /// All records of a text.
-    fn new(alloc: Global, text: &'t [u8]) -> Records<'t> {
+    pub fn new(alloc: Global, text: &'t [u8]) -> Records<'t>
+        ensures left { (rows : List Row) → HasRows text.now rows → AreLeft result rows }
+    {
         let reader = ReaderBuilder::new()
             .has_headers(false)
             .flexible(true)
@@ -32,7 +36,10 @@ impl<'t> Records<'t> {
     }
 
     /// Goes on to the next record, and answers whether there was one.
-    fn next(&mut self) -> Result<bool, Memory> {
+    pub fn next(&mut self) -> Result<bool, Memory>
+        ensures { IfOk result (λ found. (rows : List Row) → AreLeft self.old rows
+            → GivesNext self.new rows found) }
+    {
         // Bytes in memory have no fault, so the only error is want of memory.
         let Ok(found) = self.reader.read_byte_record(&mut self.current) else {
             return Err(Memory);
@@ -41,7 +48,9 @@ impl<'t> Records<'t> {
     }
 
     /// The record that came last.
-    fn into_current(self) -> ByteRecord {
+    pub fn into_current(self) -> ByteRecord
+        ensures { result ≡ self.current }
+    {
         self.current
     }
 }
@@ -71,7 +80,12 @@ pub fn first_record(alloc: Global, text: &[u8]) -> Result<ByteRecord, Memory>
 }
 
 /// The record of a text with this number, counted from 1. None where the text has fewer.
-pub fn record_at(alloc: Global, text: &[u8], number: u64) -> Result<Option<ByteRecord>, Memory> {
+pub fn record_at(alloc: Global, text: &[u8], number: u64) -> Result<Option<ByteRecord>, Memory>
+    requires { 0 < number }
+    ensures { IfOk result (λ found. (rows : List Row) → HasRows text.now rows → MatchOption found
+        (length rows < number)
+        (λ row. IsAt rows number (fields_of row))) }
+{
     let mut records = Records::new(alloc, text);
     for _count in 0..number {
         if !records.next()? {
@@ -112,9 +126,9 @@ pub fn record_of_kind(
         }
         if field(&records.current, 0) == kind {
             seen = seen.saturating_add(1);
-        }
-        if seen == place {
-            return Ok(Some(records.into_current()));
+            if seen == place {
+                return Ok(Some(records.into_current()));
+            }
         }
     }
     Ok(None)
@@ -150,7 +164,7 @@ pub fn is_text(field: &[u8], text: &str) -> bool
 /// The number that a field writes in digits. 0 where it writes none that 64 bits have.
 pub fn number_of(field: &[u8]) -> u64 {
     match str::from_utf8(field) {
-        Ok(digits) => digits.parse().unwrap_or(0),
+        Ok(digits) => digits.parse::<u64>().unwrap_or(0),
         Err(_) => 0,
     }
 }
