@@ -12,7 +12,7 @@ none_given rows records left = record {
   given = [];
   left = rows;
   parts = refl;
-  count = refl;
+  so_many = refl;
   last = inl refl;
   are_left = left;
 }
@@ -25,7 +25,7 @@ one_more rows count old new was next = record {
   left = next.0;
   parts = was.parts ∙ ap (λ (rs : List Row). was.given ++ rs) next.1
       ∙ sym (append_assoc was.given (fields_of new.current ∷ []) next.0);
-  count = omega (arith, was.count, length_push was.given (fields_of new.current));
+  so_many = omega (arith, was.so_many, length_push was.given (fields_of new.current));
   last = inr (was.given, refl);
   are_left = next.2;
 }
@@ -36,7 +36,7 @@ pub no_more : (rows : List Row) (count number : ℕ) (old new : Records) (was : 
 no_more rows count number old new was less none =
     omega (
       arith,
-      was.count,
+      was.so_many,
       ap (λ (rs : List Row). length rs) was.parts,
       length-append was.given was.left,
       ap (λ (rs : List Row). length rs) none,
@@ -48,7 +48,7 @@ pub is_at : (rows : List Row) (count : ℕ) (records : Records) → WasGiven row
 is_at rows count records was some = by was.last
   where
     by : IsLast was.given (fields_of records.current) → IsAt rows count (fields_of records.current)
-    by (inl none) = absurd (omega (arith, was.count, ap (λ (rs : List Row). length rs) none))
+    by (inl none) = absurd (omega (arith, was.so_many, ap (λ (rs : List Row). length rs) none))
     by (inr last) = record {
       before = last.0;
       after = was.left;
@@ -56,7 +56,7 @@ is_at rows count records was some = by was.last
           ∙ append_assoc last.0 (fields_of records.current ∷ []) was.left;
       place = omega (
         arith,
-        was.count,
+        was.so_many,
         ap (λ (rs : List Row). length rs) last.1,
         length_push last.0 (fields_of records.current),
       );

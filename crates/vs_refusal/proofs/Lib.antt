@@ -1,2 +1,3 @@
-pub mod GivenLemmas
-pub mod LeftLemmas
+mod GivenLemmas
+mod LeftLemmas
+mod RecordFields

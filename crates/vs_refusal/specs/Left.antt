@@ -37,6 +37,6 @@ pub record WasGiven (rows : List Row) (count : ℕ) (records : Records) : Type 0
   pub given : List Row
   pub left : List Row
   pub parts : rows ≡ given ++ left
-  pub count : length given ≡ count
+  pub so_many : length given ≡ count
   pub last : IsLast given (fields_of records.current)
   pub are_left : AreLeft records left

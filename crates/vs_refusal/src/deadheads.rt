@@ -1,5 +1,6 @@
 //! The words for refusals that name no record: of deadheads that aren't closed, and of too large a search.
 
+use crate::column::Kind;
 use crate::records::{field, is_text, number_of, record_like, record_of_kind};
 use crate::shown::shown;
 use csv::ByteRecord;
@@ -78,7 +79,7 @@ fn stop_name(alloc: Global, input: &[u8], number: u64) -> Result<Vec<u8>, Memory
 
 /// How long the deadhead from a stop to another is. No minutes and no metres where there is none.
 fn drive_of(alloc: Global, input: &[u8], from: &[u8], to: &[u8]) -> Result<Drive, Memory> {
-    match record_like(alloc, input, &["deadhead".as_bytes(), from, to])? {
+    match record_like(alloc, input, Kind::Deadhead, from, Some(to))? {
         Some(found) => Ok(Drive {
             minutes: number_of(field(&found.fields, 3)),
             metres: number_of(field(&found.fields, 4)),

@@ -1,5 +1,6 @@
 //! The words for a document that doesn't hold.
 
+use crate::column::Kind;
 use crate::records::{field, is_text, number_of, record_like, record_of_kind};
 use crate::shown::shown_field;
 use csv::ByteRecord;
@@ -125,7 +126,7 @@ fn block_words(alloc: Global, row: &ByteRecord, block: &ByteRecord) -> Result<St
 
 /// How many vehicles the layer of this name has, as its record writes it.
 fn fleet_of(alloc: Global, input: &[u8], layer: &[u8]) -> Result<u64, Memory> {
-    match record_like(alloc, input, &["layer".as_bytes(), layer])? {
+    match record_like(alloc, input, Kind::Layer, layer, None)? {
         Some(found) => Ok(number_of(field(&found.fields, 3))),
         None => Ok(0),
     }

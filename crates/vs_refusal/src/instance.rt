@@ -136,7 +136,7 @@ fn declared_at(
     kind: Kind,
     name: &[u8],
 ) -> Result<u64, Memory> {
-    match record_like(alloc, refusal.input, &[kind.name().as_bytes(), name])? {
+    match record_like(alloc, refusal.input, kind, name, None)? {
         Some(found) => Ok(found.number),
         None => Ok(u64::MAX),
     }
@@ -198,8 +198,8 @@ fn deadhead_words(alloc: Global, refusal: &Refusal<'_>) -> Result<String, Memory
     if field(at, 1) == field(at, 2) {
         return Ok(format!(in alloc; "a deadhead from {from} to itself")?);
     }
-    let first = ["deadhead".as_bytes(), field(at, 1), field(at, 2)];
-    match record_like(alloc, refusal.input, &first)? {
+    let other = Some(field(at, 2));
+    match record_like(alloc, refusal.input, Kind::Deadhead, field(at, 1), other)? {
         Some(found) => {
             let number = found.number;
             Ok(format!(in alloc; "record {number} gives the deadhead from {from} to {to} already")?)

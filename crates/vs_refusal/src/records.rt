@@ -8,6 +8,7 @@ ghost use Rattle.vs_reader.specs.Texts.{HasRows};
 ghost use Rattle.vs_refusal.specs.Left.{AreLeft, GivesNext, IsAt};
 ghost use Rattle.vs_refusal.specs.Told.{first_row};
 
+use crate::column::Kind;
 use csv::{ByteRecord, Reader, ReaderBuilder};
 use std::alloc::Global;
 use vs_types::Memory;
@@ -23,7 +24,7 @@ pub struct Records<'t> {
 impl<'t> Records<'t> {
     /// All records of a text.
     pub fn new(alloc: Global, text: &'t [u8]) -> Records<'t>
-        ensures left { (rows : List Row) → HasRows text.now rows → AreLeft result rows }
+        ensures { (rows : List Row) → HasRows text.now rows → AreLeft result rows }
     {
         let reader = ReaderBuilder::new()
             .has_headers(false)
@@ -49,7 +50,7 @@ impl<'t> Records<'t> {
 
     /// The record that came last.
     pub fn into_current(self) -> ByteRecord
-        ensures { result ≡ self.current }
+        ensures { result ≡ self.entry.current }
     {
         self.current
     }
@@ -95,15 +96,21 @@ pub fn record_at(alloc: Global, text: &[u8], number: u64) -> Result<Option<ByteR
     Ok(Some(records.into_current()))
 }
 
-/// The first record of an instance that begins with these fields. None where no record before the first `result` record
-/// does.
-pub fn record_like(alloc: Global, text: &[u8], first: &[&[u8]]) -> Result<Option<Found>, Memory> {
+/// The first record of an instance whose first fields are its kind's, this name and, where it is told, this other one.
+/// None where no record before the first `result` record is such a one.
+pub fn record_like(
+    alloc: Global,
+    text: &[u8],
+    kind: Kind,
+    name: &[u8],
+    other: Option<&[u8]>,
+) -> Result<Option<Found>, Memory> {
     let mut records = Records::new(alloc, text);
     for number in 1..u64::MAX {
         if !records.next()? || is_text(field(&records.current, 0), "result") {
             return Ok(None);
         }
-        if begins_with(&records.current, first) {
+        if is_like(&records.current, kind, name, other) {
             let fields = records.into_current();
             return Ok(Some(Found { number, fields }));
         }
@@ -134,17 +141,15 @@ pub fn record_of_kind(
     Ok(None)
 }
 
-/// Whether a record begins with these fields.
-fn begins_with(row: &ByteRecord, first: &[&[u8]]) -> bool {
-    if row.len() < first.len() {
+/// Whether a record's first fields are its kind's, this name and, where it is told, this other one.
+fn is_like(row: &ByteRecord, kind: Kind, name: &[u8], other: Option<&[u8]>) -> bool {
+    if !is_text(field(row, 0), kind.name()) || field(row, 1) != name {
         return false;
     }
-    for (k, wanted) in first.iter().enumerate() {
-        if field(row, k) != *wanted {
-            return false;
-        }
+    match other {
+        Some(other) => field(row, 2) == other,
+        None => true,
     }
-    true
 }
 
 /// A field of a record, empty where the record has fewer.

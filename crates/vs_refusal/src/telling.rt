@@ -1,6 +1,6 @@
 //! The sentence for a row that was written.
 
-ghost use Rattle.std.specs.Prelude.{◌≡◌, ◌||◌, [], IfOk, IfSome, is_some};
+ghost use Rattle.std.specs.Prelude.{◌≡◌, ◌||◌, [], IfOk, IfSome, is_some, true};
 ghost use Rattle.std.specs.String.{string_bytes};
 ghost use Rattle.csv.specs.Records.{fields_of};
 ghost use Rattle.vs_refusal.specs.Told.{BeginWith, first_row, is_flaw, is_refusal, place_of};

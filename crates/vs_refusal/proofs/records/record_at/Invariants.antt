@@ -6,5 +6,5 @@ use Rattle.vs_refusal.proofs.records.record_at.Given as goal
 
 abbrev pub invariant-loop-count : goal.invariant-loop-count
 invariant-loop-count l = record {
-  given : (rows : List Row) → HasRows l.fn.text.now rows → WasGiven rows l._count l.records;
+  given : (rows : List Row) → HasRows l.fn.text rows → WasGiven rows l._count l.records;
 }
