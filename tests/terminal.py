@@ -62,7 +62,7 @@ RUNS = [
         STOPS + LAYER + TRIPS,
         3,
         "refused,14,20,NoResult\n",
-        "record 14: here no document begins, which result,1,CLAIM would do\n",
+        "record 14: no document of a plan follows the timetable\n",
     ),
     (
         ["check"],

@@ -19,15 +19,11 @@ const TOLD: [(&[&str], &str, &str); 49] = [
         "refused,1,1,NoHeader\n",
         "record 1: it isn't instance,1 or instance,2: is this a spreadsheet's export?",
     ),
-    (
-        &[],
-        "refused,1,1,NoHeader\n",
-        "record 1: it isn't instance,1 or instance,2: is this a spreadsheet's export?",
-    ),
+    (&[], "refused,1,1,NoHeader\n", "record 1: the text is empty"),
     (
         &[STOPS, "Layer,L1\n"],
         "refused,11,2,UnknownKind\n",
-        "record 11: unknown kind of record: Layer",
+        "record 11: unknown kind of record: \"Layer\"",
     ),
     (
         &["instance,1\nstop,D,\n"],
@@ -192,7 +188,7 @@ const TOLD: [(&[&str], &str, &str); 49] = [
     (
         &[STOPS, LAYER, TRIPS],
         "refused,14,20,NoResult\n",
-        "record 14: here no document begins, which result,1,CLAIM would do",
+        "record 14: no document of a plan follows the timetable",
     ),
     (
         &[STOPS, LAYER, TRIPS, HEAD, BLOCK, TABLE, "leaf,1\nen\n"],
@@ -217,7 +213,7 @@ const TOLD: [(&[&str], &str, &str); 49] = [
     (
         &[STOPS, LAYER, TRIPS, HEAD, BLOCK, TABLE, "leaf,1\n"],
         "refused,24,24,EndsEarly\n",
-        "record 24: the text ends here, and no end has come: was it cut off?",
+        "record 24: the document ends here, without its row end: was it cut off?",
     ),
     (
         &[

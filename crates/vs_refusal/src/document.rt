@@ -11,10 +11,12 @@ use vs_types::Memory;
 pub fn document_words(alloc: Global, row: &ByteRecord, at: &ByteRecord) -> Result<String, Memory> {
     let name = field(row, 3);
     if is_text(name, "NoResult") {
-        return Ok(format!(in alloc; "here no document begins, which result,1,CLAIM would do")?);
+        return Ok(format!(in alloc; "no document of a plan follows the timetable")?);
     }
     if is_text(name, "EndsEarly") {
-        return Ok(format!(in alloc; "the text ends here, and no end has come: was it cut off?")?);
+        return Ok(format!(in alloc;
+            "the document ends here, without its row end: was it cut off?"
+        )?);
     }
     let shown = shown_record(alloc, at)?;
     if is_text(name, "BadRow") {

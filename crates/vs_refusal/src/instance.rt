@@ -32,13 +32,11 @@ pub fn instance_words(
 ) -> Result<String, Memory> {
     let name = field(row, 3);
     if is_text(name, "NoHeader") {
-        return Ok(format!(in alloc;
-            "it isn't instance,1 or instance,2: is this a spreadsheet's export?"
-        )?);
+        return header_words(alloc, at);
     }
     let Some(kind) = Kind::of(field(at, 0)) else {
         let shown = shown_field(alloc, at, 0)?;
-        return Ok(format!(in alloc; "unknown kind of record: {shown}")?);
+        return Ok(format!(in alloc; "unknown kind of record: \"{shown}\"")?);
     };
     if is_text(name, "Range") {
         return range_words(alloc, field(row, 4), kind, at);
@@ -51,6 +49,14 @@ pub fn instance_words(
         at,
     };
     record_words(alloc, name, &refusal)
+}
+
+/// The words for a first record that says no version, or for a text without a record.
+fn header_words(alloc: Global, at: &ByteRecord) -> Result<String, Memory> {
+    if at.is_empty() {
+        return Ok(format!(in alloc; "the text is empty")?);
+    }
+    Ok(format!(in alloc; "it isn't instance,1 or instance,2: is this a spreadsheet's export?")?)
 }
 
 /// The words for a refusal of this name, of a record of one of the kinds.
