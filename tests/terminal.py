@@ -109,6 +109,13 @@ def ended(path, words, text):
 
 def main():
     path = program()
+    try:
+        ours, theirs = pty.openpty()
+    except OSError as error:
+        print(f"terminal: the system gives no terminal ({error}), so nothing was tried")
+        return 0
+    os.close(ours)
+    os.close(theirs)
     wrong = 0
     for words, text, *wanted in RUNS:
         found = list(ended(path, words, text))
