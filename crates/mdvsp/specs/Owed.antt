@@ -173,8 +173,8 @@ abbrev pub trial_row : ℕ → Document → Row
 trial_row n d = codes "trial" ∷ decimal n ∷ claim_field d.claim ∷ number_field d.cost ∷ number_field d.bound
     ∷ decimal d.nodes ∷ codes "yes" ∷ []
 
--- `trial n` is owed the row of a document that a search by one worker within 20 nodes answers for the instance for which
--- the text of `make n` stands, with the status of its claim; such a document holds and proves what it claims
+-- `trial n` is owed the row of a document that a search by one worker within 20 nodes answers for the instance for
+-- which the text of `make n` stands, with the status of its claim; such a document holds and proves what it claims
 pub record OwesTrial (n : ℕ) (answer : Status) (rows : List Row) : Type 0 where
   pub problem : Problem
   pub names : NameLists

@@ -90,8 +90,8 @@ fn search<R: Threads + Wait + Sync, I: Source, O: Sink, G: Gate + Sync>(
     }
 }
 
-/// Reads what a command other than `solve` and `trial` takes, does what it asks for, and says how it ended. It starts no thread and
-/// waits for none.
+/// Reads what a command other than `solve` and `trial` takes, does what it asks for, and says how it ended. It starts
+/// no thread and waits for none.
 fn obey<I: Source, O: Sink>(
     alloc: Global,
     command: Command,

@@ -14,5 +14,5 @@ pub unreachable-requires : goal.unreachable-requires
 unreachable-requires c =
     let n = c.args.n in
     let whole = made_stands n c.args.made.now c.requires.trips c.requires.made in
-    c.in-Err.ensures.none (subst IsRefusedError (sym c.in-Refused.is) tt) (made_problem n) (made_names n) whole.before []
-    whole.stands
+    c.in-Err.ensures.none (subst IsRefusedError (sym c.in-Refused.is) tt) (made_problem n) (made_names n)
+    whole.before [] whole.stands

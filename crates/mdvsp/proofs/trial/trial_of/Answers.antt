@@ -13,8 +13,9 @@ plan_of-requires-clause-counts g c lifetimes outlive =
 pub read_back-requires : goal.read_back-requires
 read_back-requires g c =
     let timetable = c.in_ok-timetable.timetable in
+    let whole = c.in_ok-timetable.ensures in
     subst (AreWritten c.args.made.now) (sym c.deref.ensures.value)
-    (planned_written c.args.made.now timetable.instance timetable.names c.in_ok-planned.planned c.in_ok-timetable.ensures
+    (planned_written c.args.made.now timetable.instance timetable.names c.in_ok-planned.planned whole
     c.in_ok-planned.ensures)
 
 pub returns : goal.returns
