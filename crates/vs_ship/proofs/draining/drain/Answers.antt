@@ -1,17 +1,9 @@
-use Rattle.std.proofs.Common.{◌∙◌, ◌%◌, ◌<◌, arith, inl, inr, refl, rules}
+use Rattle.std.proofs.Common.{◌∙◌, ◌%◌, ◌<◌, arith, inl, inr}
 use Rattle.std.proofs.lemmas.Bool.{cases_lt}
 use Rattle.vs_ship.specs.declared.draining.TheConstants.{STRIDE}
 use Rattle.vs_ship.proofs.balance.Numbers.{all-none}
 use Rattle.vs_ship.proofs.shipping.Shipping.{ships-on}
 use Rattle.vs_ship.proofs.draining.drain.Goals as goal
-
-pub loop-first-init : goal.loop-first-init
-loop-first-init c = record {
-  ships = search rules;
-  none_left = λ v below. absurd (omega (arith, below));
-  nodes = refl;
-  loads = search rules;
-}
 
 pub returns-in-Some-clause-ships : goal.returns-in-Some-clause-ships
 returns-in-Some-clause-ships c =
