@@ -88,7 +88,7 @@ sed 's/^cost,500$/cost,499/' "$work/both" > "$work/flawed"
 # Each command, with the file that it reads. Words that are wrong and input that is refused write a row too.
 commands=(
   "solve both" "solve --workers 2 timetable" "check both" "check flawed" "check refused" "network timetable"
-  "blocks both" "make 2 nothing" "make 2000 nothing" "nonsense nothing"
+  "blocks both" "make 2 nothing" "make 2000 nothing" "nonsense nothing" "--help nothing"
 )
 
 for command in "${commands[@]}"; do

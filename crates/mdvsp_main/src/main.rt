@@ -11,6 +11,7 @@ use std::rt::Env;
 use std::{env, io};
 use vs_io::{StdSink, StdSource};
 use vs_reason::reason_text;
+use vs_refusal::refusal_text;
 
 mod kept;
 mod progress;
@@ -30,6 +31,8 @@ commands:
   blocks    print the timetable of a plan's vehicles
   network   tell how large a timetable's networks are
   make N    write a timetable of N trips, 0 to 2000, to try the program on
+  --help, --version
+            print this, or the version of the program
 
 exit status:
   0 done, solve: the plan is optimal   1 check, blocks: no   2 wrong words   3 the input is refused
@@ -37,13 +40,17 @@ exit status:
   10 solve: there is no plan   11 solve: open, the cases ran out";
 
 /// Runs the words after the program's name over standard input and output, and ends with the run's code. Where standard
-/// error is a terminal, it tells there how far the run has come, and why there is no plan where there is none; where the
-/// words are wrong, it tells on standard error how the program is called.
+/// error is a terminal, it tells there how far the run has come, why there is no plan where there is none, and what was
+/// refused or found wrong; where the words are wrong, it tells on standard error how the program is called. The one
+/// word that asks for that, or for the version, it answers itself.
 fn main(rt: HostRuntime) -> ExitCode {
     let words = match given_words(&rt) {
         Ok(words) => words,
         Err(status) => return ExitCode::from(status.code()),
     };
+    if let Some(status) = about_itself(&rt, &words) {
+        return ExitCode::from(status.code());
+    }
     let shown = rt.stderr().is_terminal();
     let mut input = KeptSource::new(StdSource::new(rt.stdin()), Kept::new(rt.alloc(), shown));
     let mut output = KeptSink::new(StdSink::new(rt.stdout()), Kept::new(rt.alloc(), shown));
@@ -51,23 +58,50 @@ fn main(rt: HostRuntime) -> ExitCode {
     let status = run(&rt, rt.alloc(), &words, &mut input, &mut output, &progress);
     progress.end();
     match status {
-        Status::BadWords => tell_usage(&rt, &words),
+        Status::BadWords => tell_usage(&rt),
+        Status::BadInput | Status::SaysNo => {
+            tell_refusal(&rt, rt.alloc(), input.kept(), output.kept());
+        }
         Status::Infeasible => tell_reason(&rt, rt.alloc(), input.kept(), output.kept()),
         _ => {}
     }
     ExitCode::from(status.code())
 }
 
-/// Tells on standard error how the program is called, and its version where the words ask for it. Whether standard
-/// error takes it doesn't matter.
-fn tell_usage<R: Eprint>(rt: &R, words: &[String]) {
-    if words
-        .first()
-        .is_some_and(|word| word.as_str() == "--version")
-    {
-        let _ = eprintln!(rt; "mdvsp {VERSION}");
+/// Prints how the program is called, or its version, where the only word asks for that, and says how that ended. None
+/// where the words are for `run`.
+fn about_itself<R: Print>(rt: &R, words: &[String]) -> Option<Status> {
+    if words.len() != 1 {
+        return None;
     }
+    let word = words[0].as_str();
+    let printed = if word == "--version" {
+        println!(rt; "mdvsp {VERSION}")
+    } else if word == "--help" || word == "-h" {
+        println!(rt; "{USAGE}")
+    } else {
+        return None;
+    };
+    match printed {
+        Ok(()) => Some(Status::Done),
+        Err(_) => Some(Status::WriteFault),
+    }
+}
+
+/// Tells on standard error how the program is called. Whether standard error takes it doesn't matter.
+fn tell_usage<R: Eprint>(rt: &R) {
     let _ = eprintln!(rt; "{USAGE}");
+}
+
+/// Tells on standard error what was refused, and where, or why a document doesn't hold, by the row that was written;
+/// nothing where input and row weren't kept. Whether standard error takes it doesn't matter.
+fn tell_refusal<R: Eprint>(rt: &R, alloc: Global, input: &Kept, row: &Kept) {
+    let (Some(input), Some(row)) = (input.bytes(), row.bytes()) else {
+        return;
+    };
+    if let Ok(Some(words)) = refusal_text(alloc, input, row) {
+        let _ = eprintln!(rt; "{words}");
+    }
 }
 
 /// Tells on standard error why an instance has no plan, by the document that was written for it; nothing where they

@@ -1,5 +1,6 @@
 //! Tests of what judges: worked examples of documents, plans, prices and verdicts, and that each call can answer
-//! something else than `Memory`; and of the words that tell why there is no plan.
+//! something else than `Memory`; and of the words that tell why there is no plan, what is refused, and why a document
+//! doesn't hold.
 #![tactic(auto)]
 
 #[cfg(test)]
@@ -10,5 +11,7 @@ mod plans;
 mod prices;
 #[cfg(test)]
 mod reasons;
+#[cfg(test)]
+mod refusals;
 #[cfg(test)]
 mod verdicts;

@@ -1,0 +1,3 @@
+mod GivenLemmas
+mod LeftLemmas
+mod RecordFields
