@@ -1,17 +1,18 @@
 #!/usr/bin/env python3
-"""Has each call for memory fail in turn, and sees that the program ends as it promises: with status 6 and nothing written,
-or with the answer that it gives with ample memory.
+"""Has each call for memory fail in turn, and sees that the program ends as it promises: with status 6 and nothing
+written, or with the answer that it gives with ample memory.
 
     tests/each_allocation.py [PROGRAM]
 
-PROGRAM is bin/mdvsp, or what the gate built, where it isn't given. A small C library (tests/refuse_nth.c, built by gcc
-or another C compiler) is preloaded, which refuses the call of a number. Each number is tried twice: that call alone is
-refused, and it and all later ones are. First the calls of a run with ample memory are counted. Up to 1,000 calls all are tried; of more the first
-400, the last 100, and 300 evenly between. A number past the last call has to meet no refusal.
+PROGRAM is bin/mdvsp, or what the gate built, where it isn't given. A small C library (tests/refuse_nth.c, built by
+gcc or another C compiler) is preloaded, which refuses the call of a number. Each number is tried twice: that call
+alone is refused, and it and all later ones are. First the calls of a run with ample memory are counted. Up to 1,000
+calls all are tried; of more the first 400, the last 100, and 300 evenly between. A number past the last call has to
+meet no refusal.
 
-A run of one worker has to print the same bytes where it ends well. Of two workers the documents may differ: the claim,
-the cost and the bound have to be the same, and `check` has to say yes to each document. The calls of two workers come
-in another order each time, so there a number stands for another call in each run.
+A run of one worker has to print the same bytes where it ends well. Of two workers the documents may differ: the
+claim, the cost and the bound have to be the same, and `check` has to say yes to each document. The calls of two
+workers come in another order each time, so there a number stands for another call in each run.
 
 Nothing of the program is made of this. It ends with 0 where all is as promised, with 1 and a line for each run that
 isn't, and how to repeat it. It takes some ten seconds.
@@ -108,7 +109,8 @@ class Trial:
         if on:
             known["REFUSE_ON"] = "1"
         try:
-            done = subprocess.run([self.path, *words], input=text.encode(), capture_output=True, timeout=SECONDS, env=known)
+            command = [self.path, *words]
+            done = subprocess.run(command, input=text.encode(), capture_output=True, timeout=SECONDS, env=known)
         except subprocess.TimeoutExpired:
             done = None
         with open(tally, "rb") as file:

@@ -1,6 +1,6 @@
 #!/usr/bin/env bash
-# Runs the program on streams that fail and with little memory, and sees that it ends with the status that it promises, with no
-# word on standard error and by no signal:
+# Runs the program on streams that fail and with little memory, and sees that it ends with the status that it
+# promises, with no word on standard error and by no signal:
 #
 #   standard output closed, full, or a pipe that is shut   5
 #   standard input closed, or a folder                     4, and nothing written
@@ -8,8 +8,9 @@
 #
 #     tests/streams.sh [PROGRAM]
 #
-# PROGRAM is bin/mdvsp, or what the gate built, where it isn't given. Nothing of the program is made of this. It prints a line
-# for each run that ends otherwise, and at last how many there were; it ends with 1 where there was one. It takes some seconds.
+# PROGRAM is bin/mdvsp, or what the gate built, where it isn't given. Nothing of the program is made of this. It
+# prints a line for each run that ends otherwise, and at last how many there were; it ends with 1 where there was one.
+# It takes some seconds.
 set -u
 program=${1:-}
 [ -n "$program" ] && program=$(realpath "$program")
@@ -106,8 +107,8 @@ for command in "${commands[@]}"; do
   [ "$what" = nonsense ] && : > "$work/err"
   ended "$what > /dev/full" "$status" 5
 
-  # `true` shuts its end of the pipe before the program begins to write. Signals for that are at first as a shell's child gets
-  # them, then ignored.
+  # `true` shuts its end of the pipe before the program begins to write. Signals for that are at first as a shell's
+  # child gets them, then ignored.
   { sleep 0.1; "$program" "${words[@]}" < "$file" 2> "$work/err"; echo "$?" > "$work/status"; } | true
   [ "$what" = nonsense ] && : > "$work/err"
   ended "$what | true" "$(cat "$work/status")" 5
@@ -120,7 +121,10 @@ done
 { "$program" make 2000 2> "$work/err"; echo "$?" > "$work/status"; } | head -c 100 > "$work/part"
 ended "make 2000 | head -c 100" "$(cat "$work/status")" 5
 "$program" make 2000 < /dev/null > "$work/made"
-head -c 100 "$work/made" | cmp -s - "$work/part" || { wrong=$((wrong + 1)); echo "make 2000 | head -c 100: other bytes than make 2000's"; }
+head -c 100 "$work/made" | cmp -s - "$work/part" || {
+  wrong=$((wrong + 1))
+  echo "make 2000 | head -c 100: other bytes than make 2000's"
+}
 
 for words in solve check network blocks "solve --nodes 0"; do
   read -r -a words <<< "$words"
@@ -145,8 +149,8 @@ within() {
   (ulimit -v "$much" && exec "$program" "$@" < "$file" > "$work/out") 2> "$work/err"
 }
 
-# The least address space, in KB, in which the program begins at all. Below, its loader tells that it can't, or the system kills it,
-# and it isn't the program that ends.
+# The least address space, in KB, in which the program begins at all. Below, its loader tells that it can't, or the
+# system kills it, and it isn't the program that ends.
 least=1024
 within "$least" /dev/null make 0
 status=$?
