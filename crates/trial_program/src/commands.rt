@@ -1,4 +1,4 @@
-//! `network`, `make` and `blocks`.
+//! `network`, `make`, `trial` and `blocks`.
 
 use crate::runs::{Row, come_out, ran, reads_nothing};
 use mdvsp::Status;
@@ -207,4 +207,37 @@ fn makes_without_reading(rt: HostRuntime) -> Result<(), Fail> {
     let text = reads_nothing(&rt, rt.alloc(), &["make", "0"], Status::Done)?;
     assert!(rt; text.starts_with(b"instance,1\nstop,S1\n"));
     Ok(())
+}
+
+/// How many trips are asked for, and what the row of the outcome begins with: a claim, and the least cost of all plans,
+/// which a slow count of all of them gave, as cost and as bound.
+type Tried = (&'static str, &'static str);
+
+const TRIED: &[Tried] = &[
+    ("0", "trial,0,optimal,0,0,0,yes\n"),
+    ("1", "trial,1,optimal,62860,62860,"),
+    ("2", "trial,2,optimal,94030,94030,"),
+    ("7", "trial,7,optimal,249080,249080,"),
+    ("007", "trial,7,optimal,249080,249080,"),
+];
+
+/// The row begins so and ends in `yes`, at each of two runs the same, and nothing is read.
+fn are_tried<R: Abort + Threads + Wait + Sync>(
+    rt: &R,
+    alloc: Global,
+    rows: &[Tried],
+) -> Result<(), Fail> {
+    for (n, begins) in rows {
+        let row = reads_nothing(rt, alloc, &["trial", n], Status::Done)?;
+        assert!(rt; row.starts_with(begins.as_bytes()), "{n}");
+        assert!(rt; row.ends_with(b",yes\n"), "{n}");
+        let again = reads_nothing(rt, alloc, &["trial", n], Status::Done)?;
+        assert_eq!(rt; row.as_slice(), again.as_slice(), "{n}");
+    }
+    Ok(())
+}
+
+#[test]
+fn tries_instances(rt: HostRuntime) -> Result<(), Fail> {
+    are_tried(&rt, rt.alloc(), TRIED)
 }

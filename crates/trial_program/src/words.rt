@@ -38,6 +38,11 @@ const WRONG: &[Wrong] = &[
     (&["make", "2001"], "words,2\n"),
     (&["make", "0000001"], "words,2\n"),
     (&["make", "1", "2"], "words,3\n"),
+    (&["trial"], "words,2\n"),
+    (&["trial", "-1"], "words,2\n"),
+    (&["trial", "2001"], "words,2\n"),
+    (&["trial", "0000007"], "words,2\n"),
+    (&["trial", "7", "20"], "words,3\n"),
 ];
 
 /// Nothing is read, and the first bad word is told.
