@@ -69,6 +69,15 @@ fn three_hundred_trips_are_planned(rt: HostRuntime) -> Result<(), Fail> {
     is_planned(&rt, rt.alloc(), &instance, "4", "20")
 }
 
+#[test]
+fn three_hundred_trips_are_tried(rt: HostRuntime) -> Result<(), Fail> {
+    let (status, row) = ran(&rt, rt.alloc(), &["trial", "300"], Vec::new(rt.alloc()))?;
+    assert!(rt; status == Status::Done || status == Status::StillOpen);
+    assert!(rt; row.starts_with(b"trial,300,"));
+    assert!(rt; row.ends_with(b",yes\n"));
+    Ok(())
+}
+
 /// A gate that holds the first worker that comes for a leaf other than the root until one has come for another such
 /// leaf.
 #[derive(Drop)]
