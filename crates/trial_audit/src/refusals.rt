@@ -13,7 +13,7 @@ const SHORTER: &str = "instance,1\nstop,P\nstop,Q\nstop,R\n\
 const OPEN: &str = "instance,1\nstop,P\nstop,Q\nstop,R\ndeadhead,P,Q,7,900\ndeadhead,Q,R,5,600\n";
 
 /// A text, the row that is written for it, and the words.
-const TOLD: [(&[&str], &str, &str); 49] = [
+const TOLD: &[(&[&str], &str, &str)] = &[
     (
         &["trip,t1\n"],
         "refused,1,1,NoHeader\n",
@@ -267,7 +267,7 @@ const TOLD: [(&[&str], &str, &str); 49] = [
 ];
 
 /// Rows that say no and whose words need no text, and the words.
-const FLAWS: [(&str, &str); 14] = [
+const FLAWS: &[(&str, &str)] = &[
     (
         "no,1,Twice,t1\n",
         "trip t1 stands in the blocks more than once",
@@ -323,7 +323,7 @@ fn told(alloc: Global, input: &[&str], row: &str) -> Result<String, Fail> {
 
 #[test]
 fn tell_what_was_refused(rt: HostRuntime) -> Result<(), Fail> {
-    for (input, row, words) in TOLD {
+    for &(input, row, words) in TOLD {
         let found = told(rt.alloc(), input, row)?;
         assert_eq!(rt; found.as_str(), words);
     }
@@ -332,7 +332,7 @@ fn tell_what_was_refused(rt: HostRuntime) -> Result<(), Fail> {
 
 #[test]
 fn tell_why_documents_do_not_hold(rt: HostRuntime) -> Result<(), Fail> {
-    for (row, words) in FLAWS {
+    for &(row, words) in FLAWS {
         let found = told(rt.alloc(), &[], row)?;
         assert_eq!(rt; found.as_str(), words);
     }
