@@ -9,6 +9,11 @@ use trial_fixtures::texts::{
     SPLIT_TABLE, STOPS, TABLE, TABLE_APART, TABLE_TOO_HIGH, TRIPS, TRIPS_APART, TWO_LAYERS,
 };
 
+/// A table with the greatest price that there is for a vehicle, and for entering the first trip. For two vehicles it takes
+/// 2 * 10^18 away and gives 10^18 back: 10^15 units less than the 60 that the trips themselves cost.
+const DEAREST_TABLE: &str =
+    "table,1,cost\nfleet,L1,1000000000000000000\nprice,L1,t1,1000000000000000000,0\nprice,L1,t2,0,0\n";
+
 const DOCUMENTS: &[Row] = &[
     Row {
         case: "a table that no leaf names",
@@ -169,6 +174,48 @@ const DOCUMENTS: &[Row] = &[
         ],
         status: Status::Done,
         written: "yes,open,1080,60\n",
+    },
+    Row {
+        case: "prices at their ends",
+        input: &[
+            STOPS,
+            LAYER,
+            TRIPS,
+            "result,1,open\ncost,1080\nbound,-999999999999940\nnodes,0\n",
+            BLOCK,
+            DEAREST_TABLE,
+            END,
+        ],
+        status: Status::Done,
+        written: "yes,open,1080,-999999999999940\n",
+    },
+    Row {
+        case: "a bound too high for prices at their ends",
+        input: &[
+            STOPS,
+            LAYER,
+            TRIPS,
+            "result,1,open\ncost,1080\nbound,-999999999999939\nnodes,0\n",
+            BLOCK,
+            DEAREST_TABLE,
+            END,
+        ],
+        status: Status::SaysNo,
+        written: "no,5,LeafTooWeak,1,-999999999999940,-999999999999939\n",
+    },
+    Row {
+        case: "a link broken by a price at its end",
+        input: &[
+            STOPS,
+            LAYER,
+            TRIPS,
+            "result,1,open\ncost,1080\nbound,-999999999999940\nnodes,0\n",
+            BLOCK,
+            "table,1,cost\nfleet,L1,1000000000000000000\nprice,L1,t1,0,-1000000000000000000\nprice,L1,t2,0,0\n",
+            END,
+        ],
+        status: Status::SaysNo,
+        written: "no,3,TableBroken,1,link,L1,t1,t2\n",
     },
     Row {
         case: "no connection",
