@@ -1,6 +1,7 @@
 //! The deadheads of an instance, listed.
 
-ghost use Rattle.std.specs.Prelude.{◌≡◌, ◌<◌, IfOk};
+ghost use Rattle.std.specs.Prelude.{◌≡◌, ◌<◌, ◌++◌, IfOk, OnOk};
+ghost use Rattle.std.specs.Option.{option_to_list};
 ghost use Rattle.vs_counting.specs.Listed.{AreAllDeadheads, deadhead_given};
 
 use std::alloc::Global;
@@ -18,11 +19,20 @@ pub(crate) fn all_deadheads(alloc: Global, instance: &Instance) -> Result<Vec<De
     for place in 0..stops * stops {
         let from = StopNo(place / stops);
         let to = StopNo(place % stops);
-        if let Some(deadhead) = deadhead_between(instance, from, to) {
-            deadheads.push(deadhead)?;
-        }
+        let given = deadhead_between(instance, from, to);
+        add(&mut deadheads, given)?;
     }
     Ok(deadheads)
+}
+
+/// Puts a deadhead at the end, where it is given.
+fn add(deadheads: &mut Vec<Deadhead>, given: Option<Deadhead>) -> Result<(), Memory>
+    ensures { OnOk result (deadheads.new.items ≡ deadheads.old.items ++ option_to_list given) }
+{
+    if let Some(deadhead) = given {
+        deadheads.push(deadhead)?;
+    }
+    Ok(())
 }
 
 /// The deadhead from one stop to another, where it is given.

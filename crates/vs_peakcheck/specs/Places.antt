@@ -33,16 +33,33 @@ may_run p l b = (b.0.0 == l) && list_all (λ i. bit_at (trip_of p i.0).layers.0 
 abbrev pub MayRun : Problem → ℕ → LayerBlock → Type 0
 MayRun p l b = may_run p l b ≡ true
 
--- the place behind a row that says this, where it may come
-abbrev pub behind : Problem → Place → PeakRow → Option Place
-behind p (AtLayer l) (CountRow layer n) = if layer == l then Some (AtBlocks l n) else None
-behind p (AtLayer l) (PartRow EndRow) = if l == length p.layers then Some AtEnd else None
-behind p (AtBlocks l (Some n)) (PartRow (BlockRow b)) = if may_run p l b then Some (AtBlocks l (Some n)) else None
-behind p (AtBlocks l n) (PartRow (FleetRow layer price)) =
+-- beside a count a block of the layer may come, and others behind it
+abbrev pub behind_block : Problem → ℕ → Option ℕ → LayerBlock → Option Place
+behind_block p l None b = None
+behind_block p l (Some n) b = if may_run p l b then Some (AtBlocks l (Some n)) else None
+
+-- the place behind a row that says this: before a layer or the end, behind a count, and before prices
+abbrev pub behind_layer : Problem → ℕ → PeakRow → Option Place
+behind_layer p l (CountRow layer n) = if layer == l then Some (AtBlocks l n) else None
+behind_layer p l (PartRow EndRow) = if l == length p.layers then Some AtEnd else None
+behind_layer p l _ = None
+
+abbrev pub behind_count : Problem → ℕ → Option ℕ → PeakRow → Option Place
+behind_count p l n (PartRow (BlockRow b)) = behind_block p l n b
+behind_count p l n (PartRow (FleetRow layer price)) =
     if layer == l then Some (in_prices l (permitted_trips p l)) else None
-behind p (AtPrices l i trips) (PartRow (PriceRow layer trip into from)) =
+behind_count p l n _ = None
+
+abbrev pub behind_price : ℕ → ℕ → List ℕ → PeakRow → Option Place
+behind_price l i trips (PartRow (PriceRow layer trip into from)) =
     if (layer == l) && (trip == i) then Some (in_prices l trips) else None
-behind p _ _ = None
+behind_price l i trips _ = None
+
+abbrev pub behind : Problem → Place → PeakRow → Option Place
+behind p (AtLayer l) said = behind_layer p l said
+behind p (AtBlocks l n) said = behind_count p l n said
+behind p (AtPrices l i trips) said = behind_price l i trips said
+behind p AtEnd said = None
 
 -- what is given for a price is one
 abbrev pub HasPrices : PeakRow → Type 0

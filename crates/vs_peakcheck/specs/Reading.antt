@@ -1,5 +1,5 @@
 -- How far the rows of a text that claims peaks have been read.
-use Rattle.std.specs.Prelude.{◌≡◌, ◌≢◌, ℕ, ◌+◌, ◌<◌, ◌≤◌, List, [], ◌∷◌, ◌++◌, length, take, drop, All, ℤ, Option, IfNone, IfSome, slice_index_or}
+use Rattle.std.specs.Prelude.{◌≡◌, ◌≢◌, ℕ, ◌+◌, ◌<◌, ◌≤◌, List, [], ◌∷◌, ◌++◌, length, take, drop, All, ℤ, Option, IfNone, IsSome, slice_index_or}
 use Rattle.vs_types.specs.declared.numbers.LayerNo.{LayerNo}
 use Rattle.vs_instance.specs.Problem.{Problem}
 use Rattle.vs_instance.specs.Plan.{LayerBlock, all_trips}
@@ -7,7 +7,8 @@ use Rattle.vs_plan.specs.Blocks.{IsOfInstance, pair_of}
 use Rattle.vs_prices.specs.Table.{IsPrice}
 use Rattle.vs_reader.specs.declared.input.Input.{Input}
 use Rattle.vs_reader.specs.Rows.{all_fields, row_of}
-use Rattle.vs_rows.specs.DocumentRows.{BlockRow, DocumentRow, EndRow, FleetRow, PriceRow}
+use Rattle.vs_rows.specs.DocumentRows.{BlockRow, EndRow, FleetRow, PriceRow}
+use Rattle.vs_rows.specs.RowForms.{SaysThere}
 use Rattle.vs_counting.specs.Counting.{counting, own_blocks, own_trips, permitted_trips}
 use Rattle.vs_peakcheck.specs.declared.claimed.Claimed.{Claimed}
 use Rattle.vs_peakcheck.specs.declared.reading.prices.Prices.{Prices}
@@ -65,12 +66,17 @@ pub record IsCountedBlock (p : Problem) (l : LayerNo) (own counted : LayerBlock)
   pub trips : All (λ k. k.0 < length (permitted_trips p l.0)) counted.1
   pub own_is : own_trips p l.0 counted.1 ≡ own.1
 
+-- the row is no block's
+abbrev pub IsNoBlock : Input → ℕ → Type 0
+IsNoBlock input row = (b : LayerBlock) → ¬ (SaysThere input row (BlockRow b))
+
 -- the rows are those of these blocks of layer l, beside a count
 pub record ReadsBlocks (input : Input) (at : ℕ) (l : LayerNo) (count : Option ℕ) (to : ℕ)
     (blocks : List LayerBlock) : Type 0 where
   pub of_instance : All (IsOfInstance (counting input.instance l.0)) blocks
   pub no_blocks : IfNone count (blocks ≡ [])
   pub few_trips : length (all_trips blocks) ≤ length (all_fields (take to input.rest))
+  pub ends : IsSome count → IsNoBlock input to
   pub reads : ReadsTo input at (AtBlocks l.0 count) (block_rows (own_blocks input.instance l blocks)) to
       (AtBlocks l.0 count)
 

@@ -28,6 +28,8 @@ pub fn check(alloc: Global, instance: &Instance, claimed: &[Claimed]) -> Result<
     ensures yes { IfOk result (λ v. (v ≡ Yes) ↔ HoldingClaims instance.now claimed.now) }
     ensures proves { IfOk result (λ v. v ≡ Yes → ProvePeaks instance.now claimed.now) }
 {
+    // for the proof: the instance is within its limits
+    let _layers = instance.layers();
     check_layers(alloc, instance, claimed)
 }
 
@@ -40,6 +42,8 @@ fn check_layers(
     requires { CanBeChecked instance.now claimed.now }
     ensures { IfOk result (λ v. v ≡ verdict_of (first (flaws_of instance.now claimed.now))) }
 {
+    // for the proof: the instance is within its limits
+    let _layers = instance.layers();
     for l in 0..claimed.len() {
         let layer = LayerNo(l as u32);
         let counted = counting(alloc, instance, layer)?;

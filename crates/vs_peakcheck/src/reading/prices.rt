@@ -1,11 +1,11 @@
 //! The reading of prices.
 
-ghost use Rattle.std.specs.Prelude.{◌≡◌, ◌<◌, ◌≤◌, ℕ, List, ◌∷◌, length, map, IfOk, IfErr, MatchOption, SomeIff};
+ghost use Rattle.std.specs.Prelude.{◌≡◌, ◌<◌, ◌≤◌, ℕ, List, ◌∷◌, length, map, IfOk, IfErr, IsSome, MatchOption, SomeIff};
 ghost use Rattle.vs_prices.specs.Table.{IsPrice};
 ghost use Rattle.vs_rows.specs.RowForms.{IsInput};
 ghost use Rattle.vs_counting.specs.Counting.{numbered, permitted_trips};
 ghost use Rattle.vs_peakcheck.specs.Places.{AtBlocks, AtPrices, in_prices};
-ghost use Rattle.vs_peakcheck.specs.Reading.{IsRefusedAt, ReadsFleet, ReadsPrice, ReadsPrices};
+ghost use Rattle.vs_peakcheck.specs.Reading.{IsNoBlock, IsRefusedAt, ReadsFleet, ReadsPrice, ReadsPrices};
 
 use crate::reading::said::{Said, said_at};
 use crate::refused::{PeakError, PeakWhy, refusal};
@@ -59,6 +59,7 @@ pub(crate) fn read_fleet(
 ) -> Result<i64, PeakError>
     requires input { IsInput input.now }
     requires row { row ≤ length input.now.rest }
+    requires no_block { IsSome count → IsNoBlock input.now row }
     ensures found { IfOk result (ReadsFleet input.now row l.0 count) }
     ensures refused { IfErr result (IsRefusedAt input.now row (AtBlocks l.0 count)) }
 {
