@@ -2,8 +2,8 @@
 """Fails where the audit stands on the search: where crates.txt has a crate of the audit above one that searches.
 
 What judges a document has to trust nothing of what made it. So nothing below `vs_check` may be a crate of
-the search, of threads or of atomics, whatever way leads there; and nothing below `vs_report` and `vs_reason`,
-which write what was found.
+the search, of threads or of atomics, whatever way leads there; nothing below `vs_peakcheck`, which judges peaks;
+and nothing below `vs_report` and `vs_reason`, which write what was found.
 """
 
 import os
@@ -13,12 +13,12 @@ TOP = os.path.dirname(os.path.dirname(os.path.abspath(__file__)))
 
 # What judges or writes what was found, and what it may never stand on.
 AUDIT = [
-    "vs_report", "vs_reason", "vs_check", "vs_document", "vs_rows", "vs_cases", "vs_need", "vs_reader", "vs_plan",
-    "vs_prices", "vs_match",
+    "vs_report", "vs_reason", "vs_check", "vs_peakcheck", "vs_document", "vs_rows", "vs_cases", "vs_need", "vs_counting",
+    "vs_reader", "vs_plan", "vs_prices", "vs_match",
 ]
 SEARCH = {
     "vs_path", "vs_ship", "vs_circ", "vs_decomp", "vs_multi", "vs_cuts", "vs_bundle", "vs_node", "vs_ray", "vs_penalty",
-    "vs_turn", "vs_tree", "vs_crew", "vs_cert", "vs_answer", "atomic_table",
+    "vs_turn", "vs_tree", "vs_crew", "vs_cert", "vs_answer", "vs_peak", "atomic_table",
 }
 
 

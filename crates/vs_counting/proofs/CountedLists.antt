@@ -58,7 +58,7 @@ module _ (p : Problem) (l : LayerNo) where
         (λ k d at. (
           refl,
           block_own p l MAX_FLEET (get_or blocks k d).1 (plan_counted blocks plan k d at) layer
-          (of_only (get_or blocks k d) (plan.each_block k d at)),
+              (of_only (get_or blocks k d) (plan.each_block k d at)),
         ));
     once = λ i within may.
         let at = placed p l.0 i (has_number p l.0 i within may) in

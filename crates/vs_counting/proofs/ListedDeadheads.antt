@@ -193,7 +193,7 @@ module _ (p : Problem) where
   has_itself m d = (
     way_given d,
     map.get-insert pair_cmp-total m (pair_of d) (way_given d) (pair_of d)
-    ∙ ap (λ (b : Bool). cond b (Some (way_given d)) (map.get m (pair_of d))) (tied_pair (pair_of d)),
+        ∙ ap (λ (b : Bool). cond b (Some (way_given d)) (map.get m (pair_of d))) (tied_pair (pair_of d)),
   )
 
   has_kept : (m : Map) (ds : List Deadhead) (q : ℕ × ℕ) → Has m q → Has (fold with_deadhead m ds) q
@@ -209,8 +209,11 @@ module _ (p : Problem) where
   has_each m (e ∷ ds) d (suc n, within, is) =
       has_each (with_deadhead m e) ds d (n, omega (arith, within), is)
 
-  empty_given : (q : ℕ × ℕ) (w : Way) → map.get {K = ℕ × ℕ} {V = Way} map.empty q ≡ Some w → map.get p.deadheads q ≡ Some w
-  empty_given q w is = let e : None ≡ Some w = sym (map.get-empty pair_cmp q) ∙ is in absurd (cc)
+  abbrev nothing : Map
+  nothing = map.empty
+
+  empty_given : (q : ℕ × ℕ) (w : Way) → map.get nothing q ≡ Some w → map.get p.deadheads q ≡ Some w
+  empty_given q w is = absurd (none-some w (sym (map.get-empty pair_cmp q) ∙ is))
 
   -- all deadheads make the problem's map
   pub same_deadheads : (ds : List Deadhead) → IsInstance p → AreAllDeadheads p ds → deadheads_of ds ≡ p.deadheads
@@ -220,8 +223,8 @@ module _ (p : Problem) where
     where
       listed_one : (q : ℕ × ℕ) (w : Way) → map.get p.deadheads q ≡ Some w → Has (deadheads_of ds) q
       listed_one q w is =
-          let own = MatchOption-at_some (Unit {0}) (IsDeadhead p q.0 q.1) w is (instance.deadheads q.0 q.1) in
-          has_each map.empty ds (deadhead q.0 q.1 w)
+          let own = MatchOption-at_some _ (IsDeadhead p q.0 q.1) w is (instance.deadheads q.0 q.1) in
+          has_each nothing ds (deadhead q.0 q.1 w)
           (listed.all q.0 q.1 w own.from own.to
           (mul-add-lt q.0 p.stops q.1 p.stops own.from own.to) is own.apart)
 
@@ -229,8 +232,8 @@ module _ (p : Problem) where
           → map.get (deadheads_of ds) q ≡ r → map.get (deadheads_of ds) q ≡ map.get p.deadheads q
       by_way q None none None nothing = nothing ∙ sym none
       by_way q None none (Some w) found =
-          let e : None ≡ Some w = sym none ∙ all_given map.empty ds empty_given listed.given q w found in
+          let e : None ≡ Some w = sym none ∙ all_given nothing ds empty_given listed.given q w found in
           absurd (cc)
       by_way q (Some w) given r found =
           let has = listed_one q w given in
-          has.1 ∙ sym (all_given map.empty ds empty_given listed.given q has.0 has.1)
+          has.1 ∙ sym (all_given nothing ds empty_given listed.given q has.0 has.1)

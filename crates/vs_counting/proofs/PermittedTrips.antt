@@ -68,9 +68,11 @@ module _ (p : Problem) (l : ℕ) where
   -- each trip that the layer may run is among them
   pub has_number : (i : ℕ) → i < length p.trips → Permitted p l i → Contains (permitted_trips p l) i
   has_number i within is =
-      Contains-filter may (range_with_len 0 (length p.trips)) i
-      (i, omega (arith, within, length-range_with_len 0 (length p.trips)),
-      omega (arith, get_or-range_with_len 0 (length p.trips) i i within))
+      Contains-filter may (range_with_len 0 (length p.trips)) i (
+        i,
+        omega (arith, within, length-range_with_len 0 (length p.trips)),
+        omega (arith, get_or-range_with_len 0 (length p.trips) i i within),
+      )
       (eq-eqb (bit_at (trip_of p i).layers.0 l) 1 is)
 
   -- where trip i stands among them
@@ -90,6 +92,8 @@ module _ (p : Problem) (l : ℕ) where
   pub placed : (i : ℕ) → Contains (permitted_trips p l) i
       → (place_in i < length (permitted_trips p l)) × (own_number p l (place_in i) ≡ i)
   placed i among =
-      let within = place_within i among in
-      (within, eqb-true (own_number p l (place_in i)) i
-      (passes_at_first (λ (x : ℕ). x == i) (permitted_trips p l) 0 within))
+      let within = place_within i among in (
+        within,
+        eqb-true (own_number p l (place_in i)) i
+            (passes_at_first (λ (x : ℕ). x == i) (permitted_trips p l) 0 within),
+      )

@@ -47,9 +47,11 @@ module _ (p : Problem) (l : LayerNo) where
       let permitted = eqb-true (bit_at (trip_of p (get_or b.1 k i).0).layers.0 l.0) 1 test in
       let own : Permitted p l.0 i.0 = subst (λ (t : TripNo). Permitted p l.0 t.0) (sym is) permitted in
       let among = has_number p l.0 i.0 inside own in
-      none (subst (λ (ts : List TripNo). Contains ts i) (sym are)
-      (among.0, omega (arith, among.1, length-map (permitted_trips p l.0) numbered),
-      get_or-map numbered (permitted_trips p l.0) among.0 i.0 i among.1 ∙ ap numbered among.2))
+      none (subst (λ (ts : List TripNo). Contains ts i) (sym are) (
+        among.0,
+        omega (arith, among.1, length-map (permitted_trips p l.0) numbered),
+        get_or-map numbered (permitted_trips p l.0) among.0 i.0 i among.1 ∙ ap numbered among.2,
+      ))
 
   pub another_layer : (b : LayerBlock) → (b.0 ≡ l → ⊥) → ¬ (MayRun p l.0 b)
   another_layer b other may_it = other (ap (λ (n : ℕ). record { 0 = n }) (each_may b may_it).0)

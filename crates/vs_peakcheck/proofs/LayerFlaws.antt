@@ -106,7 +106,7 @@ module _ (q : Problem) where
       let worth = worth_is q (permitted_sets q) c.table holds.reaches.0 holds.reaches.1 in
       none-append _ _
       (none-append _ _ (none_from_blocks (pairs_of c.blocks.items) c.count holds.blocks)
-      (ap (λ bs. broken_flaws (first bs)) (nowhere_broken q c.table holds.table)))
+      (ap (λ (bs : List BrokenAt). broken_flaws (first bs)) (nowhere_broken q c.table holds.table)))
       (none_from_reaches _ c.count (subst (λ (b : Bound). Reaches b (option_map pos c.count)) worth holds.reaches.2))
 
   -- the flaw of blocks that are a plan

@@ -1,6 +1,7 @@
 -- Rows that stand for what is claimed aren't refused.
 use Rattle.std.proofs.Common.{◌≡◌, ◌≢◌, ℕ, suc, ◌+◌, ◌<◌, Bool, cond, List, [], ◌∷◌, ◌++◌, length, get_or, drop, map, refl, sym, ap, ◌∙◌, subst, inl, inr, ◌⊎◌, Some, None, Option, ℤ, pos, arith, codes}
 use Rattle.std.specs.Prelude.{IfNone, IfSome, IsSome, option_map}
+use Rattle.std.specs.Fmt.{signed_decimal}
 use Rattle.std.specs.List.{All}
 use Rattle.std.proofs.lemmas.Bool.{eq-eqb}
 use Rattle.std.proofs.lemmas.Int.{ints}
@@ -13,10 +14,11 @@ use Rattle.vs_instance.specs.HoldingTable.{price_of}
 use Rattle.vs_instance.specs.declared.limits.TheConstants.{MAX_FLEET}
 use Rattle.vs_plan.specs.Blocks.{IsOfInstance, pairs_of}
 use Rattle.vs_prices.specs.Table.{IsPrice}
-use Rattle.vs_reader.specs.Rows.{Row, field_of}
+use Rattle.vs_reader.specs.Rows.{Field, Row, field_of}
 use Rattle.vs_reader.specs.Names.{NameLists, name_of}
 use Rattle.vs_reader.specs.NameRules.{AreNames}
-use Rattle.vs_rows.specs.DocumentRows.{BlockRow, ClaimRow, CostRow, BoundRow, NodesRow, TableRow, SplitRow, LeafRow, DocumentRow, EndRow, FleetRow, PriceRow, Says, written_row}
+use Rattle.vs_rows.specs.DocumentRows.{BlockRow, ClaimRow, CostRow, BoundRow, NodesRow, TableRow, SplitRow, LeafRow, DocumentRow, EndRow, FleetRow, IsWithin, PriceRow, Says, written_row}
+use Rattle.vs_rows.specs.declared.limits.TheConstants.{MAX_PRINTED_PRICE}
 use Rattle.vs_rows.proofs.CallerLemmas.{first_word, says_once, word_of}
 use Rattle.vs_counting.specs.Counting.{counting, own_blocks, own_trips, permitted_trips}
 use Rattle.vs_counting.proofs.CallerLemmas.{count_is}
@@ -60,13 +62,13 @@ module _ (names : NameLists) (row : Row) (layers : AreNames names.layers) (trips
       → name_of names.layers l ≡ name_of names.layers m → l ≡ m
   same_layer l m of_l of_m same =
       let zero' : ℤ = pos 0 in
-      let range = (omega (arith, ints), omega (arith, ints)) in
+      let range : IsWithin MAX_PRINTED_PRICE zero' = (omega (arith, ints), omega (arith, ints)) in
       let one : Says names (written_row names (FleetRow l zero')) (FleetRow l zero') =
       record { form = (of_l, range); written = refl } in
       let two : Says names (written_row names (FleetRow l zero')) (FleetRow m zero') =
       record {
         form = (of_m, range);
-        written = ap (λ name. codes "fleet" ∷ name ∷ _ ∷ []) same;
+        written = ap (λ (name : Field). codes "fleet" ∷ name ∷ signed_decimal zero' ∷ []) same;
       } in
       let e = says_once names (written_row names (FleetRow l zero')) layers trips (FleetRow l zero') (FleetRow m zero')
       one two in cc
@@ -86,7 +88,7 @@ module _ (names : NameLists) (row : Row) (layers : AreNames names.layers) (trips
   same_count : (a b : Option ℕ) → IsCount a → IsCount b → count_field a ≡ count_field b → a ≡ b
   same_count a b few_a few_b same =
       let R : Row → Type 0 = λ r. Says names r (CostRow (option_map pos b)) in
-      let other = subst R (ap (λ field. codes "cost" ∷ field ∷ []) (sym same)) (says_cost b few_b) in
+      let other = subst R (ap (λ (field : Field). codes "cost" ∷ field ∷ []) (sym same)) (says_cost b few_b) in
       let e = says_once names (codes "cost" ∷ count_field a ∷ []) layers trips (CostRow (option_map pos a))
       (CostRow (option_map pos b)) (says_cost a few_a) other in
       same_option a b (cc)
@@ -155,13 +157,12 @@ module _ (p : Problem) where
             let inside = is.trips k d within in omega (arith, inside, count_is MAX_FLEET p l.0);
         own_is = refl;
       } in
-      let may : MayRun p l.0 (l, own_trips p l.0 b.1) = may_run_counted p l (l, own_trips p l.0 b.1) b counted in
-      (
+      let may : MayRun p l.0 (l, own_trips p l.0 b.1) = may_run_counted p l (l, own_trips p l.0 b.1) b counted in (
         AtBlocks l.0 (Some n),
         ap (λ (t : Bool). cond t (Some (AtBlocks l.0 (Some n))) None) may,
         tt,
         leads_blocks l (Some n) blocks (All-tail (IsOfInstance (counting p l.0)) b blocks are)
-        (λ e. absurd (cc)),
+            (λ e. absurd (cc)),
       )
 
   leads_prices : (l : ℕ) (trips : List ℕ) (into from : List ℤ) → length into ≡ length trips
@@ -177,7 +178,7 @@ module _ (p : Problem) where
     price_order p l i trips x y,
     (All-head IsPrice x into c, All-head IsPrice y from d),
     leads_prices l trips into from (omega (arith, a)) (omega (arith, b)) (All-tail IsPrice x into c)
-    (All-tail IsPrice y from d),
+        (All-tail IsPrice y from d),
   )
 
   none_given : (count : Option ℕ) (blocks : List LayerBlock) → IfNone count (blocks ≡ []) → count ≡ None → blocks ≡ []
@@ -201,14 +202,14 @@ module _ (p : Problem) where
         fleet_order p l c.count price,
         is.fits.fleet 0 (pos 0) one_fleet,
         leads_prices l trips c.table.into.items c.table.from.items
-        (let e = is.fits.into_size in omega (arith, e, size)) (let e = is.fits.from_size in omega (arith, e, size))
-        is.fits.into is.fits.from,
+            (let e = is.fits.into_size in omega (arith, e, size)) (let e = is.fits.from_size in omega (arith, e, size))
+            is.fits.into is.fits.from,
       ) in (
         AtBlocks l c.count,
         ap (λ (b : Bool). cond b (Some (AtBlocks l c.count)) None) (eq-eqb l l refl),
         tt,
         leads_on p (AtBlocks l c.count) (AtBlocks l c.count) (AtLayer (l + 1)) rows (PartRow (FleetRow l price) ∷ prices)
-        (leads_blocks layer c.count blocks is.blocks (none_given c.count blocks is.no_blocks)) behind_blocks,
+            (leads_blocks layer c.count blocks is.blocks (none_given c.count blocks is.no_blocks)) behind_blocks,
       )
 
   leads_layers : (l : ℕ) (claimed : List Claimed)
@@ -239,8 +240,7 @@ module _ (p : Problem) where
       (λ k d within.
       let shift : k ≡ 0 + k = omega arith in
       let R : ℕ → Type 0 = λ n. IsClaimed (counting p n) (get_or claimed k d) in
-      subst R shift (are.each k d within))))
-      (
+      subst R shift (are.each k d within)))) (
         AtEnd,
         ap (λ (b : Bool). cond b (Some AtEnd) None) (eq-eqb (length p.layers) (length p.layers) refl),
         tt,

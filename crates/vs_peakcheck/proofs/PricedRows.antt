@@ -65,37 +65,37 @@ price_elsewhere p l i layer trip later into from (inr other) =
 
 module _ (input : Input) (row l : ℕ) (lt : row < length input.rest) where
   module _ (count : Option ℕ) (layer : ℕ) (price : ℤ) (says : SaysPeak input row (PartRow (FleetRow layer price)))
-      where
-    pub fleet_of_another : layer ≢ l
-        → IsRefusedAt input row (AtBlocks l count) (error.Refused (input.before + 1 + row) OutOfOrder)
-    fleet_of_another other =
-        out_of_order input row lt (AtBlocks l count) (PartRow (FleetRow layer price)) (λ e. cc) says
-        (fleet_elsewhere input.instance l count layer price other)
+    where
+      pub fleet_of_another : layer ≢ l
+          → IsRefusedAt input row (AtBlocks l count) (error.Refused (input.before + 1 + row) OutOfOrder)
+      fleet_of_another other =
+          out_of_order input row lt (AtBlocks l count) (PartRow (FleetRow layer price)) (λ e. cc) says
+          (fleet_elsewhere input.instance l count layer price other)
 
-    module _ (same : layer ≡ l) where
-      here : SaysPeak input row (PartRow (FleetRow l price))
-      here = let P : ℕ → Type 0 = λ k. SaysPeak input row (PartRow (FleetRow k price)) in subst P same says
+      module _ (same : layer ≡ l) where
+        here : SaysPeak input row (PartRow (FleetRow l price))
+        here = let P : ℕ → Type 0 = λ k. SaysPeak input row (PartRow (FleetRow k price)) in subst P same says
 
-      pub fleet_read : (word : ℤ) → word ≡ wide price → IsPrice (wide price)
-          → ReadsFleet input row l count (to_z w64 (of_z w64 word))
-      fleet_read word equal is_wide =
-          let range = says.1.form.1 in
-          let is_price = narrow price range is_wide in
-          let is : word ≡ price = equal ∙ as_wide price range in
-          let P : ℤ → Type 0 = λ x. ReadsFleet input row l count x in
-          subst P (sym (ap (λ (x : ℤ). to_z w64 (of_z w64 x)) is ∙ as_word price is_price))
-          (record {
-            is_price = is_price;
-            reads = reads_one input row lt (AtBlocks l count) (PartRow (FleetRow l price)) (λ e. cc) here
-                (in_prices l (permitted_trips input.instance l)) (fleet_order input.instance l count price) is_price;
-          })
+        pub fleet_read : (word : ℤ) → word ≡ wide price → IsPrice (wide price)
+            → ReadsFleet input row l count (to_z w64 (of_z w64 word))
+        fleet_read word equal is_wide =
+            let range = says.1.form.1 in
+            let is_price = narrow price range is_wide in
+            let is : word ≡ price = equal ∙ as_wide price range in
+            let P : ℤ → Type 0 = λ x. ReadsFleet input row l count x in
+            subst P (sym (ap (λ (x : ℤ). to_z w64 (of_z w64 x)) is ∙ as_word price is_price))
+            (record {
+              is_price = is_price;
+              reads = reads_one input row lt (AtBlocks l count) (PartRow (FleetRow l price)) (λ e. cc) here
+                  (in_prices l (permitted_trips input.instance l)) (fleet_order input.instance l count price) is_price;
+            })
 
-      pub fleet_range : ¬ (IsPrice (wide price))
-          → IsRefusedAt input row (AtBlocks l count) (error.Refused (input.before + 1 + row) PriceRange)
-      fleet_range wrong =
-          no_prices input row lt (AtBlocks l count) (PartRow (FleetRow l price)) (λ e. cc) here
-          (in_prices l (permitted_trips input.instance l)) (fleet_order input.instance l count price)
-          (λ is. wrong (widen price says.1.form.1 is))
+        pub fleet_range : ¬ (IsPrice (wide price))
+            → IsRefusedAt input row (AtBlocks l count) (error.Refused (input.before + 1 + row) PriceRange)
+        fleet_range wrong =
+            no_prices input row lt (AtBlocks l count) (PartRow (FleetRow l price)) (λ e. cc) here
+            (in_prices l (permitted_trips input.instance l)) (fleet_order input.instance l count price)
+            (λ is. wrong (widen price says.1.form.1 is))
 
   module _ (i layer trip : ℕ) (into from : ℤ)
       (says : SaysPeak input row (PartRow (PriceRow layer trip into from))) where
@@ -138,7 +138,7 @@ module _ (input : Input) (row l : ℕ) (lt : row < length input.rest) where
           (λ is. wrong (widen into says.1.form.2 is.0, widen from says.1.form.3 is.1))
 
 -- one price row more
-rows_more : (l : ℕ) (trips : List ℕ) (into from : List ℤ) (i : ℕ) (x y : ℤ) → length into ≡ length trips
+pub rows_more : (l : ℕ) (trips : List ℕ) (into from : List ℤ) (i : ℕ) (x y : ℤ) → length into ≡ length trips
     → length from ≡ length trips
     → price_rows l (trips ++ i ∷ []) (into ++ x ∷ []) (from ++ y ∷ [])
     ≡ price_rows l trips into from ++ PartRow (PriceRow l i x y) ∷ []

@@ -10,7 +10,6 @@ use Rattle.vs_types.specs.declared.numbers.LayerNo.{LayerNo}
 use Rattle.vs_instance.specs.declared.limits.TheConstants.{MAX_FLEET}
 use Rattle.vs_instance.specs.Problem.{Problem}
 use Rattle.vs_plan.specs.Blocks.{pairs_of}
-
 use Rattle.vs_instance.specs.HoldingTable.{price_of}
 use Rattle.vs_prices.specs.Table.{IsPrice}
 use Rattle.vs_reader.specs.Rows.{Row, all_fields, row_of}
@@ -120,7 +119,7 @@ module _ (input : Input) (is_input : IsInput input) (at : ℕ) (l : LayerNo) (co
   }
 
 -- the rows of one layer more
-layers_more : (p : Problem) (n : ℕ) (claimed : List Claimed) (c : Claimed)
+pub layers_more : (p : Problem) (n : ℕ) (claimed : List Claimed) (c : Claimed)
     → layers_rows p n (claimed ++ c ∷ []) ≡ layers_rows p n claimed ++ layer_rows p (n + length claimed) c
 layers_more p n [] c =
     let e : n ≡ n + 0 = omega arith in

@@ -1,4 +1,4 @@
-use Rattle.std.proofs.Common.{◌≡◌, ◌↔◌, Option, Some, None, refl, sym, ap, ◌∙◌}
+use Rattle.std.proofs.Common.{◌≡◌, ◌↔◌, List, Option, Some, None, refl, sym, ap, ◌∙◌}
 use Rattle.std.proofs.lemmas.Result.{IfOk-weaker}
 use Rattle.vs_instance.specs.Firsts.{first}
 use Rattle.vs_instance.proofs.CallerLemmas.{none_from_first}
@@ -25,7 +25,7 @@ returns-clause-yes c =
     (λ v is. (
       (λ yes. holds_from_none p claimed c.requires.claims
           (none_from_first (flaws_of p claimed) (no_first (first (flaws_of p claimed)) (sym is ∙ yes)))),
-      (λ holds. is ∙ ap (λ fs. verdict_of (first fs)) (none_from_holds p claimed holds)),
+      (λ holds. is ∙ ap (λ (fs : List (LayerNo × PeakFlaw)). verdict_of (first fs)) (none_from_holds p claimed holds)),
     ))
     c.check_layers.ensures
 

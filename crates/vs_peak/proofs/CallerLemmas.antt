@@ -1,0 +1,2 @@
+-- What crates above cite of these proofs.
+pub use Rattle.vs_peak.proofs.FoundPeaks.{least_found, none_found}

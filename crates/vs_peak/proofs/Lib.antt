@@ -1,0 +1,3 @@
+pub mod FoundPeaks
+pub mod WrittenPeaks
+pub mod CallerLemmas
