@@ -1,15 +1,10 @@
 -- The counting problem of an instance is one.
-use Rattle.std.proofs.Common.{◌≡◌, ℕ, zero, suc, ◌<◌, ◌≤◌, List, [], ◌∷◌, length, get_or, map, refl, sym, ap, ◌∙◌, arith, lit<}
+use Rattle.std.proofs.Common.{◌≡◌, ℕ, zero, suc, ◌<◌, [], length, get_or, refl, arith, lit<}
 use Rattle.std.specs.FinMap as map
-use Rattle.std.specs.List.{All}
-use Rattle.std.proofs.lemmas.Bool.{cases_lt}
 use Rattle.std.proofs.lemmas.Nat.Bits.{bit_at_above}
-use Rattle.std.proofs.lemmas.List.{length-map}
 use Rattle.std.proofs.lemmas.List.Elements.{All-cons, All-map, All-nil}
 use Rattle.std.proofs.lemmas.Option.{IfSome_then}
 use Rattle.std.specs.Int.{bit_at}
-use Rattle.vs_types.specs.LayerSet.{Has}
-use Rattle.vs_types.specs.declared.layer_set.LayerSet.{LayerSet}
 use Rattle.vs_types.proofs.CallerLemmas.{members-some}
 use Rattle.vs_instance.specs.declared.layer.Layer.{Layer}
 use Rattle.vs_instance.specs.declared.limits.TheConstants.{MAX_FLEET}

@@ -1,11 +1,10 @@
 -- The trips that a layer may run, each once and in order.
-use Rattle.std.proofs.Common.{◌≡◌, ℕ, ◌+◌, ◌<◌, ◌≤◌, ◌==◌, Bool, true, List, length, get_or, refl, sym, ◌∙◌, subst, arith, inl, inr}
-use Rattle.std.specs.Prelude.{Contains, filter}
+use Rattle.std.proofs.Common.{◌≡◌, ℕ, ◌+◌, ◌<◌, ◌≤◌, ◌==◌, Bool, true, length, get_or, sym, ◌∙◌, arith, inl, inr}
+use Rattle.std.specs.Prelude.{Contains}
 use Rattle.std.specs.Int.{bit_at}
 use Rattle.std.specs.List.{All, position_or_len, range_with_len}
 use Rattle.std.specs.List.Sorted.{IsStrictlyIncreasing}
 use Rattle.std.proofs.lemmas.Bool.{cases_lt, cases_order, eq-eqb, eqb-true, true≢false}
-use Rattle.std.proofs.lemmas.List.{get_or_default}
 use Rattle.std.proofs.lemmas.List.Elements.{All-filter, All-from_get_or, All-weaker, filter_passes}
 use Rattle.std.proofs.lemmas.List.FromFn.{get_or-range_with_len, length-range_with_len}
 use Rattle.std.proofs.lemmas.List.Kept.{AllPairs-from_increasing, IsStrictlyIncreasing-filter}
@@ -30,7 +29,7 @@ below n = All-from_get_or (λ i. i < n) (range_with_len 0 n) 0
     omega (arith, get_or-range_with_len 0 n k 0 inside))
 
 module _ (p : Problem) (l : ℕ) where
-  abbrev may : ℕ → Bool
+  abbrev pub may : ℕ → Bool
   may i = bit_at (trip_of p i).layers.0 l == 1
 
   -- no more than there are trips

@@ -5,7 +5,6 @@ use Rattle.vs_instance.specs.declared.parts.Deadhead.{Deadhead}
 use Rattle.vs_instance.specs.declared.way.Way.{Way}
 use Rattle.vs_instance.specs.Misfits.{are_twins}
 use Rattle.vs_instance.specs.Problem.{Problem}
-use Rattle.vs_instance.specs.Ways.{way}
 
 -- the way from stop k to stop s as a deadhead
 abbrev pub deadhead : ℕ → ℕ → Way → Deadhead

@@ -5,6 +5,7 @@ use Rattle.std.proofs.lemmas.Bool.{MatchBool-at_true}
 use Rattle.std.proofs.lemmas.Int.{ints}
 use Rattle.std.proofs.lemmas.List.{length-map}
 use Rattle.vs_types.specs.LayerSet.{Has}
+use Rattle.vs_types.specs.declared.layer_set.LayerSet.{LayerSet}
 use Rattle.vs_types.specs.declared.numbers.LayerNo.{LayerNo}
 use Rattle.vs_instance.specs.declared.limits.TheConstants.{MAX_FLEET}
 use Rattle.vs_instance.specs.Problem.{Problem}
@@ -142,3 +143,30 @@ module _ (p : Problem) (l : LayerNo) (law : CountsVehicles p l) where
         holds = shown.holds;
         worth = shown_worth other.ray refl;
       }
+
+  -- the same of an instance that is the counting one, with its own sets
+  module _ (counted : Problem) (sets : List LayerSet) (same : counted ≡ q) (are : sets ≡ permitted_sets counted) where
+    pub single_sets : AreSingle sets
+    single_sets =
+        subst AreSingle (sym are) (subst (λ (x : Problem). AreSingle (permitted_sets x)) (sym same) only_layers)
+
+    pub peak_none : (table : Table) → Fits counted table → HoldingTable counted table
+        → IsWorth counted sets table NoPlan → ShowsNone p l table
+    peak_none table fits holds worth =
+        none_found table (subst (λ (x : Problem). Fits x table) same fits)
+        (subst (λ (x : Problem). HoldingTable x table) same holds)
+        (subst (λ (x : Problem). IsWorth x (permitted_sets x) table NoPlan) same
+        (subst (λ (s : List LayerSet). IsWorth counted s table NoPlan) are worth))
+
+    pub peak_some : (c : Checked) (other table : Table) → Fits counted other → HoldingTable counted other
+        → IsPlanWithin counted sets c → IsWorth counted sets other (AtLeast c.cost) → IsShown counted other table
+        → IsLeast p l c table
+    peak_some c other table fits holds within worth shown =
+        least_found c
+        (subst (λ (x : Problem). IsPlanWithin x (permitted_sets x) c) same
+        (subst (λ (s : List LayerSet). IsPlanWithin counted s c) are within)) other table
+        (subst (λ (x : Problem). Fits x other) same fits)
+        (subst (λ (x : Problem). HoldingTable x other) same holds)
+        (subst (λ (x : Problem). IsWorth x (permitted_sets x) other (AtLeast c.cost)) same
+        (subst (λ (s : List LayerSet). IsWorth counted s other (AtLeast c.cost)) are worth))
+        (subst (λ (x : Problem). IsShown x other table) same shown)

@@ -1,3 +1,4 @@
 pub mod FoundPeaks
+pub mod ClaimedPeaks
 pub mod WrittenPeaks
 pub mod CallerLemmas

@@ -13,7 +13,7 @@ use vs_peakcheck::Claimed;
 use vs_types::{LayerNo, Memory};
 
 /// What the peak of layer l claims: its count, its blocks and its table.
-pub fn claimed(alloc: Global, instance: &Instance, l: LayerNo, peak: LayerPeak) -> Claimed
+pub fn claim_of(alloc: Global, instance: &Instance, l: LayerNo, peak: LayerPeak) -> Claimed
     requires layer { l.0 < length instance.now.layers }
     requires peak { IsPeakOf instance.now l peak }
     ensures { ProvesPeak instance.now l result }
@@ -43,7 +43,7 @@ pub fn peaks(alloc: Global, instance: &Instance) -> Result<Vec<Claimed>, Memory>
     let mut all = Vec::new(alloc);
     for l in 0..instance.layers() {
         let of_layer = peak(alloc, instance, LayerNo(l))?;
-        all.push(claimed(alloc, instance, LayerNo(l), of_layer))?;
+        all.push(claim_of(alloc, instance, LayerNo(l), of_layer))?;
     }
     Ok(all)
 }

@@ -5,7 +5,7 @@ mod claiming;
 mod layer_peak;
 mod writing;
 
-pub use claiming::{claimed, peaks};
+pub use claiming::{claim_of, peaks};
 pub use layer_peak::{LayerPeak, peak};
 pub use vs_counting::{counting, each_peak_is_a_least_cost, plans_count_vehicles};
 pub use vs_peakcheck::{

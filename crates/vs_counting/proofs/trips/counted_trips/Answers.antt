@@ -1,5 +1,5 @@
-use Rattle.std.proofs.Common.{◌≡◌, ◌<◌, ◌++◌, List, [], ◌∷◌, length, map, take, get_or, arith, sym, ap, ◌∙◌}
-use Rattle.std.proofs.lemmas.List.{get_or_read, map_push, take_more, take_all}
+use Rattle.std.proofs.Common.{◌<◌, ◌++◌, List, [], ◌∷◌, length, map, take, get_or, arith, sym, ap, ◌∙◌}
+use Rattle.std.proofs.lemmas.List.{map_push, take_more, take_all}
 use Rattle.vs_types.specs.declared.numbers.TripNo.{TripNo}
 use Rattle.vs_instance.specs.declared.trip.Trip.{Trip}
 use Rattle.vs_instance.specs.Ways.{trip_of}
@@ -16,7 +16,7 @@ loop-k-preserved c =
     c.in_ok-push.ensures.items
     ∙ ap (λ (ts : List Trip). ts ++ c.counted_trip.result ∷ []) c.loop-k.invariant
     ∙ ap (λ (t : Trip). map counted (take k trips) ++ t ∷ []) (c.counted_trip.ensures ∙ ap counted_trip c.trip.ensures)
-    ∙ sym (ap (map counted) (take_more trips k (get_or trips k (numbered 0)) inside)
+    ∙ sym (ap (map counted) (take_more trips k (numbered 0) inside)
     ∙ map_push counted (take k trips) (get_or trips k (numbered 0)))
 
 pub returns : goal.returns

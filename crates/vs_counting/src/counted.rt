@@ -33,11 +33,12 @@ fn parts_of(alloc: Global, instance: &Instance, l: LayerNo) -> Result<Parts, Mem
     let own_trips = trips_of(alloc, instance, l)?;
     let trips = counted_trips(alloc, instance, own_trips.as_slice())?;
     let deadheads = all_deadheads(alloc, instance)?;
-    let layer = counted_layer(instance.layer(l));
+    let mut layers = Vec::new(alloc);
+    layers.push(counted_layer(instance.layer(l)))?;
     Ok(Parts {
         stops: instance.stops(),
         deadheads,
-        layers: vec![in alloc; layer; 1]?,
+        layers,
         trips,
     })
 }
