@@ -17,52 +17,55 @@ fn verdict_on(alloc: Global, parts: &[&str]) -> Result<PeakVerdict, Fail> {
     Ok(check(alloc, &input.instance, &claimed)?)
 }
 
-/// A flaw of the first layer.
-const fn first_layer(flaw: PeakFlaw) -> PeakVerdict {
-    PeakVerdict::No(LayerNo(0), flaw)
+/// Yes, or no for a flaw of the first layer.
+fn first_layer(flaw: Option<PeakFlaw>) -> PeakVerdict {
+    match flaw {
+        None => PeakVerdict::Yes,
+        Some(flaw) => PeakVerdict::No(LayerNo(0), flaw),
+    }
 }
 
-/// Behind the instance of two trips that follow each other: the rows, and the verdict on them.
-const JUDGED: [(&str, PeakVerdict); 8] = [
+/// Behind the instance of two trips that follow each other: the rows, and their first flaw.
+const JUDGED: [(&str, Option<PeakFlaw>); 8] = [
     (
         "peak,L1,1\nblock,L1,t1,t2\nfleet,L1,0\nprice,L1,t1,1000,0\nprice,L1,t2,0,0\nend\n",
-        PeakVerdict::Yes,
+        None,
     ),
     (
         "peak,L1,2\nblock,L1,t1\nblock,L1,t2\nfleet,L1,0\nprice,L1,t1,1000,0\nprice,L1,t2,0,0\nend\n",
-        first_layer(PeakFlaw::TooWeak(1, Some(2))),
+        Some(PeakFlaw::TooWeak(1, Some(2))),
     ),
     (
         "peak,L1,2\nblock,L1,t1,t2\nfleet,L1,0\nprice,L1,t1,1000,0\nprice,L1,t2,0,0\nend\n",
-        first_layer(PeakFlaw::CountDiffers(2, 1)),
+        Some(PeakFlaw::CountDiffers(2, 1)),
     ),
     (
         "peak,L1,1\nblock,L1,t1,t2\nfleet,L1,0\nprice,L1,t1,1000,0\nprice,L1,t2,1000,0\nend\n",
-        first_layer(PeakFlaw::TableBroken(BrokenAt::Link(LayerNo(0), TripNo(0), TripNo(1)))),
+        Some(PeakFlaw::TableBroken(BrokenAt::Link(LayerNo(0), TripNo(0), TripNo(1)))),
     ),
     (
         "peak,L1,1\nblock,L1,t1\nfleet,L1,0\nprice,L1,t1,1000,0\nprice,L1,t2,0,0\nend\n",
-        first_layer(PeakFlaw::Blocks(PlanFault::Uncovered(TripNo(1)))),
+        Some(PeakFlaw::Blocks(PlanFault::Uncovered(TripNo(1)))),
     ),
     (
         "peak,L1,1\nblock,L1,t2,t1\nfleet,L1,0\nprice,L1,t1,1000,0\nprice,L1,t2,0,0\nend\n",
-        first_layer(PeakFlaw::Blocks(PlanFault::NoConnection(0, 1))),
+        Some(PeakFlaw::Blocks(PlanFault::NoConnection(0, 1))),
     ),
     (
         "peak,L1,none\nfleet,L1,0\nprice,L1,t1,0,0\nprice,L1,t2,0,0\nend\n",
-        first_layer(PeakFlaw::TooWeak(0, None)),
+        Some(PeakFlaw::TooWeak(0, None)),
     ),
     (
         "peak,L1,none\nfleet,L1,0\nprice,L1,t1,1,0\nprice,L1,t2,0,0\nend\n",
-        first_layer(PeakFlaw::TableBroken(BrokenAt::PullOut(LayerNo(0), TripNo(0)))),
+        Some(PeakFlaw::TableBroken(BrokenAt::PullOut(LayerNo(0), TripNo(0)))),
     ),
 ];
 
 #[test]
 fn are_judged_by_their_first_flaw(rt: HostRuntime) -> Result<(), Fail> {
-    for (rows, wanted) in JUDGED {
+    for (rows, flaw) in JUDGED {
         let verdict = verdict_on(rt.alloc(), &[STOPS, LAYER, TRIPS, "result,1,peak\n", rows])?;
-        assert_eq!(rt; verdict, wanted, "{rows}");
+        assert_eq!(rt; verdict, first_layer(flaw), "{rows}");
     }
     Ok(())
 }

@@ -1,16 +1,18 @@
 -- What is claimed has no flaw exactly where it holds.
-use Rattle.std.proofs.Common.{◌≡◌, ℕ, ◌<◌, Bool, true, false, not, List, [], ◌∷◌, ◌++◌, length, get_or, map, refl, sym, ap, ◌∙◌, subst, arith, Option, Some, None as nothing, ℤ, pos, ◌≤ℤ◌}
+use Rattle.std.proofs.Common.{◌≡◌, ℕ, ◌<◌, ◌^◌, Bool, true, false, not, List, [], ◌∷◌, ◌++◌, length, get_or, map, refl, sym, ap, ◌∙◌, subst, arith, Option, Some, None as nothing, ℤ, pos, ◌≤ℤ◌}
 use Rattle.std.specs.Prelude.{IfSome, int_lt, option_map}
 use Rattle.std.specs.List.{All}
 use Rattle.std.proofs.lemmas.Bool.{eq-eqb, eqb-true, not-false}
 use Rattle.std.proofs.lemmas.Int.{ints}
+use Rattle.std.proofs.lemmas.List.{length-map}
 use Rattle.vs_types.specs.declared.numbers.LayerNo.{LayerNo}
 use Rattle.vs_instance.specs.Firsts.{first}
 use Rattle.vs_instance.specs.Problem.{Problem}
 use Rattle.vs_instance.specs.Plan.{IsPlan, LayerBlock}
 use Rattle.vs_instance.specs.Restriction.{permitted_sets}
 use Rattle.vs_instance.proofs.CallerLemmas.{None, both_none, each_none, false_from_none, none-append, none_each, none_from_false, none_from_first}
-use Rattle.vs_plan.specs.Blocks.{IsOfInstance, pairs_of}
+use Rattle.vs_plan.specs.Blocks.{CanBeJudged, IsOfInstance, pair_of, pairs_of}
+use Rattle.vs_plan.specs.declared.block.Block.{Block}
 use Rattle.vs_plan.specs.PlanFaults.{faults_of}
 use Rattle.vs_plan.specs.declared.plan_fault.PlanFault.{PlanFault}
 use Rattle.vs_plan.proofs.CallerLemmas.{faultless, plan_from_faultless, refuses}
@@ -23,6 +25,7 @@ use Rattle.vs_prices.specs.declared.broken_at.BrokenAt.{BrokenAt}
 use Rattle.vs_prices.specs.declared.table.Table.{Table}
 use Rattle.vs_prices.proofs.CallerLemmas.{holds_nowhere_broken, nowhere_broken, worth_is, worth_of-IsWorth}
 use Rattle.vs_counting.specs.Counting.{counting}
+use Rattle.vs_counting.proofs.CallerLemmas.{blocks_le}
 use Rattle.vs_peakcheck.specs.Claims.{AreClaimed, IsClaimed}
 use Rattle.vs_peakcheck.specs.Flaws.{blocks_flaws, broken_flaws, count_flaws, difference, flaws_in, flaws_of, layer_flaws, table_flaws, weak_flaws, weakness}
 use Rattle.vs_peakcheck.specs.HoldingClaims.{HoldingClaim, HoldingClaims}
@@ -146,3 +149,16 @@ module _ (p : Problem) where
       let same : l ≡ j = omega (arith, is) in
       subst (λ (n : ℕ). None (layer_flaws p n (get_or claimed l d))) same
       (ap (map (at_layer l)) (none_in (counting p l) (get_or claimed l d) (holds l d within))))
+
+-- blocks that can be judged are few, since each has a trip
+pub few_blocks : (q : Problem) (blocks : List Block) → CanBeJudged q (pairs_of blocks) → length blocks < 2 ^ 32
+few_blocks q blocks can =
+    let fewer = blocks_le (pairs_of blocks) (λ k d at. (can.of_instance k d at).some_trip) in
+    omega (arith, fewer, can.few_trips, length-map blocks pair_of)
+
+-- the verdict on blocks that are a plan
+pub plan_flaw : (q : Problem) (blocks : List Block) (n : ℕ) → IsPlan q (pairs_of blocks)
+    → first (count_flaws q (pairs_of blocks) (Some n)) ≡ first (difference n (length blocks))
+plan_flaw q blocks n plan =
+    ap first (count_flaw_of_plan q (pairs_of blocks) n plan)
+    ∙ ap (λ (m : ℕ). first (difference n m)) (length-map blocks pair_of)

@@ -5,5 +5,8 @@ pub mod CountedRows
 pub mod PricedRows
 pub mod ReadLayers
 pub mod OneReading
+pub mod OtherKinds
+pub mod RowParts
+pub mod PriceKinds
 pub mod ErrorsPass
 pub mod CallerLemmas

@@ -59,6 +59,7 @@ fn read_count(
 ) -> Result<Option<u32>, PeakError>
     requires input { IsInput input.now }
     requires row { row ≤ length input.now.rest }
+    requires layer { l.0 < length input.now.instance.layers }
     ensures found { IfOk result (ReadsCount input.now row l.0) }
     ensures refused { IfErr result (IsRefusedAt input.now row (AtLayer l.0)) }
 {

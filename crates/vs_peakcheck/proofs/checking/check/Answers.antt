@@ -34,5 +34,5 @@ returns-clause-proves c =
     let p = c.args.instance.now in
     let claimed = c.args.claimed.now in
     IfOk-weaker c.check_layers.result _ _
-    (λ v is yes. prove_peaks p claimed c.layers.ensures.instance c.requires.claims (is.0 yes))
+    (λ v is yes. prove_peaks p claimed c.layers-layers.ensures.instance c.requires.claims (is.0 yes))
     (returns-clause-yes c)

@@ -1,6 +1,8 @@
 use Rattle.vs_peakcheck.specs.Places.{AtBlocks}
-use Rattle.vs_peakcheck.specs.Reading.{IsRefusedAt}
+use Rattle.vs_peakcheck.specs.Reading.{IsRefusedAt, peak_said}
 use Rattle.vs_peakcheck.proofs.ErrorsPass.{err_passes}
+use Rattle.vs_peakcheck.proofs.OtherKinds.{no_fleet}
+use Rattle.vs_peakcheck.proofs.RefusedRows.{out_of_order}
 use Rattle.vs_peakcheck.proofs.PricedRows.{fleet_of_another, fleet_range, fleet_read}
 use Rattle.vs_peakcheck.proofs.reading.prices.read_fleet.Goals as goal
 
@@ -28,3 +30,16 @@ returns-clause-found c =
     let says = rw c.in-Fleet.is at c.in_ok-layer.ensures.says in
     fleet_read c.args.input.now c.args.row c.args.l.0 c.in_ok-layer.ensures.within c.args.count c.in-Fleet.layer.0
     c.in-Fleet.price says c.if-layer-l.false c.in-Some.price c.in-Some.ensures.1 c.in-Some.ensures.0
+
+pub returns-in_default : goal.returns-in_default
+returns-in_default c =
+    let input = c.args.input.now in
+    let s = c.in_ok-layer.field-0 in
+    record {
+      found = tt;
+      refused = rw c.refusal.ensures
+          (out_of_order input c.args.row c.in_ok-layer.ensures.within (AtBlocks c.args.l.0 c.args.count) (peak_said s)
+          (λ e. cc) c.in_ok-layer.ensures.says
+          (no_fleet input c.args.row c.args.l.0 c.args.count s c.in_ok-layer.ensures.says c.requires.no_block
+          c.in_default.not-Fleet));
+    }

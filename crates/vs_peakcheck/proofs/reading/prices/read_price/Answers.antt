@@ -1,6 +1,8 @@
 use Rattle.std.proofs.Common.{ℕ, List, inl, inr}
 use Rattle.vs_peakcheck.specs.Places.{AtPrices}
-use Rattle.vs_peakcheck.specs.Reading.{IsRefusedAt}
+use Rattle.vs_peakcheck.specs.Reading.{IsRefusedAt, peak_said}
+use Rattle.vs_peakcheck.proofs.OtherKinds.{no_price}
+use Rattle.vs_peakcheck.proofs.RefusedRows.{out_of_order}
 use Rattle.vs_peakcheck.proofs.ErrorsPass.{err_passes}
 use Rattle.vs_peakcheck.proofs.PricedRows.{price_of_another, price_range, price_read}
 use Rattle.vs_peakcheck.proofs.reading.prices.read_price.Goals as goal
@@ -39,3 +41,15 @@ returns-clause-found c =
     price_read c.args.input.now c.args.row c.args.l.0 c.in_ok-layer.ensures.within c.args.i.0
     c.in-Price.layer.0 c.in-Price.trip.0 c.in-Price.into c.in-Price.from says c.if-layer-l.false c.if-trip-i.false
     c.in-Some.into c.in-Some.from both.1 both.2 both.0.0 both.0.1
+
+pub returns-in_default : goal.returns-in_default
+returns-in_default c =
+    let input = c.args.input.now in
+    let s = c.in_ok-layer.field-0 in
+    record {
+      found = tt;
+      refused = rw c.refusal.ensures
+          (λ later. out_of_order input c.args.row c.in_ok-layer.ensures.within
+          (AtPrices c.args.l.0 c.args.i.0 later) (peak_said s) (λ e. cc) c.in_ok-layer.ensures.says
+          (no_price input.instance c.args.l.0 c.args.i.0 later s c.in_default.not-Price));
+    }
