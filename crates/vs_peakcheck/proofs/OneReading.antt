@@ -1,13 +1,12 @@
 -- Rows that stand for what is claimed aren't refused.
-use Rattle.std.proofs.Common.{◌≡◌, ◌≢◌, ℕ, suc, ◌+◌, ◌<◌, Bool, cond, List, [], ◌∷◌, ◌++◌, length, get_or, drop, map, refl, sym, ap, ◌∙◌, subst, inl, inr, ◌⊎◌, Some, None, Option, ℤ, pos, arith, codes}
-use Rattle.std.specs.Prelude.{IfNone, IfSome, IsSome, option_map}
+use Rattle.std.proofs.Common.{◌≡◌, ◌≢◌, ℕ, suc, ◌+◌, ◌<◌, Bool, cond, List, [], ◌∷◌, ◌++◌, length, get_or, refl, sym, ap, ◌∙◌, subst, inl, inr, ◌⊎◌, Some, None, Option, ℤ, pos, arith, codes}
+use Rattle.std.specs.Prelude.{IfNone, option_map}
 use Rattle.std.specs.Fmt.{signed_decimal}
 use Rattle.std.specs.List.{All}
 use Rattle.std.proofs.lemmas.Bool.{eq-eqb}
 use Rattle.std.proofs.lemmas.Int.{ints}
 use Rattle.std.proofs.lemmas.List.Elements.{All-head, All-tail}
 use Rattle.vs_types.specs.declared.numbers.LayerNo.{LayerNo}
-use Rattle.vs_types.specs.declared.numbers.TripNo.{TripNo}
 use Rattle.vs_instance.specs.Problem.{Problem}
 use Rattle.vs_instance.specs.Plan.{LayerBlock}
 use Rattle.vs_instance.specs.HoldingTable.{price_of}
@@ -26,7 +25,6 @@ use Rattle.vs_peakcheck.specs.declared.claimed.Claimed.{Claimed}
 use Rattle.vs_peakcheck.specs.declared.refused.PeakWhy.{PeakWhy}
 use Rattle.vs_peakcheck.specs.declared.refused.PeakError.{PeakError}
 use Rattle.vs_peakcheck.specs.declared.refused.PeakError.TheVariants as error
-use Rattle.vs_peakcheck.specs.declared.refused.PeakWhy.TheVariants.{EndsEarly}
 use Rattle.vs_peakcheck.specs.Claims.{AreClaimed, IsClaimed, PeakText}
 use Rattle.vs_peakcheck.specs.PeakRefusals.{AreRefused, AreRefusedFrom, IsAccepted, IsRefusal, IsRefusedError, IsRefusedRow, IsRefusedSaying}
 use Rattle.vs_peakcheck.specs.PeakRows.{CountRow, IsCount, IsCountRow, PartRow, PeakRow, SayAllSo, SaysSo, block_rows, count_field, count_row, head_row, layer_rows, layers_rows, peak_rows, price_rows}

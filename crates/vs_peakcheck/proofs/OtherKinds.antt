@@ -1,5 +1,5 @@
 -- Rows of another kind than the one that has to come.
-use Rattle.std.proofs.Common.{◌≡◌, ◌≢◌, ℕ, ◌<◌, Bool, List, length, cond, ap, refl, arith, Some, None, Option, ℤ}
+use Rattle.std.proofs.Common.{◌≡◌, ℕ, ◌<◌, Bool, List, length, cond, ap, refl, arith, Some, None, Option, ℤ}
 use Rattle.std.specs.Prelude.{IsSome}
 use Rattle.std.proofs.lemmas.Bool.{ne_eqb}
 use Rattle.vs_types.specs.declared.numbers.LayerNo.{LayerNo}

@@ -1,8 +1,7 @@
 -- A row that is neither of prices says no prices.
 use Rattle.std.proofs.Common.{ℕ, ℤ, Option}
-use Rattle.vs_reader.specs.Rows.{Row, row_of}
+use Rattle.vs_reader.specs.Rows.{row_of}
 use Rattle.vs_reader.specs.declared.input.Input.{Input}
-use Rattle.vs_plan.specs.Blocks.{pair_of}
 use Rattle.vs_instance.specs.Plan.{LayerBlock}
 use Rattle.vs_rows.specs.DocumentRows.{BlockRow, EndRow, FleetRow, PriceRow, Says}
 use Rattle.vs_peakcheck.specs.PeakRows.{CountRow, IsCountRow, PartRow, PeakRow, SaysPeak}

@@ -1,5 +1,5 @@
 -- What is claimed and holds proves the peaks.
-use Rattle.std.proofs.Common.{◌≡◌, ℕ, ◌<◌, ◌≤◌, List, length, get_or, refl, sym, ap, ◌∙◌, subst, arith, Option, Some, None, pos, ◌≤ℤ◌}
+use Rattle.std.proofs.Common.{◌≡◌, ℕ, ◌<◌, ◌≤◌, List, length, get_or, refl, sym, ap, ◌∙◌, subst, arith, Option, Some, None, pos}
 use Rattle.std.specs.Prelude.{IfSome, MatchOption, option_map}
 use Rattle.std.proofs.lemmas.Int.{ints}
 use Rattle.std.proofs.lemmas.List.{length-map}

@@ -1,5 +1,5 @@
 -- Rows of three fields.
-use Rattle.std.proofs.Common.{◌≡◌, List, [], ◌∷◌, length, get_or, refl, ap, ◌∙◌, arith}
+use Rattle.std.proofs.Common.{◌≡◌, [], ◌∷◌, length, refl, ap, ◌∙◌, arith}
 use Rattle.vs_reader.specs.Rows.{Field, Row, field_of}
 
 by_fields : (row : Row) → length row ≡ 3 → row ≡ field_of row 0 ∷ field_of row 1 ∷ field_of row 2 ∷ []

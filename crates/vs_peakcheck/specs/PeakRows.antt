@@ -1,6 +1,5 @@
 -- The rows of a text that claims peaks: what each says, and how it is written.
-use Rattle.std.specs.Prelude.{◌≡◌, ◌≢◌, ℕ, ◌+◌, ◌<◌, ◌≤◌, List, [], ◌∷◌, ◌++◌, length, map, codes, decimal, ℤ, pos, Option, Some, None, IfSome}
-use Rattle.vs_types.specs.declared.numbers.LayerNo.{LayerNo}
+use Rattle.std.specs.Prelude.{◌≡◌, ℕ, ◌+◌, ◌<◌, ◌≤◌, List, [], ◌∷◌, ◌++◌, length, map, codes, decimal, ℤ, Option, Some, None, IfSome}
 use Rattle.vs_instance.specs.Problem.{Problem}
 use Rattle.vs_instance.specs.HoldingTable.{price_of}
 use Rattle.vs_instance.specs.Plan.{LayerBlock}

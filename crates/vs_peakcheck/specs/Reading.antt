@@ -6,7 +6,7 @@ use Rattle.vs_instance.specs.Plan.{LayerBlock, all_trips}
 use Rattle.vs_plan.specs.Blocks.{IsOfInstance, pair_of}
 use Rattle.vs_prices.specs.Table.{IsPrice}
 use Rattle.vs_reader.specs.declared.input.Input.{Input}
-use Rattle.vs_reader.specs.Rows.{all_fields, row_of}
+use Rattle.vs_reader.specs.Rows.{all_fields}
 use Rattle.vs_rows.specs.DocumentRows.{BlockRow, EndRow, FleetRow, PriceRow}
 use Rattle.vs_rows.specs.RowForms.{SaysThere}
 use Rattle.vs_counting.specs.Counting.{counting, own_blocks, own_trips, permitted_trips}

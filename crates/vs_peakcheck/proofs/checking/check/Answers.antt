@@ -5,7 +5,6 @@ use Rattle.vs_instance.proofs.CallerLemmas.{none_from_first}
 use Rattle.vs_types.specs.declared.numbers.LayerNo.{LayerNo}
 use Rattle.vs_peakcheck.specs.Flaws.{flaws_of, verdict_of}
 use Rattle.vs_peakcheck.specs.declared.flaw.PeakFlaw.{PeakFlaw}
-use Rattle.vs_peakcheck.specs.declared.flaw.PeakVerdict.{PeakVerdict}
 use Rattle.vs_peakcheck.specs.declared.flaw.PeakVerdict.TheVariants.{Yes}
 use Rattle.vs_peakcheck.specs.HoldingClaims.{HoldingClaims}
 use Rattle.vs_peakcheck.proofs.LayerFlaws.{holds_from_none, none_from_holds}

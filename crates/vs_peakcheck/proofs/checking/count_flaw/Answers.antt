@@ -1,4 +1,4 @@
-use Rattle.std.proofs.Common.{◌≡◌, ap, sym, subst, ◌∙◌, ℕ, Option}
+use Rattle.std.proofs.Common.{ap, sym, subst, ◌∙◌, ℕ, Option}
 use Rattle.vs_instance.specs.Firsts.{first}
 use Rattle.vs_instance.specs.Plan.{IsPlan}
 use Rattle.vs_plan.specs.Blocks.{pairs_of}

@@ -1,4 +1,5 @@
-use Rattle.std.proofs.Common.{◌≡◌, ◌<◌, ◌≤◌, ap, sym, subst, refl, ◌∙◌, arith, length, map}
+use Rattle.std.proofs.Common.{◌<◌, ◌≤◌, ℕ, ap, sym, subst, refl, ◌∙◌, arith, length}
+use Rattle.std.proofs.lemmas.Bool.{eqb-true, not-false}
 use Rattle.std.proofs.lemmas.List.{length-map, take_all}
 use Rattle.vs_types.specs.declared.numbers.TripNo.{TripNo}
 use Rattle.vs_plan.specs.Blocks.{pair_of}
@@ -49,7 +50,8 @@ returns-clause-found c =
     omega (arith, c.loop-k-test.false, c.len-k-end.ensures, block.trips.ok.0) in
     record {
       of_only = refl;
-      of_layer = c.if-ne.ensures;
+      of_layer = ap (λ (n : ℕ). record { 0 = n })
+          (eqb-true block.layer.0 c.args.l.0 (not-false _ (sym c.if-ne.ensures)));
       trips = c.loop-k.invariant.within;
       own_is = c.loop-k.invariant.own_is ∙ take_all c.loop-k.k block.trips.items past;
     }

@@ -1,4 +1,6 @@
-use Rattle.std.proofs.Common.{◌≡◌, ◌+◌, ◌∷◌, [], ℕ, ℤ, List, ap, sym, subst, refl, ◌∙◌, length}
+use Rattle.std.proofs.Common.{◌≡◌, ◌+◌, ◌∷◌, [], ℕ, ℤ, Bool, true, false, not, Option, ap, sym, subst, refl, ◌∙◌, length}
+use Rattle.std.specs.Prelude.{is_none}
+use Rattle.std.specs.Option.{is_some}
 use Rattle.std.proofs.lemmas.List.{length-map}
 use Rattle.vs_counting.specs.Counting.{numbered, permitted_trips}
 use Rattle.vs_peakcheck.specs.declared.claimed.Claimed.{Claimed}
@@ -6,6 +8,11 @@ use Rattle.vs_peakcheck.specs.Reading.{ReadsLayer}
 use Rattle.vs_peakcheck.proofs.PricedRows.{as_word}
 use Rattle.vs_peakcheck.proofs.ReadLayers.{layer_read}
 use Rattle.vs_peakcheck.proofs.reading.layer.read_layer.Goals as goal
+
+-- a test for none
+ray_is : (count : Option ℕ) (b : Bool) → is_some count ≡ not b → b ≡ is_none count
+ray_is count true is = sym (ap not is)
+ray_is count false is = sym (ap not is)
 
 pub returns-clause-found : goal.returns-clause-found
 returns-clause-found c =
@@ -30,4 +37,4 @@ returns-clause-found c =
     c.in_ok-fleet.fleet c.in_ok-prices.prices claimed refl refl refl
     (c.in_ok-vec.ensures.items_if_clones_equal (λ y e. e)
     ∙ ap (λ (x : ℤ). x ∷ []) (as_word c.in_ok-fleet.fleet fleet.is_price))
-    c.is_none.ensures c.in_ok-count.ensures.found c.in_ok-blocks.ensures.found fleet c.in_ok-prices.ensures.found)
+    (ray_is c.in_ok-count.count c.is_none.result c.is_none.ensures) c.in_ok-count.ensures.found c.in_ok-blocks.ensures.found fleet c.in_ok-prices.ensures.found)

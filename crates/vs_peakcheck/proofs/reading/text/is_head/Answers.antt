@@ -1,4 +1,4 @@
-use Rattle.std.proofs.Common.{◌≡◌, refl, sym, ap, ◌∙◌}
+use Rattle.std.proofs.Common.{sym, ap, ◌∙◌}
 use Rattle.std.proofs.lemmas.Bool.{false≢true}
 use Rattle.std.proofs.lemmas.Slice.Eq.{bytes_eq-Decides}
 use Rattle.vs_reader.specs.Rows.{Row, field_of, row_of}
@@ -18,9 +18,9 @@ returns-then-eq c =
             let peak = tests.0 (sym c.eq-then-eq.ensures ∙ is) in
             three_fields row _ _ _ kind.fields_are kind.kind_is (sym w.field.ensures ∙ one ∙ w.as_bytes.ensures.value)
             (sym c.field-then-eq.ensures ∙ peak ∙ c.as_bytes-then-eq.ensures.value)
-        | else-is_of_kind w ↦ absurd (false≢true (sym w.value-is ∙ c.if-eq.true))
+        | else-is_of_kind w ↦ absurd (false≢true (sym w.if-is_of_kind.false ∙ sym w.value-is ∙ c.if-eq.true))
       ],
       λ is. c.eq-then-eq.ensures
-      ∙ tests.1
-      (c.field-then-eq.ensures ∙ ap (λ (r : Row). field_of r 2) is ∙ sym c.as_bytes-then-eq.ensures.value),
+          ∙ tests.1
+          (c.field-then-eq.ensures ∙ ap (λ (r : Row). field_of r 2) is ∙ sym c.as_bytes-then-eq.ensures.value),
     )
