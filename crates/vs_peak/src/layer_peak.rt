@@ -10,7 +10,7 @@ use vs_circ::Work;
 use vs_counting::counting;
 use vs_instance::Instance;
 use vs_match::layer_nets;
-use vs_node::settle;
+use vs_node::{Settled, settle};
 use vs_plan::CheckedPlan;
 use vs_prices::{Table, permitted_sets};
 use vs_types::{LayerNo, Memory};
@@ -35,15 +35,13 @@ pub fn peak(alloc: Global, instance: &Instance, l: LayerNo) -> Result<LayerPeak,
     let nets = layer_nets(alloc, &counted)?;
     let sets = permitted_sets(alloc, &counted)?;
     let mut work = Work::new(alloc, &nets)?;
-    let settled = settle(alloc, &counted, &nets, &sets, &mut work)?;
-    match settled.plan {
-        None => Ok(LayerPeak::NoList {
-            table: settled.table,
+    let Settled { plan, table } = settle(alloc, &counted, &nets, &sets, &mut work)?;
+    match plan {
+        None => Ok(LayerPeak::NoList { table }),
+        Some(plan) => Ok(LayerPeak::Least {
+            plan,
+            table: cost_table(alloc, &counted, table)?,
         }),
-        Some(plan) => {
-            let table = cost_table(alloc, &counted, settled.table)?;
-            Ok(LayerPeak::Least { plan, table })
-        }
     }
 }
 
