@@ -72,7 +72,7 @@ module _ (p : Problem) (l : LayerNo) (law : CountsVehicles p l) where
     no_trips : c.cost ≡ pos 0 → length q.trips ≡ 0
     no_trips free = by_blocks c.blocks plan (omega (arith, ints, free, costs))
       where
-        by_count : (n : ℕ) → ((i : ℕ) → i < n → 0 ≡ 1) → n ≡ 0
+        by_count : (n : ℕ) → ((i : ℕ) → i < n → ◌≡◌ {A = ℕ} 0 1) → n ≡ 0
         by_count zero once = refl
         by_count (suc n) once = absurd (let e = once 0 (omega arith) in omega (arith, e))
 

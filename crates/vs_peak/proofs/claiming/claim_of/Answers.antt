@@ -1,4 +1,4 @@
-use Rattle.std.proofs.Common.{◌≡◌, ◌<◌, ◌^◌, ℤ, length, ap, ◌∙◌, arith, Some}
+use Rattle.std.proofs.Common.{◌≡◌, ℤ, length, ap, ◌∙◌, Fits, w32, rules, Some}
 use Rattle.std.specs.Prelude.{nat_abs}
 use Rattle.vs_counting.proofs.CallerLemmas.{counts_vehicles}
 use Rattle.vs_peak.proofs.ClaimedPeaks.{claim_of_least, cost_word, few_in_least}
@@ -12,7 +12,7 @@ overflow_cast-result c =
     let is = rw c.in-Least.is at c.requires.peak in
     let few = few_in_least p l (counts_vehicles p l c.layers-layers.ensures.instance c.requires.layer) plan
     c.in-Least.table is in
-    let small : length plan.blocks < 2 ^ 32 = omega (arith, few) in
+    let small : Fits w32 (length plan.blocks) = search (rules, few) in
     rw (cost_word (length plan.blocks) c.cost.result few (c.cost.ensures.value ∙ is.count)) (tt, small)
 
 pub returns-in-Least : goal.returns-in-Least
