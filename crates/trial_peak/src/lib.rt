@@ -4,6 +4,8 @@
 #[cfg(test)]
 mod claims;
 #[cfg(test)]
+mod counted;
+#[cfg(test)]
 mod found;
 #[cfg(test)]
 mod refused;

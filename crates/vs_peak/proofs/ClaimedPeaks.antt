@@ -1,5 +1,5 @@
 -- What a peak claims holds, and proves it.
-use Rattle.std.proofs.Common.{◌≡◌, ℕ, ◌<◌, ◌≤◌, ◌+◌, ◌^◌, List, [], ◌∷◌, ◌++◌, length, get_or, refl, sym, ap, ◌∙◌, subst, inl, inr, arith, Option, Some, None, ℤ, pos, ◌≤ℤ◌, to_z, of_z, w64, FitsSigned, rules}
+use Rattle.std.proofs.Common.{◌≡◌, ℕ, ◌<◌, ◌≤◌, ◌+◌, List, [], ◌∷◌, ◌++◌, length, get_or, refl, sym, ap, ◌∙◌, subst, inl, inr, arith, Option, Some, None, ℤ, pos, to_z, of_z, w64, FitsSigned, rules}
 use Rattle.std.specs.Prelude.{IfNone, IfSome, MatchOption, is_none, option_map}
 use Rattle.std.specs.List.{All}
 use Rattle.std.proofs.lemmas.Bool.{cases_lt}
@@ -10,15 +10,13 @@ use Rattle.vs_types.specs.declared.numbers.LayerNo.{LayerNo}
 use Rattle.vs_instance.specs.Problem.{Problem}
 use Rattle.vs_instance.specs.Blocks.{IsBlock}
 use Rattle.vs_instance.specs.Plan.{IsPlan, LayerBlock, all_trips}
-use Rattle.vs_instance.specs.Restriction.{permitted_sets}
 use Rattle.vs_plan.specs.Blocks.{IsOfInstance, pairs_of}
 use Rattle.vs_plan.specs.CheckedPlan.{Checked}
 use Rattle.vs_plan.proofs.CallerLemmas.{plan_trips}
-use Rattle.vs_prices.specs.declared.bound.Bound.{Bound}
 use Rattle.vs_prices.specs.declared.bound.Bound.TheVariants.{AtLeast, NoPlan}
 use Rattle.vs_prices.specs.declared.table.Table.{Table}
-use Rattle.vs_prices.specs.Table.{Fits, HoldingTable, IsPrice}
-use Rattle.vs_prices.specs.Worth.{IsWorth, Reaches}
+use Rattle.vs_prices.specs.Table.{IsPrice}
+use Rattle.vs_prices.specs.Worth.{Reaches}
 use Rattle.vs_counting.specs.Counting.{counting}
 use Rattle.vs_counting.specs.Laws.{CountsVehicles}
 use Rattle.vs_counting.specs.Peak.{HasNoPeak, IsPeak}

@@ -1,29 +1,26 @@
 -- A least plan of the counting instance, and the ray where there is none, as peaks.
-use Rattle.std.proofs.Common.{◌≡◌, ℕ, zero, suc, ◌+◌, ◌<◌, ◌≤◌, Bool, true, false, List, [], ◌∷◌, length, map, refl, sym, ap, ◌∙◌, subst, arith, MatchBool, ℤ, pos, ◌+ℤ◌, ◌-ℤ◌, ◌*ℤ◌, ◌≤ℤ◌}
-use Rattle.std.specs.List.{All, range_with_len}
+use Rattle.std.proofs.Common.{◌≡◌, ℕ, zero, suc, ◌<◌, ◌≤◌, Bool, true, false, List, [], ◌∷◌, length, map, refl, sym, ap, ◌∙◌, subst, arith, MatchBool, ℤ, pos, ◌+ℤ◌, ◌-ℤ◌, ◌*ℤ◌, ◌≤ℤ◌}
+use Rattle.std.specs.List.{range_with_len}
 use Rattle.std.proofs.lemmas.Bool.{MatchBool-at_true}
 use Rattle.std.proofs.lemmas.Int.{ints}
 use Rattle.std.proofs.lemmas.List.{length-map}
-use Rattle.vs_types.specs.LayerSet.{Has}
 use Rattle.vs_types.specs.declared.layer_set.LayerSet.{LayerSet}
 use Rattle.vs_types.specs.declared.numbers.LayerNo.{LayerNo}
-use Rattle.vs_instance.specs.declared.limits.TheConstants.{MAX_FLEET}
 use Rattle.vs_instance.specs.Problem.{Problem}
-use Rattle.vs_instance.specs.Instance.{IsInstance}
-use Rattle.vs_instance.specs.Plan.{IsPlan, LayerBlock, plan_cost, times_run}
+use Rattle.vs_instance.specs.Plan.{IsPlan, LayerBlock, plan_cost}
 use Rattle.vs_instance.specs.Lagrangian.{total}
-use Rattle.vs_instance.specs.Restriction.{permitted_sets, set_of}
+use Rattle.vs_instance.specs.Restriction.{permitted_sets}
 use Rattle.vs_instance.specs.Ways.{layer_of, no_trip}
 use Rattle.vs_instance.proofs.CallerLemmas.{none_times, permitted_sets-IsRestriction, plans_lie_within}
-use Rattle.vs_plan.specs.CheckedPlan.{Checked, IsChecked}
+use Rattle.vs_plan.specs.CheckedPlan.{Checked}
 use Rattle.vs_prices.specs.declared.bound.Bound.TheVariants.{AtLeast, NoPlan}
 use Rattle.vs_prices.specs.declared.table.Table.{Table}
 use Rattle.vs_prices.specs.Table.{AreZeros, Fits, HoldingTable, vehicle_price}
-use Rattle.vs_prices.specs.Worth.{IsRoundedUp, IsWorth, fleet_price, least_price, rounded_up, table_value}
+use Rattle.vs_prices.specs.Worth.{IsRoundedUp, IsWorth, fleet_price, least_price, table_value}
 use Rattle.vs_prices.proofs.CallerLemmas.{bounds_plans, rounded_up-IsRoundedUp}
 use Rattle.vs_counting.specs.Counting.{counting, own_blocks, own_trips}
 use Rattle.vs_counting.specs.Laws.{CountsVehicles}
-use Rattle.vs_counting.specs.Peak.{HasNoPeak, IsPeak, RunAll}
+use Rattle.vs_counting.specs.Peak.{RunAll}
 use Rattle.vs_node.specs.ChosenLayers.{AreSingle}
 use Rattle.vs_node.specs.LeastPlans.{IsPlanWithin}
 use Rattle.vs_peak.specs.Peaks.{IsLeast, IsShown, ShowsNone}

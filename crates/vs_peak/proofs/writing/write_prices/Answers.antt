@@ -1,4 +1,4 @@
-use Rattle.std.proofs.Common.{◌≡◌, ◌<◌, ◌++◌, ℤ, length, get_or, ap, ◌∙◌, arith, rules, to_z, of_z, w64, FitsSigned}
+use Rattle.std.proofs.Common.{◌<◌, ◌++◌, ℤ, length, get_or, ap, ◌∙◌, arith, rules, to_z, of_z, w64, FitsSigned}
 use Rattle.std.proofs.lemmas.Int.{to_z-of_z}
 use Rattle.std.proofs.lemmas.List.{get_or_default}
 use Rattle.vs_reader.specs.Rows.{line}
