@@ -1,0 +1,5 @@
+pub mod Pieces
+pub mod PartPlans
+pub mod WidenedTables
+pub mod WidenedWorths
+pub mod CallerLemmas
