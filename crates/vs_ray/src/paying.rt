@@ -41,6 +41,6 @@ pub(crate) fn pay_at(instance: &Instance, minute: u32, multipliers: &mut [i64])
 }
 
 /// Whether the trip is under way at this minute.
-fn is_under_way(trip: &Trip, minute: u32) -> bool {
+pub(crate) fn is_under_way(trip: &Trip, minute: u32) -> bool {
     trip.start <= minute && minute < trip.end
 }

@@ -6,9 +6,7 @@ ghost use Rattle.vs_multi.specs.Multipliers.{AreMultipliers};
 ghost use Rattle.vs_multi.specs.Rounds.{IsCase};
 ghost use Rattle.vs_ray.specs.Rays.{IsHolding};
 
-use crate::minutes::under_way;
-use crate::paying::{evenly, pay_at, pay_one};
-use std::alloc::Global;
+use crate::paying::{evenly, is_under_way, pay_at, pay_one};
 use vs_circ::Work;
 use vs_connect::{in_cost, out_cost};
 use vs_instance::Instance;
@@ -91,7 +89,7 @@ fn one_minute(case: &Case<'_>, work: &mut Work) -> Result<Option<Table>, Memory>
 {
     let mut multipliers = evenly(case, 0)?;
     let mut counts = vec![in case.alloc; 0; case.instance.trips() as usize]?;
-    count_all(case.alloc, case.instance, &mut counts)?;
+    count_all(case.instance, &mut counts);
     for _ in 0..TRIALS {
         let minute = fullest(case.instance, &counts);
         leave_out(case.instance, minute, &mut counts);
@@ -104,16 +102,24 @@ fn one_minute(case: &Case<'_>, work: &mut Work) -> Result<Option<Table>, Memory>
     Ok(None)
 }
 
-/// By trip, how many are under way as it starts.
-fn count_all(alloc: Global, instance: &Instance, counts: &mut [u32]) -> Result<(), Memory>
-    requires { length counts.old ≡ length instance.now.trips }
-    ensures { length counts.new ≡ length counts.old }
-{
-    let by_minute = under_way(alloc, instance)?;
+/// How many trips are under way at this minute.
+fn count(instance: &Instance, minute: u32) -> u32 {
+    let mut count: u32 = 0;
     for i in 0..instance.trips() {
-        counts[i as usize] = by_minute[instance.trip(TripNo(i)).start as usize];
+        if is_under_way(instance.trip(TripNo(i)), minute) {
+            count = count.saturating_add(1);
+        }
     }
-    Ok(())
+    count
+}
+
+/// By trip, how many are under way as it starts.
+fn count_all(instance: &Instance, counts: &mut [u32])
+    requires { length counts.old ≡ length instance.now.trips }
+{
+    for i in 0..instance.trips() {
+        counts[i as usize] = count(instance, instance.trip(TripNo(i)).start);
+    }
 }
 
 /// The minute at which most are under way, by these counts.
