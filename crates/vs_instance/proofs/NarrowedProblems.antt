@@ -1,5 +1,5 @@
 -- Parts of problems in which fewer layers may run the trips: they are instances, with the same trips else.
-use Rattle.std.proofs.Common.{◌≡◌, ℕ, ◌<◌, ◌≤◌, List, length, sym, subst, arith}
+use Rattle.std.proofs.Common.{◌≡◌, ℕ, ◌+◌, ◌<◌, ◌≤◌, List, length, sym, ◌∙◌, subst, arith}
 use Rattle.std.specs.FinMap as map
 use Rattle.std.specs.List.{All, range_with_len}
 use Rattle.std.proofs.lemmas.List.Elements.{All-map}
@@ -62,8 +62,9 @@ module _ (p : Problem) (sets : List LayerSet) where
     trips_narrowed : All (λ i. IsTrip (narrowed p sets) (narrowed_trip p.trips sets i)) (range_with_len 0 (length p.trips))
     trips_narrowed k d inside =
         let within : k < length p.trips = omega (arith, inside, length-range_with_len 0 (length p.trips)) in
+        let same : 0 + k ≡ k = omega arith in
         subst (λ i. IsTrip (narrowed p sets) (narrowed_trip p.trips sets i))
-        (sym (get_or-range_with_len 0 (length p.trips) k d within)) (narrowed-IsTrip k within)
+        (sym (get_or-range_with_len 0 (length p.trips) k d within ∙ same)) (narrowed-IsTrip k within)
 
     -- it is an instance too
     pub narrowed-IsInstance : IsInstance (narrowed p sets)

@@ -9,9 +9,10 @@ pub loop-i-preserved : goal.loop-i-preserved
 loop-i-preserved c =
     let i = c.loop-i.i in
     let each = narrowed_trip c.args.trips.now c.args.sets.now in
-    c.in_ok-push.ensures.items ∙ ap (λ (narrow : List Trip). narrow ++ c.with_layers.result ∷ []) c.loop-i.invariant
-    ∙ ap (λ (trip : Trip). map each (range_with_len 0 i) ++ trip ∷ []) c.with_layers.ensures
-    ∙ sym (map-range_with_len_more each 0 i i (omega arith))
+    let more = map-range_with_len_more each 0 i i (omega arith) in
+    c.in_ok-push.ensures.items
+    ∙ (λ k. c.loop-i.invariant k ++ c.with_layers.ensures k ∷ [])
+    ∙ sym more
 
 pub returns : goal.returns
 returns c =

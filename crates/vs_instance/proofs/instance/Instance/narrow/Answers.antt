@@ -2,6 +2,7 @@ use Rattle.std.proofs.Common.{sym, ap, ◌∙◌, subst}
 use Rattle.vs_instance.specs.Instance.{IsInstance}
 use Rattle.vs_instance.specs.Narrowed.{narrowed_trips}
 use Rattle.vs_instance.specs.Problem.{Problem}
+use Rattle.vs_instance.specs.Restriction.{IsRestriction}
 use Rattle.vs_instance.specs.deadheads.WayMap.{problem_with}
 use Rattle.vs_instance.proofs.NarrowedProblems.{narrowed-IsInstance}
 use Rattle.vs_instance.proofs.instance.Instance.narrow.Goals as goal
@@ -13,5 +14,6 @@ invariant_of-result c =
     let layers = c.in_ok-layers.ensures.items ∙ c.as_slice-own_layers.ensures.value in
     let trips = c.in_ok-trips.ensures
     ∙ ap (λ trips. narrowed_trips trips c.args.sets.now) c.as_slice-own_trips.ensures.value in
+    let restricts = subst (λ (q : Problem). IsRestriction q c.args.sets.now) (sym c.self.view_is) c.requires in
     subst IsInstance (λ k. problem_with (sym c.in_ok-ways.ensures k) (sym layers k) (sym trips k))
-    (narrowed-IsInstance p c.args.sets.now c.self.invariant c.requires)
+    (narrowed-IsInstance p c.args.sets.now c.self.invariant restricts)
