@@ -3,6 +3,7 @@ use Rattle.std.proofs.Common.{◌≡◌, ℕ, ◌+◌, ◌<◌, ◌≤◌, suc, 
 use Rattle.std.specs.List.{All, AllAdjacentBelow, sum_by}
 use Rattle.std.specs.Option.{IsSomeAnd}
 use Rattle.std.specs.Prelude.{IsSome}
+use Rattle.std.proofs.lemmas.List.Sums.{sum_by-cons}
 use Rattle.vs_types.specs.LayerSet.{Has}
 use Rattle.vs_types.specs.declared.layer_set.LayerSet.{LayerSet}
 use Rattle.vs_types.specs.declared.numbers.LayerNo.{LayerNo}
@@ -143,7 +144,9 @@ module _ (p : Problem) (sets : List LayerSet) where
       blocks_same (b ∷ blocks) each =
           let first = block_same b.0 b.1 (each 0 b (omega arith)) in
           let others = blocks_same blocks (λ k d within. each (suc k) d (omega arith)) in
-          λ k. first k + others k
+          let own = sum_by-cons (λ (c : LayerBlock). block_cost part c.0 c.1) b blocks in
+          let whole = sum_by-cons (λ (c : LayerBlock). block_cost p c.0 c.1) b blocks in
+          own ∙ (λ k. first k + others k) ∙ sym whole
 
       pub plans_of_part : (blocks : List LayerBlock) → ArePlansOfPart p sets blocks
       plans_of_part blocks = record {

@@ -41,6 +41,24 @@ each_some : (o : Option ℕ) (P : ℕ → Type 0) → ((c : ℕ) → P c) → If
 each_some None P each = tt
 each_some (Some c) P each = each c
 
+-- a move: its piece of cost, the prices into and from its trips, and that of a vehicle
+record Move : Type 0 where
+  piece : Option ℕ
+  into : ℤ
+  from : ℤ
+  vehicle : ℤ
+  ray : Bool
+
+-- what the prices of each kind of move have to keep
+abbrev Out : Move → Type 0
+Out m = IfSome m.piece (λ c. m.into ≤ℤ (scaled m.ray c +ℤ m.vehicle))
+
+abbrev Link : Move → Type 0
+Link m = IfSome m.piece (λ c. m.into ≤ℤ (m.from +ℤ scaled m.ray c))
+
+abbrev In : Move → Type 0
+In m = IfSome m.piece (λ c. pos 0 ≤ℤ (m.from +ℤ scaled m.ray c))
+
 module _ (p : Problem) (sets : List LayerSet) where
   abbrev part : Problem
   part = narrowed p sets
@@ -92,16 +110,20 @@ module _ (p : Problem) (sets : List LayerSet) where
         → IfSome (out_piece p l i) (λ c. into_price p new l i ≤ℤ (scaled new.ray c +ℤ vehicle_price new l))
     outs i inside permitted = by_set (dec_has (set_of sets i) l)
       where
-        abbrev Out : Option ℕ × ℤ × Bool × ℤ → Type 0
-        Out x = IfSome x.0 (λ c. x.1.0 ≤ℤ (scaled x.1.1.0 c +ℤ x.1.1.1))
-
-        by_set : Dec (Has (set_of sets i) l) → Out (out_piece p l i, into_price p new l i, new.ray, vehicle_price new l)
-        by_set (yes has) = subst Out (λ k. (
-          out_same p sets l i k,
-          same_into i inside has k,
-          sym widened.ray k,
-          same_vehicle k,
-        )) (holds.outs i (in_part i inside) (may i inside has))
+        by_set : Dec (Has (set_of sets i) l) → Out (record {
+          piece = out_piece p l i;
+          into = into_price p new l i;
+          from = pos 0;
+          vehicle = vehicle_price new l;
+          ray = new.ray;
+        })
+        by_set (yes has) = subst Out (λ k. record {
+          piece = out_same p sets l i k;
+          into = same_into i inside has k;
+          from = pos 0;
+          vehicle = same_vehicle k;
+          ray = sym widened.ray k;
+        }) (holds.outs i (in_part i inside) (may i inside has))
         by_set (no none) =
             let least = widened.into_left_out l i layer inside (permitted, none) in
             let vehicle = vehicle_up in
@@ -111,17 +133,21 @@ module _ (p : Problem) (sets : List LayerSet) where
         → IfSome (link_piece p l i j) (λ c. into_price p new l j ≤ℤ (from_price p new l i +ℤ scaled new.ray c))
     links i j inside next permitted onward = by_sets (dec_has (set_of sets i) l) (dec_has (set_of sets j) l)
       where
-        abbrev Link : Option ℕ × ℤ × ℤ × Bool → Type 0
-        Link x = IfSome x.0 (λ c. x.1.0 ≤ℤ (x.1.1.0 +ℤ scaled x.1.1.1 c))
-
         by_sets : Dec (Has (set_of sets i) l) → Dec (Has (set_of sets j) l)
-            → Link (link_piece p l i j, into_price p new l j, from_price p new l i, new.ray)
-        by_sets (yes has) (yes also) = subst Link (λ k. (
-          link_same p sets l i j k,
-          same_into j next also k,
-          same_from i inside has k,
-          sym widened.ray k,
-        )) (holds.links i j (in_part i inside) (in_part j next) (may i inside has) (may j next also))
+            → Link (record {
+              piece = link_piece p l i j;
+              into = into_price p new l j;
+              from = from_price p new l i;
+              vehicle = pos 0;
+              ray = new.ray;
+            })
+        by_sets (yes has) (yes also) = subst Link (λ k. record {
+          piece = link_same p sets l i j k;
+          into = same_into j next also k;
+          from = same_from i inside has k;
+          vehicle = pos 0;
+          ray = sym widened.ray k;
+        }) (holds.links i j (in_part i inside) (in_part j next) (may i inside has) (may j next also))
         by_sets (yes has) (no none) =
             let least = widened.into_left_out l j layer next (onward, none) in
             let price = from_is i in
@@ -135,11 +161,20 @@ module _ (p : Problem) (sets : List LayerSet) where
         → IfSome (in_piece p l i) (λ c. pos 0 ≤ℤ (from_price p new l i +ℤ scaled new.ray c))
     ins i inside permitted = by_set (dec_has (set_of sets i) l)
       where
-        abbrev In : Option ℕ × ℤ × Bool → Type 0
-        In x = IfSome x.0 (λ c. pos 0 ≤ℤ (x.1.0 +ℤ scaled x.1.1 c))
-
-        by_set : Dec (Has (set_of sets i) l) → In (in_piece p l i, from_price p new l i, new.ray)
-        by_set (yes has) = subst In (λ k. (in_same p sets l i k, same_from i inside has k, sym widened.ray k))
+        by_set : Dec (Has (set_of sets i) l) → In (record {
+          piece = in_piece p l i;
+          into = pos 0;
+          from = from_price p new l i;
+          vehicle = pos 0;
+          ray = new.ray;
+        })
+        by_set (yes has) = subst In (λ k. record {
+          piece = in_same p sets l i k;
+          into = pos 0;
+          from = same_from i inside has k;
+          vehicle = pos 0;
+          ray = sym widened.ray k;
+        })
             (holds.ins i (in_part i inside) (may i inside has))
         by_set (no none) =
             let greatest = widened.from_left_out l i layer inside (permitted, none) in
