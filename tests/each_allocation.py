@@ -30,40 +30,16 @@ TOP = os.path.dirname(os.path.dirname(os.path.abspath(__file__)))
 SECONDS = 30
 NO_MEMORY = 6
 
-# An instance of one trip and two layers that may run it, both at a cost of 500: docs/formats.md has the form.
-TIMETABLE = """\
-instance,1
-stop,D
-stop,P
-stop,Q
-deadhead,D,P,10,0
-deadhead,P,D,10,0
-deadhead,D,Q,10,0
-deadhead,Q,D,10,0
-deadhead,P,Q,15,0
-deadhead,Q,P,15,0
-layer,L1,D,1,450,1,0
-layer,L2,P,1,455,1,0
-trip,t1,P,8:00,Q,8:30,0,L1,L2
-"""
 
-# A document of it whose tree has a split.
-DOCUMENT = """\
-result,1,optimal
-cost,500
-bound,500
-nodes,3
-block,L1,t1
-table,1,cost
-fleet,L1,0
-price,L1,t1,460000,-10000
-fleet,L2,0
-price,L2,t1,455000,-15000
-split,t1,L1
-leaf,1
-leaf,1
-end
-"""
+def example(name):
+    """Returns the text of a file of examples/."""
+    with open(f"{TOP}/examples/{name}", encoding="ascii") as file:
+        return file.read()
+
+
+# One trip and two layers that may run it, both at a cost of 500; and a document of it whose tree has a split.
+TIMETABLE = example("two_depots.csv")
+DOCUMENT = example("two_depots_document.csv")
 
 # Words, input, and whether two workers share the run.
 RUNS = [

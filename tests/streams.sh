@@ -49,37 +49,8 @@ nothing_written() {
 }
 
 # The timetable of one trip that two layers may run, with a document of it.
-cat > "$work/timetable" <<'TIMETABLE'
-instance,1
-stop,D
-stop,P
-stop,Q
-deadhead,D,P,10,0
-deadhead,P,D,10,0
-deadhead,D,Q,10,0
-deadhead,Q,D,10,0
-deadhead,P,Q,15,0
-deadhead,Q,P,15,0
-layer,L1,D,1,450,1,0
-layer,L2,P,1,455,1,0
-trip,t1,P,8:00,Q,8:30,0,L1,L2
-TIMETABLE
-cat "$work/timetable" - > "$work/both" <<'DOCUMENT'
-result,1,optimal
-cost,500
-bound,500
-nodes,3
-block,L1,t1
-table,1,cost
-fleet,L1,0
-price,L1,t1,460000,-10000
-fleet,L2,0
-price,L2,t1,455000,-15000
-split,t1,L1
-leaf,1
-leaf,1
-end
-DOCUMENT
+cp examples/two_depots.csv "$work/timetable"
+cat "$work/timetable" examples/two_depots_document.csv > "$work/both"
 # One that is refused, and one whose document doesn't hold.
 echo "instance,2,3" > "$work/refused"
 sed 's/^cost,500$/cost,499/' "$work/both" > "$work/flawed"

@@ -15,20 +15,10 @@ import sys
 TOP = os.path.dirname(os.path.dirname(os.path.abspath(__file__)))
 SECONDS = 30
 
-STOPS = """\
-instance,1
-stop,D
-stop,P
-stop,Q
-deadhead,D,P,10,0
-deadhead,P,D,10,0
-deadhead,D,Q,10,0
-deadhead,Q,D,10,0
-deadhead,P,Q,15,0
-deadhead,Q,P,15,0
-"""
-LAYER = "layer,L1,D,2,1000,1,0\n"
-TRIPS = "trip,t1,P,8:00,Q,8:30,0,L1\ntrip,t2,Q,8:30,P,9:00,0,L1\n"
+# The timetable of two trips: its stops with the deadheads between them, its layer, and its trips.
+with open(f"{TOP}/examples/two_trips.csv", encoding="ascii") as two_trips:
+    LINES = two_trips.readlines()
+STOPS, LAYER, TRIPS = "".join(LINES[:10]), LINES[10], "".join(LINES[11:])
 PRICES = "table,1,cost\nfleet,L1,0\nprice,L1,t1,1010000,0\nprice,L1,t2,0,-10000\nleaf,1\nend\n"
 HEAD = "result,1,optimal\ncost,1080\nbound,1080\nnodes,1\n"
 TOWN = "instance,1\nstop,Depot\nstop,Harbour\nstop,Market\n"
