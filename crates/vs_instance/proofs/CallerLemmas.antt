@@ -28,3 +28,5 @@ pub use Rattle.vs_instance.proofs.lagrangian.LayersOfPlan.{values_bound_plans}
 pub use Rattle.vs_instance.proofs.lagrangian.Values.{values_exist}
 -- problems where nothing costs anything
 pub use Rattle.vs_instance.proofs.FreeProblems.{free, in-without_rates, layer_of-without_rates, link-without_rates, out-without_rates, trip-without_rates, without_rates-IsInstance}
+-- parts of problems in which fewer layers may run the trips
+pub use Rattle.vs_instance.proofs.NarrowedProblems.{length-narrowed, narrowed-IsInstance, trip_of-narrowed}

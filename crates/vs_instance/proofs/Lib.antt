@@ -5,4 +5,5 @@ pub mod costs
 pub mod lagrangian
 pub mod PermittedSets
 pub mod FreeProblems
+pub mod NarrowedProblems
 pub mod CallerLemmas

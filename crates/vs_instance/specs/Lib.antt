@@ -14,3 +14,4 @@ pub mod Lagrangian
 pub mod Laws
 pub mod Misfits
 pub mod Unrated
+pub mod Narrowed

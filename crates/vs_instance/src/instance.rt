@@ -3,6 +3,8 @@
 ghost use Rattle.std.specs.Prelude.{◌≡◌, ℕ, ◌<◌, ◌≤◌, length, IfOk, IfErr, OnOk, option_map};
 ghost use Rattle.vs_instance.specs.Instance.{IsInstance};
 ghost use Rattle.vs_instance.specs.Misfits.{AreParts, MakeInstance, problem_of, IsFirstMisfit, IsMisfit};
+ghost use Rattle.vs_instance.specs.Narrowed.{narrowed};
+ghost use Rattle.vs_instance.specs.Restriction.{IsRestriction};
 ghost use Rattle.vs_instance.specs.Unrated.{without_rates};
 ghost use Rattle.vs_instance.specs.Ways.{way, trip_of, layer_of};
 
@@ -10,6 +12,7 @@ use crate::closure::closure_misfit;
 use crate::gather::ways_of;
 use crate::layer::Layer;
 use crate::misfit::NewError;
+use crate::narrowed::narrowed_trips;
 use crate::parts::Parts;
 use crate::ranges::{layers_misfit, trips_misfit};
 use crate::trip::Trip;
@@ -18,7 +21,7 @@ use crate::way::Way;
 use crate::ways::Ways;
 use std::alloc::Global;
 use std::marker::Model;
-use vs_types::{LayerNo, Memory, StopNo, TripNo};
+use vs_types::{LayerNo, LayerSet, Memory, StopNo, TripNo};
 
 /// What is planned: stops, the deadheads between them, layers and trips, within the limits and with closed
 /// deadheads. From a stop to itself the way takes no time and has no length; between two others it is
@@ -95,6 +98,24 @@ impl Instance {
         let ways = self.ways.copy(alloc)?;
         let layers = unrated_layers(alloc, own_layers)?;
         let trips = Vec::from_slice(alloc, own_trips)?;
+        Ok(Instance {
+            ways,
+            layers,
+            trips,
+        })
+    }
+
+    /// The same stops, deadheads and layers, and the same trips, each of which the layers of its set alone may run: the
+    /// part of a case, whose plans are those of the case.
+    pub fn narrow(&self, alloc: Global, sets: &[LayerSet]) -> Result<Instance, Memory>
+        requires { IsRestriction self.now sets.now }
+        ensures { IfOk result (λ instance. instance ≡ narrowed self.now sets.now) }
+    {
+        let own_layers = self.layers.as_slice();
+        let own_trips = self.trips.as_slice();
+        let ways = self.ways.copy(alloc)?;
+        let layers = Vec::from_slice(alloc, own_layers)?;
+        let trips = narrowed_trips(alloc, own_trips, sets)?;
         Ok(Instance {
             ways,
             layers,

@@ -10,6 +10,7 @@ mod layer;
 mod lengths;
 mod limits;
 mod misfit;
+mod narrowed;
 mod parts;
 mod ranges;
 mod trip;

@@ -1,0 +1,10 @@
+pub mod PermittedTrips
+pub mod CountedTrips
+pub mod CountedBlocks
+pub mod CountedLists
+pub mod CountedInstance
+pub mod Gathering
+pub mod CountedParts
+pub mod PairOrder
+pub mod ListedDeadheads
+pub mod CallerLemmas

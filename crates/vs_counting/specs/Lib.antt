@@ -1,0 +1,5 @@
+pub mod Peak
+pub mod Counting
+pub mod Listed
+pub mod Parts
+pub mod Laws

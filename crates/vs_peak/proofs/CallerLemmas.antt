@@ -1,0 +1,3 @@
+-- What crates above cite of these proofs.
+pub use Rattle.vs_peak.proofs.FoundPeaks.{least_found, none_found}
+pub use Rattle.vs_peak.proofs.WrittenSays.{text_says}

@@ -1,0 +1,5 @@
+pub mod FoundPeaks
+pub mod ClaimedPeaks
+pub mod WrittenPeaks
+pub mod WrittenSays
+pub mod CallerLemmas

@@ -1,0 +1,12 @@
+pub mod LayerFlaws
+pub mod ProvenPeaks
+pub mod RefusedRows
+pub mod CountedRows
+pub mod PricedRows
+pub mod ReadLayers
+pub mod OneReading
+pub mod OtherKinds
+pub mod RowParts
+pub mod PriceKinds
+pub mod ErrorsPass
+pub mod CallerLemmas
