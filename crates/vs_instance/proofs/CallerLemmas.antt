@@ -9,6 +9,8 @@ pub use Rattle.vs_instance.proofs.misfits.Firsts.{first-skip, first-stop, first_
 pub use Rattle.vs_instance.proofs.misfits.FirstHolds.{All-each, All-numbers, All-when, first_holds}
 -- lists in which nothing stands
 pub use Rattle.vs_instance.proofs.misfits.Empty.{None, both_none, each_none, false_from_none, none-append, none_each, none_from_false, none_numbers, number_none}
+-- deadheads, put one by one into the ways
+pub use Rattle.vs_instance.proofs.misfits.Given.{given_all, own_way}
 -- what a refusal tells
 pub use Rattle.vs_instance.proofs.misfits.Judged.{refuses}
 -- pieces of cost that there are

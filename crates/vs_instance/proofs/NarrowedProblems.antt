@@ -59,7 +59,8 @@ module _ (p : Problem) (sets : List LayerSet) where
           layers = λ l has. of.layers l (restricts.permitted i l within has);
         }
 
-    trips_narrowed : All (λ i. IsTrip (narrowed p sets) (narrowed_trip p.trips sets i)) (range_with_len 0 (length p.trips))
+    trips_narrowed : All (λ i. IsTrip (narrowed p sets) (narrowed_trip p.trips sets i))
+        (range_with_len 0 (length p.trips))
     trips_narrowed k d inside =
         let within : k < length p.trips = omega (arith, inside, length-range_with_len 0 (length p.trips)) in
         let same : 0 + k ≡ k = omega arith in

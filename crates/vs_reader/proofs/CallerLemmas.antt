@@ -3,5 +3,5 @@ pub use Rattle.vs_reader.proofs.declaring.DeclaredLemmas.{IsSound-nothing, one_A
 pub use Rattle.vs_reader.proofs.declaring.NumberLemmas.{digits_short}
 pub use Rattle.vs_reader.proofs.declaring.RefusedLemmas.{AreAllNames-nothing, breaks_refutes}
 pub use Rattle.vs_reader.proofs.texts.HeaderLemmas.{one_version}
-pub use Rattle.vs_reader.proofs.texts.LineLemmas.{stands_behind}
+pub use Rattle.vs_reader.proofs.texts.LineLemmas.{lines_behind, stands_behind}
 pub use Rattle.vs_reader.proofs.texts.TextLemmas.{one_reading, one_rows, refused_none, stands_counts}

@@ -2,7 +2,7 @@
 
 ghost use Rattle.std.specs.Prelude.{◌≡◌};
 ghost use Rattle.std.specs.Str.{bytes_eq};
-ghost use Rattle.vs_reader.specs.Kinds.{kind_of};
+ghost use Rattle.vs_reader.specs.Kinds.{kind_name, kind_of};
 
 /// The kind of a record after the first.
 #[derive(Clone, Copy)]
@@ -28,6 +28,18 @@ impl Kind {
             Some(Kind::Trip)
         } else {
             None
+        }
+    }
+
+    /// The first field of its records, which is also what it is called.
+    pub fn name(self) -> &'static str
+        ensures { result.now ≡ kind_name self }
+    {
+        match self {
+            Kind::Stop => "stop",
+            Kind::Deadhead => "deadhead",
+            Kind::Layer => "layer",
+            Kind::Trip => "trip",
         }
     }
 }

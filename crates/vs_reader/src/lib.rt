@@ -3,13 +3,12 @@
 #![tactic(auto)]
 
 mod draft;
+mod fields;
 mod input;
 mod kind;
 mod limits;
-mod name;
 mod name_list;
 mod names;
-mod number;
 mod reading;
 mod record;
 mod record_numbers;
@@ -17,12 +16,16 @@ mod records;
 mod refused;
 mod rows;
 mod text_records;
-mod time;
 mod version;
 
+pub use fields::{name, number, time};
 pub use input::{Input, Timetable};
+pub use kind::{Kind, is_text};
 pub use limits::MAX_BYTES;
 pub use names::Names;
 pub use reading::{read, read_instance};
+pub use record::field;
 pub use refused::{ReadError, Refused, Why};
 pub use rows::Rows;
+pub use text_records::TextRecords;
+pub use version::Version;

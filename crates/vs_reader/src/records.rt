@@ -11,12 +11,10 @@ ghost use Rattle.vs_reader.specs.Rules.{WritesName, WritesNumber, WritesTime, ne
 ghost use Rattle.vs_reader.specs.Judged.{Judged};
 ghost use Rattle.vs_reader.specs.Ends.{ends_rules, NamesEnds};
 
-use crate::name::name;
+use crate::fields::{name, number, time};
 use crate::names::Names;
-use crate::number::number;
 use crate::record::field;
 use crate::refused::Why;
-use crate::time::time;
 use crate::version::Version;
 use csv::ByteRecord;
 use vs_instance::{Deadhead, Layer, MAX_LAYERS, MAX_STOPS, MAX_TRIPS, Trip};

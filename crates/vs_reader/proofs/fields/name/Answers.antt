@@ -1,6 +1,6 @@
 use Rattle.std.specs.Str.{IsValidUpTo, valid_up_to}
 use Rattle.vs_reader.proofs.naming.NameLemmas.{name_from_utf8}
-use Rattle.vs_reader.proofs.name.name.Goals as goal
+use Rattle.vs_reader.proofs.fields.name.Goals as goal
 
 pub returns : goal.returns
 returns c =

@@ -5,7 +5,7 @@ use Rattle.std.specs.Str.Parse.{digits_value}
 use Rattle.std.proofs.lemmas.List.{length-take}
 use Rattle.std.proofs.lemmas.List.Elements.{All-more}
 use Rattle.vs_reader.proofs.declaring.NumberLemmas.{digits_short, digits_step}
-use Rattle.vs_reader.proofs.number.digits.Goals as goal
+use Rattle.vs_reader.proofs.fields.digits.Goals as goal
 
 -- what is read so far is below ten to the ninth
 small : (field : List ℕ) (i most : ℕ) → All IsAsciiDigit (take i field) → i < length field → length field ≤ most

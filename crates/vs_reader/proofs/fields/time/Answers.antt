@@ -1,7 +1,7 @@
 use Rattle.std.proofs.Common.{◌≡◌, ℕ, List, ◌+◌, ◌-◌, ◌∷◌, ◌++◌, ◌∙◌, sym, ap, length, take, drop, arith}
 use Rattle.std.proofs.lemmas.List.{take_rest, length-take, length-drop}
 use Rattle.vs_reader.proofs.declaring.NumberLemmas.{split_at}
-use Rattle.vs_reader.proofs.time.time.Goals as goal
+use Rattle.vs_reader.proofs.fields.time.Goals as goal
 
 pub returns : goal.returns
 returns c =
