@@ -199,7 +199,8 @@ module _ (p : Problem) where
         AtBlocks l c.count,
         ap (λ (b : Bool). cond b (Some (AtBlocks l c.count)) None) (eq-eqb l l refl),
         tt,
-        leads_on p (AtBlocks l c.count) (AtBlocks l c.count) (AtLayer (l + 1)) rows (PartRow (FleetRow l price) ∷ prices)
+        leads_on p (AtBlocks l c.count) (AtBlocks l c.count) (AtLayer (l + 1)) rows
+            (PartRow (FleetRow l price) ∷ prices)
             (leads_blocks layer c.count blocks is.blocks (none_given c.count blocks is.no_blocks)) behind_blocks,
       )
 

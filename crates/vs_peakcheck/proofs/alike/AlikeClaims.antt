@@ -53,7 +53,8 @@ same_blocks [] [] xs ys no_x no_y e = (refl, e)
 same_blocks [] (c ∷ cs) xs ys no_x no_y e = absurd (subst NoBlock e no_x)
 same_blocks (b ∷ bs) [] xs ys no_x no_y e = absurd (subst NoBlock (sym e) no_y)
 same_blocks (b ∷ bs) (c ∷ cs) xs ys no_x no_y e =
-    let parts = same_first (PartRow (BlockRow b)) (PartRow (BlockRow c)) (block_rows bs ++ xs) (block_rows cs ++ ys) e in
+    let parts = same_first (PartRow (BlockRow b)) (PartRow (BlockRow c)) (block_rows bs ++ xs)
+    (block_rows cs ++ ys) e in
     let rest = same_blocks bs cs xs ys no_x no_y parts.1 in
     (ap (λ (x : LayerBlock). x ∷ bs) (same_block b c parts.0) ∙ ap (λ (x : List LayerBlock). c ∷ x) rest.0, rest.1)
 

@@ -24,8 +24,8 @@ returns-in_err-prices-clause-refused c =
     let within : k < length ts =
     omega (arith, c.loop-k-test.true, ap length c.requires.trips, length-map ts numbered) in
     err_passes _ (IsRefusedAt input c.args.at (in_prices l ts)) c.from_residual-in_err-prices.ensures.1
-    (refused_at_trip input c.args.at l k c.loop-k.row _ c.loop-k.all.into.items c.loop-k.all.from.items _ c.loop-k.invariant
-    within (at_hand c.args.trips.now ts k c.requires.trips within) c.in_err-prices.ensures.refused)
+    (refused_at_trip input c.args.at l k c.loop-k.row _ c.loop-k.all.into.items c.loop-k.all.from.items _
+    c.loop-k.invariant within (at_hand c.args.trips.now ts k c.requires.trips within) c.in_err-prices.ensures.refused)
 
 pub loop-k-preserved : goal.loop-k-preserved
 loop-k-preserved c =
@@ -57,6 +57,6 @@ returns-clause-found c =
       from_size = omega (arith, so_far.from_size, so_far.few, past);
       into_prices = so_far.into_prices;
       from_prices = so_far.from_prices;
-      reads = all_prices input c.args.at c.args.l.0 c.loop-k.k c.loop-k.row c.loop-k.all.into.items c.loop-k.all.from.items
-          so_far past;
+      reads = all_prices input c.args.at c.args.l.0 c.loop-k.k c.loop-k.row c.loop-k.all.into.items
+          c.loop-k.all.from.items so_far past;
     }
