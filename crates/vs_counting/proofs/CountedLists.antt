@@ -27,7 +27,8 @@ only_layer : (m : LayerNo) → m.0 < 1 → m ≡ only
 only_layer m below = let none : m.0 ≡ 0 = omega arith in ap (λ (n : ℕ). record { 0 = n }) none
 
 -- no more blocks than trips
-pub blocks_le : (blocks : List LayerBlock) → All (λ b. 0 < length b.1) blocks → length blocks ≤ length (all_trips blocks)
+pub blocks_le : (blocks : List LayerBlock) → All (λ b. 0 < length b.1) blocks
+    → length blocks ≤ length (all_trips blocks)
 blocks_le [] some = omega arith
 blocks_le (b ∷ blocks) some =
     let rest = blocks_le blocks (All-tail (λ (c : LayerBlock). 0 < length c.1) b blocks some) in

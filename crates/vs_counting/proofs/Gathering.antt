@@ -63,6 +63,7 @@ module _ (p : Problem) (l : ℕ) where
   numbers_within = All-map (λ (i : TripNo). i.0 < length p.trips) numbered (permitted_trips p l) (all_within p l)
 
 -- what is made of each, made of its number
-pub made_of_numbers : {X : Type 0} (f : TripNo → X) (ks : List ℕ) → map f (map numbered ks) ≡ map (λ k. f (numbered k)) ks
+pub made_of_numbers : {X : Type 0} (f : TripNo → X) (ks : List ℕ)
+    → map f (map numbered ks) ≡ map (λ k. f (numbered k)) ks
 made_of_numbers f [] = refl
 made_of_numbers {X = X} f (k ∷ ks) = ap (λ (xs : List X). f (numbered k) ∷ xs) (made_of_numbers f ks)

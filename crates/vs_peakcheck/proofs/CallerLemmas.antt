@@ -1,4 +1,7 @@
 -- What crates above cite of these proofs.
-pub use Rattle.vs_peakcheck.proofs.ProvenPeaks.{prove_peaks, proves_peak}
+pub use Rattle.vs_peakcheck.proofs.alike.AlikeClaims.{claims_alike}
+pub use Rattle.vs_peakcheck.proofs.alike.JudgedAlike.{judged_alike, rows_judged_alike}
+pub use Rattle.vs_peakcheck.proofs.ProvenPeaks.{prove_peaks}
 pub use Rattle.vs_peakcheck.proofs.PricedRows.{rows_more}
 pub use Rattle.vs_peakcheck.proofs.ReadLayers.{layers_more}
+pub use Rattle.vs_peakcheck.proofs.RefusedOnce.{not_refused_claims, refused_once}

@@ -4,7 +4,7 @@ use Rattle.std.specs.Prelude.{Contains, IfNone, IsSome, flat_map}
 use Rattle.std.specs.Int.{bit_at}
 use Rattle.std.specs.List.{list_all}
 use Rattle.std.specs.Option.{is_some}
-use Rattle.std.proofs.lemmas.Bool.{and_from, and_parts, eq-eqb, eqb-true, false_from_ne_true, false≢true}
+use Rattle.std.proofs.lemmas.Bool.{and_from, and_parts, eq-eqb, eqb-true, false_from_ne_true}
 use Rattle.std.proofs.lemmas.List.{append-nil, get_or-map, get_or_past, length-append, length-map, map_push, take_more}
 use Rattle.std.proofs.lemmas.List.Concat.{flat_map-append}
 use Rattle.std.proofs.lemmas.List.Elements.{All-nil, All-push, All-weaker}
@@ -114,10 +114,6 @@ module _ (p : Problem) (l : LayerNo) where
         (λ t within. omega (arith, within, count_is MAX_FLEET p l.0)) counted.1 is.trips;
   }
 
-no_blocks_beside : (count : Option ℕ) (P : Type 0) → is_some count ≡ true → IfNone count P
-no_blocks_beside (Some n) P some = tt
-no_blocks_beside None P some = absurd (false≢true some)
-
 -- the blocks that are read so far
 pub record BlocksSoFar (input : Input) (at : ℕ) (l : LayerNo) (count : Option ℕ) (row : ℕ)
     (blocks : List LayerBlock) : Type 0 where
@@ -222,14 +218,3 @@ module _ (input : Input) (at : ℕ) (l : LayerNo) (count : Option ℕ) where
       by_count : (o : Option ℕ) → IfNone o (blocks ≡ [])
       by_count None = is
       by_count (Some n) = tt
-
-some_count : (count : Option ℕ) → is_some count ≡ true → IsSome count
-some_count (Some n) some = search
-some_count None some = absurd (false≢true some)
-
-pub is_count : (count : Option ℕ) → is_some count ≡ true → IsSome count
-is_count count some = some_count count some
-
-pub no_count : (count : Option ℕ) → is_some count ≡ false → ¬ (IsSome count)
-no_count None none some = absurd (cc)
-no_count (Some n) none some = absurd (false≢true (sym none))

@@ -5,6 +5,8 @@ pub mod CountedRows
 pub mod PricedRows
 pub mod ReadLayers
 pub mod OneReading
+pub mod RefusedOnce
+pub mod alike
 pub mod OtherKinds
 pub mod RowParts
 pub mod PriceKinds

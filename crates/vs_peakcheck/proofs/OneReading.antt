@@ -28,17 +28,10 @@ use Rattle.vs_peakcheck.specs.declared.refused.PeakError.TheVariants as error
 use Rattle.vs_peakcheck.specs.Claims.{AreClaimed, IsClaimed, PeakText}
 use Rattle.vs_peakcheck.specs.PeakRefusals.{AreRefused, AreRefusedFrom, IsAccepted, IsRefusal, IsRefusedError, IsRefusedRow, IsRefusedSaying}
 use Rattle.vs_peakcheck.specs.PeakRows.{CountRow, IsCount, IsCountRow, PartRow, PeakRow, SayAllSo, SaysSo, block_rows, count_field, count_row, head_row, layer_rows, layers_rows, peak_rows, price_rows}
-use Rattle.vs_peakcheck.specs.Places.{AtBlocks, AtEnd, AtLayer, AtPrices, HasPrices, MayRun, Place, behind, in_prices}
+use Rattle.vs_peakcheck.specs.Places.{AtBlocks, AtEnd, AtLayer, HasPrices, MayRun, Place, behind, in_prices}
 use Rattle.vs_peakcheck.specs.Reading.{IsCountedBlock}
 use Rattle.vs_peakcheck.proofs.CountedRows.{may_run_counted}
 use Rattle.vs_peakcheck.proofs.PricedRows.{fleet_order, price_order}
-
--- a place is behind the end, or not
-at_end : (place : Place) → (place ≡ AtEnd) ⊎ (place ≢ AtEnd)
-at_end AtEnd = inl refl
-at_end (AtLayer l) = inr (λ e. cc)
-at_end (AtBlocks l count) = inr (λ e. cc)
-at_end (AtPrices l i trips) = inr (λ e. cc)
 
 before_end : (p : Problem) (place next : Place) (said : PeakRow) → behind p place said ≡ Some next → place ≢ AtEnd
 before_end p place next said order e =
@@ -46,7 +39,7 @@ before_end p place next said order e =
     let none = subst P e order in absurd (cc)
 
 -- what a refusal of some rows says at a place before the end
-refused_some : (p : Problem) (names : NameLists) (n : ℕ) (place : Place) (row : Row) (rows : List Row) (at : ℕ)
+pub refused_some : (p : Problem) (names : NameLists) (n : ℕ) (place : Place) (row : Row) (rows : List Row) (at : ℕ)
     (why : PeakWhy) → place ≢ AtEnd → AreRefusedFrom p names n place (row ∷ rows) at why
     → ((at ≡ n) × IsRefusedRow p names place row why)
     ⊎ ((said : PeakRow) × (next : Place) × IsAccepted p names place row said next
@@ -206,7 +199,8 @@ module _ (p : Problem) where
         AtBlocks l c.count,
         ap (λ (b : Bool). cond b (Some (AtBlocks l c.count)) None) (eq-eqb l l refl),
         tt,
-        leads_on p (AtBlocks l c.count) (AtBlocks l c.count) (AtLayer (l + 1)) rows (PartRow (FleetRow l price) ∷ prices)
+        leads_on p (AtBlocks l c.count) (AtBlocks l c.count) (AtLayer (l + 1)) rows
+            (PartRow (FleetRow l price) ∷ prices)
             (leads_blocks layer c.count blocks is.blocks (none_given c.count blocks is.no_blocks)) behind_blocks,
       )
 
@@ -246,7 +240,7 @@ module _ (p : Problem) where
       )
 
   module _ (names : NameLists) (layers : AreNames names.layers) (trips : AreNames names.trips) where
-    one_place : (a b : Place) (x : Option Place) → x ≡ Some a → x ≡ Some b → a ≡ b
+    pub one_place : (a b : Place) (x : Option Place) → x ≡ Some a → x ≡ Some b → a ≡ b
     one_place a b x one two = let e : Some a ≡ Some b = sym one ∙ two in cc
 
     -- what is accepted at a place isn't refused there
@@ -256,7 +250,7 @@ module _ (p : Problem) where
         let e : None ≡ Some next = sym none ∙ order in absurd (cc)
     accepted_saying place next said why order prices (inr (other, same, wrong, is)) = wrong prices
 
-    accepted_row : (place next : Place) (row : Row) (said : PeakRow) (why : PeakWhy) → SaysSo names row said
+    pub accepted_row : (place next : Place) (row : Row) (said : PeakRow) (why : PeakWhy) → SaysSo names row said
         → behind p place said ≡ Some next → HasPrices said → IsRefusedRow p names place row why → ⊥
     accepted_row place next row said why says order prices (inl (none, _)) = none said says
     accepted_row place next row said why says order prices (inr (other, also, refused)) =

@@ -2,6 +2,8 @@ pub mod PeakRows
 pub mod Places
 pub mod PeakRefusals
 pub mod Claims
+pub mod Alike
 pub mod HoldingClaims
 pub mod Flaws
 pub mod Reading
+pub mod Laws

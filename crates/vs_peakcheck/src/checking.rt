@@ -24,7 +24,8 @@ use vs_types::{LayerNo, Memory};
 /// number is enough where no count is claimed.
 pub fn check(alloc: Global, instance: &Instance, claimed: &[Claimed]) -> Result<PeakVerdict, Memory>
     requires { CanBeChecked instance.now claimed.now }
-    ensures verdict { IfOk result (λ v. v ≡ verdict_of (first (flaws_of instance.now claimed.now))) }
+    ensures verdict { IfOk result (λ v.
+        v ≡ verdict_of (first (flaws_of instance.now claimed.now))) }
     ensures yes { IfOk result (λ v. (v ≡ Yes) ↔ HoldingClaims instance.now claimed.now) }
     ensures proves { IfOk result (λ v. v ≡ Yes → ProvePeaks instance.now claimed.now) }
 {
@@ -47,7 +48,8 @@ fn check_layers(
     for l in 0..claimed.len() {
         let layer = LayerNo(l as u32);
         let counted = counting(alloc, instance, layer)?;
-        if let Some(flaw) = flaw_in(alloc, &counted, &claimed[l])? {
+        let found = flaw_in(alloc, &counted, &claimed[l])?;
+        if let Some(flaw) = found {
             return Ok(PeakVerdict::No(layer, flaw));
         }
     }

@@ -1,9 +1,10 @@
 //! The reading of blocks.
 
-ghost use Rattle.std.specs.Prelude.{◌≡◌, ◌<◌, ◌≤◌, length, map, All, Contains, IfOk, IfErr, IfSome, IfNone, MatchOption, slice_index_or};
+ghost use Rattle.std.specs.Prelude.{◌≡◌, ◌<◌, ◌≤◌, ℕ, Option, length, map, All, Contains, IfOk, IfErr, IfSome, IfNone, MatchOption, slice_index_or};
 ghost use Rattle.vs_plan.specs.Blocks.{pair_of, pairs_of};
 ghost use Rattle.vs_instance.specs.declared.limits.TheConstants.{MAX_TRIPS};
-ghost use Rattle.vs_rows.specs.RowForms.{IsInput};
+ghost use Rattle.vs_rows.specs.DocumentRows.{BlockRow};
+ghost use Rattle.vs_rows.specs.RowForms.{IsInput, SaysThere};
 ghost use Rattle.vs_counting.specs.Counting.{numbered, permitted_trips};
 ghost use Rattle.vs_peakcheck.specs.Places.{AtBlocks, MayRun};
 ghost use Rattle.vs_peakcheck.specs.Reading.{IsCountedBlock, IsRefusedAt, ReadsBlocks};
@@ -39,12 +40,35 @@ pub(crate) fn read_blocks(
         let Some(block) = forms::block(alloc, input, row)? else {
             return Ok((blocks, row));
         };
-        let Some(counted) = counted_block(alloc, &input.instance, l, trips, &block)? else {
-            return Err(refusal(input, row, PeakWhy::OutOfOrder));
-        };
+        let counted = block_at(alloc, input, row, l, trips, &block)?;
         blocks.push(counted)?;
     }
     Ok((blocks, input.rest.len()))
+}
+
+/// The block that a row tells, in the numbers of layer l's trips. It is refused where it is another layer's, and where
+/// it has a trip that l may not run.
+fn block_at(
+    alloc: Global,
+    input: &Input,
+    row: usize,
+    l: LayerNo,
+    trips: &[TripNo],
+    block: &Block,
+) -> Result<Block, PeakError>
+    requires input { IsInput input.now }
+    requires row { row < length input.now.rest }
+    requires trips { trips.now ≡ map numbered (permitted_trips input.now.instance l.0) }
+    requires block { SaysThere input.now row (BlockRow (pair_of block.now)) }
+    ensures found { IfOk result (λ b.
+        IsCountedBlock input.now.instance l (pair_of block.now) (pair_of b)) }
+    ensures refused { IfErr result (λ e. (count : Option ℕ)
+        → IsRefusedAt input.now row (AtBlocks l.0 count) e) }
+{
+    let Some(counted) = counted_block(alloc, &input.instance, l, trips, block)? else {
+        return Err(refusal(input, row, PeakWhy::OutOfOrder));
+    };
+    Ok(counted)
 }
 
 /// The block in the numbers of layer l's trips. None where it is another layer's, or has a trip that l may not run.

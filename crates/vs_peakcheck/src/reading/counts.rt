@@ -16,7 +16,8 @@ use vs_types::LayerNo;
 /// The layer and the count of a row `peak`, a layer and a count or `none`.
 pub(crate) fn count(input: &Input, row: usize) -> Option<(LayerNo, Option<u32>)>
     requires { row < length input.now.rest }
-    ensures found { IfSome result (λ r. IsCountRow input.now.names (row_of input.now.rest row) r.0.0 r.1) }
+    ensures found { IfSome result (λ r.
+        IsCountRow input.now.names (row_of input.now.rest row) r.0.0 r.1) }
     ensures none { IfNone result ((l : ℕ) (n : Option ℕ)
         → ¬ (IsCountRow input.now.names (row_of input.now.rest row) l n)) }
 {

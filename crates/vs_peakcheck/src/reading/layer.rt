@@ -36,10 +36,11 @@ pub(crate) fn read_layer(
     let (blocks, fleet_at) = read_blocks(alloc, input, at + 1, l, count, trips)?;
     let fleet = read_fleet(alloc, input, fleet_at, l, count)?;
     let prices = read_prices(alloc, input, fleet_at + 1, l, trips)?;
+    let vehicles = vec![in alloc; fleet; 1]?;
     let table = Table {
         into: prices.into,
         from: prices.from,
-        fleet: vec![in alloc; fleet; 1]?,
+        fleet: vehicles,
         ray: count.is_none(),
     };
     let claimed = Claimed {
@@ -63,7 +64,8 @@ fn read_count(
     ensures found { IfOk result (ReadsCount input.now row l.0) }
     ensures refused { IfErr result (IsRefusedAt input.now row (AtLayer l.0)) }
 {
-    let Said::Count { layer, count } = said_at(alloc, input, row, Likely::first())? else {
+    let said = said_at(alloc, input, row, Likely::first())?;
+    let Said::Count { layer, count } = said else {
         return Err(refusal(input, row, PeakWhy::OutOfOrder));
     };
     if layer.0 != l.0 {

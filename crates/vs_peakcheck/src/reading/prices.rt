@@ -1,6 +1,6 @@
 //! The reading of prices.
 
-ghost use Rattle.std.specs.Prelude.{◌≡◌, ◌<◌, ◌≤◌, ℕ, List, ◌∷◌, length, map, IfOk, IfErr, IsSome, MatchOption, SomeIff};
+ghost use Rattle.std.specs.Prelude.{◌≡◌, ◌<◌, ◌≤◌, ℕ, List, [], ◌∷◌, ◌++◌, length, map, IfOk, IfErr, IsSome, MatchOption, OnOk, SomeIff};
 ghost use Rattle.vs_prices.specs.Table.{IsPrice};
 ghost use Rattle.vs_rows.specs.RowForms.{IsInput};
 ghost use Rattle.vs_counting.specs.Counting.{numbered, permitted_trips};
@@ -13,7 +13,7 @@ use std::alloc::Global;
 use vs_prices::MAX_PRICE;
 use vs_reader::Input;
 use vs_rows::Likely;
-use vs_types::{LayerNo, TripNo};
+use vs_types::{LayerNo, Memory, TripNo};
 
 /// The prices for entering and for leaving each trip of a layer.
 #[derive(Drop)]
@@ -37,16 +37,26 @@ pub(crate) fn read_prices(
     ensures refused { IfErr result (IsRefusedAt input.now at
         (in_prices l.0 (permitted_trips input.now.instance l.0))) }
 {
-    let mut into = Vec::with_capacity(alloc, trips.len())?;
-    let mut from = Vec::with_capacity(alloc, trips.len())?;
+    let into = Vec::with_capacity(alloc, trips.len())?;
+    let from = Vec::with_capacity(alloc, trips.len())?;
+    let mut all = Prices { into, from };
     let mut row = at;
     for k in 0..trips.len() {
         let prices = read_price(alloc, input, row, l, trips[k])?;
-        into.push(prices.0)?;
-        from.push(prices.1)?;
+        add_trip(&mut all, prices.0, prices.1)?;
         row += 1;
     }
-    Ok(Prices { into, from })
+    Ok(all)
+}
+
+/// Puts the prices of one more trip behind the others.
+fn add_trip(all: &mut Prices, into: i64, from: i64) -> Result<(), Memory>
+    ensures into { OnOk result (all.new.into.items ≡ all.old.into.items ++ into ∷ []) }
+    ensures from { OnOk result (all.new.from.items ≡ all.old.from.items ++ from ∷ []) }
+{
+    all.into.push(into)?;
+    all.from.push(from)?;
+    Ok(())
 }
 
 /// The price of a vehicle of a layer, in the row that has to tell it.
@@ -67,7 +77,8 @@ pub(crate) fn read_fleet(
         layer: l,
         trip: TripNo(0),
     };
-    let Said::Fleet { layer, price } = said_at(alloc, input, row, likely)? else {
+    let said = said_at(alloc, input, row, likely)?;
+    let Said::Fleet { layer, price } = said else {
         return Err(refusal(input, row, PeakWhy::OutOfOrder));
     };
     if layer.0 != l.0 {
@@ -94,12 +105,13 @@ fn read_price(
         → IsRefusedAt input.now row (AtPrices l.0 i.0 later) e) }
 {
     let likely = Likely { layer: l, trip: i };
+    let said = said_at(alloc, input, row, likely)?;
     let Said::Price {
         layer,
         trip,
         into,
         from,
-    } = said_at(alloc, input, row, likely)?
+    } = said
     else {
         return Err(refusal(input, row, PeakWhy::OutOfOrder));
     };

@@ -73,7 +73,8 @@ pub(crate) fn said_at(
 fn price_said(input: &Input, row: usize, likely: Likely) -> Option<Said>
     requires { row < length input.now.rest }
     ensures says { IfSome result (λ said. SaysPeak input.now row (peak_said said)) }
-    ensures none { IfNone result ((said : PeakRow) → IsPriceRow said → ¬ (SaysPeak input.now row said)) }
+    ensures none { IfNone result ((said : PeakRow)
+        → IsPriceRow said → ¬ (SaysPeak input.now row said)) }
 {
     if let Some((layer, trip, into, from)) = forms::price(input, row, likely) {
         return Some(Said::Price {

@@ -62,7 +62,8 @@ fn is_head(rows: &Rows) -> bool
 fn read_layers(alloc: Global, input: &Input) -> Result<(Vec<Claimed>, usize), PeakError>
     requires input { IsInput input.now }
     requires head { 1 ≤ length input.now.rest }
-    ensures found { IfOk result (λ r. ReadsLayers input.now (length input.now.instance.layers) r.1 r.0.items) }
+    ensures found { IfOk result (λ r.
+        ReadsLayers input.now (length input.now.instance.layers) r.1 r.0.items) }
     ensures refused { IfErr result (IsRefusedAt input.now 1 (AtLayer 0)) }
 {
     let mut claimed = Vec::new(alloc);
@@ -83,7 +84,8 @@ fn read_end(alloc: Global, input: &Input, row: usize) -> Result<(), PeakError>
     ensures refused { IfErr result (IsRefusedAt input.now row
         (AtLayer (length input.now.instance.layers))) }
 {
-    match said_at(alloc, input, row, Likely::first())? {
+    let said = said_at(alloc, input, row, Likely::first())?;
+    match said {
         Said::End => {}
         _ => return Err(refusal(input, row, PeakWhy::OutOfOrder)),
     }

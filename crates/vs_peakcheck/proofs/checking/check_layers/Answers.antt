@@ -22,8 +22,8 @@ pub returns-in-Some : goal.returns-in-Some
 returns-in-Some c =
     let p = c.args.instance.now in
     let l = c.loop-l.l in
-    let here = layer_first p c.in_ok-counted.counted l c.index-claimed-l.result _ c.in_ok-flaw.field-0
-    c.in_ok-counted.ensures c.index-claimed-l.is c.in_ok-flaw.ensures
+    let here = layer_first p c.in_ok-counted.counted l c.index-claimed-l.result _ c.in_ok-found.found
+    c.in_ok-counted.ensures c.index-claimed-l.is c.in_ok-found.ensures
     ∙ ap (option_map (at_layer p l)) c.in-Some.is in
     ap verdict_of
     (sym (first_from-here (layer_flaws p) c.args.claimed.now l c.index-claimed-l.result (at_layer p l c.in-Some.flaw)
@@ -34,8 +34,8 @@ pub loop-l-preserved : goal.loop-l-preserved
 loop-l-preserved c =
     let p = c.args.instance.now in
     let l = c.loop-l.l in
-    let here = layer_first p c.in_ok-counted.counted l c.index-claimed-l.result _ c.in_ok-flaw.field-0
-    c.in_ok-counted.ensures c.index-claimed-l.is c.in_ok-flaw.ensures
+    let here = layer_first p c.in_ok-counted.counted l c.index-claimed-l.result _ c.in_ok-found.found
+    c.in_ok-counted.ensures c.index-claimed-l.is c.in_ok-found.ensures
     ∙ ap (option_map (at_layer p l)) c.in_default.is in
     first_from-more (layer_flaws p) c.args.claimed.now l c.index-claimed-l.result c.loop-l-test.true here
     ∙ c.loop-l.invariant

@@ -27,7 +27,7 @@ returns-clause-found c =
       table = record {
         into = c.in_ok-prices.prices.into;
         from = c.in_ok-prices.prices.from;
-        fleet = c.in_ok-vec.field-0;
+        fleet = c.in_ok-vehicles.vehicles;
         ray = c.is_none.result;
       };
     } in
@@ -35,6 +35,7 @@ returns-clause-found c =
     subst P (sym trips)
     (layer_read input c.requires.input c.args.at c.args.l c.in_ok-count.count c.in_ok-blocks.fleet_at
     c.in_ok-fleet.fleet c.in_ok-prices.prices claimed refl refl refl
-    (c.in_ok-vec.ensures.items_if_clones_equal (λ y e. e)
+    (c.in_ok-vehicles.ensures.items_if_clones_equal (λ y e. e)
     ∙ ap (λ (x : ℤ). x ∷ []) (as_word c.in_ok-fleet.fleet fleet.is_price))
-    (ray_is c.in_ok-count.count c.is_none.result c.is_none.ensures) c.in_ok-count.ensures.found c.in_ok-blocks.ensures.found fleet c.in_ok-prices.ensures.found)
+    (ray_is c.in_ok-count.count c.is_none.result c.is_none.ensures) c.in_ok-count.ensures.found
+    c.in_ok-blocks.ensures.found fleet c.in_ok-prices.ensures.found)

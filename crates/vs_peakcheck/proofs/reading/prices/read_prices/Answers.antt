@@ -24,8 +24,8 @@ returns-in_err-prices-clause-refused c =
     let within : k < length ts =
     omega (arith, c.loop-k-test.true, ap length c.requires.trips, length-map ts numbered) in
     err_passes _ (IsRefusedAt input c.args.at (in_prices l ts)) c.from_residual-in_err-prices.ensures.1
-    (refused_at_trip input c.args.at l k c.loop-k.row _ c.loop-k.into.items c.loop-k.from.items _ c.loop-k.invariant
-    within (at_hand c.args.trips.now ts k c.requires.trips within) c.in_err-prices.ensures.refused)
+    (refused_at_trip input c.args.at l k c.loop-k.row _ c.loop-k.all.into.items c.loop-k.all.from.items _
+    c.loop-k.invariant within (at_hand c.args.trips.now ts k c.requires.trips within) c.in_err-prices.ensures.refused)
 
 pub loop-k-preserved : goal.loop-k-preserved
 loop-k-preserved c =
@@ -36,14 +36,14 @@ loop-k-preserved c =
     let within : k < length ts =
     omega (arith, c.loop-k-test.true, ap length c.requires.trips, length-map ts numbered) in
     let found = c.in_ok-prices.ensures.found in
-    let into = c.loop-k.into.items in
-    let from = c.loop-k.from.items in
+    let into = c.loop-k.all.into.items in
+    let from = c.loop-k.all.from.items in
     let x = c.in_ok-prices.prices.0 in
     let y = c.in_ok-prices.prices.1 in
     one_more_price input c.args.at l k c.loop-k.row _ into from _ _ x y c.loop-k.invariant within
     (at_hand c.args.trips.now ts k c.requires.trips within) found
-    (c.in_ok-push.ensures.items ∙ ap (λ (a : ℤ). into ++ a ∷ []) (as_word x found.into_price))
-    (c.in_ok-push-2.ensures.items ∙ ap (λ (a : ℤ). from ++ a ∷ []) (as_word y found.from_price))
+    (c.in_ok-add_trip.ensures.into ∙ ap (λ (a : ℤ). into ++ a ∷ []) (as_word x found.into_price))
+    (c.in_ok-add_trip.ensures.from ∙ ap (λ (a : ℤ). from ++ a ∷ []) (as_word y found.from_price))
 
 pub returns-clause-found : goal.returns-clause-found
 returns-clause-found c =
@@ -57,6 +57,6 @@ returns-clause-found c =
       from_size = omega (arith, so_far.from_size, so_far.few, past);
       into_prices = so_far.into_prices;
       from_prices = so_far.from_prices;
-      reads = all_prices input c.args.at c.args.l.0 c.loop-k.k c.loop-k.row c.loop-k.into.items c.loop-k.from.items
-          so_far past;
+      reads = all_prices input c.args.at c.args.l.0 c.loop-k.k c.loop-k.row c.loop-k.all.into.items
+          c.loop-k.all.from.items so_far past;
     }

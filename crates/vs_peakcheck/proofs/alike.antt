@@ -1,0 +1,2 @@
+pub mod AlikeClaims
+pub mod JudgedAlike

@@ -1,0 +1,5 @@
+use Rattle.vs_peakcheck.proofs.RefusedOnce.{refused_once}
+use Rattle.vs_peakcheck.proofs.laws.rows_are_refused_once.Goals as goal
+
+pub returns : goal.returns
+returns c = refused_once
