@@ -1,4 +1,5 @@
 pub mod Facts
+pub mod FirstPlan
 pub mod Hands
 pub mod Inside
 pub mod Next

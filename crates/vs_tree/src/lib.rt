@@ -4,6 +4,7 @@
 mod calls;
 mod entry;
 mod finishing;
+mod first;
 mod free_leaves;
 mod laws;
 mod log;
@@ -12,7 +13,7 @@ mod spot;
 mod step;
 mod tree;
 
-pub use calls::{Next, Report, Take};
+pub use calls::{Hand, Next, Report, Take};
 pub use finishing::{Finish, Parting};
 pub use laws::{
     entries_differ, histories_are_sound, leaves_bound_plans, reports_are_true, states_are_trees,

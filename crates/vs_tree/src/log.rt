@@ -1,6 +1,7 @@
 //! The history of a search, with its tables and plans.
 
 ghost use Rattle.std.specs.Prelude.{◌≡◌, ◌+◌, ◌<◌, ◌++◌, ◌∷◌, [], length, map, IfOk, slice_index_or, None, option_copied, option_map};
+ghost use Rattle.std.specs.Prelude.{All, Some, slice_get};
 ghost use Rattle.std.specs.List.{last_or};
 ghost use Rattle.vs_tree.specs.History.{plans_of};
 ghost use Rattle.vs_tree.specs.Log.{IsOfLog, full_step, plain_step};
@@ -90,7 +91,9 @@ impl Log {
 
     /// The steps.
     pub fn steps(&self) -> &[Step]
-        ensures { result.now ≡ map plain_step self.now.steps }
+        ensures steps { result.now ≡ map plain_step self.now.steps }
+        ensures full { map (full_step self.now.tables self.now.plans) result.now ≡ self.now.steps }
+        ensures of_log { All (IsOfLog (length self.now.tables) (length self.now.plans)) result.now }
     {
         &self.steps
     }
@@ -115,6 +118,14 @@ impl Log {
         ensures { result ≡ length self.now.plans }
     {
         self.plans.len()
+    }
+
+    /// A plan that was accepted.
+    pub fn plan(&self, k: u32) -> &CheckedPlan
+        requires { k < length self.now.plans }
+        ensures { slice_get self.now.plans k ≡ Some result.now }
+    {
+        &self.plans[k as usize]
     }
 
     /// The cheapest plan, which is the last that was accepted, if any.

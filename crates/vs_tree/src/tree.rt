@@ -1,24 +1,25 @@
 //! A search: its tree of cases, its history, and the calls of its workers.
 
 ghost use Rattle.std.specs.Prelude.{◌≡◌, ◌<◌, ◌≤◌, ◌∷◌, [], length, map, IfOk, IfSome, slice_index_or};
-ghost use Rattle.std.specs.Prelude.{true, false, ◌⊎◌, ◌^◌, ℕ, ◌++◌, ◌↔◌, IsTrue, ◌+◌, count_by, option_copied, None};
+ghost use Rattle.std.specs.Prelude.{true, false, ◌⊎◌, ◌^◌, ℕ, ◌++◌, ◌↔◌, IsTrue, ◌+◌, count_by, option_copied, None, Some, slice_get, All};
 ghost use Rattle.vs_tree.specs.History as full;
 ghost use Rattle.vs_tree.specs.History.{IsAmong, IsHeldBy, IsHistory, MayClose, MayCome, MaySplit, MayTake};
-ghost use Rattle.vs_tree.specs.History.{IsCheaper, incumbent, is_inner, known, prices_at, sets_at, spot_at};
+ghost use Rattle.vs_tree.specs.History.{IsCheaper, IsLeafWorth, incumbent, is_inner, known, prices_at, sets_at, spot_at};
 ghost use Rattle.vs_tree.specs.Free.{with_parts};
 ghost use Rattle.vs_tree.specs.Calls.{GivesBack, HoldsSome, finishing, offering, with_step};
 ghost use Rattle.vs_prices.specs.Bounds.{IsNoLess};
 ghost use Rattle.vs_tree.specs.Finishes.{AreWorths, IsNextIn, IsParting, next_in};
 ghost use Rattle.vs_tree.specs.Report.{IsLeastOf, IsReport, bound_of};
-ghost use Rattle.vs_tree.specs.Takes.{AreBuffersKept, IsSized, IsTake, taking};
-ghost use Rattle.vs_tree.specs.Log.{plain_step};
+ghost use Rattle.vs_tree.specs.Takes.{AreBuffersKept, IsSized, IsTake, held_leaves, taking};
+ghost use Rattle.vs_tree.specs.Log.{IsOfLog, full_step, plain_step};
 ghost use Rattle.vs_tree.specs.Prices.{AreLawful, AreWorth, no_prices, prices_of};
-ghost use Rattle.vs_tree.specs.Search.{IsHand, hand_at, is_busy, state};
+ghost use Rattle.vs_tree.specs.Search.{IsHand, IsHandOf, hand_at, is_busy, state};
 ghost use Rattle.vs_tree.specs.Sound.{IsOpening, IsPlanOf};
 
 use crate::calls::{Hand, Next, Report, Take};
 use crate::entry::Entry;
 use crate::finishing::{Finish, Parting};
+use crate::first::First;
 use crate::free_leaves::FreeLeaves;
 use crate::log::{Log, Rooms};
 use crate::places::Places;
@@ -26,7 +27,6 @@ use crate::spot::Spot;
 use crate::step::Step;
 use std::alloc::Global;
 use std::marker::Model;
-use std::snapshot::Snapshot;
 use vs_cases::claim_found;
 use vs_instance::{Instance, MAX_BUDGET, MAX_WORKERS};
 use vs_plan::CheckedPlan;
@@ -40,8 +40,7 @@ pub struct Tree {
     instance: Instance,
     /// How many leaves may be worked on.
     budget: u32,
-    /// The plan that was known at the start, at no cost.
-    first: Snapshot<Option<CheckedPlan>>,
+    first: First,
     places: Places,
     log: Log,
     /// What each worker has in hand.
@@ -71,7 +70,7 @@ impl Model for Tree {
         problem = a.instance;
         budget = a.budget;
         workers = length a.hands.items;
-        first = a.first.value;
+        first = a.first;
       };
       steps = a.log.steps;
     } };
@@ -80,7 +79,7 @@ impl Model for Tree {
       problem = a.instance;
       budget = a.budget;
       workers = length a.hands.items;
-      first = a.first.value;
+      first = a.first;
     }) (record {
       places = a.places;
       log = a.log;
@@ -132,7 +131,7 @@ impl Tree {
             tables: budget + 1,
             plans: budget + workers + 1,
         };
-        let given = Snapshot::of(&first);
+        let given = First::of(&first);
         let sets = permitted_sets(alloc, &instance)?;
         let places = Places::new(alloc, &instance, room)?;
         let log = Log::new(alloc, &instance, first, rooms)?;
@@ -408,9 +407,13 @@ impl Tree {
         }
     }
 
-    /// The steps that the search made.
+    /// The steps that the search made. With the tables and the accepted plans that they name they are its full steps.
     pub fn history(&self) -> &[Step]
-        ensures { result.now ≡ map plain_step self.now.steps }
+        ensures steps { result.now ≡ map plain_step self.now.steps }
+        ensures full { map (full_step (state self.now).tables (state self.now).accepted) result.now
+            ≡ self.now.steps }
+        ensures of_log { All (IsOfLog (length (state self.now).tables) (length (state self.now).accepted))
+            result.now }
     {
         self.log.steps()
     }
@@ -450,6 +453,71 @@ impl Tree {
         ensures { option_copied result ≡ incumbent (state self.now) }
     {
         self.log.last_plan()
+    }
+
+    /// The plan of this number among those that were accepted, in the order in which they came.
+    pub fn accepted(&self, k: u32) -> &CheckedPlan
+        requires { k < length (state self.now).accepted }
+        ensures { slice_get (state self.now).accepted k ≡ Some result.now }
+    {
+        self.log.plan(k)
+    }
+
+    /// The plan that was known when the search began, None where there was none.
+    pub fn first(&self) -> Option<&CheckedPlan>
+        ensures { option_copied result ≡ self.now.opening.first }
+    {
+        if self.first.is_given() {
+            Some(self.log.plan(0))
+        } else {
+            None
+        }
+    }
+
+    /// How many leaves may be worked on.
+    pub fn budget(&self) -> u32
+        ensures { result ≡ self.now.opening.budget }
+    {
+        self.budget
+    }
+
+    /// How many workers there are.
+    pub fn workers(&self) -> u32
+        ensures { result ≡ self.now.opening.workers }
+    {
+        self.hands.len() as u32
+    }
+
+    /// What a worker has in hand.
+    pub fn hand(&self, w: u32) -> Hand
+        requires { w < self.now.opening.workers }
+        ensures { IsHandOf (state self.now) w result }
+    {
+        self.hands[w as usize]
+    }
+
+    /// How many leaves are held.
+    pub fn held(&self) -> u32
+        ensures { result ≡ held_leaves (state self.now) }
+    {
+        busy(&self.hands)
+    }
+
+    /// Writes the layers in which each trip may be run at a spot.
+    pub fn sets(&self, k: u32, sets: &mut [LayerSet])
+        requires spot { k < length (state self.now).places }
+        requires size { length sets.old ≡ length self.now.opening.problem.trips }
+        ensures { sets.new ≡ sets_at (state self.now) k }
+    {
+        self.places.sets(k, sets);
+    }
+
+    /// What a leaf is worth.
+    pub fn leaf_worth(&self, k: u32) -> Bound
+        requires { is_inner (spot_at (state self.now) k) ≡ false }
+        ensures { IsLeafWorth self.now.opening.problem (state self.now) k result }
+    {
+        self.worths[k as usize]
     }
 
     /// The instance that the search began with, within the limits; each of its steps could come.

@@ -14,7 +14,7 @@ opening_of i = record {
   problem = i.instance;
   budget = i.budget;
   workers = length i.hands.items;
-  first = i.first.value;
+  first = i.first;
 }
 
 abbrev pub parts_of : Inside → Parts

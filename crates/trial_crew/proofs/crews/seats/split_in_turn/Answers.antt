@@ -73,7 +73,7 @@ release-requires-clause-entries g c =
     elim c.if-is_empty.branch [
       | then-is_empty w ↦
           let none = no_steps c.value-tree.result.now.steps
-          (w.if-is_empty.ensures ∙ ap (λ (l : List Step). length l == 0) c.history.ensures) in
+          (w.if-is_empty.ensures ∙ ap (λ (l : List Step). length l == 0) c.history.ensures.steps) in
           subst (λ (h : HeldModel Search). GoOn h.seat.tickets h.found (map entry_of h.value.steps)) (sym w.held-is)
           (begins hold.result.seat.tickets hold.result.found hold.result.value.steps w.split_root-split.new.tree.steps
           ticket hold.ensures.found (ap (λ (t : Search). t.steps) (sym c.value-tree.ensures.value) ∙ none)

@@ -24,7 +24,7 @@ invariant_of-result c =
     let workers : length c.in_ok-hands.hands.items ≡ c.args.workers =
     ap (λ (x : List Hand). length x) hands ∙ length-replicate c.args.workers Idle in
     let instance : IsInstance p = subst (λ (x : Problem). IsInstance x) c.instance.view_is c.instance.invariant in
-    let first : IfSome c.of-given.result.value (IsPlanOf p) =
+    let first : IfSome c.of-given.result (IsPlanOf p) =
     subst (λ (x : Option Checked). IfSome x (IsPlanOf p)) (sym c.of-given.ensures) c.requires.first in
     let sets : c.deref.result.now ≡ permitted_sets p = c.deref.ensures.value ∙ c.in_ok-sets.ensures.sets in
     let worth : AreWorth p (permitted_sets p) (zero_prices p) c.worth-least.result = record {
