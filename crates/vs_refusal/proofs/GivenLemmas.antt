@@ -3,11 +3,12 @@ use Rattle.std.proofs.Common.{ℕ, ◌+◌, ◌<◌, inl, inr, true, false, List
 use Rattle.std.proofs.lemmas.List.{length-append, length_push}
 use Rattle.csv.specs.Records.{fields_of}
 use Rattle.vs_reader.specs.Rows.{Row}
-use Rattle.vs_refusal.specs.declared.records.Records.{Records}
-use Rattle.vs_refusal.specs.Left.{AreLeft, GivesNext, IsAt, IsLast, WasGiven}
+use Rattle.vs_reader.specs.declared.text_records.TextRecords.{TextRecords}
+use Rattle.vs_reader.specs.Left.{AreLeft, GivesNext}
+use Rattle.vs_refusal.specs.Given.{IsAt, IsLast, WasGiven}
 
 -- none was given of the records that are left
-pub none_given : (rows : List Row) (records : Records) → AreLeft records rows → WasGiven rows 0 records
+pub none_given : (rows : List Row) (records : TextRecords) → AreLeft records rows → WasGiven rows 0 records
 none_given rows records left = record {
   given = [];
   left = rows;
@@ -18,7 +19,7 @@ none_given rows records left = record {
 }
 
 -- one more was given
-pub one_more : (rows : List Row) (count : ℕ) (old new : Records) (was : WasGiven rows count old)
+pub one_more : (rows : List Row) (count : ℕ) (old new : TextRecords) (was : WasGiven rows count old)
     → GivesNext new was.left true → WasGiven rows (count + 1) new
 one_more rows count old new was next = record {
   given = was.given ++ fields_of new.current ∷ [];
@@ -31,7 +32,7 @@ one_more rows count old new was next = record {
 }
 
 -- there were no more
-pub no_more : (rows : List Row) (count number : ℕ) (old new : Records) (was : WasGiven rows count old) → count < number
+pub no_more : (rows : List Row) (count number : ℕ) (old new : TextRecords) (was : WasGiven rows count old) → count < number
     → GivesNext new was.left false → length rows < number
 no_more rows count number old new was less none =
     omega (
@@ -43,7 +44,7 @@ no_more rows count number old new was less none =
     )
 
 -- where some were given, the current record is the last of them
-pub is_at : (rows : List Row) (count : ℕ) (records : Records) → WasGiven rows count records → 0 < count
+pub is_at : (rows : List Row) (count : ℕ) (records : TextRecords) → WasGiven rows count records → 0 < count
     → IsAt rows count (fields_of records.current)
 is_at rows count records was some = by was.last
   where

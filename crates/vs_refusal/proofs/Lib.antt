@@ -1,3 +1,1 @@
 mod GivenLemmas
-mod LeftLemmas
-mod RecordFields

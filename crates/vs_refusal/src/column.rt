@@ -1,18 +1,9 @@
-//! The kinds of records of an instance, and what each of their fields has to be.
+//! What the fields of a record of an instance have to be.
 
-use crate::records::is_text;
-
-/// The kind of a record behind the first.
-#[derive(Clone, Copy, PartialEq, Eq)]
-pub enum Kind {
-    Stop,
-    Deadhead,
-    Layer,
-    Trip,
-}
+use vs_reader::Kind;
 
 /// What a field has to be.
-#[derive(Clone, Copy, PartialEq, Eq)]
+#[derive(Clone, Copy)]
 pub enum Column {
     /// The name of what the record declares.
     New,
@@ -48,35 +39,10 @@ const TRIP: [Column; 6] = [
     Column::Number,
 ];
 
-impl Kind {
-    /// The kind whose records begin with this field. None where there is none.
-    pub fn of(field: &[u8]) -> Option<Kind> {
-        if is_text(field, "stop") {
-            Some(Kind::Stop)
-        } else if is_text(field, "deadhead") {
-            Some(Kind::Deadhead)
-        } else if is_text(field, "layer") {
-            Some(Kind::Layer)
-        } else if is_text(field, "trip") {
-            Some(Kind::Trip)
-        } else {
-            None
-        }
-    }
-
-    /// The first field of its records, which is also what it is called.
-    pub fn name(self) -> &'static str {
-        match self {
-            Kind::Stop => "stop",
-            Kind::Deadhead => "deadhead",
-            Kind::Layer => "layer",
-            Kind::Trip => "trip",
-        }
-    }
-
-    /// What field k of its records has to be, k from 1 on.
-    pub fn column(self, k: usize) -> Column {
-        let columns: &[Column] = match self {
+impl Column {
+    /// What field k of a record of a kind has to be, k from 1 on.
+    pub fn of(kind: Kind, k: usize) -> Column {
+        let columns: &[Column] = match kind {
             Kind::Stop => &[Column::New],
             Kind::Deadhead => &DEADHEAD,
             Kind::Layer => &LAYER,
@@ -87,9 +53,7 @@ impl Kind {
             .copied()
             .unwrap_or(Column::Layer)
     }
-}
 
-impl Column {
     /// What a name there is the name of, where an earlier record has to declare it.
     pub fn declared(self) -> Option<Kind> {
         match self {

@@ -1,10 +1,10 @@
 //! The words for refusals that name no record: of deadheads that aren't closed, and of too large a search.
 
-use crate::column::Kind;
-use crate::records::{field, is_text, number_of, record_like, record_of_kind};
-use crate::shown::shown;
+use crate::records::{number_in, record_like, record_of_kind};
+use crate::sentence::{Part, sentence};
 use csv::ByteRecord;
 use std::alloc::Global;
+use vs_reader::{Kind, field, is_text};
 use vs_types::Memory;
 
 /// How long a drive is.
@@ -24,65 +24,78 @@ impl Drive {
     }
 }
 
+const SHORTER_MINUTES: &str = "% to % by way of % is shorter: % in place of % minutes";
+
+const SHORTER_METRES: &str = "% to % by way of % is shorter: % in place of % metres";
+
+const NOT_STRAIGHT: &str =
+    "% to % by way of % is % minutes and % metres, and no deadhead leads there straight";
+
+/// The names of the stops of a way that goes by another stop.
+#[derive(Clone, Copy)]
+struct Detour<'a> {
+    from: &'a [u8],
+    by: &'a [u8],
+    to: &'a [u8],
+}
+
 /// The words for a refusal that names no record.
 pub fn deadheads_words(alloc: Global, input: &[u8], row: &ByteRecord) -> Result<String, Memory> {
     if is_text(field(row, 3), "TooLarge") {
-        return Ok(format!(in alloc;
-            "so many cases are too many: trips times layers times --nodes is 3000000 at most"
-        )?);
+        return sentence(
+            alloc,
+            "so many cases are too many: trips times layers times --nodes is 3000000 at most",
+            &[],
+        );
     }
-    let from = stop_name(alloc, input, number_of(field(row, 4)))?;
-    let by = stop_name(alloc, input, number_of(field(row, 5)))?;
-    let to = stop_name(alloc, input, number_of(field(row, 6)))?;
-    let first = drive_of(alloc, input, from.as_slice(), by.as_slice())?;
-    let second = drive_of(alloc, input, by.as_slice(), to.as_slice())?;
-    let straight = drive_of(alloc, input, from.as_slice(), to.as_slice())?;
-    let (from, by, to) = (
-        shown(alloc, from.as_slice())?,
-        shown(alloc, by.as_slice())?,
-        shown(alloc, to.as_slice())?,
-    );
-    let around = first.then(second);
-    let ends = format!(in alloc; "{from} to {to} by way of {by}")?;
-    way_words(alloc, field(row, 3), ends.as_str(), straight, around)
+    let from = record_of_kind(alloc, input, "stop", number_in(row, 4))?;
+    let by = record_of_kind(alloc, input, "stop", number_in(row, 5))?;
+    let to = record_of_kind(alloc, input, "stop", number_in(row, 6))?;
+    let detour = Detour {
+        from: field(&from, 1),
+        by: field(&by, 1),
+        to: field(&to, 1),
+    };
+    detour_words(alloc, input, field(row, 3), detour)
 }
 
 /// The words for a way that is shorter by another stop, or given by it alone.
-fn way_words(
+fn detour_words(
     alloc: Global,
+    input: &[u8],
     name: &[u8],
-    ends: &str,
-    straight: Drive,
-    around: Drive,
+    detour: Detour<'_>,
 ) -> Result<String, Memory> {
-    let Drive { minutes, metres } = around;
-    if is_text(name, "LongerMinutes") {
-        let more = straight.minutes;
-        return Ok(format!(in alloc; "{ends} is shorter: {minutes} in place of {more} minutes")?);
-    }
-    if is_text(name, "LongerMetres") {
-        let more = straight.metres;
-        return Ok(format!(in alloc; "{ends} is shorter: {metres} in place of {more} metres")?);
-    }
-    Ok(format!(in alloc;
-        "{ends} is {minutes} minutes and {metres} metres, and no deadhead leads there straight"
-    )?)
-}
-
-/// The name of the stop with this number, counted from 1. Empty where there is none.
-fn stop_name(alloc: Global, input: &[u8], number: u64) -> Result<Vec<u8>, Memory> {
-    match record_of_kind(alloc, input, "stop".as_bytes(), number)? {
-        Some(stop) => Ok(Vec::from_slice(alloc, field(&stop, 1))?),
-        None => Ok(Vec::new(alloc)),
-    }
+    let Detour { from, by, to } = detour;
+    let straight = drive_of(alloc, input, from, to)?;
+    let first = drive_of(alloc, input, from, by)?;
+    let Drive { minutes, metres } = first.then(drive_of(alloc, input, by, to)?);
+    let (words, first, second) = if is_text(name, "LongerMinutes") {
+        (SHORTER_MINUTES, minutes, straight.minutes)
+    } else if is_text(name, "LongerMetres") {
+        (SHORTER_METRES, metres, straight.metres)
+    } else {
+        (NOT_STRAIGHT, minutes, metres)
+    };
+    sentence(
+        alloc,
+        words,
+        &[
+            Part::Bytes(from),
+            Part::Bytes(to),
+            Part::Bytes(by),
+            Part::Number(first),
+            Part::Number(second),
+        ],
+    )
 }
 
 /// How long the deadhead from a stop to another is. No minutes and no metres where there is none.
 fn drive_of(alloc: Global, input: &[u8], from: &[u8], to: &[u8]) -> Result<Drive, Memory> {
     match record_like(alloc, input, Kind::Deadhead, from, Some(to))? {
         Some(found) => Ok(Drive {
-            minutes: number_of(field(&found.fields, 3)),
-            metres: number_of(field(&found.fields, 4)),
+            minutes: number_in(&found.fields, 3),
+            metres: number_in(&found.fields, 4),
         }),
         None => Ok(Drive {
             minutes: 0,

@@ -1,15 +1,18 @@
 //! What was refused, or doesn't hold, in words: a sentence for who sees a screen and not the row that was written.
 #![tactic(auto)]
 
+mod blocks;
 mod column;
 mod deadheads;
 mod document;
 mod flaw;
-mod grammar;
+mod forms;
 mod instance;
 mod numbers;
 mod records;
-mod shown;
+mod sentence;
 mod telling;
+mod twice;
+mod unknown;
 
 pub use telling::refusal_text;

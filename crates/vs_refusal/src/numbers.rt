@@ -1,13 +1,12 @@
 //! The words for a number that is out of its range.
 
-use crate::column::Kind;
-use crate::records::is_text;
-use crate::shown::{shown, shown_field};
+use crate::sentence::{Part, sentence};
 use csv::ByteRecord;
 use std::alloc::Global;
 use vs_instance::{
     MAX_FIXED, MAX_FLEET, MAX_METRES, MAX_MINUTES, MAX_PER_METRE, MAX_PER_MINUTE, MAX_STAY,
 };
+use vs_reader::{Kind, is_text};
 use vs_types::Memory;
 
 /// Where a number stands in a record, and what it may be.
@@ -18,54 +17,48 @@ struct Range {
     most: u64,
 }
 
-impl Range {
-    /// Of a layer's number: the place, and the most that it may be, 0 being the least.
-    fn up_to(place: usize, most: u64) -> Range {
-        Range {
-            place,
-            least: 0,
-            most,
+/// The names of numbers, their places in their records, and the least and the most that they may be. Metres are left
+/// out: they stand elsewhere in a trip than in a deadhead.
+const NUMBERS: &[(&str, usize, u64, u64)] = &[
+    ("fleet", 3, 0, MAX_FLEET),
+    ("fixed", 4, 0, MAX_FIXED),
+    ("per_minute", 5, 0, MAX_PER_MINUTE),
+    ("per_metre", 6, 0, MAX_PER_METRE),
+    ("stay", 7, 1, MAX_STAY),
+    ("minutes", 3, 1, MAX_MINUTES),
+];
+
+/// The range of the number with this name in a record of this kind.
+fn range_of(name: &[u8], kind: Kind) -> Range {
+    for &(of, place, least, most) in NUMBERS {
+        if is_text(name, of) {
+            return Range { place, least, most };
         }
     }
-
-    /// Of the number with this name in a record of this kind.
-    fn of(name: &[u8], kind: Kind) -> Range {
-        if is_text(name, "fleet") {
-            Range::up_to(3, MAX_FLEET)
-        } else if is_text(name, "fixed") {
-            Range::up_to(4, MAX_FIXED)
-        } else if is_text(name, "per_minute") {
-            Range::up_to(5, MAX_PER_MINUTE)
-        } else if is_text(name, "per_metre") {
-            Range::up_to(6, MAX_PER_METRE)
-        } else if is_text(name, "stay") {
-            Range {
-                place: 7,
-                least: 1,
-                most: MAX_STAY,
-            }
-        } else if is_text(name, "minutes") {
-            Range {
-                place: 3,
-                least: 1,
-                most: MAX_MINUTES,
-            }
-        } else if kind == Kind::Trip {
-            Range::up_to(6, MAX_METRES)
-        } else {
-            Range::up_to(4, MAX_METRES)
-        }
+    let place = if matches!(kind, Kind::Trip) { 6 } else { 4 };
+    Range {
+        place,
+        least: 0,
+        most: MAX_METRES,
     }
 }
 
 /// The words for a number that is out of its range, by its name and the record in which it stands.
-pub fn range_words(
+pub fn range_words<'r>(
     alloc: Global,
-    name: &[u8],
+    name: &'r [u8],
     kind: Kind,
-    at: &ByteRecord,
+    at: &'r ByteRecord,
 ) -> Result<String, Memory> {
-    let Range { place, least, most } = Range::of(name, kind);
-    let (name, found) = (shown(alloc, name)?, shown_field(alloc, at, place)?);
-    Ok(format!(in alloc; "{name} is {found}, and may be {least} to {most}")?)
+    let Range { place, least, most } = range_of(name, kind);
+    sentence(
+        alloc,
+        "% is %, and may be % to %",
+        &[
+            Part::Bytes(name),
+            Part::of(at, place),
+            Part::Number(least),
+            Part::Number(most),
+        ],
+    )
 }

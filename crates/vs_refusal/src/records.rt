@@ -1,60 +1,16 @@
 //! Records of a text, looked for by their number or by how they begin.
 
 ghost use Rattle.std.specs.Prelude.{◌≡◌, ◌<◌, List, length, IfOk, MatchOption};
-ghost use Rattle.std.specs.Str.{bytes_eq};
 ghost use Rattle.csv.specs.Records.{fields_of};
-ghost use Rattle.vs_reader.specs.Rows.{Row, field_of};
+ghost use Rattle.vs_reader.specs.Rows.{Row};
 ghost use Rattle.vs_reader.specs.Texts.{HasRows};
-ghost use Rattle.vs_refusal.specs.Left.{AreLeft, GivesNext, IsAt};
+ghost use Rattle.vs_refusal.specs.Given.{IsAt};
 ghost use Rattle.vs_refusal.specs.Told.{first_row};
 
-use crate::column::Kind;
-use csv::{ByteRecord, Reader, ReaderBuilder};
+use csv::{ByteRecord, ReaderBuilder};
 use std::alloc::Global;
+use vs_reader::{Kind, TextRecords, field, is_text, number};
 use vs_types::Memory;
-
-/// The records of a text, one after another.
-#[derive(Drop)]
-pub struct Records<'t> {
-    pub reader: Reader<&'t [u8]>,
-    /// The record that came last, empty before the first.
-    pub current: ByteRecord,
-}
-
-impl<'t> Records<'t> {
-    /// All records of a text.
-    pub fn new(alloc: Global, text: &'t [u8]) -> Records<'t>
-        ensures { (rows : List Row) → HasRows text.now rows → AreLeft result rows }
-    {
-        let reader = ReaderBuilder::new()
-            .has_headers(false)
-            .flexible(true)
-            .from_reader(alloc, text);
-        Records {
-            reader,
-            current: ByteRecord::new(alloc),
-        }
-    }
-
-    /// Goes on to the next record, and answers whether there was one.
-    pub fn next(&mut self) -> Result<bool, Memory>
-        ensures { IfOk result (λ found. (rows : List Row) → AreLeft self.old rows
-            → GivesNext self.new rows found) }
-    {
-        // Bytes in memory have no fault, so the only error is want of memory.
-        let Ok(found) = self.reader.read_byte_record(&mut self.current) else {
-            return Err(Memory);
-        };
-        Ok(found)
-    }
-
-    /// The record that came last.
-    pub fn into_current(self) -> ByteRecord
-        ensures { result ≡ self.entry.current }
-    {
-        self.current
-    }
-}
 
 /// A record of a text, and its number, counted from 1.
 #[derive(Drop)]
@@ -87,13 +43,13 @@ pub fn record_at(alloc: Global, text: &[u8], number: u64) -> Result<Option<ByteR
         (length rows < number)
         (λ row. IsAt rows number (fields_of row))) }
 {
-    let mut records = Records::new(alloc, text);
+    let mut records = TextRecords::new(alloc, text);
     for _count in 0..number {
         if !records.next()? {
             return Ok(None);
         }
     }
-    Ok(Some(records.into_current()))
+    Ok(Some(records.current))
 }
 
 /// The first record of an instance whose first fields are its kind's, this name and, where it is told, this other one.
@@ -105,40 +61,43 @@ pub fn record_like(
     name: &[u8],
     other: Option<&[u8]>,
 ) -> Result<Option<Found>, Memory> {
-    let mut records = Records::new(alloc, text);
+    let mut records = TextRecords::new(alloc, text);
     for number in 1..u64::MAX {
         if !records.next()? || is_text(field(&records.current, 0), "result") {
             return Ok(None);
         }
         if is_like(&records.current, kind, name, other) {
-            let fields = records.into_current();
-            return Ok(Some(Found { number, fields }));
+            return Ok(Some(Found {
+                number,
+                fields: records.current,
+            }));
         }
     }
     Ok(None)
 }
 
-/// Record number `place`, counted from 1, of those whose first field is this one. None where there are fewer.
+/// Record number `place`, counted from 1, of those whose first field is this one. It has no fields where there are
+/// fewer.
 pub fn record_of_kind(
     alloc: Global,
     text: &[u8],
-    kind: &[u8],
+    kind: &str,
     place: u64,
-) -> Result<Option<ByteRecord>, Memory> {
-    let mut records = Records::new(alloc, text);
+) -> Result<ByteRecord, Memory> {
+    let mut records = TextRecords::new(alloc, text);
     let mut seen: u64 = 0;
     for _number in 1..u64::MAX {
         if !records.next()? {
-            return Ok(None);
+            return Ok(ByteRecord::new(alloc));
         }
-        if field(&records.current, 0) == kind {
+        if is_text(field(&records.current, 0), kind) {
             seen = seen.saturating_add(1);
             if seen == place {
-                return Ok(Some(records.into_current()));
+                return Ok(records.current);
             }
         }
     }
-    Ok(None)
+    Ok(ByteRecord::new(alloc))
 }
 
 /// Whether a record's first fields are its kind's, this name and, where it is told, this other one.
@@ -152,24 +111,7 @@ fn is_like(row: &ByteRecord, kind: Kind, name: &[u8], other: Option<&[u8]>) -> b
     }
 }
 
-/// A field of a record, empty where the record has fewer.
-pub fn field(row: &ByteRecord, k: usize) -> &[u8]
-    ensures { result.now ≡ field_of (fields_of row.now) k }
-{
-    row.get(k).unwrap_or(&[])
-}
-
-/// Whether a field is this text.
-pub fn is_text(field: &[u8], text: &str) -> bool
-    ensures { result ≡ bytes_eq field.now text.now }
-{
-    field == text.as_bytes()
-}
-
-/// The number that a field writes in digits. 0 where it writes none that 64 bits have.
-pub fn number_of(field: &[u8]) -> u64 {
-    match str::from_utf8(field) {
-        Ok(digits) => digits.parse::<u64>().unwrap_or(0),
-        Err(_) => 0,
-    }
+/// The number that a field of a record writes in digits. 0 where it writes none.
+pub fn number_in(row: &ByteRecord, k: usize) -> u64 {
+    number(field(row, k)).unwrap_or(0)
 }

@@ -9,9 +9,10 @@ use crate::deadheads::deadheads_words;
 use crate::document::document_words;
 use crate::flaw::flaw_words;
 use crate::instance::instance_words;
-use crate::records::{field, first_record, is_text, number_of, record_at};
+use crate::records::{first_record, number_in, record_at};
 use csv::ByteRecord;
 use std::alloc::Global;
+use vs_reader::{field, is_text};
 use vs_types::Memory;
 
 /// What a row tells that was written for an input, in a sentence without a line's end: what was refused, and where, or
@@ -62,12 +63,12 @@ fn place_words(alloc: Global, row: &ByteRecord) -> Result<String, Memory>
 
 /// The words for what a refusal tells, without the record's number.
 fn why_words(alloc: Global, input: &[u8], row: &ByteRecord) -> Result<String, Memory> {
-    let number = number_of(field(row, 1));
+    let number = number_in(row, 1);
     if number == 0 {
         return deadheads_words(alloc, input, row);
     }
     let at = record_at(alloc, input, number)?.unwrap_or(ByteRecord::new(alloc));
-    if number_of(field(row, 2)) < 20 {
+    if number_in(row, 2) < 20 {
         return instance_words(alloc, input, row, &at);
     }
     document_words(alloc, row, &at)

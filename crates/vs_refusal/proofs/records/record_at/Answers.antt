@@ -1,12 +1,12 @@
-use Rattle.std.proofs.Common.{◌≡◌, ℕ, Bool, sym, subst, arith}
-use Rattle.csv.specs.Records.{fields_of}
-use Rattle.vs_refusal.specs.Left.{GivesNext, IsAt, WasGiven}
+use Rattle.std.proofs.Common.{◌≡◌, ℕ, Bool, subst, arith}
+use Rattle.vs_reader.specs.Left.{GivesNext}
+use Rattle.vs_refusal.specs.Given.{WasGiven}
 use Rattle.vs_refusal.proofs.GivenLemmas.{is_at, no_more, none_given, one_more}
 use Rattle.vs_refusal.proofs.records.record_at.Goals as goal
 
 pub loop-count-init : goal.loop-count-init
 loop-count-init c = record {
-  given = λ rows has. none_given rows c.new-records.result (c.new-records.ensures rows has);
+  given = λ rows has. none_given rows c.new-records.result (c.new-records.ensures.left rows has);
 }
 
 pub returns-then-not-branch : goal.returns-then-not-branch
@@ -31,7 +31,5 @@ returns c = λ rows has.
     let was = c.loop-count.invariant.given rows has in
     let all : c.loop-count._count ≡ c.args.number =
     omega (arith, c.loop-count-test.false, c.loop-count.auto._count-end) in
-    let at =
     is_at rows c.args.number c.loop-count.records
-    (subst (λ (n : ℕ). WasGiven rows n c.loop-count.records) all was) c.requires in
-    subst (λ r. IsAt rows c.args.number (fields_of r)) (sym c.into_current.ensures) at
+    (subst (λ (n : ℕ). WasGiven rows n c.loop-count.records) all was) c.requires

@@ -1,7 +1,7 @@
 use Rattle.std.proofs.Common.{List}
 use Rattle.vs_reader.specs.Rows.{Row}
 use Rattle.vs_reader.specs.Texts.{HasRows}
-use Rattle.vs_refusal.specs.Left.{WasGiven}
+use Rattle.vs_refusal.specs.Given.{WasGiven}
 use Rattle.vs_refusal.proofs.records.record_at.Given as goal
 
 abbrev pub invariant-loop-count : goal.invariant-loop-count
