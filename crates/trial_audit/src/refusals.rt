@@ -58,7 +58,8 @@ const TOLD: &[(&[&str], &str, &str)] = &[
     (
         &["instance,1\nstop,xxxxxxxxxxxxxxxxxxxxxxxxxxxxxxxxxxxxxxxxxxxxxxxxxxxxxxxxxxxxx\n"],
         "refused,2,4,BadName\n",
-        "record 2: no name: \"xxxxxxxxxxxxxxxxxxxxxxxxxxxxxxxxxxxxxxxxxxxxxxxxxxxxxxxxxxxx..\"; a name has 1 to 32 letters, digits or signs of _ . : -",
+        "record 2: no name: \"xxxxxxxxxxxxxxxxxxxxxxxxxxxxxxxxxxxxxxxxxxxxxxxxxxxxxxxxxxxx..\"; \
+            a name has 1 to 32 letters, digits or signs of _ . : -",
     ),
     (
         &[STOPS, "layer,L1,D\u{1b}[2J,2,1000,1,0\n"],

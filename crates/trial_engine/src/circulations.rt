@@ -70,7 +70,8 @@ const LONG_WAYS: &str = "trip,t1,P,8:00,Q,8:30,1000000,L1\ntrip,t2,Q,8:30,P,9:00
 
 /// Vehicles that may rest in the depot, and trips with time for it between them.
 const RESTING: [&str; 3] = [
-    "instance,2\nstop,D\nstop,P\nstop,Q\ndeadhead,D,P,10,0\ndeadhead,P,D,10,0\ndeadhead,D,Q,10,0\ndeadhead,Q,D,10,0\ndeadhead,P,Q,15,0\ndeadhead,Q,P,15,0\n",
+    "instance,2\nstop,D\nstop,P\nstop,Q\ndeadhead,D,P,10,0\ndeadhead,P,D,10,0\n\
+        deadhead,D,Q,10,0\ndeadhead,Q,D,10,0\ndeadhead,P,Q,15,0\ndeadhead,Q,P,15,0\n",
     "layer,L1,D,2,1000,1,0,20\n",
     "trip,t1,P,8:00,Q,8:30,0,L1\ntrip,t2,Q,12:00,P,12:30,0,L1\n",
 ];

@@ -1,12 +1,13 @@
 //! Parts of the texts of instances and of documents.
 
 /// Three stops, and the ways between them.
-pub const STOPS: &str =
-    "instance,1\nstop,D\nstop,P\nstop,Q\ndeadhead,D,P,10,0\ndeadhead,P,D,10,0\ndeadhead,D,Q,10,0\ndeadhead,Q,D,10,0\ndeadhead,P,Q,15,0\ndeadhead,Q,P,15,0\n";
+pub const STOPS: &str = "instance,1\nstop,D\nstop,P\nstop,Q\ndeadhead,D,P,10,0\ndeadhead,P,D,10,0\n\
+    deadhead,D,Q,10,0\ndeadhead,Q,D,10,0\ndeadhead,P,Q,15,0\ndeadhead,Q,P,15,0\n";
 
 /// The same in version 2.
 pub const RESTING_STOPS: &str =
-    "instance,2\nstop,D\nstop,P\nstop,Q\ndeadhead,D,P,10,0\ndeadhead,P,D,10,0\ndeadhead,D,Q,10,0\ndeadhead,Q,D,10,0\ndeadhead,P,Q,15,0\ndeadhead,Q,P,15,0\n";
+    "instance,2\nstop,D\nstop,P\nstop,Q\ndeadhead,D,P,10,0\ndeadhead,P,D,10,0\n\
+    deadhead,D,Q,10,0\ndeadhead,Q,D,10,0\ndeadhead,P,Q,15,0\ndeadhead,Q,P,15,0\n";
 
 /// Two vehicles whose depot is at D.
 pub const LAYER: &str = "layer,L1,D,2,1000,1,0\n";
@@ -65,7 +66,9 @@ pub const RAY: &str = "table,1,ray\nfleet,L1,1\nprice,L1,t1,1,0\nprice,L1,t2,1,0
 
 /// The stops, the layer and the trips with quotes, a byte order mark, and lines that end otherwise.
 pub const QUOTED_STOPS: &str =
-    "\u{feff}instance,\"1\"\r\n\"stop\",\"D\"\r\nstop,P\r\n\r\nstop,Q\r\ndeadhead,D,P,10,0\r\ndeadhead,P,D,10,0\r\ndeadhead,D,Q,10,0\r\ndeadhead,Q,D,10,0\r\ndeadhead,P,Q,15,0\r\ndeadhead,Q,P,15,0\r\n";
+    "\u{feff}instance,\"1\"\r\n\"stop\",\"D\"\r\nstop,P\r\n\r\nstop,Q\r\n\
+    deadhead,D,P,10,0\r\ndeadhead,P,D,10,0\r\n\
+    deadhead,D,Q,10,0\r\ndeadhead,Q,D,10,0\r\ndeadhead,P,Q,15,0\r\ndeadhead,Q,P,15,0\r\n";
 
 pub const QUOTED_LAYER: &str = "\"layer\",L1,D,\"2\",1000,1,0\r\n";
 
@@ -97,7 +100,9 @@ pub const SPLIT_TABLE: &str =
 /// Six trips in three pairs of layers of one vehicle each. Halves of blocks cover them all, and no blocks do.
 pub const HALVES: [&str; 4] = [
     "instance,1\nstop,D\nstop,X1\nstop,X2\nstop,X3\nstop,Y1\nstop,Y2\nstop,Y3\n",
-    "deadhead,X1,Y1,10,0\ndeadhead,X1,Y3,10,0\ndeadhead,X2,Y2,10,0\ndeadhead,X2,Y3,10,0\ndeadhead,X3,Y1,10,0\ndeadhead,X3,Y2,10,0\n",
+    "deadhead,X1,Y1,10,0\ndeadhead,X1,Y3,10,0\ndeadhead,X2,Y2,10,0\ndeadhead,X2,Y3,10,0\n\
+        deadhead,X3,Y1,10,0\ndeadhead,X3,Y2,10,0\n",
     "layer,L1,D,1,0,1,0\nlayer,L2,D,1,0,1,0\nlayer,L3,D,1,0,1,0\n",
-    "trip,a,D,8:00,X1,8:30,0,L1,L2\ntrip,b,D,8:00,X2,8:30,0,L1,L3\ntrip,c,D,8:00,X3,8:30,0,L2,L3\ntrip,d,Y1,9:00,D,9:30,0,L1,L2\ntrip,e,Y2,9:00,D,9:30,0,L1,L3\ntrip,f,Y3,9:00,D,9:30,0,L2,L3\n",
+    "trip,a,D,8:00,X1,8:30,0,L1,L2\ntrip,b,D,8:00,X2,8:30,0,L1,L3\ntrip,c,D,8:00,X3,8:30,0,L2,L3\n\
+        trip,d,Y1,9:00,D,9:30,0,L1,L2\ntrip,e,Y2,9:00,D,9:30,0,L1,L3\ntrip,f,Y3,9:00,D,9:30,0,L2,L3\n",
 ];

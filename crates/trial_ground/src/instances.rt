@@ -107,7 +107,8 @@ fn are_made_of_their_parts(rt: HostRuntime) -> Result<(), Fail> {
 /// The same instance with quotes, a byte order mark and other line ends, and a row behind it.
 const FORMS: [&str; 2] = [
     "instance,1\nstop,D\nstop,P\nlayer,L1,D,2,1,1,0\ntrip,t1,P,8:00,D,8:30,0,L1\nresult,x\n",
-    "\u{feff}\"instance\",\"1\"\r\n\"stop\",D\r\n\r\nstop,P\r\nlayer,\"L1\",D,2,1,1,0\r\ntrip,t1,P,8:00,D,8:30,0,L1\r\n\"result\",x",
+    "\u{feff}\"instance\",\"1\"\r\n\"stop\",D\r\n\r\nstop,P\r\n\
+        layer,\"L1\",D,2,1,1,0\r\ntrip,t1,P,8:00,D,8:30,0,L1\r\n\"result\",x",
 ];
 
 #[test]

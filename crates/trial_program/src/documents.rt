@@ -9,8 +9,8 @@ use trial_fixtures::texts::{
     SPLIT_TABLE, STOPS, TABLE, TABLE_APART, TABLE_TOO_HIGH, TRIPS, TRIPS_APART, TWO_LAYERS,
 };
 
-/// A table with the greatest price that there is for a vehicle, and for entering the first trip. For two vehicles it takes
-/// 2 * 10^18 away and gives 10^18 back: 10^15 units less than the 60 that the trips themselves cost.
+/// A table with the greatest price that there is for a vehicle, and for entering the first trip. For two vehicles it
+/// takes 2 * 10^18 away and gives 10^18 back: 10^15 units less than the 60 that the trips themselves cost.
 const DEAREST_TABLE: &str =
     "table,1,cost\nfleet,L1,1000000000000000000\nprice,L1,t1,1000000000000000000,0\nprice,L1,t2,0,0\n";
 

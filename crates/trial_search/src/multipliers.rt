@@ -137,7 +137,8 @@ const UNEVEN: [&str; 5] = [
     STOPS,
     "layer,L1,D,2,1000,1,0\nlayer,L2,D,2,1000,1,0\ntrip,t1,P,8:00,Q,8:30,0,L1,L2\ntrip,t2,Q,8:30,P,9:00,0,L1,L2\n",
     OPEN_HEAD,
-    "table,1,cost\nfleet,L1,0\nprice,L1,t1,1010000,0\nprice,L1,t2,0,-10000\nfleet,L2,0\nprice,L2,t1,0,0\nprice,L2,t2,0,0\n",
+    "table,1,cost\nfleet,L1,0\nprice,L1,t1,1010000,0\nprice,L1,t2,0,-10000\n\
+        fleet,L2,0\nprice,L2,t1,0,0\nprice,L2,t2,0,0\n",
     END,
 ];
 

@@ -18,7 +18,7 @@ use Rattle.vs_instance.specs.declared.way.Way.{Way}
 use Rattle.vs_instance.specs.Problem.{pair_cmp}
 use Rattle.vs_instance.specs.Instance.{IsClosed, IsDeadhead, IsInstance, IsLayer, IsNoLonger, IsTrip}
 use Rattle.vs_instance.specs.Misfits.{are_twins, deadheads_of}
-use Rattle.vs_instance.proofs.misfits.Given.{given_all, own_way}
+use Rattle.vs_instance.proofs.CallerLemmas.{given_all, own_way}
 use Rattle.vs_make.specs.declared.sequence.Draws.{Draws}
 use Rattle.vs_make.specs.Generator.{distance, draws, number_at}
 use Rattle.vs_made.specs.Made.{drawn_trip, made_deadhead, made_deadheads, made_deadheads_from, made_layer, made_layers, made_problem, made_trip}

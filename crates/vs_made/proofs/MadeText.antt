@@ -19,7 +19,7 @@ use Rattle.vs_reader.specs.InstanceText.{AddAll, Declared, instance_records, not
 use Rattle.vs_reader.specs.Rows.{Field, IsPlain, IsPlainRow, Row, line, lines}
 use Rattle.vs_reader.specs.Texts.{EndsInLine, HasRows, is_between, state_after}
 use Rattle.vs_reader.specs.Versions.{header}
-use Rattle.vs_reader.proofs.texts.LineLemmas.{lines_behind}
+use Rattle.vs_reader.proofs.CallerLemmas.{lines_behind}
 use Rattle.vs_make.specs.declared.grid.TheConstants.{STOPS, DEPOTS}
 use Rattle.vs_make.specs.Generator.{deadheads_from, drawn_row, layer_name, layer_row, make_rows, stop_name, stop_row}
 use Rattle.vs_made.specs.Made.{IsWholeText, depot_names, drawn_trip, made_deadheads, made_layers, made_names, made_problem, stop_names}

@@ -16,7 +16,7 @@ use Rattle.vs_prices.specs.declared.broken_at.BrokenAt.{BrokenAt}
 use Rattle.vs_prices.specs.declared.table.Table.{Table}
 use Rattle.vs_prices.specs.Breaks.{exceeds, is_link_broken, is_pull_in_broken, is_pull_out_broken, link_breaks, links_breaks, may_run, move_breaks, trip_breaks}
 use Rattle.vs_prices.specs.Table.{from_price, into_price, prices_in, vehicle_price}
-use Rattle.vs_prices.proofs.FirstBreaks.{first_at_back, first_at_link, first_at_out, first_nowhere}
+use Rattle.vs_prices.proofs.CallerLemmas.{first_at_back, first_at_link, first_at_out, first_nowhere}
 use Rattle.vs_need.specs.declared.judging.Suspect.{Suspect}
 use Rattle.vs_need.specs.declared.judging.Suspect.TheVariants as suspect
 use Rattle.vs_need.specs.declared.scratch.Scratch.{Scratch}

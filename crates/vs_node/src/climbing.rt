@@ -26,8 +26,8 @@ const CUTS: u32 = 50;
 /// eight times as many leaves to the same bound.
 const MOST_ROUNDS: u64 = 150;
 
-/// How many rounds there are, times the cube of how many trips each of them offers to layers, where these are fewer than
-/// the most.
+/// How many rounds there are, times the cube of how many trips each of them offers to layers, where these are fewer
+/// than the most.
 const ROUNDS_BY_CUBE: u64 = 600_000_000_000;
 
 /// How many trips a round offers to layers at most, all layers together, for a climb of several rounds. On larger
