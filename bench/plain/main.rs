@@ -30,6 +30,7 @@ mod vs_penalty;
 mod vs_ray;
 mod vs_plan;
 mod vs_prices;
+mod vs_queue;
 mod vs_ship;
 mod vs_tree;
 mod vs_turn {

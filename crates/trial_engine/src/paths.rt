@@ -1,7 +1,7 @@
 //! Least paths in a net of three nodes.
 
 ghost use Rattle.std.specs.Prelude.{◌≡◌, ◌↔◌, length, IfOk, IsTrue, Some};
-ghost use Rattle.vs_path.specs.Keys.{IsNotAfter};
+ghost use Rattle.vs_queue.specs.Keys.{IsNotAfter};
 ghost use Rattle.vs_path.specs.Labels.{IsSmall};
 ghost use Rattle.vs_path.specs.Residual.{AllWithin, HasSignRule};
 ghost use Rattle.vs_path.specs.PathTree.{HasNoNegativeCycle};

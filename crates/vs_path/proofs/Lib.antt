@@ -1,4 +1,3 @@
-pub mod heap
 pub mod labelling
 pub mod found
 pub mod raised

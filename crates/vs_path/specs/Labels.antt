@@ -1,10 +1,10 @@
 -- What a search for least paths knows while it goes on.
 use Rattle.std.specs.Prelude.{◌≡◌, ◌≢◌, ◌⊎◌, ℕ, ◌+◌, ◌*◌, ◌<◌, ◌≤◌, List, [], ◌∷◌, ◌++◌, length, set, replicate, slice_index, slice_index_or, Option, Some, None, ℤ, pos, ◌+ℤ◌, ◌-ℤ◌, ◌≤ℤ◌, ◌<ℤ◌, nat_abs}
 use Rattle.vs_path.specs.declared.residual.TheConstants.{MAX_STEP_COST, MAX_SEARCH_NODES, MAX_SEARCH_PRICE}
-use Rattle.vs_path.specs.declared.step.Step.{Step}
-use Rattle.vs_path.specs.declared.labels.Settled.{Settled}
+use Rattle.vs_queue.specs.declared.step.Step.{Step}
+use Rattle.vs_queue.specs.declared.node_table.Settled.{Settled}
 use Rattle.vs_path.specs.declared.labels.Labels.{Labels}
-use Rattle.vs_path.specs.Keys.{Keys, IsEmpty, key_at}
+use Rattle.vs_queue.specs.Keys.{Keys, IsEmpty, key_at}
 use Rattle.vs_path.specs.Residual.{ResidualNet, IsOpen, IsWithin, AllWithin, from_of, to_of, reduced, price_at}
 
 -- by node: the least distance and the place in the order, where it is settled; the key, where it waits; and the last

@@ -1,6 +1,3 @@
-pub mod Keys
-pub mod NodeLists
-pub mod Queues
 pub mod Residual
 pub mod Loads
 pub mod Labels

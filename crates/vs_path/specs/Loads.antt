@@ -2,7 +2,7 @@
 use Rattle.std.specs.Prelude.{◌≡◌, ℕ, ◌<◌, List, [], length, map, slice_index, slice_index_or, true}
 use Rattle.vs_layer.specs.Graph.{Graph, arc_of}
 use Rattle.vs_path.specs.declared.loads.Loads.{Loads}
-use Rattle.vs_path.specs.declared.step.Way.{Way}
+use Rattle.vs_path.specs.declared.residual.Way.{Way}
 use Rattle.vs_path.specs.Residual.{ResidualNet, IsOpen, arc_no, from_of, step_along}
 
 abbrev pub lists_in : Loads → List (List ℕ)

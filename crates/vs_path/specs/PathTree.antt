@@ -1,7 +1,7 @@
 -- What is known while costs are corrected arc by arc, until they are the least.
 use Rattle.std.specs.Prelude.{◌≡◌, ℕ, ◌+◌, ◌*◌, ◌<◌, ◌≤◌, List, set, sum_by, Bool, true, false, Option, Some, None, ℤ, pos, ◌+ℤ◌, ◌≤ℤ◌, nat_abs}
 use Rattle.vs_path.specs.declared.residual.TheConstants.{MAX_PATH_ARC_COST, MAX_PATH_NODES}
-use Rattle.vs_path.specs.declared.step.Step.{Step}
+use Rattle.vs_queue.specs.declared.step.Step.{Step}
 use Rattle.vs_path.specs.declared.path_tree.PathTree.{PathTree}
 use Rattle.vs_path.specs.Residual.{ResidualNet, AllWithin, IsOpen, Leads, cost_along, cost_of, from_of, to_of}
 use Rattle.vs_path.specs.LeastPaths.{LeastPaths, FollowsBack, IsSized, distance_at, last_step}

@@ -3,7 +3,7 @@ use Rattle.std.specs.Prelude.{◌≡◌, ◌⊎◌, ℕ, ◌*◌, ◌<◌, List,
 use mir.Syntax.{w64}
 use Rattle.vs_path.specs.declared.residual.TheConstants.{MAX_STEP_COST}
 use Rattle.vs_path.specs.declared.search.TheConstants.{MOST_RAISED}
-use Rattle.vs_path.specs.declared.labels.Settled.{Settled}
+use Rattle.vs_queue.specs.declared.node_table.Settled.{Settled}
 use Rattle.vs_path.specs.Residual.{ResidualNet, IsWithin, price_at}
 use Rattle.vs_path.specs.Labels.{Lists, settled_at}
 use Rattle.vs_path.specs.LeastPaths.{IsLeastCost}

@@ -1,10 +1,10 @@
 -- Steps along the arcs of a net on which units can still be sent or taken back.
 use Rattle.std.specs.Prelude.{◌≡◌, ◌≢◌, ℕ, ◌<◌, ◌≤◌, List, [], ◌∷◌, length, slice_index, slice_index_or, ℤ, pos, neg_ℤ, ◌+ℤ◌, ◌-ℤ◌, ◌≤ℤ◌}
 use Rattle.vs_layer.specs.Graph.{Graph, IsNet, arc_of, leaving, reaching}
-use Rattle.vs_path.specs.declared.step.Step.{Step}
-use Rattle.vs_path.specs.declared.step.Step.TheVariants.{Forward, Back}
-use Rattle.vs_path.specs.declared.step.Way.{Way}
-use Rattle.vs_path.specs.declared.step.Way.TheVariants as way
+use Rattle.vs_queue.specs.declared.step.Step.{Step}
+use Rattle.vs_queue.specs.declared.step.Step.TheVariants.{Forward, Back}
+use Rattle.vs_path.specs.declared.residual.Way.{Way}
+use Rattle.vs_path.specs.declared.residual.Way.TheVariants as way
 
 -- a net, the units that its arcs carry, what a unit costs on each, and how many each has room for; the first so many
 -- arcs may be used

@@ -2,8 +2,8 @@
 use Rattle.std.specs.Prelude.{◌≡◌, ◌⊎◌, ℕ, ◌*◌, ◌<◌, List, length, slice_index, Option, Some, None, ℤ, pos, ◌+ℤ◌, ◌-ℤ◌, ◌≤ℤ◌, nat_abs, FitsSigned}
 use mir.Syntax.{w64}
 use Rattle.vs_path.specs.declared.residual.TheConstants.{MAX_STEP_COST}
-use Rattle.vs_path.specs.declared.step.Step.{Step}
-use Rattle.vs_path.specs.declared.labels.Settled.{Settled}
+use Rattle.vs_queue.specs.declared.step.Step.{Step}
+use Rattle.vs_queue.specs.declared.node_table.Settled.{Settled}
 use Rattle.vs_path.specs.Residual.{ResidualNet, HasSignRule, IsOpen, IsPath, from_of, to_of, price_at, reduced, step_in}
 use Rattle.vs_path.specs.Labels.{Lists, Lacks, settled_at}
 

@@ -1,6 +1,6 @@
 -- What is kept from one search to the next.
 use Rattle.std.specs.Prelude.{ℕ, ◌<◌, ◌≤◌, List, length, replicate, ◌≡◌, ℤ, pos}
-use Rattle.vs_path.specs.declared.step.Step.{Step}
+use Rattle.vs_queue.specs.declared.step.Step.{Step}
 use Rattle.vs_path.specs.declared.labels.Labels.{Labels}
 use Rattle.vs_path.specs.Labels.{AreListed, lists_of}
 use Rattle.vs_path.specs.LeastPaths.{LeastPaths, IsSized}

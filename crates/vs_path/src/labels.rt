@@ -2,25 +2,16 @@
 
 ghost use Rattle.std.specs.Prelude.{◌≡◌, ℕ, ℤ, IfSome, ◌<◌, ◌≤◌, ◌↔◌, ◌++◌, ◌∷◌, [], ◌+ℤ◌, length, set, replicate, IsTrue, IfOk, MatchOption, Some, None, vec_capacity, slice_index, slice_index_or};
 ghost use Rattle.vs_path.specs.Residual.{IsResidual, HasSignRule, arc_no, from_of, price_at, reduced};
-ghost use Rattle.vs_path.specs.declared.labels.Settled.{Settled};
-ghost use Rattle.vs_path.specs.declared.step.Step.{Step};
-ghost use Rattle.vs_path.specs.declared.step.Step.TheVariants.{Forward, Back};
-ghost use Rattle.vs_path.specs.Keys.{IsEmpty, IsLeast, IsNotAfter};
+ghost use Rattle.vs_queue.specs.declared.node_table.Settled.{Settled};
+ghost use Rattle.vs_queue.specs.declared.step.Step.{Step};
+ghost use Rattle.vs_queue.specs.declared.step.Step.TheVariants.{Forward, Back};
+ghost use Rattle.vs_queue.specs.Keys.{IsEmpty, IsLeast, IsNotAfter};
 ghost use Rattle.vs_path.specs.Labels.{AreLabels, AreFresh, AreListed, Covers, IsBetter, IsBound, IsFarthest, IsLowered, IsOver, IsReached, IsRelaxed, IsSettledAt, IsSmall, Lacks, Relaxes, lists_of, lowered, settle_in, settled_at, waiting_at};
 
-use crate::node_heap::NodeHeap;
-use crate::residual::{MAX_SEARCH_NODES, Residual};
-use crate::step::{Step, Way};
+use crate::residual::{MAX_SEARCH_NODES, Residual, Way};
 use std::alloc::Global;
+use vs_queue::{NodeHeap, Settled, Step};
 use vs_types::Memory;
-
-/// A node whose least distance is known.
-#[derive(Clone, Copy, Debug)]
-pub struct Settled {
-    pub distance: i64,
-    /// Its place among the settled nodes, in the order in which they were settled.
-    pub place: u32,
-}
 
 /// Where steps leave a settled node: its distance and its price.
 #[derive(Clone, Copy)]

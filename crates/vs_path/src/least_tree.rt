@@ -7,12 +7,12 @@ ghost use Rattle.vs_path.specs.Labels.{AreLabels, AreListed, IsSmall, lists_of, 
 ghost use Rattle.vs_path.specs.Search.{AreMoved, AreTreeSteps, CanMove};
 ghost use Rattle.vs_path.specs.LeastPaths.{AreCosts, AreLeastPaths, AreSettledSteps, CanCost, CanCostTo, IsSized, cost_to, if_settled};
 ghost use Rattle.vs_path.specs.PathTree.{paths_of};
-ghost use Rattle.vs_path.specs.declared.labels.Settled.{Settled};
+ghost use Rattle.vs_queue.specs.declared.node_table.Settled.{Settled};
 
-use crate::labels::{Labels, Settled};
+use crate::labels::Labels;
 use crate::path_tree::PathTree;
 use crate::residual::Residual;
-use crate::step::Step;
+use vs_queue::{Settled, Step};
 
 impl Labels {
     /// Finds the least paths from a node to all others, by prices under which no residual step has a negative reduced

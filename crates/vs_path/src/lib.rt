@@ -8,19 +8,14 @@
 mod labels;
 mod least_tree;
 mod loads;
-mod node_heap;
-mod node_table;
 mod path_tree;
 mod paths;
-mod queue;
 mod raising;
 mod reach;
 mod residual;
 mod search;
-mod step;
 
 pub use loads::Loads;
-pub use node_heap::NodeHeap;
 pub use paths::Paths;
 pub use reach::{Reach, distances, sign_rule_leaves_no_negative_cycle};
 pub use residual::{
@@ -28,4 +23,4 @@ pub use residual::{
     Residual,
 };
 pub use search::{MAX_SPAN, MOST_RAISED, Search};
-pub use step::Step;
+pub use vs_queue::{NodeHeap, Step};

@@ -4,11 +4,11 @@ ghost use Rattle.std.specs.Prelude.{◌≡◌, ◌↔◌, ◌<◌, ◌<ℤ◌, l
 ghost use Rattle.vs_path.specs.Residual.{arc_no};
 ghost use Rattle.vs_path.specs.LeastPaths.{AreLeastPaths, IsSized};
 ghost use Rattle.vs_path.specs.PathTree.{CanCorrect, IsCorrected, IsPathTree, paths_of, shortened};
-ghost use Rattle.vs_path.specs.declared.step.Step.{Step};
+ghost use Rattle.vs_queue.specs.declared.step.Step.{Step};
 
 use crate::residual::Residual;
-use crate::step::Step;
 use std::alloc::Global;
+use vs_queue::Step;
 use vs_types::Memory;
 
 /// Paths from a node to others, followed back step by step.

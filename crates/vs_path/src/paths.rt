@@ -9,10 +9,10 @@ ghost use Rattle.vs_path.specs.PathTree.{CanCorrect};
 use crate::labels::Labels;
 use crate::path_tree::PathTree;
 use crate::residual::{MAX_SEARCH_PRICE, Residual};
-use crate::step::Step;
 use std::alloc::Global;
 use std::marker::Model;
 use vs_layer::Net;
+use vs_queue::Step;
 use vs_types::Memory;
 
 /// Least paths from a node to all others.

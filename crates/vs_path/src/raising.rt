@@ -4,7 +4,8 @@ ghost use Rattle.std.specs.Prelude.{◌≡◌, length};
 ghost use Rattle.vs_path.specs.Labels.{lists_of};
 ghost use Rattle.vs_path.specs.Raising.{AreRaised, CanRaise, IsGreater, IsGreatest, rise_of};
 
-use crate::labels::{Labels, Settled};
+use crate::labels::Labels;
+use vs_queue::Settled;
 
 impl Labels {
     /// The greatest distance at which a node is settled, or `least` where that is more.

@@ -3,13 +3,13 @@
 ghost use Rattle.std.specs.Prelude.{◌≡◌, ◌<◌, ◌≤◌, ◌↔◌, ◌≤ℤ◌, pos, length, IsTrue};
 ghost use Rattle.vs_path.specs.Labels.{IsSmall};
 ghost use Rattle.vs_path.specs.Loads.{AreAlong, AreLoads};
-ghost use Rattle.vs_path.specs.declared.step.Way.TheVariants.{Back};
+ghost use Rattle.vs_path.specs.declared.residual.Way.TheVariants.{Back};
 ghost use Rattle.vs_path.specs.Residual.{HasSignRule, IsResidual, IsOpen, IsWithin, AllWithin, arc_no, arcs_along, from_of, to_of, cost_of, reduced};
 
 use crate::loads::Loads;
-use crate::step::{Step, Way};
 use std::marker::Model;
 use vs_layer::{Flow, Net};
+use vs_queue::Step;
 
 /// How many nodes a net has at most in a search by prices: three for each trip, and the two of the depot.
 pub const MAX_SEARCH_NODES: u32 = 6_002;
@@ -32,6 +32,13 @@ pub struct Costs {
     /// In 1/1000 of a cost unit.
     pub cost: Vec<i64>,
     pub room: Vec<u32>,
+}
+
+/// Which way a step goes along an arc.
+#[derive(Clone, Copy)]
+pub enum Way {
+    Forward,
+    Back,
 }
 
 /// A net whose arcs carry units: which steps a unit more can take, and what they cost.

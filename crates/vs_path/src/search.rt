@@ -8,9 +8,9 @@ ghost use Rattle.vs_path.specs.Search.{IsCut, IsGoal};
 
 use crate::labels::Labels;
 use crate::residual::Residual;
-use crate::step::Step;
 use std::alloc::Global;
 use std::marker::Model;
+use vs_queue::Step;
 use vs_types::Memory;
 
 /// How far apart two prices that are to be raised lie at most, some five times as far as a path costs.

@@ -6,8 +6,8 @@ use Rattle.vs_layer.specs.Ends.{arc_at}
 use Rattle.vs_layer.specs.Graph.{Graph}
 use Rattle.vs_instance.specs.Lagrangian.{total}
 use Rattle.vs_path.specs.Residual.{price_at}
-use Rattle.vs_path.specs.declared.step.Step.{Step}
-use Rattle.vs_path.specs.declared.step.Step.TheVariants.{Forward, Back}
+use Rattle.vs_queue.specs.declared.step.Step.{Step}
+use Rattle.vs_queue.specs.declared.step.Step.TheVariants.{Forward, Back}
 
 -- the numbers at the nodes, each times the weight of its node, added up
 abbrev pub weighed : (ℕ → ℤ) → List ℤ → ℤ

@@ -7,8 +7,8 @@ use Rattle.vs_layer.specs.Graph.{Graph}
 use Rattle.vs_instance.specs.Lagrangian.{total}
 use Rattle.vs_path.specs.declared.residual.TheConstants.{MAX_STEP_COST, MAX_SEARCH_NODES, MAX_SEARCH_PRICE}
 use Rattle.vs_path.specs.declared.loads.Loads.{Loads}
-use Rattle.vs_path.specs.declared.step.Step.{Step}
-use Rattle.vs_path.specs.declared.step.Step.TheVariants.{Forward, Back}
+use Rattle.vs_queue.specs.declared.step.Step.{Step}
+use Rattle.vs_queue.specs.declared.step.Step.TheVariants.{Forward, Back}
 use Rattle.vs_path.specs.Residual.{ResidualNet, HasSignRule, IsWithin, AllWithin, price_at, step_in}
 use Rattle.vs_path.specs.Labels.{Lacks}
 use Rattle.vs_path.specs.Loads.{AreByNode, IsListed, lists_in}

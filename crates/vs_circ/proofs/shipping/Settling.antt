@@ -13,7 +13,7 @@ use Rattle.vs_match.specs.declared.arc_kind.ArcKind.TheVariants.{Trip, Waiting, 
 use Rattle.vs_match.specs.Decomposition.{vehicles_of}
 use Rattle.vs_match.specs.LawfulNets.{IsLawful, IsLawfulArc}
 use Rattle.vs_match.specs.LayerGraph.{LayerGraph, IsArcOfTrip, kind_of}
-use Rattle.vs_path.specs.declared.step.Step.TheVariants.{Forward, Back}
+use Rattle.vs_queue.specs.declared.step.Step.TheVariants.{Forward, Back}
 use Rattle.vs_path.specs.Residual.{HasSignRule, price_at}
 use Rattle.vs_ship.specs.declared.shipment.Shipment.{Shipment}
 use Rattle.vs_ship.specs.Balance.{gained, weighed}

@@ -10,7 +10,7 @@ use Rattle.vs_instance.specs.Problem.{Problem}
 use Rattle.vs_match.specs.declared.arc_kind.ArcKind.{ArcKind}
 use Rattle.vs_match.specs.LawfulNets.{IsLawful}
 use Rattle.vs_match.specs.LayerGraph.{LayerGraph, kind_of}
-use Rattle.vs_path.specs.declared.step.Step.TheVariants.{Forward}
+use Rattle.vs_queue.specs.declared.step.Step.TheVariants.{Forward}
 use Rattle.vs_path.specs.Residual.{IsOpen, price_at}
 use Rattle.vs_ship.specs.declared.shipment.Shipment.{Shipment}
 use Rattle.vs_ship.specs.Balance.{gained, weighed}

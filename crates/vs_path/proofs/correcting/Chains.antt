@@ -8,8 +8,8 @@ use Rattle.std.proofs.lemmas.List.Sums.{sum_by-cons}
 use Rattle.std.proofs.lemmas.Map.Steps.{length-le_from_distinct_below}
 use Rattle.std.specs.List.{AllByRecursion, IsDistinct, list_any}
 use Rattle.vs_path.specs.declared.residual.TheConstants.{MAX_PATH_ARC_COST}
-use Rattle.vs_path.specs.declared.step.Step.{Step}
-use Rattle.vs_path.specs.declared.step.Step.TheVariants.{Forward, Back}
+use Rattle.vs_queue.specs.declared.step.Step.{Step}
+use Rattle.vs_queue.specs.declared.step.Step.TheVariants.{Forward, Back}
 use Rattle.vs_path.specs.Residual.{ResidualNet, IsWithin, cost_along, cost_of, from_of, to_of}
 use Rattle.vs_path.specs.LeastPaths.{LeastPaths, FollowsBack, distance_at, last_step}
 use Rattle.vs_path.proofs.labelling.Lowering.{some_within}

@@ -1,7 +1,7 @@
 -- Where no step is shorter any more, the paths of the tree are least ones.
 use Rattle.std.proofs.Common.{◌≡◌, ◌⊎◌, ℕ, ◌∙◌, List, [], ◌∷◌, refl, sym, ap, subst, arith, inl, inr, Bool, true, false, ◌||◌, Option, Some, None, ℤ, pos, ◌≤ℤ◌}
 use Rattle.std.proofs.lemmas.Int.{ints}
-use Rattle.vs_path.specs.declared.step.Step.{Step}
+use Rattle.vs_queue.specs.declared.step.Step.{Step}
 use Rattle.vs_path.specs.Residual.{ResidualNet, Leads, cost_along, from_of}
 use Rattle.vs_path.specs.LeastPaths.{LeastPaths, AreLeastPaths, ComesBack, FollowsBack, IsLeastCost, distance_at, last_step}
 use Rattle.vs_path.specs.PathTree.{IsCorrected, IsNoShorter, IsPathTree, weight}

@@ -5,7 +5,7 @@ use Rattle.std.proofs.lemmas.Int.{ints}
 use Rattle.std.proofs.lemmas.List.{get_or-set_same, get_or-set_other}
 use Rattle.std.proofs.lemmas.List.Sums.{sum_by-set}
 use Rattle.vs_path.specs.declared.residual.TheConstants.{MAX_PATH_ARC_COST}
-use Rattle.vs_path.specs.declared.step.Step.{Step}
+use Rattle.vs_queue.specs.declared.step.Step.{Step}
 use Rattle.vs_path.specs.Residual.{ResidualNet, IsOpen, IsWithin, Leads, cost_of, from_of, to_of}
 use Rattle.vs_path.specs.LeastPaths.{LeastPaths, FollowsBack, distance_at, last_step}
 use Rattle.vs_path.specs.PathTree.{CanCorrect, IsBranch, IsNoShorter, IsPathTree, MOST, count_of, count_reached, shortened, weight, weight_of}

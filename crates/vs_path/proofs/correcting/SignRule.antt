@@ -1,7 +1,7 @@
 -- What the sign rule says of steps after one another.
 use Rattle.std.proofs.Common.{◌≡◌, ℕ, List, [], ◌∷◌, ap, arith, ℤ, ◌+ℤ◌, ◌≤ℤ◌}
 use Rattle.std.proofs.lemmas.Int.{ints}
-use Rattle.vs_path.specs.declared.step.Step.{Step}
+use Rattle.vs_queue.specs.declared.step.Step.{Step}
 use Rattle.vs_path.specs.Residual.{ResidualNet, HasSignRule, Leads, cost_along, from_of, to_of, price_at}
 use Rattle.vs_path.specs.Laws.{SignRuleLeavesNoNegativeCycle}
 

@@ -2,7 +2,7 @@
 use Rattle.std.proofs.Common.{◌≡◌, ℕ, zero, suc, ◌<◌, ◌∙◌, List, sym, ap, arith, inl, inr, Some, ℤ, pos, ◌≤ℤ◌}
 use Rattle.std.proofs.lemmas.Bool.{cases_eq}
 use Rattle.std.proofs.lemmas.Int.{ints}
-use Rattle.vs_path.specs.declared.labels.Settled.{Settled}
+use Rattle.vs_queue.specs.declared.node_table.Settled.{Settled}
 use Rattle.vs_path.specs.Residual.{ResidualNet, HasSignRule, from_of}
 use Rattle.vs_path.specs.Labels.{Lists, AreLabels, settled_at, source_of}
 

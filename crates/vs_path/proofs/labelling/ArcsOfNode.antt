@@ -8,8 +8,8 @@ use Rattle.vs_layer.specs.declared.arc.End.{End}
 use Rattle.vs_layer.specs.declared.arc.End.TheVariants.{From, To}
 use Rattle.vs_layer.specs.Graph.{arc_of}
 use Rattle.vs_layer.specs.Ends.{end_of, arc_at, first_at}
-use Rattle.vs_path.specs.declared.step.Way.{Way}
-use Rattle.vs_path.specs.declared.step.Way.TheVariants as way
+use Rattle.vs_path.specs.declared.residual.Way.{Way}
+use Rattle.vs_path.specs.declared.residual.Way.TheVariants as way
 use Rattle.vs_path.specs.Residual.{ResidualNet, arc_no, arcs_along, from_of, step_along}
 use Rattle.vs_layer.proofs.CallerLemmas.{first_at-own, first_at-other, length-own, length-other}
 

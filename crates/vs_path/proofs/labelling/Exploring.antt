@@ -3,9 +3,9 @@ use Rattle.std.proofs.Common.{◌≡◌, ◌≢◌, ℕ, zero, suc, ◌<◌, ◌
 use Rattle.std.proofs.lemmas.Bool.{cases_eq}
 use Rattle.std.proofs.lemmas.Int.{ints}
 use Rattle.std.proofs.lemmas.List.{get_or-set_same, get_or-set_other, length-replicate}
-use Rattle.vs_path.specs.declared.step.Step.{Step}
-use Rattle.vs_path.specs.declared.labels.Settled.{Settled}
-use Rattle.vs_path.specs.Keys.{Keys, IsLeast}
+use Rattle.vs_queue.specs.declared.step.Step.{Step}
+use Rattle.vs_queue.specs.declared.node_table.Settled.{Settled}
+use Rattle.vs_queue.specs.Keys.{Keys, IsLeast}
 use Rattle.vs_path.specs.Residual.{ResidualNet}
 use Rattle.vs_path.specs.Labels.{Lists, AreLabels, AreListed, AreFresh, AreRelaxedBut, IsBound, IsFarthest, IsLowered, IsNear, IsReached, IsRelaxed, IsSettledAt, IsUnderWay, Lacks, count_settled, settle_in, settled_at, source_of, waiting_at}
 use Rattle.vs_path.proofs.labelling.Lowering.{lowered-relaxed, lowered-settled}

@@ -4,8 +4,8 @@ use Rattle.std.proofs.lemmas.Bool.{cases_eq}
 use Rattle.std.proofs.lemmas.List.{get_or-set_same, get_or-set_other}
 use Rattle.vs_layer.specs.Graph.{Graph, arc_of}
 use Rattle.vs_path.specs.declared.loads.Loads.{Loads}
-use Rattle.vs_path.specs.declared.step.Way.{Way}
-use Rattle.vs_path.specs.declared.step.Way.TheVariants as way
+use Rattle.vs_path.specs.declared.residual.Way.{Way}
+use Rattle.vs_path.specs.declared.residual.Way.TheVariants as way
 use Rattle.vs_path.specs.Residual.{ResidualNet, IsResidual, arcs_along}
 use Rattle.vs_path.specs.Loads.{AreAlong, AreByNode, AreLoads, IsIn, listed_at, lists_in}
 use Rattle.vs_path.proofs.labelling.ArcsOfNode.{along-all, along-arc}

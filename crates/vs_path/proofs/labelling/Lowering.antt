@@ -3,11 +3,11 @@ use Rattle.std.proofs.Common.{◌≡◌, ◌≢◌, ℕ, ◌<◌, ◌≤◌, ◌
 use Rattle.std.proofs.lemmas.Bool.{cases_eq, cases_lt}
 use Rattle.std.proofs.lemmas.Int.{ints, by_lt_z}
 use Rattle.std.proofs.lemmas.List.{get_or-set_same, get_or-set_other, get_or_default, get_or_past}
-use Rattle.vs_path.specs.declared.step.Step.{Step}
-use Rattle.vs_path.specs.declared.step.Step.TheVariants.{Forward, Back}
+use Rattle.vs_queue.specs.declared.step.Step.{Step}
+use Rattle.vs_queue.specs.declared.step.Step.TheVariants.{Forward, Back}
 use Rattle.vs_path.specs.declared.residual.TheConstants.{MAX_STEP_COST}
-use Rattle.vs_path.specs.declared.labels.Settled.{Settled}
-use Rattle.vs_path.specs.Keys.{IsNotAfter}
+use Rattle.vs_queue.specs.declared.node_table.Settled.{Settled}
+use Rattle.vs_queue.specs.Keys.{IsNotAfter}
 use Rattle.vs_path.specs.Residual.{ResidualNet, IsOpen, IsWithin, AllWithin, HasSignRule, from_of, to_of, cost_of, price_at, reduced}
 use Rattle.vs_path.proofs.labelling.Settling.{order-≤}
 use Rattle.vs_path.specs.Labels.{Lists, AreLabels, IsArrival, Covers, IsBetter, IsBound, IsFarthest, IsLowered, IsNear, IsRelaxed, IsSettledAt, IsSmall, Relaxes, label_of, label_at, lowered, settled_at, source_of, step_at, waiting_at}

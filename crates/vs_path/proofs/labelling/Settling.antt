@@ -4,9 +4,9 @@ use Rattle.std.proofs.Math.ListN.{get_or-append}
 use Rattle.std.proofs.lemmas.Bool.{cases_eq, cases_lt}
 use Rattle.std.proofs.lemmas.Int.{ints}
 use Rattle.std.proofs.lemmas.List.{get_or-set_same, get_or-set_other, get_or_push}
-use Rattle.vs_path.specs.declared.step.Step.{Step}
-use Rattle.vs_path.specs.declared.labels.Settled.{Settled}
-use Rattle.vs_path.specs.Keys.{IsLeast}
+use Rattle.vs_queue.specs.declared.step.Step.{Step}
+use Rattle.vs_queue.specs.declared.node_table.Settled.{Settled}
+use Rattle.vs_queue.specs.Keys.{IsLeast}
 use Rattle.vs_path.specs.Residual.{ResidualNet, from_of, reduced}
 use Rattle.vs_path.specs.Labels.{Lists, AreLabels, AreListed, Covers, IsArrival, IsBound, IsFarthest, IsNear, IsRelaxed, count_settled, label_of, label_at, settle_in, settled_at, source_of, waiting_at}
 

@@ -6,7 +6,7 @@ use Rattle.std.proofs.lemmas.Bool.{cases_lt, cases_eq}
 use Rattle.std.proofs.lemmas.List.{get_or_past}
 use Rattle.vs_layer.specs.Graph.{Graph, arc_of}
 use Rattle.vs_instance.specs.Lagrangian.{total}
-use Rattle.vs_path.specs.declared.step.Step.TheVariants.{Forward, Back}
+use Rattle.vs_queue.specs.declared.step.Step.TheVariants.{Forward, Back}
 use Rattle.vs_path.specs.Residual.{price_at, IsOpen}
 use Rattle.vs_ship.specs.declared.shipment.Shipment.{Shipment}
 use Rattle.vs_ship.specs.Balance.{gained, weighed}

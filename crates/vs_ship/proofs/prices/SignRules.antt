@@ -2,8 +2,8 @@
 use Rattle.std.proofs.Common.{◌≡◌, ◌<◌, List, length, inl, inr, arith, ℤ}
 use Rattle.std.proofs.lemmas.Int.{ints, by_lt_z}
 use Rattle.vs_path.specs.declared.residual.TheConstants.{MAX_STEP_COST}
-use Rattle.vs_path.specs.declared.step.Step.{Step}
-use Rattle.vs_path.specs.declared.step.Step.TheVariants.{Forward, Back}
+use Rattle.vs_queue.specs.declared.step.Step.{Step}
+use Rattle.vs_queue.specs.declared.step.Step.TheVariants.{Forward, Back}
 use Rattle.vs_path.specs.Residual.{ResidualNet, IsResidual, HasSignRule, AllWithin, arc_no, from_of, to_of, price_at}
 use Rattle.vs_path.proofs.CallerLemmas.{cost-within}
 use Rattle.vs_ship.specs.Centring.{AreMeans}

@@ -3,7 +3,7 @@ use Rattle.std.proofs.Common.{ℕ, List, length, get_or, arith, inl, inr}
 use Rattle.std.proofs.lemmas.Bool.{cases_lt}
 use Rattle.vs_layer.specs.Graph.{Graph}
 use Rattle.vs_path.specs.declared.loads.Loads.{Loads}
-use Rattle.vs_path.specs.declared.step.Step.{Step}
+use Rattle.vs_queue.specs.declared.step.Step.{Step}
 use Rattle.vs_path.specs.Loads.{AreLoads}
 use Rattle.vs_ship.specs.Shipments.{AreListedToo, IsSentAlong}
 

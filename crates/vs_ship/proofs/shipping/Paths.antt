@@ -1,8 +1,8 @@
 -- What is known of each step of a path, and what a unit gains along it.
 use Rattle.std.proofs.Common.{◌≡◌, ◌≢◌, ◌<◌, ℕ, zero, suc, List, [], ◌∷◌, length, refl, ap, arith, ℤ, ◌-ℤ◌}
 use Rattle.std.proofs.lemmas.Int.{ints}
-use Rattle.vs_path.specs.declared.step.Step.{Step}
-use Rattle.vs_path.specs.declared.step.Step.TheVariants.{Forward, Back}
+use Rattle.vs_queue.specs.declared.step.Step.{Step}
+use Rattle.vs_queue.specs.declared.step.Step.TheVariants.{Forward, Back}
 use Rattle.vs_path.specs.Residual.{ResidualNet, IsOpen, IsPath, Leads, from_of, to_of, step_in}
 use Rattle.vs_ship.specs.Balance.{step_gain, steps_gain}
 

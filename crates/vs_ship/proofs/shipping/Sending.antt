@@ -6,8 +6,8 @@ use Rattle.std.proofs.lemmas.List.{get_or-set_same, get_or-set_other}
 use Rattle.std.specs.Int.{int_max}
 use Rattle.vs_layer.specs.Graph.{Graph}
 use Rattle.vs_instance.specs.Lagrangian.{total}
-use Rattle.vs_path.specs.declared.step.Step.{Step}
-use Rattle.vs_path.specs.declared.step.Step.TheVariants.{Forward, Back}
+use Rattle.vs_queue.specs.declared.step.Step.{Step}
+use Rattle.vs_queue.specs.declared.step.Step.TheVariants.{Forward, Back}
 use Rattle.vs_path.specs.declared.residual.Costs.{Costs}
 use Rattle.vs_path.specs.declared.residual.TheConstants.{MAX_SEARCH_PRICE, MAX_STEP_COST}
 use Rattle.vs_path.specs.Residual.{ResidualNet, HasSignRule, IsWithin, AllWithin, IsOpen, IsPath, price_at, reduced, step_in}

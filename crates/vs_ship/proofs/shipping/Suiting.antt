@@ -2,7 +2,7 @@
 use Rattle.std.proofs.Common.{arith}
 use Rattle.std.proofs.lemmas.Int.{ints}
 use Rattle.vs_layer.specs.Graph.{Graph}
-use Rattle.vs_path.specs.declared.step.Step.TheVariants.{Forward, Back}
+use Rattle.vs_queue.specs.declared.step.Step.TheVariants.{Forward, Back}
 use Rattle.vs_path.specs.Residual.{HasSignRule}
 use Rattle.vs_ship.specs.declared.shipment.Shipment.{Shipment}
 use Rattle.vs_ship.specs.Shipments.{residual_of}

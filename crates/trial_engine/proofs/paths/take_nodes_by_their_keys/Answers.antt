@@ -1,5 +1,5 @@
 use Rattle.std.proofs.Common.{◌≡◌, ◌∙◌, ℕ, List, Option, None, get_or, replicate, ap, length, length-set}
-use Rattle.vs_path.specs.NodeLists.{NodeLists}
+use Rattle.vs_queue.specs.NodeLists.{NodeLists}
 use Rattle.vs_path.proofs.CallerLemmas.{get_or-none}
 use Rattle.trial_engine.proofs.paths.take_nodes_by_their_keys.Goals as goal
 use Rattle.trial_engine.proofs.paths.take_nodes_by_their_keys.Goals.{then-number-eq0+else-assert_eq}

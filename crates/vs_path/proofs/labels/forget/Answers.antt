@@ -1,7 +1,7 @@
 use Rattle.std.proofs.Common.{◌≡◌, ◌<◌, ◌∙◌, ℕ, List, length, get_or, set, replicate, refl, sym, ap, arith, inl, inr, Option, Some, None, length-set}
 use Rattle.std.proofs.lemmas.Bool.{cases_lt}
-use Rattle.vs_path.specs.declared.labels.Settled.{Settled}
-use Rattle.vs_path.proofs.heap.Emptying.{all-none, emptied-here, emptied-kept, emptied-was}
+use Rattle.vs_queue.specs.declared.node_table.Settled.{Settled}
+use Rattle.vs_queue.proofs.CallerLemmas.{all-none, emptied-here, emptied-kept, emptied-was}
 use Rattle.vs_path.proofs.labels.forget.Goals as goal
 
 -- what was emptied at each place that wasn't empty is empty

@@ -1,5 +1,5 @@
 use Rattle.std.proofs.Common.{◌≡◌, ◌<◌, ℕ, length, get_or, Some, None}
-use Rattle.vs_path.specs.declared.labels.Settled.{Settled}
+use Rattle.vs_queue.specs.declared.node_table.Settled.{Settled}
 use Rattle.vs_path.proofs.labels.forget.Given as goal
 
 abbrev pub invariant-loop-node : goal.invariant-loop-node

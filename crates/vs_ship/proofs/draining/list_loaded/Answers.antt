@@ -1,7 +1,7 @@
 use Rattle.std.proofs.Common.{◌≡◌, ℕ, ◌+◌, ◌∙◌, sym, ap, subst, arith, inl, inr}
 use Rattle.std.proofs.lemmas.Bool.{cases_lt}
 use Rattle.vs_path.specs.declared.loads.Loads.{Loads}
-use Rattle.vs_path.specs.declared.step.Step.TheVariants.{Forward}
+use Rattle.vs_queue.specs.declared.step.Step.TheVariants.{Forward}
 use Rattle.vs_path.specs.Residual.{step_in}
 use Rattle.vs_path.specs.Loads.{IsListed, lists_in}
 use Rattle.vs_ship.specs.Shipments.{AreListedToo}

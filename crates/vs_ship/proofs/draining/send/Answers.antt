@@ -1,6 +1,6 @@
 use Rattle.std.proofs.Common.{◌≡◌, ◌∙◌, ◌<◌, ◌<ℤ◌, pos, length, ℕ, List, ℤ, arith, refl, sym, ap, subst}
 use Rattle.std.proofs.lemmas.List.{with_items_is}
-use Rattle.vs_path.specs.declared.step.Step.{Step}
+use Rattle.vs_queue.specs.declared.step.Step.{Step}
 use Rattle.vs_path.specs.Residual.{ResidualNet, IsPath, arc_no, price_at, step_in}
 use Rattle.vs_path.specs.Loads.{AreLoads}
 use Rattle.vs_path.specs.Labels.{Lacks}

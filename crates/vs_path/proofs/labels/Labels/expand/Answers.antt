@@ -1,6 +1,6 @@
 use Rattle.std.proofs.Common.{rules, SFits, w64}
 use Rattle.std.proofs.lemmas.Int.{to_z-of_z}
-use Rattle.vs_path.specs.declared.step.Step.TheVariants.{Forward}
+use Rattle.vs_queue.specs.declared.step.Step.TheVariants.{Forward}
 use Rattle.vs_path.specs.Labels.{lists_of}
 use Rattle.vs_path.proofs.labelling.Lowering.{both-ways, lowered-relaxed}
 use Rattle.vs_path.proofs.labels.Labels.expand.Goals as goal

@@ -3,7 +3,7 @@ use Rattle.std.proofs.lemmas.List.{length-replicate}
 use Rattle.std.proofs.lemmas.Int.{ints, to_z-of_z}
 use Rattle.std.specs.Prelude.{vec_capacity}
 use lib.Signed.{lt_z}
-use Rattle.vs_path.specs.Keys.{Keys, key_at}
+use Rattle.vs_queue.specs.Keys.{Keys, key_at}
 use Rattle.vs_path.specs.Labels.{Lists, AreLabels, Covers, IsReached, IsSettledAt, IsFarthest, IsLowered, Lacks, lists_of, settle_in}
 use Rattle.vs_path.proofs.labelling.Settling.{room-left}
 use Rattle.vs_path.proofs.labelling.Exploring.{get_or-none, begun_at, is_begun, begun_labels, begun_farthest, begun_settled, begun_relaxed, begun_lack, expanded, next_bound, next_labels, next_relaxed, next_settled, next_farthest, next_from, next_lack, next_reached}

@@ -1,7 +1,7 @@
 use Rattle.std.proofs.Common.{◌≡◌, ◌∙◌, ℕ, ℤ, List, length, set, refl, sym, ap, subst, Option, None, length-set}
 use Rattle.std.proofs.lemmas.List.{with_items_is}
 use Rattle.std.specs.Vec.{with_items}
-use Rattle.vs_path.specs.declared.step.Step.{Step}
+use Rattle.vs_queue.specs.declared.step.Step.{Step}
 use Rattle.vs_path.specs.Labels.{lists_of}
 use Rattle.vs_path.specs.LeastPaths.{LeastPaths, AreLeastPaths, CanCost, IsSized}
 use Rattle.vs_path.proofs.found.LeastCosts.{always-over, are-least, can-cost}

@@ -1,6 +1,6 @@
 use Rattle.std.proofs.Common.{Option, subst, arith, refl, rules, SFits, w64, to_z}
 use Rattle.std.proofs.lemmas.Int.{to_z-of_z}
-use Rattle.vs_path.specs.declared.labels.Settled.{Settled}
+use Rattle.vs_queue.specs.declared.node_table.Settled.{Settled}
 use Rattle.vs_path.specs.Labels.{lists_of, settled_at}
 use Rattle.vs_path.specs.Raising.{IsGreater}
 use Rattle.vs_path.proofs.raised.RaisingUpTo.{greatest-all, greatest-more, greatest-none}

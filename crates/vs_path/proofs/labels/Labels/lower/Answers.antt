@@ -1,6 +1,6 @@
 use Rattle.std.proofs.Common.{refl, rules, SFits, w64}
 use Rattle.std.proofs.lemmas.Int.{to_z-of_z}
-use Rattle.vs_path.specs.Keys.{key_at}
+use Rattle.vs_queue.specs.Keys.{key_at}
 use Rattle.vs_path.specs.Labels.{Lists, lists_of, lowered}
 use Rattle.vs_path.proofs.labelling.Exploring.{lists-same}
 use Rattle.vs_path.proofs.labelling.Lowering.{better-not_after}

@@ -1,6 +1,6 @@
 use Rattle.std.proofs.Common.{◌≡◌, ◌<◌, ◌+◌, ◌∙◌, ◌-ℤ◌, ℕ, ℤ, List, length, get_or, set, sym, ap, subst, arith, rules, Some, None, SFits, w64}
 use Rattle.std.proofs.lemmas.Int.{to_z-of_z}
-use Rattle.vs_path.specs.declared.labels.Settled.{Settled}
+use Rattle.vs_queue.specs.declared.node_table.Settled.{Settled}
 use Rattle.vs_path.specs.Residual.{price_at}
 use Rattle.vs_path.specs.Labels.{lists_of, settled_at}
 use Rattle.vs_path.specs.Search.{AreMoved}

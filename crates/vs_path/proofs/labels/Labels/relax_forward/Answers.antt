@@ -1,7 +1,7 @@
 use Rattle.std.proofs.Common.{◌≡◌, ℕ, ◌∙◌, sym, subst, rules, arith, inl, inr, SFits, w64, to_z, of_z, refl, get_or}
 use Rattle.std.proofs.lemmas.Bool.{cases_lt}
 use Rattle.std.proofs.lemmas.Int.{to_z-of_z}
-use Rattle.vs_path.specs.declared.step.Step.TheVariants.{Forward}
+use Rattle.vs_queue.specs.declared.step.Step.TheVariants.{Forward}
 use Rattle.vs_path.specs.Labels.{IsRelaxed, IsSettledAt, lists_of}
 use Rattle.vs_path.proofs.labelling.Lowering.{lowered-on, lowered-settled, lowered-relaxed}
 use Rattle.vs_path.proofs.labels.Labels.relax_forward.Goals as goal

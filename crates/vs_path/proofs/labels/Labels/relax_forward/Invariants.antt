@@ -1,5 +1,5 @@
 use Rattle.std.proofs.Common.{◌≡◌, ℕ, ◌<◌, get_or}
-use Rattle.vs_path.specs.declared.step.Step.TheVariants.{Forward}
+use Rattle.vs_queue.specs.declared.step.Step.TheVariants.{Forward}
 use Rattle.vs_path.specs.Labels.{AreLabels, IsBound, IsLowered, IsRelaxed, lists_of}
 use Rattle.vs_path.proofs.labels.Labels.relax_forward.Given as goal
 

@@ -1,7 +1,7 @@
 use Rattle.std.proofs.Common.{◌∙◌, length, ap, arith, None, length-set}
-use Rattle.vs_path.specs.Keys.{Keys, key_at}
+use Rattle.vs_queue.specs.Keys.{Keys, key_at}
 use Rattle.vs_path.specs.Labels.{lists_of}
-use Rattle.vs_path.proofs.heap.Emptying.{emptied-here}
+use Rattle.vs_queue.proofs.CallerLemmas.{emptied-here}
 use Rattle.vs_path.proofs.labelling.Settling.{room-left}
 use Rattle.vs_path.proofs.labels.Labels.settle_next.Goals as goal
 

@@ -1,6 +1,6 @@
 use Rattle.std.proofs.Common.{rules, ◌≡◌, ◌≢◌, ◌<◌, ◌∙◌, ℕ, List, [], ◌∷◌, ◌++◌, length, get_or, sym, ap, subst, arith, Some}
 use Rattle.std.proofs.lemmas.List.{get_or_default}
-use Rattle.vs_path.specs.declared.step.Step.{Step}
+use Rattle.vs_queue.specs.declared.step.Step.{Step}
 use Rattle.vs_path.specs.Labels.{Lists, lists_of, settled_at, source_of, step_at}
 use Rattle.vs_path.proofs.labelling.Settling.{order-≤}
 use Rattle.vs_path.proofs.found.Moving.{node-<}

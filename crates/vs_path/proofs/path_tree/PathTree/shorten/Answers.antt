@@ -1,6 +1,6 @@
 use Rattle.std.proofs.Common.{◌≡◌, ◌<◌, ◌∙◌, ◌+ℤ◌, ◌<ℤ◌, ℤ, ℕ, refl, sym, ap, subst, arith, rules, Some, SFits, w64, length, true, false}
 use Rattle.std.proofs.lemmas.Int.{to_z-of_z}
-use Rattle.vs_path.specs.declared.step.Step.{Step}
+use Rattle.vs_queue.specs.declared.step.Step.{Step}
 use Rattle.vs_path.specs.Residual.{from_of, to_of}
 use Rattle.vs_path.specs.LeastPaths.{LeastPaths, distance_at}
 use Rattle.vs_path.specs.PathTree.{IsNoShorter, IsPathTree, paths_of, shortened, weight}

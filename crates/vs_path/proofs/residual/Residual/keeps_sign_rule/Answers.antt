@@ -1,7 +1,7 @@
 use Rattle.std.proofs.Common.{◌≡◌, ◌∙◌, sym, ◌<◌, ◌+◌, ◌≤ℤ◌, ℕ, pos, true, false, subst, arith, inl, inr}
 use Rattle.std.proofs.lemmas.Bool.{cases_lt}
-use Rattle.vs_path.specs.declared.step.Step.{Step}
-use Rattle.vs_path.specs.declared.step.Step.TheVariants.{Forward, Back}
+use Rattle.vs_queue.specs.declared.step.Step.{Step}
+use Rattle.vs_queue.specs.declared.step.Step.TheVariants.{Forward, Back}
 use Rattle.vs_path.specs.Residual.{ResidualNet, IsOpen, arc_no, reduced}
 use Rattle.std.proofs.Common.{List, ℤ}
 use Rattle.vs_path.proofs.residual.Residual.keeps_sign_rule.Goals as goal

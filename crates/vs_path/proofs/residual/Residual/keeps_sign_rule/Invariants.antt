@@ -1,5 +1,5 @@
 use Rattle.std.proofs.Common.{◌≤ℤ◌, ◌<◌, pos}
-use Rattle.vs_path.specs.declared.step.Step.{Step}
+use Rattle.vs_queue.specs.declared.step.Step.{Step}
 use Rattle.vs_path.specs.Residual.{IsOpen, arc_no, reduced}
 use Rattle.vs_path.proofs.residual.Residual.keeps_sign_rule.Given as goal
 

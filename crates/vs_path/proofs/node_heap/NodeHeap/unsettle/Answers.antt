@@ -1,9 +1,0 @@
-use Rattle.std.proofs.Common.{sym, subst}
-use Rattle.vs_path.specs.Keys.{Keys}
-use Rattle.vs_path.specs.Queues.{IsQueue}
-use Rattle.vs_path.proofs.node_heap.NodeHeap.unsettle.Goals as goal
-
-pub invariant_of-self : goal.invariant_of-self
-invariant_of-self c =
-    let P : Keys → Type 0 = λ keys. IsQueue keys c.self.inside.queue in
-    subst P (sym c.take_place.ensures.waiting) c.self.invariant

@@ -1,0 +1,160 @@
+-- Records of nodes, and the lists that they are by node.
+use Rattle.std.proofs.Common.{◌≡◌, ℕ, zero, suc, ◌<◌, ◌∙◌, List, ◌∷◌, length, get_or, set, map, replicate, refl, sym, ap, arith, Option, Some, None, ℤ}
+use Rattle.std.proofs.lemmas.List.{get_or-map, length-map, map-set, set-get_or}
+use Rattle.vs_queue.specs.declared.node_table.Settled.{Settled}
+use Rattle.vs_queue.specs.declared.node_table.Mark.{Mark}
+use Rattle.vs_queue.specs.declared.node_table.Mark.TheVariants.{Unknown, Waits, Placed}
+use Rattle.vs_queue.specs.declared.node_table.NodeRecord.{NodeRecord}
+use Rattle.vs_queue.specs.declared.step.Step.{Step}
+use Rattle.vs_queue.specs.Keys.{Keys, key_at}
+use Rattle.vs_queue.specs.NodeLists.{NodeLists, key_by, key_of, lists_by_node, settled_by, settled_of, step_of, without_key, without_place}
+
+-- a list of one value, mapped
+pub map-replicate : {X Y : Type 0} (f : X → Y) (n : ℕ) (x : X) → map f (replicate n x) ≡ replicate n (f x)
+map-replicate f zero x = refl
+map-replicate f (suc n) x = ap (λ ys. f x ∷ ys) (map-replicate f n x)
+
+-- a mark without a key, and without a place
+key-left : (m : Mark) (d : ℤ) → key_by (without_key m) d ≡ None
+key-left Unknown d = refl
+key-left Waits d = refl
+key-left (Placed place) d = refl
+
+settled-kept : (m : Mark) (d : ℤ) → settled_by m d ≡ settled_by (without_key m) d
+settled-kept Unknown d = refl
+settled-kept Waits d = refl
+settled-kept (Placed place) d = refl
+
+settled-left : (m : Mark) (d : ℤ) → settled_by (without_place m) d ≡ None
+settled-left Unknown d = refl
+settled-left Waits d = refl
+settled-left (Placed place) d = refl
+
+key-kept : (m : Mark) (d : ℤ) → key_by m d ≡ key_by (without_place m) d
+key-kept Unknown d = refl
+key-kept Waits d = refl
+key-kept (Placed place) d = refl
+
+-- three lists of which each is the same are the same
+same-by : (a b : NodeLists) → a.settled ≡ b.settled → a.waiting ≡ b.waiting → a.steps ≡ b.steps → a ≡ b
+same-by a b settled waiting steps =
+    ap (λ (s : List (Option Settled)). record { settled = s; waiting = a.waiting; steps = a.steps }) settled
+    ∙ ap (λ (k : Keys). record { settled = b.settled; waiting = k; steps = a.steps }) waiting
+    ∙ ap (λ (s : List (Option Step)). record { settled = b.settled; waiting = b.waiting; steps = s }) steps
+
+-- where records have these lists by node
+module _ (ns : List NodeRecord) (l : NodeLists) (same : lists_by_node ns ≡ l) where
+  pub same-settled : map settled_of ns ≡ l.settled
+  same-settled = ap (λ (k : NodeLists). k.settled) same
+
+  pub same-waiting : map key_of ns ≡ l.waiting
+  same-waiting = ap (λ (k : NodeLists). k.waiting) same
+
+  pub same-steps : map step_of ns ≡ l.steps
+  same-steps = ap (λ (k : NodeLists). k.steps) same
+
+  pub count-settled : length ns ≡ length l.settled
+  count-settled = let e = ap length same-settled in omega (arith, e, length-map ns settled_of)
+
+  pub count-waiting : length ns ≡ length l.waiting
+  count-waiting = let e = ap length same-waiting in omega (arith, e, length-map ns key_of)
+
+  pub count-steps : length ns ≡ length l.steps
+  count-steps = let e = ap length same-steps in omega (arith, e, length-map ns step_of)
+
+  -- what stands in the lists at the node of a record
+  module _ (v : ℕ) (n : NodeRecord) (within : v < length ns) (is : n ≡ get_or ns v n) where
+    pub read-settled : get_or l.settled v None ≡ settled_of n
+    read-settled =
+        ap (λ (s : List (Option Settled)). get_or s v None) (sym same-settled)
+        ∙ get_or-map settled_of ns v n None within ∙ ap settled_of (sym is)
+
+    pub read-key : key_at l.waiting v ≡ key_of n
+    read-key =
+        ap (λ (k : Keys). key_at k v) (sym same-waiting)
+        ∙ get_or-map key_of ns v n None within ∙ ap key_of (sym is)
+
+    pub read-step : get_or l.steps v None ≡ Some n.step
+    read-step =
+        ap (λ (s : List (Option Step)). get_or s v None) (sym same-steps)
+        ∙ get_or-map step_of ns v n None within ∙ ap step_of (sym is)
+
+  -- what the lists are once a record is put in
+  module _ (v : ℕ) (n : NodeRecord) where
+    put-settled : map settled_of (set ns v n) ≡ set l.settled v (settled_of n)
+    put-settled = map-set settled_of ns v n ∙ ap (λ (s : List (Option Settled)). set s v (settled_of n)) same-settled
+
+    put-waiting : map key_of (set ns v n) ≡ set l.waiting v (key_of n)
+    put-waiting = map-set key_of ns v n ∙ ap (λ (k : Keys). set k v (key_of n)) same-waiting
+
+    put-steps : map step_of (set ns v n) ≡ set l.steps v (Some n.step)
+    put-steps = map-set step_of ns v n ∙ ap (λ (s : List (Option Step)). set s v (Some n.step)) same-steps
+
+    kept-settled : get_or l.settled v None ≡ settled_of n → map settled_of (set ns v n) ≡ l.settled
+    kept-settled has =
+        put-settled ∙ ap (λ (o : Option Settled). set l.settled v o) (sym has) ∙ set-get_or l.settled v None
+
+    kept-waiting : key_at l.waiting v ≡ key_of n → map key_of (set ns v n) ≡ l.waiting
+    kept-waiting has =
+        put-waiting ∙ ap (λ (o : Option ℤ). set l.waiting v o) (sym has) ∙ set-get_or l.waiting v None
+
+    kept-steps : get_or l.steps v None ≡ Some n.step → map step_of (set ns v n) ≡ l.steps
+    kept-steps has =
+        put-steps ∙ ap (λ (o : Option Step). set l.steps v o) (sym has) ∙ set-get_or l.steps v None
+
+  -- a node that isn't settled waits
+  pub lists-waiting : (v : ℕ) (key : ℤ) (step : Step) → get_or l.settled v None ≡ None
+      → lists_by_node (set ns v (record { distance = key; step = step; mark = Waits }))
+      ≡ record { settled = l.settled; waiting = set l.waiting v (Some key); steps = set l.steps v (Some step) }
+  lists-waiting v key step unsettled =
+      let n : NodeRecord = record { distance = key; step = step; mark = Waits } in
+      same-by (lists_by_node (set ns v n))
+      (record { settled = l.settled; waiting = set l.waiting v (Some key); steps = set l.steps v (Some step) })
+      (kept-settled v n unsettled) (put-waiting v n) (put-steps v n)
+
+  module _ (v : ℕ) (known : NodeRecord) (within : v < length l.waiting) (is : known ≡ get_or ns v known) where
+    inside : v < length ns
+    inside = omega (arith, within, count-waiting)
+
+    -- a node that doesn't wait is settled
+    pub lists-settled : (settled : Settled) → key_at l.waiting v ≡ None
+        → lists_by_node
+        (set ns v (record { distance = settled.distance; step = known.step; mark = Placed settled.place }))
+        ≡ record { settled = set l.settled v (Some settled); waiting = l.waiting; steps = l.steps }
+    lists-settled settled taken =
+        let n : NodeRecord =
+        record { distance = settled.distance; step = known.step; mark = Placed settled.place } in
+        same-by (lists_by_node (set ns v n))
+        (record { settled = set l.settled v (Some settled); waiting = l.waiting; steps = l.steps })
+        (put-settled v n) (kept-waiting v n taken) (kept-steps v n (read-step v known inside is))
+
+    -- the key of a node is taken
+    pub lists-without_key : (m : Mark) → m ≡ without_key known.mark
+        → lists_by_node (set ns v (record { distance = known.distance; step = known.step; mark = m }))
+        ≡ record { settled = l.settled; waiting = set l.waiting v None; steps = l.steps }
+    lists-without_key m left =
+        let d = known.distance in
+        let n : NodeRecord = record { distance = d; step = known.step; mark = m } in
+        same-by (lists_by_node (set ns v n))
+        (record { settled = l.settled; waiting = set l.waiting v None; steps = l.steps })
+        (kept-settled v n
+        (read-settled v known inside is ∙ settled-kept known.mark d ∙ ap (λ (k : Mark). settled_by k d) (sym left)))
+        (put-waiting v n
+        ∙ ap (λ (o : Option ℤ). set l.waiting v o) (ap (λ (k : Mark). key_by k d) left ∙ key-left known.mark d))
+        (kept-steps v n (read-step v known inside is))
+
+    -- its place is
+    pub lists-without_place : (m : Mark) → m ≡ without_place known.mark
+        → lists_by_node (set ns v (record { distance = known.distance; step = known.step; mark = m }))
+        ≡ record { settled = set l.settled v None; waiting = l.waiting; steps = l.steps }
+    lists-without_place m left =
+        let d = known.distance in
+        let n : NodeRecord = record { distance = d; step = known.step; mark = m } in
+        same-by (lists_by_node (set ns v n))
+        (record { settled = set l.settled v None; waiting = l.waiting; steps = l.steps })
+        (put-settled v n
+        ∙ ap (λ (o : Option Settled). set l.settled v o)
+        (ap (λ (k : Mark). settled_by k d) left ∙ settled-left known.mark d))
+        (kept-waiting v n
+        (read-key v known inside is ∙ key-kept known.mark d ∙ ap (λ (k : Mark). key_by k d) (sym left)))
+        (kept-steps v n (read-step v known inside is))

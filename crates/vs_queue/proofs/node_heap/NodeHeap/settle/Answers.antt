@@ -1,0 +1,9 @@
+use Rattle.std.proofs.Common.{sym, subst}
+use Rattle.vs_queue.specs.Keys.{Keys}
+use Rattle.vs_queue.specs.Queues.{IsQueue}
+use Rattle.vs_queue.proofs.node_heap.NodeHeap.settle.Goals as goal
+
+pub invariant_of-self : goal.invariant_of-self
+invariant_of-self c =
+    let P : Keys → Type 0 = λ keys. IsQueue keys c.self.inside.queue in
+    subst P (sym c.settle.ensures.waiting) c.self.invariant
