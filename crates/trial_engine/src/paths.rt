@@ -81,7 +81,10 @@ fn may_search(net: &Net, flow: &Flow, costs: &Costs, prices: &[i64]) -> bool
 {
     let residual = Residual::new(net, flow, costs, net.arcs() - 1);
     sign_rule_leaves_no_negative_cycle();
-    if !residual.is_small(prices) {
+    if !residual.has_path_costs() {
+        return false;
+    }
+    if prices.len() != net.nodes() as usize {
         return false;
     }
     residual.keeps_sign_rule(prices)
@@ -91,8 +94,9 @@ fn may_search(net: &Net, flow: &Flow, costs: &Costs, prices: &[i64]) -> bool
 type Last = (Reach, Option<i64>, Option<(u32, bool)>);
 
 /// What arcs cost, how many units have room on them, prices that keep the sign rule, and what becomes of the last node.
-/// The second costs less over an arc of less than nothing; in the third no arc from node 0 has room.
-const LAST_NODES: [([i64; 4], [u32; 4], [i64; 3], Last); 3] = [
+/// The second costs less over an arc of less than nothing; in the third no arc from node 0 has room. The last ones cost
+/// as much as an arc may.
+const LAST_NODES: [([i64; 4], [u32; 4], [i64; 3], Last); 5] = [
     (
         [2, 3, 9, 0],
         [1; 4],
@@ -106,27 +110,62 @@ const LAST_NODES: [([i64; 4], [u32; 4], [i64; 3], Last); 3] = [
         (Reach::Reached, Some(-1), Some((1, true))),
     ),
     ([2, 3, 9, 0], [0, 1, 0, 1], [0; 3], (Reach::Cut, None, None)),
+    (
+        [MOST, MOST, MOST, 0],
+        [1; 4],
+        [0, MOST, MOST],
+        (Reach::Reached, Some(MOST), Some((2, true))),
+    ),
+    (
+        [MOST, -MOST, MOST, 0],
+        [1; 4],
+        [0, MOST, 0],
+        (Reach::Reached, Some(0), Some((1, true))),
+    ),
 ];
 
-fn last_node(
+/// The greatest cost of an arc.
+const MOST: i64 = MAX_PATH_ARC_COST;
+
+/// The last node, once its paths are found.
+fn last_of(example: &Example, paths: &mut Paths) -> Last
+    requires nodes { example.now.net.nodes ≡ 3 }
+    requires arcs { length example.now.net.arcs ≡ 4 }
+    requires units { length example.now.flow.units.items ≡ 4 }
+    requires cost { length example.now.costs.cost.items ≡ 4 }
+    requires room { length example.now.costs.room.items ≡ 4 }
+    requires few { AllWithin MAX_PATH_ARC_COST example.now.costs.cost.items }
+    requires no_negative { HasNoNegativeCycle
+        (without_return example.now.net example.now.flow example.now.costs) }
+    requires paths { length paths.old.distances ≡ 3 }
+    requires steps { length paths.old.steps ≡ 3 }
+    ensures paths { length paths.new.distances ≡ 3 }
+    ensures steps { length paths.new.steps ≡ 3 }
+{
+    let reach = distances(&example.net, &example.flow, &example.costs, paths);
+    (reach, paths.distance(2), paths.step(2))
+}
+
+/// The last node as it is found first, and then by what nodes cost the first time.
+fn last_nodes(
     alloc: Global,
     cost: [i64; 4],
     room: [u32; 4],
     prices: [i64; 3],
-) -> Result<Last, Fail> {
+) -> Result<(Last, Last), Fail> {
     let example = made(alloc, [0; 4], cost, room)?;
     if !may_search(&example.net, &example.flow, &example.costs, &prices) {
         return Err(Fail::new("prices that don't keep the sign rule"));
     }
     let mut paths = Paths::new(alloc, &example.net)?;
-    let reach = distances(&example.net, &example.flow, &example.costs, &mut paths);
-    Ok((reach, paths.distance(2), paths.step(2)))
+    let first = last_of(&example, &mut paths);
+    Ok((first, last_of(&example, &mut paths)))
 }
 
 #[test]
 fn lead_to_the_last_node(rt: HostRuntime) -> Result<(), Fail> {
     for (cost, room, prices, wanted) in LAST_NODES {
-        assert_eq!(rt; last_node(rt.alloc(), cost, room, prices)?, wanted);
+        assert_eq!(rt; last_nodes(rt.alloc(), cost, room, prices)?, (wanted, wanted));
     }
     Ok(())
 }

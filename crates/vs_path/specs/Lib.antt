@@ -5,6 +5,7 @@ pub mod Search
 pub mod Searchable
 pub mod LeastPaths
 pub mod PathTree
+pub mod Waiting
 pub mod Distances
 pub mod Raising
 pub mod Laws

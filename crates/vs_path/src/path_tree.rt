@@ -31,20 +31,17 @@ impl PathTree {
         })
     }
 
-    /// Finds least paths from node 0 by correcting what nodes cost, until no step makes one cost less (Ford 1956,
-    /// Bellman 1958). Some costs may be negative.
+    /// Corrects what nodes cost, until no step makes one cost less (Ford 1956, Bellman 1958). Some costs may be negative.
     pub fn correct(&mut self, residual: &Residual)
         requires can { CanCorrect residual.now }
-        requires size { IsSized residual.now.graph.nodes (paths_of self.old) }
-        requires some { 0 < residual.now.graph.nodes }
+        requires tree { IsPathTree residual.now 0 (paths_of self.old) }
         ensures { AreLeastPaths residual.now 0 (paths_of self.new) }
     {
-        self.begin();
         while self.pass(residual) {}
     }
 
     /// Leaves a path to node 0 alone.
-    fn begin(&mut self)
+    pub fn begin(&mut self)
         requires { 0 < length self.old.distances.items }
         ensures distances { self.new.distances.items
             ≡ set (replicate (length self.old.distances.items) None) 0 (Some (pos 0)) }
@@ -85,7 +82,7 @@ impl PathTree {
     }
 
     /// Gives the node that a step reaches what it costs along the step, where that is less. Whether it is.
-    fn shorten(&mut self, residual: &Residual, step: Step) -> bool
+    pub fn shorten(&mut self, residual: &Residual, step: Step) -> bool
         requires arc { arc_no step < length residual.now.graph.arcs }
         requires can { CanCorrect residual.now }
         requires tree { IsPathTree residual.now 0 (paths_of self.old) }

@@ -8,20 +8,22 @@ ghost use Rattle.vs_path.specs.PathTree.{CanCorrect};
 
 use crate::labels::Labels;
 use crate::path_tree::PathTree;
-use crate::residual::{MAX_SEARCH_PRICE, Residual};
+use crate::residual::Residual;
 use std::alloc::Global;
 use std::marker::Model;
 use vs_layer::Net;
-use vs_queue::Step;
+use vs_queue::{NodeHeap, Step};
 use vs_types::Memory;
 
 /// Least paths from a node to all others.
 #[derive(Drop)]
 pub struct Paths {
     labels: Labels,
+    /// The nodes along whose steps costs are to fall.
+    heap: NodeHeap,
     /// What was found last.
     tree: PathTree,
-    /// By node the price that a search from node 0 begins with.
+    /// By node what a path from node 0 cost the last time, the prices that are tried first.
     prices: Vec<i64>,
     /// By node 0: no node lacks a unit, so a search goes on to the end.
     zeros: Vec<i64>,
@@ -37,7 +39,7 @@ impl Model for Paths {
 
     ghost view = { λ p. paths_of p.tree };
 
-    ghost invariant = { λ p. CanFindAll p.labels (vec_capacity p.labels.order) (paths_of p.tree)
+    ghost invariant = { λ p. CanFindAll p.labels (vec_capacity p.labels.order) p.heap (paths_of p.tree)
         p.prices.items p.zeros.items };
 }
 
@@ -48,11 +50,13 @@ impl Paths {
     {
         let nodes = net.nodes();
         let labels = Labels::new(alloc, nodes)?;
+        let heap = NodeHeap::new(alloc, nodes)?;
         let tree = PathTree::new(alloc, nodes)?;
         let prices = vec![in alloc; 0; nodes as usize]?;
         let zeros = vec![in alloc; 0; nodes as usize]?;
         Ok(Paths {
             labels,
+            heap,
             tree,
             prices,
             zeros,
@@ -71,19 +75,20 @@ impl Paths {
             .find_paths(residual, prices, &self.zeros, source, &mut self.tree);
     }
 
-    /// Finds the least paths from node 0: by the costs that were found before as prices, where they still keep the sign
-    /// rule, else by correcting costs along all arcs.
+    /// Finds the least paths from node 0. The nodes that cost least less their prices come first, by what nodes cost the
+    /// last time as prices where these still keep the sign rule, else by prices of 0; what is left to correct then is
+    /// corrected along all arcs.
     pub fn find_from_first(&mut self, residual: &Residual)
         requires nodes { length self.old.distances ≡ residual.now.graph.nodes }
         requires some { 0 < residual.now.graph.nodes }
         requires can { CanCorrect residual.now }
         ensures { AreLeastPaths residual.now 0 self.new }
     {
-        if residual.is_small(&self.prices) && residual.keeps_sign_rule(&self.prices) {
-            self.labels
-                .find_paths(residual, &self.prices, &self.zeros, 0, &mut self.tree);
+        let heap = &mut self.heap;
+        if residual.keeps_sign_rule(&self.prices) {
+            self.tree.find(residual, &self.prices, heap);
         } else {
-            self.tree.correct(residual);
+            self.tree.find(residual, &self.zeros, heap);
         }
         keep_costs(&self.tree.distances, &mut self.prices);
     }
@@ -114,6 +119,6 @@ impl Paths {
 /// one that is reached breaks the sign rule.
 fn keep_costs(distances: &[Option<i64>], prices: &mut [i64]) {
     for (price, distance) in prices.iter_mut().zip(distances) {
-        *price = distance.unwrap_or(MAX_SEARCH_PRICE);
+        *price = distance.unwrap_or(i64::MAX);
     }
 }

@@ -1,10 +1,10 @@
 //! A net whose arcs carry units: which steps a unit more can take, and what they cost.
 
-ghost use Rattle.std.specs.Prelude.{◌≡◌, ◌<◌, ◌≤◌, ◌↔◌, ◌≤ℤ◌, pos, length, IsTrue};
+ghost use Rattle.std.specs.Prelude.{◌≡◌, ◌<◌, ◌≤◌, ◌↔◌, ◌≤ℤ◌, ◌+ℤ◌, ◌-ℤ◌, ◌^◌, pos, length, IsTrue};
 ghost use Rattle.vs_path.specs.Labels.{IsSmall};
 ghost use Rattle.vs_path.specs.Loads.{AreAlong, AreLoads};
 ghost use Rattle.vs_path.specs.declared.residual.Way.TheVariants.{Back};
-ghost use Rattle.vs_path.specs.Residual.{HasSignRule, IsResidual, IsOpen, IsWithin, AllWithin, arc_no, arcs_along, from_of, to_of, cost_of, reduced};
+ghost use Rattle.vs_path.specs.Residual.{HasSignRule, IsResidual, IsOpen, IsWithin, AllWithin, arc_no, arcs_along, from_of, to_of, cost_of, reduced, step_along};
 
 use crate::loads::Loads;
 use std::marker::Model;
@@ -39,6 +39,18 @@ pub struct Costs {
 pub enum Way {
     Forward,
     Back,
+}
+
+impl Way {
+    /// The step that goes this way along an arc.
+    pub fn step(self, arc: u32) -> Step
+        ensures { result ≡ step_along self arc }
+    {
+        match self {
+            Way::Forward => Step::Forward(arc),
+            Way::Back => Step::Back(arc),
+        }
+    }
 }
 
 /// A net whose arcs carry units: which steps a unit more can take, and what they cost.
@@ -188,17 +200,27 @@ impl<'a> Residual<'a> {
         }
     }
 
+    /// What a step costs, whatever it is.
+    fn wide_cost(&self, step: Step) -> i128
+        requires { arc_no step < length self.now.graph.arcs }
+        ensures cost { result ≡ cost_of self.now step }
+        ensures few { IsWithin (pos (2 ^ 63)) result }
+    {
+        match step {
+            Step::Forward(k) => i128::from(self.cost[k as usize]),
+            Step::Back(k) => -i128::from(self.cost[k as usize]),
+        }
+    }
+
     /// What a step costs, with the price of the node that it leaves, less that of the node that it reaches.
-    pub fn reduced(&self, prices: &[i64], step: Step) -> i64
+    pub fn reduced(&self, prices: &[i64], step: Step) -> i128
         requires arc { arc_no step < length self.now.graph.arcs }
-        requires cost { AllWithin MAX_STEP_COST self.now.cost }
         requires each_node { length prices.now ≡ self.now.graph.nodes }
-        requires prices { AllWithin MAX_SEARCH_PRICE prices.now }
         ensures { result ≡ reduced self.now prices.now step }
     {
         let from = prices[self.from(step) as usize];
         let to = prices[self.to(step) as usize];
-        self.cost(step) + from - to
+        above(self.wide_cost(step), from, to)
     }
 
     /// The numbers of the arcs along which steps that go this way leave a node, in order.
@@ -249,9 +271,16 @@ impl<'a> Residual<'a> {
         all_within(self.cost, MAX_STEP_COST) && all_within(prices, MAX_SEARCH_PRICE)
     }
 
+    /// Whether each arc costs little enough for `distances`.
+    pub fn has_path_costs(&self) -> bool
+        ensures { IsTrue result ↔ AllWithin MAX_PATH_ARC_COST self.now.cost }
+    {
+        all_within(self.cost, MAX_PATH_ARC_COST)
+    }
+
     /// Whether no residual step has a negative reduced cost.
     pub fn keeps_sign_rule(&self, prices: &[i64]) -> bool
-        requires { IsSmall self.now prices.now }
+        requires { length prices.now ≡ self.now.graph.nodes }
         ensures { IsTrue result ↔ HasSignRule self.now prices.now }
     {
         for k in 0..self.arcs {
@@ -270,12 +299,20 @@ impl<'a> Residual<'a> {
     /// Whether a step has no negative reduced cost, or no unit may take it.
     fn is_kept(&self, prices: &[i64], step: Step) -> bool
         requires arc { arc_no step < length self.now.graph.arcs }
-        requires small { IsSmall self.now prices.now }
+        requires each_node { length prices.now ≡ self.now.graph.nodes }
         ensures { IsTrue result
             ↔ (IsOpen self.now step → pos 0 ≤ℤ reduced self.now prices.now step) }
     {
         !self.is_open(step) || 0 <= self.reduced(prices, step)
     }
+}
+
+/// A cost with one price, less another. In 128 bits, since three numbers of 64 can add up to more than 64 have.
+fn above(cost: i128, from: i64, to: i64) -> i128
+    requires { IsWithin (pos (2 ^ 63)) cost }
+    ensures { result ≡ (cost +ℤ from) -ℤ to }
+{
+    cost + i128::from(from) - i128::from(to)
 }
 
 /// Whether each number is at most so far from 0.

@@ -8,8 +8,7 @@ use Rattle.trial_engine.proofs.paths.may_search.Goals as goal
 
 pub returns-clause-few : goal.returns-clause-few
 returns-clause-few c = λ yes i.
-    let small = c.is_small.ensures.0 c.if-not-is_small.false in
-    let own = small.cost i in
+    let own = c.has_path_costs.ensures.0 c.if-not-has_path_costs.false i in
     let same : get_or c.new-residual.result.cost i (pos 0) ≡ get_or c.args.costs.now.cost.items i (pos 0) =
     ap (λ (r : ResidualNet). get_or r.cost i (pos 0)) c.new-residual.ensures in
     subst (λ (z : ℤ). IsWithin MAX_PATH_ARC_COST z) same

@@ -10,20 +10,4 @@ returns c =
     let p = c.args.prices.now in
     let from : price_at p c.from.result ≡ price_at p (from_of r s) = ap (price_at p) c.from.ensures.node in
     let to : price_at p c.to.result ≡ price_at p (to_of r s) = ap (price_at p) c.to.ensures.node in
-    omega (
-      arith,
-      ints,
-      c.cost.ensures.cost,
-      from,
-      to,
-      c.requires.prices c.from.result,
-      c.requires.prices
-          c.to.result,
-      c.cost.ensures.few,
-    )
-
-pub overflow_sub-result : goal.overflow_sub-result
-overflow_sub-result c =
-    let from = c.requires.prices c.from.result in
-    let to = c.requires.prices c.to.result in
-    omega (arith, ints, c.cost.ensures.few, from.low, from.high, to.low, to.high)
+    omega (arith, ints, c.wide_cost.ensures.cost, from, to, c.above.ensures)
