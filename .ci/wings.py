@@ -2,8 +2,8 @@
 """Fails where the audit stands on the search: where crates.txt has a crate of the audit above one that searches.
 
 What judges a document has to trust nothing of what made it. So nothing below `vs_check` and `vs_peakcheck`, which judge, may be a crate of
-the search, of threads or of atomics, whatever way leads there; and nothing below `vs_report`, `vs_reason` and
-`vs_refusal`, which tell what was found, and below `example_judge`, which shows callers how a plan is judged.
+the search, of threads or of atomics, whatever way leads there; and nothing below `vs_reply`, `vs_report`, `vs_reason`
+and `vs_refusal`, which tell what was found, and below `example_judge`, which shows callers how a plan is judged.
 """
 
 import os
@@ -13,8 +13,8 @@ TOP = os.path.dirname(os.path.dirname(os.path.abspath(__file__)))
 
 # What judges or writes what was found, and what it may never stand on.
 AUDIT = [
-    "vs_report", "vs_reason", "vs_refusal", "vs_check", "vs_peakcheck", "vs_document", "vs_rows", "vs_cases", "vs_need",
-    "vs_counting", "vs_reader", "vs_plan", "vs_prices", "vs_match", "example_judge",
+    "vs_reply", "vs_report", "vs_reason", "vs_refusal", "vs_check", "vs_peakcheck", "vs_document", "vs_rows", "vs_cases",
+    "vs_need", "vs_counting", "vs_reader", "vs_plan", "vs_prices", "vs_match", "example_judge",
 ]
 SEARCH = {
     "vs_queue", "vs_path", "vs_ship", "vs_circ", "vs_decomp", "vs_multi", "vs_cuts", "vs_bundle", "vs_node", "vs_ray",

@@ -15,10 +15,11 @@ use Rattle.vs_prices.specs.declared.table.Table.{Table}
 use Rattle.vs_cases.specs.Claims.{claim_found}
 use Rattle.vs_prices.specs.Worth.{IsWorth}
 use Rattle.vs_words.specs.declared.command.Effort.{Effort}
-use Rattle.mdvsp.specs.declared.status.Status.{Status}
-use Rattle.mdvsp.specs.declared.status.Status.TheVariants as status
+use Rattle.vs_reply.specs.declared.status.Status.{Status}
+use Rattle.vs_reply.specs.declared.status.Status.TheVariants as status
 use Rattle.mdvsp.specs.Laws.{IsDoneWhereShown}
-use Rattle.mdvsp.specs.Owed.{OwesDocument, status_of}
+use Rattle.vs_reply.specs.Status.{status_of}
+use Rattle.mdvsp.specs.Owed.{OwesDocument}
 use Rattle.vs_reader.specs.Rows.{Row}
 use Rattle.vs_cases.specs.Tree.{Tree, Leaf, Split, LeafPlace, leaves, splits}
 use Rattle.vs_answer.specs.Answers.{AreWorths, IsAnswer, IsBoundOf}

@@ -5,8 +5,9 @@ use Rattle.vs_reader.specs.Texts.{HasRows, EndsInLine}
 use Rattle.vs_document.proofs.CallerLemmas.{read_back}
 use Rattle.vs_document.specs.ReadingBack.{ReadsAs}
 use Rattle.vs_words.specs.declared.command.Effort.{Effort}
-use Rattle.mdvsp.specs.declared.status.Status.{Status}
-use Rattle.mdvsp.specs.Owed.{OwesDocument, OwesYes, yes_row}
+use Rattle.vs_reply.specs.declared.status.Status.{Status}
+use Rattle.vs_reply.specs.Owed.{OwesYes, yes_row}
+use Rattle.mdvsp.specs.Owed.{OwesDocument}
 
 -- behind the records they are one text
 pub solved_holds : (effort : Effort) (bytes read : List ℕ) (answer : Status) (rows : List Row)

@@ -1,5 +1,4 @@
 -- What is answered is what is owed.
-pub mod OwedAnswers
-pub mod BlocksOwed
+pub mod SearchOwed
 pub mod RunEnds
 pub mod TrialOwed

@@ -1,11 +1,13 @@
 -- What is answered before it is written.
-use Rattle.std.specs.Prelude.{◌≡◌, ℕ, List, [], ◌∷◌, Result, Ok, Err, ◌⊎◌}
+use Rattle.std.specs.Prelude.{◌≡◌, ℕ, List, Result, Ok, Err, ◌⊎◌}
 use Rattle.vs_types.specs.declared.memory.Memory.{Memory}
 use Rattle.vs_io.specs.Bytes.{Appends, AppendsPrefix}
 use Rattle.vs_io.specs.Faults.{Rose}
-use Rattle.mdvsp.specs.declared.answer.Answer.{Answer}
-use Rattle.mdvsp.specs.declared.status.Status.{Status}
-use Rattle.mdvsp.specs.declared.status.Status.TheVariants.{Done, BadInput, WriteFault, NoMemory}
+use Rattle.vs_reply.specs.Answered.{IsTextOf}
+use Rattle.vs_reply.specs.Status.{status_of}
+use Rattle.vs_reply.specs.declared.answer.Answer.{Answer}
+use Rattle.vs_reply.specs.declared.status.Status.{Status}
+use Rattle.vs_reply.specs.declared.status.Status.TheVariants.{WriteFault, NoMemory}
 use Rattle.vs_words.specs.declared.command.Command.{Command}
 use Rattle.mdvsp.specs.Outcome.{Told}
 use Rattle.vs_instance.specs.Problem.{Problem}
@@ -16,21 +18,13 @@ use Rattle.vs_check.specs.HoldingDocument.{HoldingDocument}
 use Rattle.vs_document.specs.Alike.{AreAlike}
 use Rattle.vs_made.specs.Made.{IsWholeText}
 use Rattle.vs_reader.specs.Names.{NameLists}
+use Rattle.vs_reader.specs.Rows.{lines}
 use Rattle.mdvsp.specs.SolveAnswer.{SolveAnswer}
-use Rattle.mdvsp.specs.declared.case.CaseError.{CaseError}
-use Rattle.mdvsp.specs.declared.case.CaseError.TheVariants as error
-use Rattle.vs_report.specs.Network.{AreNetworkRows}
-use Rattle.mdvsp.specs.Owed.{Owes, OwesNoCase, status_of}
-use Rattle.vs_reader.specs.Rows.{Row, lines}
-use Rattle.vs_reader.specs.Texts.{IsRefused}
-use Rattle.vs_reader.specs.declared.refused.Refused.{Refused}
-use Rattle.vs_report.specs.RefusalRows.{refusal_row}
+use Rattle.mdvsp.specs.Owed.{Owes}
 
 -- the text is the lines of rows that are owed for the bytes, with this answer
-pub record IsOwedFor (command : Command) (bytes : List ℕ) (answer : Answer) : Type 0 where
-  pub rows : List Row
-  pub owed : Owes command bytes answer.status rows
-  pub text_is : answer.text.items ≡ lines rows
+abbrev pub IsOwedFor : Command → List ℕ → Answer → Type 0
+IsOwedFor command bytes = IsTextOf (Owes command bytes)
 
 -- The text was written, or a first part of it and the sink's faults rose; where there was no memory for an answer,
 -- nothing was.
@@ -39,37 +33,6 @@ IsSaid (Ok answer) said taken taken_after faults faults_after =
     ((said ≡ answer.status) × Appends taken taken_after answer.text.items)
     ⊎ ((said ≡ WriteFault) × AppendsPrefix taken taken_after answer.text.items × Rose faults faults_after)
 IsSaid (Err memory) said taken taken_after faults faults_after = (said ≡ NoMemory) × (taken_after ≡ taken)
-
--- the row that refuses a text which is no instance
-pub record RefusesText (bytes : List ℕ) (answer : Answer) : Type 0 where
-  pub refused : Refused
-  pub is_refused : IsRefused bytes refused
-  pub status_is : answer.status ≡ BadInput
-  pub text_is : answer.text.items ≡ lines (refusal_row refused ∷ [])
-
--- the rows that refuse a text which is no instance with a document behind it
-pub record IsNoCase (bytes : List ℕ) (answer : Answer) : Type 0 where
-  pub rows : List Row
-  pub owed : OwesNoCase bytes rows
-  pub status_is : answer.status ≡ BadInput
-  pub text_is : answer.text.items ≡ lines rows
-
--- an error that isn't want of memory has them
-abbrev pub RefusesCase : List ℕ → CaseError → Type 0
-RefusesCase bytes (error.Refused answer) = IsNoCase bytes answer
-RefusesCase bytes error.Memory = Unit {0}
-
--- an answer as an error, and want of memory for one
-abbrev pub case_error : Result Answer Memory → CaseError
-case_error (Ok answer) = error.Refused answer
-case_error (Err memory) = error.Memory
-
--- the text has the sizes of the nets of each layer
-pub record HasSizes (problem : Problem) (names : NameLists) (answer : Answer) : Type 0 where
-  pub rows : List Row
-  pub rows_are : AreNetworkRows problem names rows
-  pub status_is : answer.status ≡ Done
-  pub text_is : answer.text.items ≡ lines rows
 
 -- the text is that of a document that a search with this budget and so many workers answers, and the status that of its
 -- claim

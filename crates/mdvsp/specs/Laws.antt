@@ -13,8 +13,8 @@ use Rattle.vs_reader.specs.Rows.{Row}
 use Rattle.vs_words.specs.declared.command.Command.{Command}
 use Rattle.vs_words.specs.declared.command.Effort.{Effort}
 use Rattle.vs_words.specs.declared.command.Command.TheVariants.{Solve, Trial}
-use Rattle.mdvsp.specs.declared.status.Status.{Status}
-use Rattle.mdvsp.specs.declared.status.Status.TheVariants as status
+use Rattle.vs_reply.specs.declared.status.Status.{Status}
+use Rattle.vs_reply.specs.declared.status.Status.TheVariants as status
 use Rattle.mdvsp.specs.Owed.{OwesDocument}
 
 -- the document's plan is the greedy rule's, and it has none where that rule gets stuck

@@ -2,21 +2,17 @@
 use Rattle.std.specs.Prelude.{◌≡◌, ℕ, ◌<◌, ◌≤◌, List, [], ◌∷◌, length, Option, ◌⊎◌}
 use Rattle.vs_words.specs.declared.command.Command.{Command}
 use Rattle.vs_words.specs.declared.command.Command.TheVariants.{Make, Trial}
-use Rattle.vs_reader.specs.declared.limits.TheConstants.{MAX_BYTES}
 use Rattle.vs_io.specs.Bytes.{Takes, TakesAll, Appends, AppendsPrefix}
 use Rattle.vs_io.specs.Faults.{Rose}
 use Rattle.vs_io.specs.declared.slurping.SlurpError.{SlurpError}
 use Rattle.vs_io.specs.declared.slurping.SlurpError.TheVariants.{ReadFault, TooLong, Memory}
-use Rattle.mdvsp.specs.declared.status.Status.{Status}
-use Rattle.mdvsp.specs.declared.status.Status.TheVariants as status
+use Rattle.vs_reply.specs.declared.status.Status.{Status}
+use Rattle.vs_reply.specs.declared.status.Status.TheVariants as status
 use Rattle.vs_reader.specs.Rows.{Row, lines}
 use Rattle.vs_words.specs.Words.{Word, AreBadAt, AskFor, AskToRead, Reads}
 use Rattle.vs_report.specs.RefusalRows.{words_row}
+use Rattle.vs_reply.specs.Cases.{input_limit}
 use Rattle.mdvsp.specs.Owed.{Owes}
-
--- how many bytes an input may have
-abbrev pub input_limit : ℕ
-input_limit = MAX_BYTES
 
 -- bytes, where they are told
 abbrev pub Told : Type 0

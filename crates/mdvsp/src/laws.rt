@@ -6,10 +6,11 @@ ghost use Rattle.vs_instance.specs.Restriction.{permitted_sets};
 ghost use Rattle.vs_answer.specs.Answers.{choices};
 ghost use Rattle.vs_words.specs.declared.command.Command.{Command};
 ghost use Rattle.vs_words.specs.declared.command.Effort.{Effort};
-ghost use Rattle.mdvsp.specs.declared.status.Status.{Status};
-ghost use Rattle.mdvsp.specs.declared.status.Status.TheVariants as status;
+ghost use Rattle.vs_reply.specs.declared.status.Status.{Status};
+ghost use Rattle.vs_reply.specs.declared.status.Status.TheVariants as status;
 ghost use Rattle.mdvsp.specs.Laws.{IsDetermined, IsDoneWhereShown, MayBothBe, NeverDisagree, NeverPasses};
-ghost use Rattle.mdvsp.specs.Owed.{CheckOwes, Owes, OwesDocument, yes_row};
+ghost use Rattle.vs_reply.specs.Owed.{CheckOwes, yes_row};
+ghost use Rattle.mdvsp.specs.Owed.{Owes, OwesDocument};
 ghost use Rattle.vs_document.specs.ReadingBack.{ReadsAs};
 ghost use Rattle.vs_reader.specs.Rows.{Row, lines};
 

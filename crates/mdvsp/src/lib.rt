@@ -2,16 +2,11 @@
 //! over any source and sink of bytes; the program beside it, `mdvsp_main`, calls it over its standard streams.
 #![tactic(auto)]
 
-mod answer;
 mod budget;
-mod case;
-mod checking;
 mod laws;
-mod network;
 mod running;
+mod saying;
 mod solving;
-mod status;
-mod timetable;
 mod trial;
 
 pub use laws::{
@@ -19,6 +14,6 @@ pub use laws::{
     one_status, searches_agree, solved_documents_hold,
 };
 pub use running::run;
-pub use status::Status;
 pub use vs_make::make_text;
+pub use vs_reply::Status;
 pub use vs_words::words_mean_one_thing;

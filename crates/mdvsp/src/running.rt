@@ -1,26 +1,22 @@
 //! A whole run: from words and an input to an answer that is written.
 
-ghost use Rattle.std.specs.Prelude.{◌≡◌, ℕ, ◌≤◌, List, length, IfErr, IfOk};
+ghost use Rattle.std.specs.Prelude.{◌≡◌, ◌≤◌, List, length, IfErr, IfOk};
 ghost use Rattle.mdvsp.specs.Answered.{IsOwedFor};
 ghost use Rattle.mdvsp.specs.Laws.{IsDetermined};
-ghost use Rattle.mdvsp.specs.Outcome.{CouldNotRead, Ends, HasRead, input_limit, unread_status};
+ghost use Rattle.mdvsp.specs.Outcome.{CouldNotRead, Ends, HasRead, unread_status};
+ghost use Rattle.vs_reply.specs.Cases.{input_limit};
 ghost use Rattle.vs_words.specs.Words.{AskFor, AskToRead, IsWithinLimits, Reads, Word, words_of};
 
-use crate::answer::{Answer, say};
-use crate::checking::answer_check;
-use crate::network::answer_network;
+use crate::saying::say;
 use crate::solving::answer_solve;
-use crate::status::Status;
-use crate::timetable::answer_blocks;
 use crate::trial::answer_trial;
 use std::alloc::Global;
 use std::sync::Wait;
 use std::thread::Threads;
 use vs_crew::Gate;
-use vs_instance::MAX_TRIPS;
 use vs_io::{Sink, SlurpError, Source, slurp};
-use vs_make::make_text;
 use vs_reader::MAX_BYTES;
+use vs_reply::{Answer, Status, answer_blocks, answer_check, answer_make, answer_network};
 use vs_types::Memory;
 use vs_words::{Command, Effort, command_of};
 
@@ -56,7 +52,7 @@ pub fn run<R: Threads + Wait + Sync, I: Source, O: Sink, G: Gate + Sync>(
             Command::Trial(n) => say(answer_trial(rt, alloc, n, gate), output),
             _ => obey(alloc, command, input, output),
         },
-        Err(bad) => say(Answer::bad_word(alloc, bad), output),
+        Err(bad) => say(Answer::bad_word(alloc, bad.0), output),
     }
 }
 
@@ -168,16 +164,4 @@ fn answer_to(alloc: Global, command: Command, bytes: &[u8]) -> Result<Answer, Me
         Command::Solve(_) => unreachable!(),
         Command::Trial(_) => unreachable!(),
     }
-}
-
-/// What `make n` answers.
-fn answer_make(alloc: Global, n: u32) -> Result<Answer, Memory>
-    requires { n ≤ MAX_TRIPS }
-    ensures { (bytes : List ℕ) → IfOk result (IsOwedFor (Command.Make n) bytes) }
-{
-    let text = make_text(alloc, n)?;
-    Ok(Answer {
-        status: Status::Done,
-        text,
-    })
 }

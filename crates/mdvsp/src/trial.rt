@@ -6,12 +6,9 @@ ghost use Rattle.vs_make.specs.Generator.{make_rows};
 ghost use Rattle.vs_made.specs.Made.{IsWholeText};
 ghost use Rattle.vs_reader.specs.Rows.{lines};
 ghost use Rattle.mdvsp.specs.Answered.{AreWritten, IsOwedFor, IsReadOf};
-ghost use Rattle.mdvsp.specs.Cases.{CheckText};
-ghost use Rattle.mdvsp.specs.Outcome.{input_limit};
+ghost use Rattle.vs_reply.specs.Cases.{CheckText, input_limit};
 ghost use Rattle.mdvsp.specs.Owed.{trial_row};
 
-use crate::answer::Answer;
-use crate::case::{Case, CaseError, read_case};
 use crate::solving::plan_of;
 use std::alloc::Global;
 use std::sync::Wait;
@@ -22,6 +19,7 @@ use vs_document::{Document, Text, bound_field, claim_field, cost_field};
 use vs_instance::MAX_TRIPS;
 use vs_make::make_text;
 use vs_reader::{MAX_BYTES, ReadError, Timetable, read_instance};
+use vs_reply::{Answer, Case, CaseError, read_case};
 use vs_types::Memory;
 use vs_words::Command;
 

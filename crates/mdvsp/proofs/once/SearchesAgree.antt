@@ -8,10 +8,11 @@ use Rattle.vs_cases.specs.Claims.{claim_found}
 use Rattle.vs_cases.specs.declared.claim.Claim.{Claim}
 use Rattle.vs_cases.specs.declared.claim.Claim.TheVariants.{Optimal, Infeasible, StillOpen}
 use Rattle.vs_words.specs.declared.command.Effort.{Effort}
-use Rattle.mdvsp.specs.declared.status.Status.{Status}
-use Rattle.mdvsp.specs.declared.status.Status.TheVariants as status
+use Rattle.vs_reply.specs.declared.status.Status.{Status}
+use Rattle.vs_reply.specs.declared.status.Status.TheVariants as status
 use Rattle.mdvsp.specs.Laws.{NeverDisagree}
-use Rattle.mdvsp.specs.Owed.{OwesDocument, status_of}
+use Rattle.vs_reply.specs.Status.{status_of}
+use Rattle.mdvsp.specs.Owed.{OwesDocument}
 use Rattle.mdvsp.proofs.once.SolveStatus.{bounds_never_pass_costs, not_both}
 
 -- the claims of two statuses

@@ -15,11 +15,12 @@ use Rattle.vs_answer.specs.Answers.{choices}
 use Rattle.vs_check.specs.HoldingDocument.{ProvesItsClaim}
 use Rattle.vs_answer.proofs.CallerLemmas.{enough_budgets_leave_nothing_open}
 use Rattle.vs_words.specs.declared.command.Effort.{Effort}
-use Rattle.mdvsp.specs.declared.status.Status.{Status}
-use Rattle.mdvsp.specs.declared.status.Status.TheVariants as status
+use Rattle.vs_reply.specs.declared.status.Status.{Status}
+use Rattle.vs_reply.specs.declared.status.Status.TheVariants as status
 use Rattle.mdvsp.specs.Budgets.{budget_of}
 use Rattle.mdvsp.specs.Laws.{MayBothBe, NeverPasses}
-use Rattle.mdvsp.specs.Owed.{OwesDocument, OwesNoSearch, OwesTrial, SolveOwes, TrialOwes, status_of}
+use Rattle.mdvsp.specs.Owed.{OwesDocument, OwesNoSearch, OwesTrial, SolveOwes, TrialOwes}
+use Rattle.vs_reply.specs.Status.{status_of}
 
 -- what two documents prove of the same instance
 bound_and_cost : (p : Problem) (d e : Document) (bound cost : Option ℤ) → d.bound ≡ bound → e.cost ≡ cost

@@ -5,9 +5,9 @@ use Rattle.vs_types.specs.declared.memory.Memory.{Memory}
 use Rattle.vs_io.specs.Bytes.{Takes, TakesAll, Appends, AppendsPrefix}
 use Rattle.vs_io.specs.declared.slurping.SlurpError.{SlurpError}
 use Rattle.vs_io.specs.declared.slurping.SlurpError.TheVariants.{ReadFault, TooLong, Memory as NoRoom}
-use Rattle.mdvsp.specs.declared.answer.Answer.{Answer}
-use Rattle.mdvsp.specs.declared.status.Status.{Status}
-use Rattle.mdvsp.specs.declared.status.Status.TheVariants.{Done, SaysNo, BadWords, BadInput, Infeasible, StillOpen}
+use Rattle.vs_reply.specs.declared.answer.Answer.{Answer}
+use Rattle.vs_reply.specs.declared.status.Status.{Status}
+use Rattle.vs_reply.specs.declared.status.Status.TheVariants.{Done, SaysNo, BadWords, BadInput, Infeasible, StillOpen}
 use Rattle.vs_words.specs.declared.command.Command.{Command}
 use Rattle.vs_words.specs.declared.command.Effort.{Effort}
 use Rattle.vs_words.specs.declared.command.Command.TheVariants.{Check, Solve, Network, Blocks, Make, Trial}

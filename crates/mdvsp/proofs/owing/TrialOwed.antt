@@ -19,13 +19,14 @@ use Rattle.vs_document.proofs.CallerLemmas.{read_back}
 use Rattle.vs_check.specs.HoldingDocument.{HoldingDocument}
 use Rattle.vs_check.proofs.CallerLemmas.{prove_their_claims}
 use Rattle.vs_words.specs.declared.command.Command.TheVariants.{Trial}
-use Rattle.mdvsp.specs.declared.answer.Answer.{Answer}
+use Rattle.vs_reply.specs.declared.answer.Answer.{Answer}
 use Rattle.mdvsp.specs.declared.trial.TheConstants.{TRIAL_NODES, TRIAL_WORKERS}
-use Rattle.mdvsp.specs.Answered.{AreWritten, IsDocumentOf, IsNoCase, IsOwedFor, IsReadOf, IsWritten}
-use Rattle.mdvsp.specs.Cases.{CheckText}
-use Rattle.mdvsp.specs.Owed.{OwesTrial, TrialOwes, status_of, trial_row}
-use Rattle.mdvsp.proofs.once.OneCase.{case_refused, same_case}
-use Rattle.mdvsp.proofs.owing.OwedAnswers.{owed_so}
+use Rattle.vs_reply.specs.Answered.{IsNoCase}
+use Rattle.vs_reply.specs.Status.{status_of}
+use Rattle.vs_reply.proofs.CallerLemmas.{case_refused, owed_so, same_case}
+use Rattle.mdvsp.specs.Answered.{AreWritten, IsDocumentOf, IsOwedFor, IsReadOf, IsWritten}
+use Rattle.vs_reply.specs.Cases.{CheckText}
+use Rattle.mdvsp.specs.Owed.{OwesTrial, TrialOwes, trial_row}
 
 -- a text that was made isn't refused
 pub made_stands : (n : ℕ) (made : List ℕ) → n ≤ 2000 → made ≡ lines (make_rows n)
@@ -125,7 +126,7 @@ trial_owed n bytes made p names planned answer e made_is whole by read status_is
     let d = by.document in
     let alike = read p names d (written_so made p names planned whole by) in
     let stands = subst (λ (text : List ℕ). StandsFor text p names whole.before []) made_is whole.stands in
-    owed_so (Trial n) bytes answer (status_of d.claim) (trial_row n d ∷ [])
+    owed_so (TrialOwes n) answer (status_of d.claim) (trial_row n d ∷ [])
     (trial_owes n d.claim (trial_row n d ∷ []) (record {
       problem = p;
       names = names;

@@ -4,7 +4,7 @@ use Rattle.mdvsp.specs.Laws.{MayBothBe}
 use Rattle.mdvsp.specs.Owed.{Owes}
 use Rattle.vs_words.specs.declared.command.Command.{Command}
 use Rattle.vs_words.specs.declared.command.Command.TheVariants.{Check, Solve, Network, Blocks, Make, Trial}
-use Rattle.mdvsp.specs.declared.status.Status.{Status}
+use Rattle.vs_reply.specs.declared.status.Status.{Status}
 use Rattle.mdvsp.proofs.once.OneAnswer.{one_answer}
 use Rattle.mdvsp.proofs.once.SolveStatus.{solve_status, trial_status}
 use Rattle.mdvsp.proofs.laws.one_status.Goals as goal

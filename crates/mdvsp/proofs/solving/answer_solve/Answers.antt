@@ -1,6 +1,6 @@
 use Rattle.std.proofs.Common.{sym}
 use Rattle.vs_reader.proofs.CallerLemmas.{stands_counts}
-use Rattle.mdvsp.proofs.owing.OwedAnswers.{document_owed, solve_refusal_owed, too_large_owed}
+use Rattle.mdvsp.proofs.owing.SearchOwed.{document_owed, solve_refusal_owed, too_large_owed}
 use Rattle.mdvsp.proofs.solving.answer_solve.Goals as goal
 
 pub plan_of-requires-clause-counts : goal.plan_of-requires-clause-counts

@@ -3,7 +3,7 @@ use Rattle.vs_instance.specs.Problem.{Problem}
 use Rattle.vs_reader.specs.Rows.{lines}
 use Rattle.vs_tree.specs.Search.{state}
 use Rattle.vs_rows.specs.DocumentRows.{document_rows}
-use Rattle.mdvsp.specs.Owed.{status_of}
+use Rattle.vs_reply.specs.Status.{status_of}
 use Rattle.mdvsp.proofs.SearchAnswers.{one_claim, search_answers}
 use Rattle.mdvsp.proofs.solving.plan_of.Goals as goal
 

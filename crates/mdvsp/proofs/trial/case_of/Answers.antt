@@ -1,5 +1,5 @@
 use Rattle.std.proofs.Common.{◌++◌, ◌∙◌, List, ℕ, subst}
-use Rattle.mdvsp.specs.Answered.{RefusesCase}
+use Rattle.vs_reply.specs.Answered.{RefusesCase}
 use Rattle.mdvsp.proofs.owing.TrialOwed.{not_refused}
 use Rattle.mdvsp.proofs.trial.case_of.Goals as goal
 

@@ -1,0 +1,66 @@
+-- What `solve` answers is owed.
+use Rattle.std.proofs.Common.{◌≡◌, ℕ, List, [], ◌∷◌, Result, Ok, Err, Some, None, inl, inr, refl, IfOk}
+use Rattle.vs_types.specs.declared.memory.Memory.{Memory}
+use Rattle.vs_instance.specs.Problem.{Problem}
+use Rattle.vs_cases.specs.declared.claim.Claim.{Claim}
+use Rattle.vs_cases.specs.declared.claim.Claim.TheVariants.{Optimal, Infeasible, StillOpen}
+use Rattle.vs_reader.specs.Names.{NameLists}
+use Rattle.vs_reader.specs.Rows.{Row, lines}
+use Rattle.vs_rows.specs.DocumentRows.{document_rows}
+use Rattle.vs_check.proofs.CallerLemmas.{prove_their_claims}
+use Rattle.vs_report.specs.RefusalRows.{refusal_row, too_large_row}
+use Rattle.vs_reply.specs.declared.answer.Answer.{Answer}
+use Rattle.vs_reply.specs.declared.status.Status.TheVariants as status
+use Rattle.vs_reply.specs.Answered.{RefusesText}
+use Rattle.vs_reply.specs.Cases.{SolveText}
+use Rattle.vs_reply.specs.Status.{status_of}
+use Rattle.vs_reply.proofs.CallerLemmas.{owed_so}
+use Rattle.vs_words.specs.declared.command.Effort.{Effort}
+use Rattle.vs_words.specs.declared.command.Command.TheVariants.{Solve}
+use Rattle.mdvsp.specs.Answered.{IsDocumentOf, IsOwedFor}
+use Rattle.mdvsp.specs.Budgets.{budget_of}
+use Rattle.mdvsp.specs.Owed.{SolveOwes, OwesDocument}
+
+-- a text that is refused is owed its refusal
+pub solve_refusal_owed : (effort : Effort) (bytes : List ℕ) (r : Result Answer Memory) → IfOk r (RefusesText bytes)
+    → IfOk r (IsOwedFor (Solve effort) bytes)
+solve_refusal_owed effort bytes (Ok a) says =
+    owed_so (SolveOwes effort bytes) a status.BadInput (refusal_row says.refused ∷ [])
+    (inl (record { refused = says.refused; is_refused = says.is_refused; rows_are = refl })) says.status_is says.text_is
+solve_refusal_owed effort bytes (Err m) says = tt
+
+-- and so is a search of too many nodes
+pub too_large_owed : (effort : Effort) (bytes : List ℕ) (p : Problem) (names : NameLists) (r : Result Answer Memory)
+    → SolveText bytes p names → budget_of p effort.nodes ≡ None
+    → IfOk r (λ a. (a.status ≡ status.BadInput) × (a.text.items ≡ lines (too_large_row ∷ [])))
+    → IfOk r (IsOwedFor (Solve effort) bytes)
+too_large_owed effort bytes p names (Ok a) text none says =
+    owed_so (SolveOwes effort bytes) a status.BadInput (too_large_row ∷ [])
+    (inr (record { problem = p; names = names; text = text; too_large = none; rows_are = refl })) says.0 says.1
+too_large_owed effort bytes p names (Err m) text none says = tt
+
+-- a document with its claim's status is what solve owes
+solve_owes : (effort : Effort) (bytes : List ℕ) (claim : Claim) (rows : List Row)
+    → OwesDocument effort bytes (status_of claim) rows → SolveOwes effort bytes (status_of claim) rows
+solve_owes effort bytes Optimal rows o = o
+solve_owes effort bytes Infeasible rows o = o
+solve_owes effort bytes StillOpen rows o = o
+
+pub document_owed : (effort : Effort) (bytes : List ℕ) (p : Problem) (names : NameLists) (budget : ℕ)
+    (r : Result Answer Memory) → SolveText bytes p names → budget_of p effort.nodes ≡ Some budget
+    → IfOk r (IsDocumentOf p names budget effort.workers) → IfOk r (IsOwedFor (Solve effort) bytes)
+document_owed effort bytes p names budget (Ok a) text budget_is d =
+    owed_so (SolveOwes effort bytes) a (status_of d.document.claim) (document_rows p names d.document)
+    (solve_owes effort bytes d.document.claim (document_rows p names d.document) (record {
+      problem = p;
+      names = names;
+      document = d.document;
+      text = text;
+      budget = budget;
+      budget_is = budget_is;
+      solves = d.solves;
+      proves = prove_their_claims p d.document text.instance.text.makes.instance d.solves.answer.holds;
+      status_is = refl;
+      rows_are = refl;
+    })) d.status_is d.text_is
+document_owed effort bytes p names budget (Err m) text budget_is d = tt

@@ -1,0 +1,3 @@
+pub mod owing
+pub mod once
+pub mod CallerLemmas

@@ -1,0 +1,3 @@
+-- What is owed is one thing.
+pub mod OneCase
+pub mod OneAnswer

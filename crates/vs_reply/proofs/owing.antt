@@ -1,0 +1,3 @@
+-- What is answered is what is owed.
+pub mod OwedAnswers
+pub mod BlocksOwed

@@ -1,0 +1,4 @@
+pub mod Status
+pub mod Cases
+pub mod Owed
+pub mod Answered

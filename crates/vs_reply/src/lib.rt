@@ -1,0 +1,18 @@
+//! What a run answers, and what each command that doesn't search owes and answers.
+#![tactic(auto)]
+
+mod answer;
+mod case;
+mod checking;
+mod making;
+mod network;
+mod status;
+mod timetable;
+
+pub use answer::Answer;
+pub use case::{Case, CaseError, read_case};
+pub use checking::answer_check;
+pub use making::answer_make;
+pub use network::answer_network;
+pub use status::Status;
+pub use timetable::answer_blocks;
