@@ -47,7 +47,8 @@ impl Seeker {
 
     /// Whether no plan costs less than the cheapest one that was found, or on a small instance hardly less.
     pub fn is_done(&self, instance: &Instance) -> bool {
-        self.choices.is_within(self.value, margin(instance, self.value))
+        self.choices
+            .is_within(self.value, margin(instance, self.value))
     }
 
     /// So many passes, or fewer where they agree so often. Each time the layers nearly agree, the plan of that is
