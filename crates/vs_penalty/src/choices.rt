@@ -62,10 +62,10 @@ impl Choices {
         self.cost().map(|cost| cost.saturating_mul(SCALE))
     }
 
-    /// Whether no plan costs less than the cheapest one, where none costs less than this, in 1/1000 of a cost unit.
-    pub fn is_least(&self, value: i64) -> bool {
+    /// Whether the cheapest plan costs less than so much more than this value, both in 1/1000 of a cost unit.
+    pub fn is_within(&self, value: i64, margin: i64) -> bool {
         match self.known() {
-            Some(known) => value > known.saturating_sub(SCALE),
+            Some(known) => value > known.saturating_sub(margin),
             None => false,
         }
     }

@@ -2,6 +2,7 @@
 
 use vs_instance::{Instance, MAX_LAYERS, MAX_TRIPS};
 use vs_match::LayerNet;
+use vs_types::SCALE;
 
 /// How many offers of trips to layers there are in all, where the passes for them lie between the two limits: a pass
 /// takes the longer the more it offers, and so all passes take about as long for every instance.
@@ -26,6 +27,23 @@ const MOST_LAST_ROUNDS: u32 = 300;
 /// How many arcs, times trips, the circulations of a step look along at most. The steps on 2,000 trips of a city take
 /// three to four fifths of it; of an instance that is a hundred times as large a step has a few passes left.
 const EFFORT: u64 = 34_000_000_000;
+
+/// How many trips an instance offers to layers at most, all layers together, to be a small one: climbs on its leaves
+/// have nearly all their rounds, so they close what its root leaves open.
+const SMALL: u32 = 1_600;
+
+/// On a small instance the turns at the root end where the cheapest plan costs no more than one part in so many above
+/// the value, four hundredths of a per cent: further turns took half the root's time, and leaves find what they found.
+const NEAR: i64 = 2_500;
+
+/// How little the cheapest plan has to cost above this value for turns at the root to end, in 1/1000 of a cost unit.
+pub(crate) fn margin(instance: &Instance, value: i64) -> i64 {
+    prove!(instance.trips() <= MAX_TRIPS && instance.layers() <= MAX_LAYERS);
+    if instance.trips() * instance.layers() > SMALL {
+        return SCALE;
+    }
+    SCALE.max(value / NEAR)
+}
 
 /// How many passes there are, the fewer the more each of them offers.
 pub(crate) fn passes(instance: &Instance) -> u32 {

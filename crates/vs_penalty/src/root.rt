@@ -43,7 +43,8 @@ impl Seeker {
 
     /// Seeks plans and ever better multipliers from where the first passes end, in steps: a climb, turns of slow passes
     /// and of passes in pools of the best plans, and another climb, which a cheaper plan guides better. What is left is
-    /// left out as soon as no plan can cost less than the cheapest one.
+    /// left out as soon as no plan can cost less than the cheapest one, the turns also
+    /// where it could cost hardly less on a small instance.
     pub fn go_on(
         &mut self,
         case: &Case<'_>,
@@ -56,7 +57,7 @@ impl Seeker {
     {
         multipliers.copy_from_slice(&self.penalties.multipliers);
         self.climb(case, ROUNDS, multipliers, work)?;
-        if self.is_done() {
+        if self.is_done(case.instance) {
             return Ok(());
         }
         self.seek_near(case, multipliers, work)?;

@@ -7,6 +7,7 @@ ghost use Rattle.vs_penalty.specs.Penalties.{ArePenalties};
 ghost use Rattle.vs_penalty.specs.Seekers.{IsSeekerFor};
 
 use crate::choices::Choices;
+use crate::effort::margin;
 use crate::penalties::Penalties;
 use crate::rate::{Pace, Rate};
 use crate::slow_passes::Course;
@@ -44,9 +45,10 @@ impl Seeker {
         })
     }
 
-    /// Whether no plan costs less than the cheapest one that was found.
-    pub fn is_done(&self) -> bool {
-        self.choices.is_least(self.value)
+    /// Whether no plan costs less than the cheapest one that was found, or on a small instance hardly less.
+    pub fn is_done(&self, instance: &Instance) -> bool {
+        self.choices
+            .is_within(self.value, margin(instance, self.value))
     }
 
     /// So many passes, or fewer where they agree so often. Each time the layers nearly agree, the plan of that is

@@ -30,7 +30,7 @@ impl Seeker {
         let mut left = course.agreements;
         self.penalties.begin(multipliers);
         for _ in 0..course.passes {
-            if left == 0 || self.is_done() {
+            if left == 0 || self.is_done(case.instance) {
                 break;
             }
             self.penalties.pass(case, work)?;

@@ -67,7 +67,7 @@ impl Seeker {
     {
         let mut turn = self.first_turn(case);
         for _ in 0..TURNS {
-            if turn.vain == MOST_VAIN || self.is_done() {
+            if turn.vain == MOST_VAIN || self.is_done(case.instance) {
                 break;
             }
             let before = self.choices.cost();
