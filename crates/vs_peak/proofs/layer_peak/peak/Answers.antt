@@ -27,5 +27,5 @@ returns c =
     peak_some p l (counts_vehicles p l c.layers-layers.ensures.instance c.requires) c.in_ok-counted.counted
     c.as_slice-sets.result.now c.in_ok-counted.ensures
     (c.as_slice-sets.ensures.value ∙ c.in_ok-own_sets.ensures.sets) c.in-Some.plan
-    c.in_ok-settled.settled.table c.in_ok-shown.shown c.in_ok-settled.ensures.fits
-    c.in_ok-settled.ensures.holds shows.0 shows.1 c.in_ok-shown.ensures
+    c.in_ok-settled.settled.table c.in_ok-shown-in-Some.shown c.in_ok-settled.ensures.fits
+    c.in_ok-settled.ensures.holds shows.0 shows.1 c.in_ok-shown-in-Some.ensures
