@@ -2,4 +2,6 @@ pub mod FoundPeaks
 pub mod ClaimedPeaks
 pub mod WrittenPeaks
 pub mod WrittenSays
+pub mod PlainRows
+pub mod ReadBack
 pub mod CallerLemmas

@@ -40,7 +40,8 @@ module _ (names : NameLists) where
 
   pub adds_one : (row : PeakRow) (old new : List ℕ) → AddsPeakRow names row old new
       → AddsPeakRows names (row ∷ []) old new
-  adds_one row old new is = is ∙ ap (λ (bytes : List ℕ). old ++ bytes) (sym (append-nil (line (written_peak names row))))
+  adds_one row old new is =
+      is ∙ ap (λ (bytes : List ℕ). old ++ bytes) (sym (append-nil (line (written_peak names row))))
 
   -- and one row more
   pub adds_more : (said : List PeakRow) (row : PeakRow) (old middle new : List ℕ) → AddsPeakRows names said old middle
@@ -151,8 +152,8 @@ module _ (names : NameLists) where
       ∙ ap (λ (xs : List ℤ). price_rows l (map number (take k trips) ++ i.0 ∷ []) xs (take (k + 1) from)) into_are
       ∙ ap (λ (ys : List ℤ). price_rows l (map number (take k trips) ++ i.0 ∷ []) (take k into ++ x ∷ []) ys) from_are
       ∙ rows_more l (map number (take k trips)) (take k into) (take k from) i.0 x y
-      (omega (arith, more, more_into, size, into_size, within)) (omega (arith, more, more_from, size, from_size, within))
-      in
+      (omega (arith, more, more_into, size, into_size, within))
+      (omega (arith, more, more_from, size, from_size, within)) in
       subst (λ (said : List PeakRow). AddsPeakRows names said old new) (sym rows)
       (adds_more names (price_rows l (map number (take k trips)) (take k into) (take k from))
       (PartRow (PriceRow l i.0 x y)) old middle new so_far one)

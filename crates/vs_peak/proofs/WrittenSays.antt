@@ -26,7 +26,7 @@ printed x is = (omega (arith, ints, is.0), omega (arith, ints, is.1))
 
 module _ (names : NameLists) where
   -- what a row says has the form of a row
-  abbrev HasPeakForm : PeakRow → Type 0
+  abbrev pub HasPeakForm : PeakRow → Type 0
   HasPeakForm (CountRow l n) = (l < length names.layers) × IsCount n
   HasPeakForm (PartRow said) = IsPart said × HasForm names said
 
@@ -81,8 +81,10 @@ module _ (p : Problem) (names : NameLists) (counts : HaveCounts p names) where
     prices_form (i ∷ ts) (x ∷ into) (y ∷ from) all_ts all_into all_from =
         let below = All-head (λ (j : ℕ). j < length p.trips) i ts all_ts in
         let i_named : i < length names.trips = omega (arith, below, counts.trips) in
-        All-cons Form (PartRow (PriceRow l i x y)) (price_rows l ts into from)
-        (tt, (named, i_named, printed x (All-head IsPrice x into all_into), printed y (All-head IsPrice y from all_from)))
+        All-cons Form (PartRow (PriceRow l i x y)) (price_rows l ts into from) (
+          tt,
+          (named, i_named, printed x (All-head IsPrice x into all_into), printed y (All-head IsPrice y from all_from)),
+        )
         (prices_form ts into from (All-tail (λ (j : ℕ). j < length p.trips) i ts all_ts)
         (All-tail IsPrice x into all_into) (All-tail IsPrice y from all_from))
 
@@ -114,18 +116,22 @@ module _ (p : Problem) (names : NameLists) (counts : HaveCounts p names) where
       subst (λ (n : ℕ). IsClaimed (counting p n) (get_or claimed k d)) next (each (suc k) d (omega (arith, within))))
       (omega (arith, few)))
 
+  -- the rows that are written have the form of rows
+  pub text_form : (claimed : List Claimed) → AreClaimed p claimed → All Form (peak_rows p claimed)
+  text_form claimed are =
+      All-append Form (layers_rows p 0 claimed) (PartRow EndRow ∷ [])
+      (layers_form 0 claimed
+      (λ k d within.
+      let same : k ≡ 0 + k = omega arith in
+      subst (λ (n : ℕ). IsClaimed (counting p n) (get_or claimed k d)) same (are.each k d within))
+      (omega (arith, are.each_layer)))
+      (All-cons Form (PartRow EndRow) [] (tt, tt) (All-nil Form))
+
   -- the text that is written stands for what is claimed
   pub text_says : (claimed : List Claimed) → AreClaimed p claimed → PeakText p names (peak_text p names claimed) claimed
   text_says claimed are = record {
     claims = are;
     behind_head = map (written_peak names) (peak_rows p claimed);
     rows_are = refl;
-    say = say_all names (peak_rows p claimed)
-        (All-append Form (layers_rows p 0 claimed) (PartRow EndRow ∷ [])
-        (layers_form 0 claimed
-        (λ k d within.
-        let same : k ≡ 0 + k = omega arith in
-        subst (λ (n : ℕ). IsClaimed (counting p n) (get_or claimed k d)) same (are.each k d within))
-        (omega (arith, are.each_layer)))
-        (All-cons Form (PartRow EndRow) [] (tt, tt) (All-nil Form)));
+    say = say_all names (peak_rows p claimed) (text_form claimed are);
   }

@@ -1,2 +1,3 @@
 pub mod Peaks
 pub mod Writing
+pub mod Laws

@@ -16,8 +16,8 @@ use Rattle.vs_peakcheck.specs.HoldingClaims.{HoldingClaim}
 use Rattle.vs_peak.specs.declared.layer_peak.LayerPeak.{LayerPeak}
 use Rattle.vs_peak.specs.declared.layer_peak.LayerPeak.TheVariants.{Least, NoList}
 
--- a plan of the problem that counts the layer's vehicles, which has as many blocks as the layer's peak, and a cost table
--- that holds and is worth as much
+-- a plan of the problem that counts the layer's vehicles, which has as many blocks as the layer's peak, and a cost
+-- table that holds and is worth as much
 pub record IsLeast (p : Problem) (l : LayerNo) (plan : Checked) (table : Table) : Type 0 where
   pub problem : plan.problem ≡ counting p l.0
   pub checked : IsChecked plan

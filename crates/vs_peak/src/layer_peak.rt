@@ -33,15 +33,17 @@ pub fn peak(alloc: Global, instance: &Instance, l: LayerNo) -> Result<LayerPeak,
     let _layers = instance.layers();
     let counted = counting(alloc, instance, l)?;
     let nets = layer_nets(alloc, &counted)?;
-    let sets = permitted_sets(alloc, &counted)?;
+    let own_sets = permitted_sets(alloc, &counted)?;
+    let sets = own_sets.as_slice();
     let mut work = Work::new(alloc, &nets)?;
-    let Settled { plan, table } = settle(alloc, &counted, &nets, &sets, &mut work)?;
+    let settled = settle(alloc, &counted, &nets, sets, &mut work)?;
+    let Settled { plan, table } = settled;
     match plan {
         None => Ok(LayerPeak::NoList { table }),
-        Some(plan) => Ok(LayerPeak::Least {
-            plan,
-            table: cost_table(alloc, &counted, table)?,
-        }),
+        Some(plan) => {
+            let shown = cost_table(alloc, &counted, table)?;
+            Ok(LayerPeak::Least { plan, table: shown })
+        }
     }
 }
 

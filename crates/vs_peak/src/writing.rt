@@ -54,7 +54,8 @@ fn write_layers(
 ) -> Result<(), Memory>
     requires claimed { AreClaimed instance.now claimed.now }
     requires names { HaveCounts instance.now names.now }
-    ensures { OnOk result (AddsPeakRows names.now (layers_rows instance.now 0 claimed.now) text.old text.new) }
+    ensures { OnOk result
+        (AddsPeakRows names.now (layers_rows instance.now 0 claimed.now) text.old text.new) }
 {
     // for the proof: the instance is within its limits
     let _layers = instance.layers();
@@ -79,7 +80,8 @@ fn write_layer(
     requires trips { AreTripsOf instance.now l.0 trips.now }
     requires claimed { IsClaimed (counting instance.now l.0) claimed.now }
     requires names { HaveCounts instance.now names.now }
-    ensures { OnOk result (AddsPeakRows names.now (layer_rows instance.now l.0 claimed.now) text.old text.new) }
+    ensures { OnOk result
+        (AddsPeakRows names.now (layer_rows instance.now l.0 claimed.now) text.old text.new) }
 {
     write_count(text, names, l, claimed.count)?;
     write_blocks(text, names, l, trips, &claimed.blocks)?;
@@ -113,7 +115,8 @@ fn write_blocks(
     requires layer { l.0 < length names.now.layers }
     requires trips { All (λ i. i.0 < length names.now.trips) trips.now }
     requires blocks { All (λ b. All (λ k. k.0 < length trips.now) b.1) (pairs_of blocks.now) }
-    ensures { OnOk result (AddsPeakRows names.now (own_rows l trips.now blocks.now) text.old text.new) }
+    ensures { OnOk result
+        (AddsPeakRows names.now (own_rows l trips.now blocks.now) text.old text.new) }
 {
     for k in 0..blocks.len() {
         write_block(text, names, l, trips, &blocks[k])?;
@@ -132,7 +135,8 @@ fn write_block(
     requires layer { l.0 < length names.now.layers }
     requires trips { All (λ i. i.0 < length names.now.trips) trips.now }
     requires block { All (λ k. k.0 < length trips.now) block.now.trips.items }
-    ensures { OnOk result (AddsPeakRow names.now (own_row l trips.now block.now) text.old text.new) }
+    ensures { OnOk result
+        (AddsPeakRow names.now (own_row l trips.now block.now) text.old text.new) }
 {
     text.begin_row("block")?;
     text.field(names.layer(l))?;
@@ -189,7 +193,8 @@ fn write_price(
 ) -> Result<(), Memory>
     requires layer { l.0 < length names.now.layers }
     requires trip { i.0 < length names.now.trips }
-    ensures { OnOk result (AddsPeakRow names.now (PartRow (PriceRow l.0 i.0 into from)) text.old text.new) }
+    ensures { OnOk result
+        (AddsPeakRow names.now (PartRow (PriceRow l.0 i.0 into from)) text.old text.new) }
 {
     text.begin_row("price")?;
     text.field(names.layer(l))?;
