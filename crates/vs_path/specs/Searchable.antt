@@ -20,9 +20,10 @@ pub record CanSearch (l : Labels) (order path : ℕ) (zeros : List ℤ) : Type 0
   pub for_path : length l.nodes.settled ≤ path
   pub none_lacks : zeros ≡ replicate (length l.nodes.settled) (pos 0)
 
--- the labels can be cleared, all nodes can wait, there is space for all nodes in the order, for the paths to all of them,
--- and for their prices, and by the zeros no node lacks a unit
-pub record CanFindAll (l : Labels) (order : ℕ) (heap : NodeLists) (paths : LeastPaths) (prices zeros : List ℤ) : Type 0 where
+-- the labels can be cleared, all nodes can wait, there is space for all nodes in the order, for the paths to all of
+-- them, and for their prices, and by the zeros no node lacks a unit
+pub record CanFindAll (l : Labels) (order : ℕ) (heap : NodeLists) (paths : LeastPaths)
+    (prices zeros : List ℤ) : Type 0 where
   pub some : 0 < length l.nodes.settled
   pub can_wait : CanWait (length l.nodes.settled) heap
   pub are_listed : AreListed (length l.nodes.settled) (lists_of l)

@@ -31,7 +31,8 @@ impl PathTree {
         })
     }
 
-    /// Corrects what nodes cost, until no step makes one cost less (Ford 1956, Bellman 1958). Some costs may be negative.
+    /// Corrects what nodes cost, until no step makes one cost less (Ford 1956, Bellman 1958). Some costs may be
+    /// negative.
     pub fn correct(&mut self, residual: &Residual)
         requires can { CanCorrect residual.now }
         requires tree { IsPathTree residual.now 0 (paths_of self.old) }

@@ -32,8 +32,8 @@ one_more rows count old new was next = record {
 }
 
 -- there were no more
-pub no_more : (rows : List Row) (count number : ℕ) (old new : TextRecords) (was : WasGiven rows count old) → count < number
-    → GivesNext new was.left false → length rows < number
+pub no_more : (rows : List Row) (count number : ℕ) (old new : TextRecords) (was : WasGiven rows count old)
+    → count < number → GivesNext new was.left false → length rows < number
 no_more rows count number old new was less none =
     omega (
       arith,
