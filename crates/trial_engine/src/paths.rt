@@ -165,7 +165,10 @@ fn last_nodes(
 #[test]
 fn lead_to_the_last_node(rt: HostRuntime) -> Result<(), Fail> {
     for (cost, room, prices, wanted) in LAST_NODES {
-        assert_eq!(rt; last_nodes(rt.alloc(), cost, room, prices)?, (wanted, wanted));
+        assert_eq!(rt;
+            last_nodes(rt.alloc(), cost, room, prices)?,
+            (wanted, wanted)
+        );
     }
     Ok(())
 }

@@ -74,13 +74,7 @@ impl PathTree {
     }
 
     /// The node that a step reaches costs what it costs along the step, where that is less, and then waits.
-    fn fall_along(
-        &mut self,
-        residual: &Residual,
-        prices: &[i64],
-        step: Step,
-        heap: &mut NodeHeap,
-    )
+    fn fall_along(&mut self, residual: &Residual, prices: &[i64], step: Step, heap: &mut NodeHeap)
         requires can { CanCorrect residual.now }
         requires arc { arc_no step < length residual.now.graph.arcs }
         requires tree { IsPathTree residual.now 0 (paths_of self.old) }
