@@ -12,7 +12,7 @@ use Rattle.vs_rows.specs.declared.document.Document.{Document}
 use Rattle.vs_reader.specs.Rows.{Row}
 use Rattle.vs_words.specs.declared.command.Command.{Command}
 use Rattle.vs_words.specs.declared.command.Effort.{Effort}
-use Rattle.vs_words.specs.declared.command.Command.TheVariants.{Solve, Trial}
+use Rattle.vs_words.specs.declared.command.Command.TheVariants.{Solve, Trial, Peak}
 use Rattle.vs_reply.specs.declared.status.Status.{Status}
 use Rattle.vs_reply.specs.declared.status.Status.TheVariants as status
 use Rattle.mdvsp.specs.Owed.{OwesDocument}
@@ -42,10 +42,11 @@ pub record IsDoneWhereShown (effort : Effort) (bytes : List ℕ) (answer : Statu
   pub or_open : (answer ≡ status.Done) ⊎ (answer ≡ status.StillOpen)
 
 -- what the command owes is one thing; of `solve` and `trial` the definition leaves open which of several searches is
--- made
+-- made, and of `peak` which of several blocks and prices show a peak
 abbrev pub IsDetermined : Command → Type 0
 IsDetermined (Solve effort) = ⊥
 IsDetermined (Trial n) = ⊥
+IsDetermined Peak = ⊥
 IsDetermined _ = Unit {0}
 
 -- the answer settles what plans there are

@@ -1,7 +1,7 @@
 -- How a run may end: with what was read, and what was written.
 use Rattle.std.specs.Prelude.{◌≡◌, ℕ, ◌<◌, ◌≤◌, List, [], ◌∷◌, length, Option, ◌⊎◌}
 use Rattle.vs_words.specs.declared.command.Command.{Command}
-use Rattle.vs_words.specs.declared.command.Command.TheVariants.{Make, Trial}
+use Rattle.vs_words.specs.declared.command.Command.TheVariants.{Make, Solve, Trial}
 use Rattle.vs_io.specs.Bytes.{Takes, TakesAll, Appends, AppendsPrefix}
 use Rattle.vs_io.specs.Faults.{Rose}
 use Rattle.vs_io.specs.declared.slurping.SlurpError.{SlurpError}
@@ -35,6 +35,12 @@ abbrev pub HasRead : Command → Told → Told → List ℕ → Type 0
 HasRead (Make n) left left_after bytes = ReadNone left left_after bytes
 HasRead (Trial n) left left_after bytes = ReadNone left left_after bytes
 HasRead _ left left_after bytes = TakesAll left left_after bytes × (length bytes ≤ input_limit)
+
+-- the command is done without threads
+abbrev pub StartsNoThread : Command → Type 0
+StartsNoThread (Solve effort) = ⊥
+StartsNoThread (Trial n) = ⊥
+StartsNoThread _ = Unit {0}
 
 -- why it couldn't, with the count of the source's faults before and after it
 abbrev pub CouldNotRead : Command → Told → Told → ℕ → ℕ → SlurpError → Type 0

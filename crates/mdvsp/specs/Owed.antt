@@ -9,12 +9,13 @@ use Rattle.vs_rows.specs.DocumentRows.{claim_field, number_field, document_rows}
 use Rattle.vs_reply.specs.declared.status.Status.{Status}
 use Rattle.vs_reply.specs.declared.status.Status.TheVariants as status
 use Rattle.vs_reply.specs.Cases.{SolveText}
-use Rattle.vs_reply.specs.Owed.{BlocksOwes, CheckOwes, MakeOwes, NetworkOwes, OwesRefusal}
+use Rattle.vs_reply.specs.Owed.{BlocksOwes, CheckOwes, MakeOwes, NetworkOwes, OwesRefusal, PeakCheckOwes}
+use Rattle.vs_peaks.specs.Owed.{PeakOwes}
 use Rattle.vs_reply.specs.Status.{status_of}
 use Rattle.vs_report.specs.RefusalRows.{too_large_row}
 use Rattle.vs_words.specs.declared.command.Command.{Command}
 use Rattle.vs_words.specs.declared.command.Effort.{Effort}
-use Rattle.vs_words.specs.declared.command.Command.TheVariants.{Check, Solve, Network, Blocks, Make, Trial}
+use Rattle.vs_words.specs.declared.command.Command.TheVariants.{Check, Solve, Network, Blocks, Make, Trial, Peak, PeakCheck}
 use Rattle.vs_make.specs.Generator.{make_rows}
 use Rattle.mdvsp.specs.Budgets.{budget_of}
 use Rattle.mdvsp.specs.SolveAnswer.{SolveAnswer}
@@ -86,3 +87,5 @@ Owes Network bytes = NetworkOwes bytes
 Owes Blocks bytes = BlocksOwes bytes
 Owes (Make n) bytes = MakeOwes n
 Owes (Trial n) bytes = TrialOwes n
+Owes Peak bytes = PeakOwes bytes
+Owes PeakCheck bytes = PeakCheckOwes bytes

@@ -25,8 +25,8 @@ pub fn solved_documents_hold()
         × ReadsAs (read ++ lines rows) owed.problem owed.names owed.text.before owed.document }
 {}
 
-/// What a command other than `solve` and `trial` is owed for the bytes that it read is one thing: one status, and one
-/// list of rows. So no input has two verdicts.
+/// What a command other than `solve`, `trial` and `peak` is owed for the bytes that it read is one thing: one status,
+/// and one list of rows. So no input has two verdicts.
 pub fn one_answer()
     ensures { (command : Command) (bytes : List ℕ) (a b : Status) (r s : List Row)
         → IsDetermined command → Owes command bytes a r → Owes command bytes b s

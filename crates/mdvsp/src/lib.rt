@@ -15,5 +15,6 @@ pub use laws::{
 };
 pub use running::run;
 pub use vs_make::make_text;
+pub use vs_peaks::written_peaks_hold;
 pub use vs_reply::Status;
 pub use vs_words::words_mean_one_thing;

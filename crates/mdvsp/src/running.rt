@@ -2,8 +2,7 @@
 
 ghost use Rattle.std.specs.Prelude.{◌≡◌, ◌≤◌, List, length, IfErr, IfOk};
 ghost use Rattle.mdvsp.specs.Answered.{IsOwedFor};
-ghost use Rattle.mdvsp.specs.Laws.{IsDetermined};
-ghost use Rattle.mdvsp.specs.Outcome.{CouldNotRead, Ends, HasRead, unread_status};
+ghost use Rattle.mdvsp.specs.Outcome.{CouldNotRead, Ends, HasRead, StartsNoThread, unread_status};
 ghost use Rattle.vs_reply.specs.Cases.{input_limit};
 ghost use Rattle.vs_words.specs.Words.{AskFor, AskToRead, IsWithinLimits, Reads, Word, words_of};
 
@@ -15,8 +14,11 @@ use std::sync::Wait;
 use std::thread::Threads;
 use vs_crew::Gate;
 use vs_io::{Sink, SlurpError, Source, slurp};
+use vs_peaks::answer_peak;
 use vs_reader::MAX_BYTES;
-use vs_reply::{Answer, Status, answer_blocks, answer_check, answer_make, answer_network};
+use vs_reply::{
+    Answer, Status, answer_blocks, answer_check, answer_make, answer_network, answer_peakcheck,
+};
 use vs_types::Memory;
 use vs_words::{Command, Effort, command_of};
 
@@ -95,7 +97,7 @@ fn obey<I: Source, O: Sink>(
     output: &mut O,
 ) -> Status
     requires limits { IsWithinLimits command }
-    requires determined { IsDetermined command }
+    requires alone { StartsNoThread command }
     ensures ends { (words : List Word) → AskFor words command → Ends (record {
       words = words;
       left = I.left input.old;
@@ -153,7 +155,7 @@ fn input_of<I: Source>(
 fn answer_to(alloc: Global, command: Command, bytes: &[u8]) -> Result<Answer, Memory>
     requires few { length bytes.now ≤ input_limit }
     requires limits { IsWithinLimits command }
-    requires determined { IsDetermined command }
+    requires alone { StartsNoThread command }
     ensures { IfOk result (IsOwedFor command bytes.now) }
 {
     match command {
@@ -161,6 +163,8 @@ fn answer_to(alloc: Global, command: Command, bytes: &[u8]) -> Result<Answer, Me
         Command::Network => answer_network(alloc, bytes),
         Command::Blocks => answer_blocks(alloc, bytes),
         Command::Make(n) => answer_make(alloc, n),
+        Command::Peak => answer_peak(alloc, bytes),
+        Command::PeakCheck => answer_peakcheck(alloc, bytes),
         Command::Solve(_) => unreachable!(),
         Command::Trial(_) => unreachable!(),
     }

@@ -30,13 +30,15 @@ commands:
   check     judge a plan's document behind its timetable
   blocks    print the timetable of a plan's vehicles
   network   tell how large a timetable's networks are
+  peak      tell how few vehicles each layer needs for all that it may run, whatever its fleet
+  peakcheck judge such a text behind its timetable
   make N    write a timetable of N trips, 0 to 2000, to try the program on
   trial N   make such a timetable, plan it by one worker and 20 cases, check the plan, and tell how it went
   --help, --version
             print this, or the version of the program
 
 exit status:
-  0 done, solve, trial: the plan is optimal   1 check, blocks: no   2 wrong words   3 the input is refused
+  0 done, solve, trial: the plan is optimal   1 check, blocks, peakcheck: no   2 wrong words   3 the input is refused
   4 reading failed   5 writing failed   6 no memory   7 the input is too long
   10 solve, trial: there is no plan   11 solve, trial: open, the cases ran out";
 

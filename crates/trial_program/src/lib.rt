@@ -12,6 +12,8 @@ mod limits;
 #[cfg(test)]
 mod long_runs;
 #[cfg(test)]
+mod peaks;
+#[cfg(test)]
 mod plans;
 #[cfg(test)]
 mod refusals;

@@ -17,6 +17,8 @@ const WRONG: &[Wrong] = &[
     (&["check", "x"], "words,2\n"),
     (&["network", "x"], "words,2\n"),
     (&["blocks", "x"], "words,2\n"),
+    (&["peak", "x"], "words,2\n"),
+    (&["peakcheck", "x"], "words,2\n"),
     (&["solve", "x"], "words,2\n"),
     (&["solve", "--nodes"], "words,3\n"),
     (&["solve", "--nodes", "-1"], "words,3\n"),

@@ -1,4 +1,4 @@
 -- What crates above may cite of these proofs.
 pub use Rattle.vs_check.proofs.AlikeDocuments.{judged_alike}
 pub use Rattle.vs_check.proofs.Claims.{prove_their_claims}
-pub use Rattle.vs_check.proofs.NamedFlaws.{verdict_named}
+pub use Rattle.vs_check.proofs.NamedFlaws.{break_of, faults_named, verdict_named}

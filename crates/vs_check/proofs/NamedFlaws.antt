@@ -37,7 +37,7 @@ use Rattle.vs_check.specs.Flaws.{IsBreakWithin, IsFaultWithin, IsFlawWithin, IsV
 use Rattle.vs_types.specs.Parts.{is_proper_part}
 use Rattle.vs_check.specs.Trees.{trees_of}
 
-break_of : (p : Problem) (table : Table) (at : BrokenAt) → IsBroken p table at
+pub break_of : (p : Problem) (table : Table) (at : BrokenAt) → IsBroken p table at
     → IsBreakWithin (length p.layers) (length p.trips) at
 break_of p table (broken.Fleet l) is = is.0
 break_of p table (broken.PullOut l i) is = (is.0, is.1)
@@ -76,7 +76,7 @@ module _ (p : Problem) where
       (arrival_named b block.0 block.1 place)))
       (All-when OfFault (is_none (in_piece p block.0.0 (last_of block.1))) (fault.NoPullIn b) (λ _. tt))
 
-  faults_named : (blocks : List LayerBlock) → All OfFault (faults_of p blocks)
+  pub faults_named : (blocks : List LayerBlock) → All OfFault (faults_of p blocks)
   faults_named blocks =
       All-append OfFault _ _ (All-each OfFault (block_faults p) 0 blocks (λ b block from within. block_named b block))
       (All-append OfFault _ _

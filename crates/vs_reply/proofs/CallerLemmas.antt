@@ -1,4 +1,4 @@
 -- What crates above may cite of these proofs.
 pub use Rattle.vs_reply.proofs.owing.OwedAnswers.{owed_so}
 pub use Rattle.vs_reply.proofs.once.OneCase.{case_refused, same_case}
-pub use Rattle.vs_reply.proofs.once.OneAnswer.{one_made, one_of_blocks, one_of_check, one_of_network}
+pub use Rattle.vs_reply.proofs.once.OneAnswer.{one_made, one_of_blocks, one_of_check, one_of_network, one_of_peakcheck}

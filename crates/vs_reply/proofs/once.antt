@@ -1,3 +1,4 @@
 -- What is owed is one thing.
 pub mod OneCase
+pub mod OneClaim
 pub mod OneAnswer

@@ -1,4 +1,4 @@
--- What the bytes of an input stand for: an instance, and a document behind it.
+-- What the bytes of an input stand for: an instance, and what stands behind it.
 use Rattle.std.specs.Prelude.{ℕ, List}
 use Rattle.vs_instance.specs.Problem.{Problem}
 use Rattle.vs_reader.specs.declared.limits.TheConstants.{MAX_BYTES}
@@ -9,6 +9,10 @@ use Rattle.vs_document.specs.DocumentRefusals.{AreRefused}
 use Rattle.vs_rows.specs.DocumentText.{DocumentText}
 use Rattle.vs_rows.specs.declared.document.Document.{Document}
 use Rattle.vs_document.specs.declared.refused.DocWhy.{DocWhy}
+use Rattle.vs_peakcheck.specs.Claims.{PeakText}
+use Rattle.vs_peakcheck.specs.PeakRefusals.{AreRefused as ClaimNothing}
+use Rattle.vs_peakcheck.specs.declared.claimed.Claimed.{Claimed}
+use Rattle.vs_peakcheck.specs.declared.refused.PeakWhy.{PeakWhy}
 
 -- how many bytes an input may have
 abbrev pub input_limit : ℕ
@@ -35,3 +39,19 @@ pub record LacksDocument (bytes : List ℕ) (at : ℕ) (why : DocWhy) : Type 0 w
   pub rest : List Row
   pub instance : StandsFor bytes problem names before rest
   pub refused : AreRefused problem names before rest at why
+
+-- they stand for an instance, and from the first `result` record on for what is claimed of the peaks of its layers
+pub record PeakCheckText (bytes : List ℕ) (p : Problem) (names : NameLists) (claimed : List Claimed) : Type 0 where
+  pub before : ℕ
+  pub rest : List Row
+  pub instance : StandsFor bytes p names before rest
+  pub claims : PeakText p names rest claimed
+
+-- they stand for an instance, and what follows it claims nothing, first of all at this record and for this reason
+pub record LacksClaims (bytes : List ℕ) (at : ℕ) (why : PeakWhy) : Type 0 where
+  pub problem : Problem
+  pub names : NameLists
+  pub before : ℕ
+  pub rest : List Row
+  pub instance : StandsFor bytes problem names before rest
+  pub refused : ClaimNothing problem names before rest at why

@@ -1,5 +1,5 @@
 -- What a call that doesn't search has to answer, and what it has to write.
-use Rattle.std.specs.Prelude.{◌≡◌, ℕ, List, [], ◌∷◌, codes, Some, IsSome, IfSome, ◌⊎◌}
+use Rattle.std.specs.Prelude.{◌≡◌, ℕ, List, [], ◌∷◌, map, codes, Some, IsSome, IfSome, ◌⊎◌}
 use Rattle.vs_instance.specs.Problem.{Problem}
 use Rattle.vs_rows.specs.declared.document.Document.{Document}
 use Rattle.vs_plan.specs.Blocks.{blocks_of}
@@ -15,8 +15,16 @@ use Rattle.vs_rows.specs.DocumentRows.{claim_field, number_field}
 use Rattle.vs_document.specs.declared.refused.DocWhy.{DocWhy}
 use Rattle.vs_reader.specs.Texts.{IsRefused}
 use Rattle.vs_reader.specs.declared.refused.Refused.{Refused}
-use Rattle.vs_reply.specs.Cases.{CheckText, LacksDocument, SolveText}
-use Rattle.vs_report.specs.RefusalRows.{document_refusal_row, refusal_row}
+use Rattle.vs_counting.specs.Counting.{numbered, permitted_trips}
+use Rattle.vs_peakcheck.specs.Flaws.{flaws_of as peak_flaws_of}
+use Rattle.vs_peakcheck.specs.HoldingClaims.{HoldingClaims, ProvePeaks}
+use Rattle.vs_peakcheck.specs.declared.claimed.Claimed.{Claimed}
+use Rattle.vs_peakcheck.specs.declared.flaw.PeakFlaw.{PeakFlaw}
+use Rattle.vs_peakcheck.specs.declared.refused.PeakWhy.{PeakWhy}
+use Rattle.vs_types.specs.declared.numbers.LayerNo.{LayerNo}
+use Rattle.vs_reply.specs.Cases.{CheckText, LacksClaims, LacksDocument, PeakCheckText, SolveText}
+use Rattle.vs_report.specs.RefusalRows.{document_refusal_row, peak_refusal_row, refusal_row}
+use Rattle.vs_report.specs.PeakFlawRows.{no_peak_row}
 use Rattle.vs_report.specs.FlawRows.{no_row}
 use Rattle.vs_make.specs.Generator.{make_rows}
 use Rattle.vs_report.specs.Network.{AreNetworkRows}
@@ -29,6 +37,13 @@ use Rattle.vs_check.specs.declared.flaw.Flaw.TheVariants.{Plan}
 -- `yes`, CLAIM, COST, BOUND
 abbrev pub yes_row : Document → Row
 yes_row d = codes "yes" ∷ claim_field d.claim ∷ number_field d.cost ∷ number_field d.bound ∷ []
+
+-- `yes` alone, and the row of a flaw of what is claimed of layer l
+abbrev pub peaks_yes_row : Row
+peaks_yes_row = codes "yes" ∷ []
+
+abbrev pub peaks_no_row : Problem → NameLists → LayerNo → PeakFlaw → Row
+peaks_no_row p names l flaw = no_peak_row names l (map numbered (permitted_trips p l.0)) flaw
 
 -- `check` is owed `yes` where the document holds; it then proves what it claims, whoever wrote it
 pub record OwesYes (bytes : List ℕ) (rows : List Row) : Type 0 where
@@ -96,6 +111,40 @@ pub record OwesNoTimetable (bytes : List ℕ) (rows : List Row) : Type 0 where
   pub is_first : first (faults_of problem (blocks_of document.plan)) ≡ Some fault
   pub rows_are : rows ≡ no_row names (Plan fault) ∷ []
 
+-- `peakcheck` is owed `yes` where all that is claimed holds; each count then is its layer's peak, and where there is
+-- none no blocks run all that the layer may run, whoever wrote the text
+pub record OwesPeaksYes (bytes : List ℕ) (rows : List Row) : Type 0 where
+  pub problem : Problem
+  pub names : NameLists
+  pub claimed : List Claimed
+  pub text : PeakCheckText bytes problem names claimed
+  pub holds : HoldingClaims problem claimed
+  pub proves : ProvePeaks problem claimed
+  pub rows_are : rows ≡ peaks_yes_row ∷ []
+
+-- and `no` where it doesn't, with the first flaw of the first layer that has one
+pub record OwesPeaksNo (bytes : List ℕ) (rows : List Row) : Type 0 where
+  pub problem : Problem
+  pub names : NameLists
+  pub claimed : List Claimed
+  pub text : PeakCheckText bytes problem names claimed
+  pub fails : ¬ (HoldingClaims problem claimed)
+  pub layer : LayerNo
+  pub flaw : PeakFlaw
+  pub is_first : first (peak_flaws_of problem claimed) ≡ Some (layer, flaw)
+  pub rows_are : rows ≡ peaks_no_row problem names layer flaw ∷ []
+
+-- an instance text behind which nothing is claimed is owed the refusal of what follows its records
+pub record OwesClaimsRefusal (bytes : List ℕ) (rows : List Row) : Type 0 where
+  pub at : ℕ
+  pub why : PeakWhy
+  pub lacks : LacksClaims bytes at why
+  pub rows_are : rows ≡ peak_refusal_row at why ∷ []
+
+-- a text that is no instance with claims behind it is refused for its instance first
+abbrev pub OwesNoClaims : List ℕ → List Row → Type 0
+OwesNoClaims bytes rows = OwesRefusal bytes rows ⊎ OwesClaimsRefusal bytes rows
+
 -- what `check` has to answer for these bytes, and which rows it has to write
 abbrev pub CheckOwes : List ℕ → Status → List Row → Type 0
 CheckOwes bytes status.Done rows = OwesYes bytes rows
@@ -115,6 +164,13 @@ BlocksOwes bytes status.Done rows = OwesTimetable bytes rows
 BlocksOwes bytes status.SaysNo rows = OwesNoTimetable bytes rows
 BlocksOwes bytes status.BadInput rows = OwesNoCase bytes rows
 BlocksOwes bytes _ rows = ⊥
+
+-- of `peakcheck`
+abbrev pub PeakCheckOwes : List ℕ → Status → List Row → Type 0
+PeakCheckOwes bytes status.Done rows = OwesPeaksYes bytes rows
+PeakCheckOwes bytes status.SaysNo rows = OwesPeaksNo bytes rows
+PeakCheckOwes bytes status.BadInput rows = OwesNoClaims bytes rows
+PeakCheckOwes bytes _ rows = ⊥
 
 -- and of `make n`, whatever the input
 abbrev pub MakeOwes : ℕ → Status → List Row → Type 0

@@ -6,6 +6,7 @@ mod case;
 mod checking;
 mod making;
 mod network;
+mod peaks;
 mod status;
 mod timetable;
 
@@ -14,5 +15,6 @@ pub use case::{Case, CaseError, read_case};
 pub use checking::answer_check;
 pub use making::answer_make;
 pub use network::answer_network;
+pub use peaks::answer_peakcheck;
 pub use status::Status;
 pub use timetable::answer_blocks;

@@ -2,3 +2,4 @@
 pub mod RowsInParts
 pub mod RestRows
 pub mod NetworkRows
+pub mod WrittenFields

@@ -1,4 +1,5 @@
 pub mod RefusalRows
 pub mod FlawRows
+pub mod PeakFlawRows
 pub mod Network
 pub mod Timetable

@@ -10,6 +10,8 @@ use Rattle.vs_reader.specs.declared.refused.Why.TheVariants as why
 use Rattle.vs_reader.specs.Rows.{Field, Row}
 use Rattle.vs_document.specs.declared.refused.DocWhy.{DocWhy}
 use Rattle.vs_document.specs.declared.refused.DocWhy.TheVariants as doc
+use Rattle.vs_peakcheck.specs.declared.refused.PeakWhy.{PeakWhy}
+use Rattle.vs_peakcheck.specs.declared.refused.PeakWhy.TheVariants as peak
 
 abbrev pub misfit_name : Misfit → Field
 misfit_name (Range field place) = codes "Range"
@@ -100,6 +102,27 @@ document_name doc.PriceRange = codes "PriceRange"
 abbrev pub document_refusal_row : ℕ → DocWhy → Row
 document_refusal_row at why =
     codes "refused" ∷ decimal at ∷ decimal (document_number why) ∷ document_name why ∷ []
+
+-- the number of a refusal of what follows the instance as a text of peaks, and its name
+abbrev pub peak_number : PeakWhy → ℕ
+peak_number peak.NoPeak = 60
+peak_number peak.BadRow = 61
+peak_number peak.OutOfOrder = 62
+peak_number peak.EndsEarly = 63
+peak_number peak.RowsAfterEnd = 64
+peak_number peak.PriceRange = 65
+
+abbrev pub peak_name : PeakWhy → Field
+peak_name peak.NoPeak = codes "NoPeak"
+peak_name peak.BadRow = codes "BadRow"
+peak_name peak.OutOfOrder = codes "OutOfOrder"
+peak_name peak.EndsEarly = codes "EndsEarly"
+peak_name peak.RowsAfterEnd = codes "RowsAfterEnd"
+peak_name peak.PriceRange = codes "PriceRange"
+
+-- `refused`, ROW, NUMBER, NAME
+abbrev pub peak_refusal_row : ℕ → PeakWhy → Row
+peak_refusal_row at why = codes "refused" ∷ decimal at ∷ decimal (peak_number why) ∷ peak_name why ∷ []
 
 -- the row that refuses a search of too many nodes for the instance
 abbrev pub too_large_row : Row

@@ -30,7 +30,7 @@ fn place_fields(text: &mut Text, name: &str, block: u32, place: u32) -> Result<(
 }
 
 /// Adds to a row what is wrong with the blocks.
-fn fault_fields(text: &mut Text, names: &Names, fault: PlanFault) -> Result<(), Memory>
+pub(crate) fn fault_fields(text: &mut Text, names: &Names, fault: PlanFault) -> Result<(), Memory>
     requires { IsFaultWithin (length names.now.layers) (length names.now.trips) fault }
     ensures { OnOk result (text.new ≡ text.old ++ more_fields (fault_fields names.now fault)) }
 {
@@ -62,7 +62,7 @@ fn fault_fields(text: &mut Text, names: &Names, fault: PlanFault) -> Result<(), 
 }
 
 /// Adds to a row where a table breaks.
-fn broken_fields(text: &mut Text, names: &Names, at: BrokenAt) -> Result<(), Memory>
+pub(crate) fn broken_fields(text: &mut Text, names: &Names, at: BrokenAt) -> Result<(), Memory>
     requires { IsBreakWithin (length names.now.layers) (length names.now.trips) at }
     ensures { OnOk result (text.new ≡ text.old ++ more_fields (broken_fields names.now at)) }
 {
@@ -91,7 +91,7 @@ fn broken_fields(text: &mut Text, names: &Names, at: BrokenAt) -> Result<(), Mem
 }
 
 /// Adds a flaw's number and name to a row.
-fn heading(text: &mut Text, number: &str, name: &str) -> Result<(), Memory>
+pub(crate) fn heading(text: &mut Text, number: &str, name: &str) -> Result<(), Memory>
     ensures { OnOk result (text.new ≡ text.old ++ more_fields (number.now ∷ name.now ∷ [])) }
 {
     text.field(number)?;

@@ -3,10 +3,12 @@
 
 mod flaws;
 mod network;
+mod peak_flaws;
 mod refusal;
 mod timetable;
 
 pub use flaws::flaw_fields;
 pub use network::write_nets;
-pub use refusal::{write_document_why, write_why};
+pub use peak_flaws::peak_flaw_fields;
+pub use refusal::{write_document_why, write_peak_why, write_why};
 pub use timetable::write_timetable;

@@ -2,11 +2,12 @@
 
 ghost use Rattle.std.specs.Prelude.{◌≡◌, [], ◌∷◌, ◌++◌, decimal, OnOk};
 ghost use Rattle.vs_reader.specs.Rows.{more_fields};
-ghost use Rattle.vs_report.specs.RefusalRows.{document_name, document_number};
+ghost use Rattle.vs_report.specs.RefusalRows.{document_name, document_number, peak_name, peak_number};
 ghost use Rattle.vs_report.specs.RefusalRows.{misfit_details, misfit_name, range_name, stop_fields, why_details, why_name, why_number};
 
 use vs_document::DocWhy;
 use vs_instance::{Field, Misfit};
+use vs_peakcheck::PeakWhy;
 use vs_reader::Why;
 use vs_rows::Text;
 use vs_types::{Memory, StopNo};
@@ -148,5 +149,42 @@ fn document_name(why: DocWhy) -> &'static str
         DocWhy::EndsEarly => "EndsEarly",
         DocWhy::RowsAfterEnd => "RowsAfterEnd",
         DocWhy::PriceRange => "PriceRange",
+    }
+}
+
+/// Writes the number of a refusal of what follows the instance as a text of peaks, and its name.
+pub fn write_peak_why(text: &mut Text, why: PeakWhy) -> Result<(), Memory>
+    ensures { OnOk result (text.new ≡ text.old
+        ++ more_fields (decimal (peak_number why) ∷ peak_name why ∷ [])) }
+{
+    text.number(peak_number(why))?;
+    text.field(peak_name(why))
+}
+
+/// The number of a refusal of what follows the instance as a text of peaks.
+fn peak_number(why: PeakWhy) -> u32
+    ensures { result ≡ peak_number why }
+{
+    match why {
+        PeakWhy::NoPeak => 60,
+        PeakWhy::BadRow => 61,
+        PeakWhy::OutOfOrder => 62,
+        PeakWhy::EndsEarly => 63,
+        PeakWhy::RowsAfterEnd => 64,
+        PeakWhy::PriceRange => 65,
+    }
+}
+
+/// The name of a refusal of what follows the instance as a text of peaks.
+fn peak_name(why: PeakWhy) -> &'static str
+    ensures { result.now ≡ peak_name why }
+{
+    match why {
+        PeakWhy::NoPeak => "NoPeak",
+        PeakWhy::BadRow => "BadRow",
+        PeakWhy::OutOfOrder => "OutOfOrder",
+        PeakWhy::EndsEarly => "EndsEarly",
+        PeakWhy::RowsAfterEnd => "RowsAfterEnd",
+        PeakWhy::PriceRange => "PriceRange",
     }
 }

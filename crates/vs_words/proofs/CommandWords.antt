@@ -8,7 +8,7 @@ use Rattle.std.proofs.lemmas.List.{length-map, get_or-map}
 use Rattle.std.proofs.lemmas.List.Elements.{All-nil, All-cons}
 use Rattle.vs_instance.specs.declared.limits.TheConstants.{MAX_BUDGET, MAX_TRIPS, MAX_WORKERS}
 use Rattle.vs_words.specs.declared.command.Command.{Command}
-use Rattle.vs_words.specs.declared.command.Command.TheVariants.{Check, Solve, Network, Blocks, Make, Trial}
+use Rattle.vs_words.specs.declared.command.Command.TheVariants.{Check, Solve, Network, Blocks, Make, Trial, Peak, PeakCheck}
 use Rattle.vs_words.specs.declared.command.Effort.{Effort}
 use Rattle.vs_words.specs.declared.words.Counting.{Counting}
 use Rattle.vs_words.specs.declared.words.Counting.TheVariants as counting
@@ -475,13 +475,16 @@ count_accepted kind (a ∷ b ∷ c ∷ words) count n command first second is tw
 not_the_name : (words : List Word) (c : Command) → ¬ (IsWordAt words 0 (codes "check"))
     → ¬ (IsWordAt words 0 (codes "network")) → ¬ (IsWordAt words 0 (codes "blocks"))
     → ¬ (IsWordAt words 0 (codes "solve")) → ¬ (IsWordAt words 0 (codes "make"))
-    → ¬ (IsWordAt words 0 (codes "trial")) → ¬ (IsWordAt words 0 (command_name c))
-not_the_name words Check check network blocks solve make trial = check
-not_the_name words Network check network blocks solve make trial = network
-not_the_name words Blocks check network blocks solve make trial = blocks
-not_the_name words (Solve effort) check network blocks solve make trial = solve
-not_the_name words (Make n) check network blocks solve make trial = make
-not_the_name words (Trial n) check network blocks solve make trial = trial
+    → ¬ (IsWordAt words 0 (codes "trial")) → ¬ (IsWordAt words 0 (codes "peak"))
+    → ¬ (IsWordAt words 0 (codes "peakcheck")) → ¬ (IsWordAt words 0 (command_name c))
+not_the_name words Check check network blocks solve make trial peak peakcheck = check
+not_the_name words Network check network blocks solve make trial peak peakcheck = network
+not_the_name words Blocks check network blocks solve make trial peak peakcheck = blocks
+not_the_name words (Solve effort) check network blocks solve make trial peak peakcheck = solve
+not_the_name words (Make n) check network blocks solve make trial peak peakcheck = make
+not_the_name words (Trial n) check network blocks solve make trial peak peakcheck = trial
+not_the_name words Peak check network blocks solve make trial peak peakcheck = peak
+not_the_name words PeakCheck check network blocks solve make trial peak peakcheck = peakcheck
 
 pub first_bad : (words : List Word) → ((c : Command) → ¬ (IsWordAt words 0 (command_name c))) → AreBadAt words 1
 first_bad [] none = record {
@@ -504,9 +507,10 @@ first_bad (a ∷ words) none = record {
 pub no_command : (words : List Word) → ¬ (IsWordAt words 0 (codes "check"))
     → ¬ (IsWordAt words 0 (codes "network")) → ¬ (IsWordAt words 0 (codes "blocks"))
     → ¬ (IsWordAt words 0 (codes "solve")) → ¬ (IsWordAt words 0 (codes "make"))
-    → ¬ (IsWordAt words 0 (codes "trial")) → AreBadAt words 1
-no_command words check network blocks solve make trial =
-    first_bad words (λ c. not_the_name words c check network blocks solve make trial)
+    → ¬ (IsWordAt words 0 (codes "trial")) → ¬ (IsWordAt words 0 (codes "peak"))
+    → ¬ (IsWordAt words 0 (codes "peakcheck")) → AreBadAt words 1
+no_command words check network blocks solve make trial peak peakcheck =
+    first_bad words (λ c. not_the_name words c check network blocks solve make trial peak peakcheck)
 
 -- a word that was read, as bytes
 pub word_read : (words : List (String Global)) (place : ℕ) (word : String Global) → place < length words

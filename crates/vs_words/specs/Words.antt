@@ -5,7 +5,7 @@ use Rattle.std.specs.declared.alloc.Global.{Global}
 use Rattle.vs_instance.specs.declared.limits.TheConstants.{MAX_BUDGET, MAX_TRIPS, MAX_WORKERS}
 use Rattle.vs_reader.specs.Numbers.{AreDigits}
 use Rattle.vs_words.specs.declared.command.Command.{Command}
-use Rattle.vs_words.specs.declared.command.Command.TheVariants.{Check, Solve, Network, Blocks, Make, Trial}
+use Rattle.vs_words.specs.declared.command.Command.TheVariants.{Check, Solve, Network, Blocks, Make, Trial, Peak, PeakCheck}
 use Rattle.vs_words.specs.declared.command.Effort.{Effort}
 use Rattle.vs_words.specs.declared.words.BadWord.{BadWord}
 use Rattle.vs_words.specs.declared.words.Counting.{Counting}
@@ -26,6 +26,8 @@ command_name Network = codes "network"
 command_name Blocks = codes "blocks"
 command_name (Make n) = codes "make"
 command_name (Trial n) = codes "trial"
+command_name Peak = codes "peak"
+command_name PeakCheck = codes "peakcheck"
 
 -- the command of so many trips
 abbrev pub counted : Counting → ℕ → Command
@@ -108,6 +110,8 @@ AreFurther Network words = words ≡ []
 AreFurther Blocks words = words ≡ []
 AreFurther (Make n) words = IsCount n words
 AreFurther (Trial n) words = IsCount n words
+AreFurther Peak words = words ≡ []
+AreFurther PeakCheck words = words ≡ []
 
 -- the words ask for the command
 pub record AskFor (words : List Word) (command : Command) : Type 0 where
@@ -141,6 +145,8 @@ abbrev pub IsAlone : Command → Type 0
 IsAlone Check = Unit {0}
 IsAlone Network = Unit {0}
 IsAlone Blocks = Unit {0}
+IsAlone Peak = Unit {0}
+IsAlone PeakCheck = Unit {0}
 IsAlone _ = ⊥
 
 -- an instance may have as many trips as the command asks for, and a search as many workers and nodes

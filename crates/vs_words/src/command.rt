@@ -23,4 +23,8 @@ pub enum Command {
     Make(u32),
     /// Plan the generator's instance of so many trips, 0 to 2,000, judge the document, and tell the outcome in one row.
     Trial(u32),
+    /// Tell how few vehicles each layer needs for all that it may run.
+    Peak,
+    /// Judge a text that tells so.
+    PeakCheck,
 }

@@ -108,8 +108,8 @@ impl Counting {
     }
 }
 
-/// What the words ask for: `check`, `network`, `blocks`, `solve` with or without its options, or `make` or `trial` and
-/// a number.
+/// What the words ask for: `check`, `network`, `blocks`, `peak`, `peakcheck`, `solve` with or without its options, or
+/// `make` or `trial` and a number.
 #[tactic(auto, using(crate::proofs::CommandWords::no_command))]
 pub fn command_of(words: &[String]) -> Result<Command, BadWord>
     ensures { Answers (words_of words.now) result }
@@ -126,6 +126,10 @@ pub fn command_of(words: &[String]) -> Result<Command, BadWord>
         count_of(words, Counting::Make)
     } else if is_word(words, 0, "trial") {
         count_of(words, Counting::Trial)
+    } else if is_word(words, 0, "peak") {
+        alone(words, Command::Peak)
+    } else if is_word(words, 0, "peakcheck") {
+        alone(words, Command::PeakCheck)
     } else {
         Err(BadWord(1))
     }

@@ -22,9 +22,14 @@ use Rattle.vs_check.specs.Flaws.{flaws_of}
 use Rattle.vs_check.specs.HoldingDocument.{HoldingDocument}
 use Rattle.vs_report.specs.FlawRows.{no_row}
 use Rattle.vs_make.specs.Generator.{make_rows}
-use Rattle.vs_reply.specs.Owed.{BlocksOwes, CheckOwes, MakeOwes, NetworkOwes, OwesNetwork, OwesNo, OwesNoCase, OwesNoTimetable, OwesRefusal, OwesTimetable, OwesYes}
+use Rattle.vs_types.specs.declared.numbers.LayerNo.{LayerNo}
+use Rattle.vs_peakcheck.specs.Flaws.{flaws_of as peak_flaws_of}
+use Rattle.vs_peakcheck.specs.HoldingClaims.{HoldingClaims}
+use Rattle.vs_peakcheck.specs.declared.flaw.PeakFlaw.{PeakFlaw}
+use Rattle.vs_reply.specs.Owed.{BlocksOwes, CheckOwes, MakeOwes, NetworkOwes, OwesNetwork, OwesNo, OwesNoCase, OwesNoClaims, OwesNoTimetable, OwesPeaksNo, OwesPeaksYes, OwesRefusal, OwesTimetable, OwesYes, PeakCheckOwes, peaks_no_row}
 use Rattle.vs_report.specs.Timetable.{rows_beside, timetable_of}
 use Rattle.vs_reply.proofs.once.OneCase.{case_refused, one_document_refusal, same_case}
+use Rattle.vs_reply.proofs.once.OneClaim.{claim_refused, one_claims_refusal, same_claim}
 use Rattle.vs_report.specs.RefusalRows.{refusal_row}
 use Rattle.vs_report.proofs.CallerLemmas.{one_network, one_refusal}
 
@@ -188,6 +193,53 @@ blocks_once bytes = record {
   no_not_refused = λ r s a. case_refused bytes a.problem a.names a.document s a.text;
 }
 
+-- of `peakcheck`: claims that hold, claims with a flaw, and none
+one_claims_row : (bytes : List ℕ) (r s : List Row) → OwesNoClaims bytes r → OwesNoClaims bytes s → r ≡ s
+one_claims_row bytes r s (inl a) (inl b) = one_refusal_row bytes r s a b
+one_claims_row bytes r s (inl a) (inr b) =
+    absurd (refused_none bytes a.refused b.lacks.problem b.lacks.names b.lacks.before b.lacks.rest a.is_refused
+    b.lacks.instance)
+one_claims_row bytes r s (inr a) (inl b) =
+    absurd (refused_none bytes b.refused a.lacks.problem a.lacks.names a.lacks.before a.lacks.rest b.is_refused
+    a.lacks.instance)
+one_claims_row bytes r s (inr a) (inr b) = one_claims_refusal bytes r s a b
+
+peaks_no_once : (bytes : List ℕ) (r s : List Row) → OwesPeaksNo bytes r → OwesPeaksNo bytes s → r ≡ s
+peaks_no_once bytes r s a b =
+    let same = same_claim bytes a.problem b.problem a.names b.names a.claimed b.claimed a.text b.text in
+    let found : Some (a.layer, a.flaw) ≡ Some (b.layer, b.flaw) =
+    sym a.is_first ∙ ap first same.judged.flaws
+    ∙ ap (λ (p : Problem). first (peak_flaws_of p b.claimed)) (sym same.same_problem) ∙ b.is_first in
+    let both = same_Some (a.layer, a.flaw) (b.layer, b.flaw) found in
+    a.rows_are
+    ∙ ap (λ (f : LayerNo × PeakFlaw). peaks_no_row a.problem a.names f.0 f.1 ∷ []) both
+    ∙ ap (λ (p : Problem). peaks_no_row p a.names b.layer b.flaw ∷ []) (sym same.same_problem)
+    ∙ ap (λ (names : NameLists). peaks_no_row b.problem names b.layer b.flaw ∷ []) (sym same.same_names)
+    ∙ sym b.rows_are
+
+peaks_not_both : (bytes : List ℕ) (r s : List Row) → OwesPeaksYes bytes r → OwesPeaksNo bytes s → ⊥
+peaks_not_both bytes r s a b =
+    let same = same_claim bytes a.problem b.problem a.names b.names a.claimed b.claimed a.text b.text in
+    b.fails
+    (subst (λ (x : Problem). HoldingClaims x b.claimed) (sym same.same_problem) (same.judged.holds.0 a.holds))
+
+peaks_once : (bytes : List ℕ) → AreOnce (OwesPeaksYes bytes) (OwesPeaksNo bytes) (OwesNoClaims bytes)
+peaks_once bytes = record {
+  yes_once = λ r s a b. a.rows_are ∙ sym b.rows_are;
+  no_once = peaks_no_once bytes;
+  refused_once = one_claims_row bytes;
+  yes_not_no = peaks_not_both bytes;
+  yes_not_refused = λ r s a. claim_refused bytes a.problem a.names a.claimed s a.text;
+  no_not_refused = λ r s a. claim_refused bytes a.problem a.names a.claimed s a.text;
+}
+
+peaks_three : (bytes : List ℕ) (answer : Status) (r : List Row) → PeakCheckOwes bytes answer r
+    → Answer3 (OwesPeaksYes bytes) (OwesPeaksNo bytes) (OwesNoClaims bytes) answer r
+peaks_three bytes status.Done r owed = Done refl owed
+peaks_three bytes status.SaysNo r owed = Denied refl owed
+peaks_three bytes status.BadInput r owed = Turned refl owed
+peaks_three bytes _ r owed = absurd owed
+
 -- what each command owes, as one of three
 check_three : (bytes : List ℕ) (answer : Status) (r : List Row) → CheckOwes bytes answer r
     → Answer3 (OwesYes bytes) (OwesNo bytes) (OwesNoCase bytes) answer r
@@ -233,3 +285,8 @@ one_of_blocks bytes a b r s x y =
 pub one_made : (n : ℕ) (a b : Status) (r s : List Row) → MakeOwes n a r → MakeOwes n b s → (a ≡ b) × (r ≡ s)
 one_made n a b r s x y =
     let one = make_done n a r x in let other = make_done n b s y in (one.0 ∙ sym other.0, one.1 ∙ sym other.1)
+
+pub one_of_peakcheck : (bytes : List ℕ) (a b : Status) (r s : List Row) → PeakCheckOwes bytes a r
+    → PeakCheckOwes bytes b s → (a ≡ b) × (r ≡ s)
+one_of_peakcheck bytes a b r s x y =
+    one_of_three _ _ _ (peaks_once bytes) a b r s (peaks_three bytes a r x) (peaks_three bytes b s y)

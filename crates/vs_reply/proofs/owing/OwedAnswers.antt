@@ -11,7 +11,7 @@ use Rattle.vs_reader.specs.Texts.{StandsFor, IsRefused}
 use Rattle.vs_reply.specs.declared.answer.Answer.{Answer}
 use Rattle.vs_reply.specs.declared.status.Status.{Status}
 use Rattle.vs_reply.specs.declared.status.Status.TheVariants as status
-use Rattle.vs_reply.specs.Answered.{HasSizes, IsNoCase, IsTextOf, RefusesCase, RefusesText, case_error}
+use Rattle.vs_reply.specs.Answered.{HasSizes, IsNoCase, IsTextOf, RefusesCase, RefusesText, TellsRow, case_error}
 use Rattle.vs_document.specs.DocumentRefusals.{AreRefused}
 use Rattle.vs_document.specs.declared.refused.DocWhy.{DocWhy}
 use Rattle.vs_reply.specs.Cases.{CheckText, SolveText}
@@ -34,11 +34,7 @@ owed_so owes answer wanted rows owed is text = record {
   text_is = text;
 }
 
--- the row of a refusal was answered
-abbrev TellsRow : Status → Row → Answer → Type 0
-TellsRow wanted row a = (a.status ≡ wanted) × (a.text.items ≡ lines (row ∷ []))
-
-refusal : (bytes : List ℕ) (refused : Refused) → IsRefused bytes refused
+pub refusal : (bytes : List ℕ) (refused : Refused) → IsRefused bytes refused
     → OwesRefusal bytes (refusal_row refused ∷ [])
 refusal bytes refused is = record { refused = refused; is_refused = is; rows_are = refl }
 

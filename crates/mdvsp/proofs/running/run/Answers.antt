@@ -4,8 +4,8 @@ use Rattle.vs_words.specs.Words.{AskFor, words_of}
 use Rattle.vs_words.specs.declared.command.Command.TheVariants.{Trial}
 use Rattle.mdvsp.proofs.running.run.Goals as goal
 
-pub obey-requires-clause-determined : goal.obey-requires-clause-determined
-obey-requires-clause-determined g c =
+pub obey-requires-clause-alone : goal.obey-requires-clause-alone
+obey-requires-clause-alone g c =
     no_search c.in-Ok.command c.in_default.not-Solve c.in_default.not-Trial
 
 pub returns-in_default-clause-untouched : goal.returns-in_default-clause-untouched

@@ -1,21 +1,14 @@
-use Rattle.std.proofs.Common.{◌≡◌, rules, ℕ, ℤ, List, [], ◌∷◌, ◌++◌, FitsSigned, w64, sym, ap, ◌∙◌, append_assoc}
+use Rattle.std.proofs.Common.{rules, ℤ, List, [], ◌∷◌, ◌++◌, FitsSigned, w64, sym, ap, ◌∙◌}
 use Rattle.std.specs.Fmt.{signed_decimal}
 use Rattle.std.specs.Prelude.{codes}
 use Rattle.std.proofs.lemmas.Int.{to_z-of_z}
-use Rattle.std.proofs.lemmas.Grind.{flat_map-append}
 use Rattle.std.proofs.lemmas.Result.{IfOk-equal}
 use Rattle.vs_check.specs.declared.flaw.Flaw.{Flaw}
 use Rattle.vs_report.specs.FlawRows.{broken_fields, flaw_fields, position_field}
 use Rattle.vs_reader.specs.Rows.{Field, more_fields}
 use Rattle.vs_rows.proofs.CallerLemmas.{wrote_field, wrote_last}
+use Rattle.vs_report.proofs.written.WrittenFields.{wrote_fields}
 use Rattle.vs_report.proofs.flaws.flaw_fields.Goals as goal
-
--- some fields are written, and then others
-wrote_fields : (old new : List ℕ) (first rest : List Field) → new ≡ old ++ more_fields first
-    → new ++ more_fields rest ≡ old ++ more_fields (first ++ rest)
-wrote_fields old new first rest is =
-    ap (λ bytes. bytes ++ more_fields rest) is ∙ append_assoc old (more_fields first) (more_fields rest)
-    ∙ ap (λ bytes. old ++ bytes) (sym (flat_map-append (λ (field : Field). 44 ∷ field) first rest))
 
 pub returns-in_ok-number-in-CostDiffers : goal.returns-in_ok-number-in-CostDiffers
 returns-in_ok-number-in-CostDiffers c =

@@ -1,0 +1,2 @@
+pub mod PeaksOwed
+pub mod CallerLemmas
