@@ -9,8 +9,7 @@ shared_again-again-requires g c =
     let stood : c.steps_of-after.result ≡ c.steps_of-before.result = c.if-after-before.false in
     let long : length c.shared-tree.result.0.steps ≡ length c.args.tree.steps =
     sym c.steps_of-after.ensures ∙ stood ∙ c.steps_of-before.ensures in
-    let same = same_search c.args.tree c.shared-tree.result.0 c.shared-tree.ensures long in
-    (
+    let same = same_search c.args.tree c.shared-tree.result.0 c.shared-tree.ensures long in (
       c.type_bounds.sync-R,
       (
         c.requires.nets,
