@@ -29,7 +29,7 @@ mod row;
 
 /// How often a worker looks for the other one, a millisecond or more between two looks, before it passes the gate
 /// alone.
-const LOOKS: u32 = 1000;
+const LOOKS: u32 = 3000;
 
 /// The status of a run that finds no memory.
 const NO_MEMORY: u8 = 6;
