@@ -4,3 +4,10 @@ pub mod Renamed
 pub mod BoundOrder
 pub mod Within
 pub mod Settled
+pub mod PartLeaves
+pub mod Counts
+pub mod PartTables
+pub mod Outlines
+pub mod SetMembers
+pub mod NarrowerSets
+pub mod PartTurn

@@ -1,5 +1,5 @@
 -- What holds of two lists element by element, in the place of an item too.
-use Rattle.std.proofs.Common.{ℕ, zero, suc, ◌+◌, List, [], ◌∷◌, ◌++◌, take, drop, ◌≡◌, ap, ◌∙◌, subst, arith}
+use Rattle.std.proofs.Common.{ℕ, zero, suc, ◌+◌, List, [], ◌∷◌, ◌++◌, take, drop, ◌≡◌, refl, ap, subst, Some, slice_get}
 use Rattle.std.specs.List.{AllZip}
 use Rattle.vs_resume.specs.InPlace.{in_place}
 
@@ -31,6 +31,49 @@ module _ {A B : Type 0} (R : A → B → Type 0) where
   zip-in_place k xs ws ys zs all some =
       zip-append (take k xs) (ws ++ drop (k + 1) xs) (take k ys) (zs ++ drop (k + 1) ys) (zip-take k xs ys all)
       (zip-append ws (drop (k + 1) xs) zs (drop (k + 1) ys) some (zip-drop (k + 1) xs ys all))
+
+  -- the items that stand beside the first ones, and those beside the others
+  pub record IsCut (xs ws : List A) (ys : List B) : Type 0 where
+    pub first : List B
+    pub second : List B
+    pub both : ys ≡ first ++ second
+    pub beside_first : AllZip R xs first
+    pub beside_second : AllZip R ws second
+
+  pub zip-cut : (xs ws : List A) (ys : List B) → AllZip R (xs ++ ws) ys → IsCut xs ws ys
+  zip-cut [] ws ys each = record { first = []; second = ys; both = refl; beside_first = tt; beside_second = each }
+  zip-cut (x ∷ xs) ws [] each = absurd each
+  zip-cut (x ∷ xs) ws (y ∷ ys) each =
+      let rest = zip-cut xs ws ys each.1 in
+      record {
+        first = y ∷ rest.first;
+        second = rest.second;
+        both = ap (λ (l : List B). y ∷ l) rest.both;
+        beside_first = (each.0, rest.beside_first);
+        beside_second = rest.beside_second;
+      }
+
+  -- the items at one place
+  pub zip-at : (k : ℕ) (xs : List A) (ys : List B) (x : A) (y : B) → AllZip R xs ys → slice_get xs k ≡ Some x
+      → slice_get ys k ≡ Some y → R x y
+  zip-at k [] ys x y each left right = absurd cc
+  zip-at k (a ∷ xs) [] x y each left right = absurd each
+  zip-at zero (a ∷ xs) (b ∷ ys) x y each left right =
+      let is : a ≡ x = cc in
+      let also : b ≡ y = cc in
+      subst (λ (v : A). R v y) is (subst (λ (w : B). R a w) also each.0)
+  zip-at (suc k) (a ∷ xs) (b ∷ ys) x y each left right = zip-at k xs ys x y each.1 left right
+
+  -- what stands beside an item
+  pub zip-beside : (k : ℕ) (xs : List A) (ys : List B) (y : B) → AllZip R xs ys → slice_get ys k ≡ Some y
+      → (x : A) × (slice_get xs k ≡ Some x) × R x y
+  zip-beside k [] [] y each right = absurd cc
+  zip-beside k [] (b ∷ ys) y each right = absurd each
+  zip-beside k (a ∷ xs) [] y each right = absurd each
+  zip-beside zero (a ∷ xs) (b ∷ ys) y each right =
+      let also : b ≡ y = cc in
+      (a, refl, subst (λ (w : B). R a w) also each.0)
+  zip-beside (suc k) (a ∷ xs) (b ∷ ys) y each right = zip-beside k xs ys y each.1 right
 
 -- and what follows from it
 pub zip-weaker : {A B : Type 0} (R S : A → B → Type 0) → ((x : A) (y : B) → R x y → S x y) → (xs : List A)

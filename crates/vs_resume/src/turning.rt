@@ -14,7 +14,7 @@ use crate::deepen::{Deepen, MAX_TURN};
 use crate::part::{copy_of_plan, widened_tables};
 use crate::rows::{put_in_place, row_of_leaf};
 use std::alloc::Global;
-use vs_cert::{TreeRows, tree_rows};
+use vs_cert::{TreeRows, rows_of_tree};
 use vs_instance::{Instance, MAX_LAYERS, MAX_TRIPS};
 use vs_tree::Tree;
 use vs_types::{LayerSet, Memory};
@@ -105,7 +105,7 @@ fn put_part(
     let TreeRows {
         rows,
         tables: numbers,
-    } = tree_rows(alloc, tree)?;
+    } = rows_of_tree(alloc, tree)?;
     let mut tables = widened_tables(alloc, instance, &sets, tree, &numbers)?;
     let mut cases = cases_of(alloc, instance, sets, &rows, &tables)?;
     settle(instance, &course.tables[number as usize], number, base, &mut cases);
