@@ -1,6 +1,6 @@
 -- The plans of a part are those of the instance within the case, at the same cost.
-use Rattle.std.proofs.Common.{◌≡◌, ℕ, ◌+◌, ◌<◌, ◌≤◌, suc, List, [], ◌∷◌, length, refl, sym, ap, ◌∙◌, subst, arith}
-use Rattle.std.specs.List.{All, AllAdjacentBelow, sum_by}
+use Rattle.std.proofs.Common.{◌≡◌, ℕ, ◌+◌, ◌<◌, ◌≤◌, suc, List, [], ◌∷◌, length, refl, sym, ◌∙◌, subst, arith}
+use Rattle.std.specs.List.{All, sum_by}
 use Rattle.std.specs.Option.{IsSomeAnd}
 use Rattle.std.specs.Prelude.{IsSome}
 use Rattle.std.proofs.lemmas.List.Sums.{sum_by-cons}
@@ -13,9 +13,9 @@ use Rattle.vs_instance.specs.declared.way.Way.{Way}
 use Rattle.vs_instance.specs.BlockPieces.{cost_of, links_between, pieces_cost}
 use Rattle.vs_instance.specs.Blocks.{IsBlock, block_cost, first_of, last_of}
 use Rattle.vs_instance.specs.Instance.{IsInstance}
-use Rattle.vs_instance.specs.Narrowed.{narrowed, with_layers}
+use Rattle.vs_instance.specs.Narrowed.{narrowed}
 use Rattle.vs_instance.specs.Pieces.{trip_piece}
-use Rattle.vs_instance.specs.Plan.{IsPlan, LayerBlock, plan_cost, times_run, vehicles_used}
+use Rattle.vs_instance.specs.Plan.{IsPlan, LayerBlock, plan_cost}
 use Rattle.vs_instance.specs.Problem.{Problem}
 use Rattle.vs_instance.specs.Restriction.{IsRestriction, IsWithin, set_of}
 use Rattle.vs_instance.specs.Ways.{Connects, HasPullIn, HasPullOut, Permitted, layer_of, trip_of, way}

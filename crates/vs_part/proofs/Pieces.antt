@@ -6,8 +6,8 @@ use Rattle.std.proofs.lemmas.List.{get_or_past}
 use Rattle.vs_types.specs.declared.layer_set.LayerSet.{LayerSet}
 use Rattle.vs_instance.specs.declared.trip.Trip.{Trip}
 use Rattle.vs_instance.specs.declared.way.Way.{Way}
-use Rattle.vs_instance.specs.Narrowed.{narrowed, narrowed_trip, with_layers}
-use Rattle.vs_instance.specs.Pieces.{direct_piece, in_piece, link_piece, no_more_than, out_piece, rated, rest_by, rest_piece, trip_piece}
+use Rattle.vs_instance.specs.Narrowed.{narrowed, with_layers}
+use Rattle.vs_instance.specs.Pieces.{direct_piece, in_piece, link_piece, no_more_than, out_piece, rated, rest_piece, trip_piece}
 use Rattle.vs_instance.specs.Problem.{Problem}
 use Rattle.vs_instance.specs.Ways.{layer_of, no_trip, trip_of, way}
 use Rattle.vs_instance.proofs.CallerLemmas.{length-narrowed, trip_of-narrowed}

@@ -1,5 +1,5 @@
 -- A table that holds in a part holds, widened, in the instance.
-use Rattle.std.proofs.Common.{◌≡◌, ℕ, ◌*◌, ◌+◌, ◌<◌, ◌≤◌, Bool, true, false, ◌⊎◌, inl, inr, List, length, sym, ap, ◌∙◌, subst, arith, Option, Some, None, ℤ, pos, neg_ℤ, ◌+ℤ◌, ◌≤ℤ◌}
+use Rattle.std.proofs.Common.{◌≡◌, ℕ, ◌*◌, ◌+◌, ◌<◌, ◌≤◌, Bool, true, false, ◌⊎◌, inl, inr, List, length, sym, ap, ◌∙◌, subst, arith, Option, Some, None, ℤ, pos, ◌+ℤ◌, ◌≤ℤ◌}
 use Rattle.std.specs.Prelude.{IfSome, slice_range}
 use Rattle.std.specs.List.{All}
 use Rattle.std.proofs.lemmas.Bool.{cases_lt}
@@ -9,13 +9,11 @@ use Rattle.std.proofs.lemmas.List.Elements.{All-take, All-drop}
 use Rattle.vs_types.specs.LayerSet.{Has}
 use Rattle.vs_types.specs.declared.layer_set.LayerSet.{LayerSet}
 use Rattle.vs_instance.specs.HoldingTable.{HoldsInLayer, price_of, scaled}
-use Rattle.vs_instance.specs.Instance.{IsInstance}
 use Rattle.vs_instance.specs.Narrowed.{narrowed}
 use Rattle.vs_instance.specs.Pieces.{in_piece, link_piece, out_piece}
 use Rattle.vs_instance.specs.Problem.{Problem}
 use Rattle.vs_instance.specs.Restriction.{IsRestriction, set_of}
-use Rattle.vs_instance.specs.Ways.{Permitted, trip_of}
-use Rattle.vs_instance.specs.declared.limits.TheConstants.{MAX_PRICE}
+use Rattle.vs_instance.specs.Ways.{Permitted}
 use Rattle.vs_instance.specs.declared.trip.Trip.{Trip}
 use Rattle.vs_instance.proofs.CallerLemmas.{dec_has, length-narrowed, trip_of-narrowed}
 use Rattle.vs_prices.specs.Table.{Fits, HoldingTable, IsPrice, from_price, into_price, prices_in, vehicle_price}

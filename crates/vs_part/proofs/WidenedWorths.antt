@@ -10,13 +10,12 @@ use Rattle.vs_instance.specs.HoldingTable.{price_of, scaled}
 use Rattle.vs_instance.specs.Instance.{IsInstance}
 use Rattle.vs_instance.specs.Lagrangian.{total}
 use Rattle.vs_instance.specs.Narrowed.{narrowed}
-use Rattle.vs_instance.specs.Pieces.{trip_piece}
 use Rattle.vs_instance.specs.Problem.{Problem}
 use Rattle.vs_instance.specs.Restriction.{IsRestriction, set_of}
-use Rattle.vs_instance.specs.Ways.{Permitted, layer_of, no_trip}
+use Rattle.vs_instance.specs.Ways.{layer_of, no_trip}
 use Rattle.vs_instance.specs.declared.trip.Trip.{Trip}
 use Rattle.vs_instance.proofs.CallerLemmas.{length-narrowed, trip_of-narrowed}
-use Rattle.vs_prices.specs.Table.{from_price, into_price, vehicle_price}
+use Rattle.vs_prices.specs.Table.{from_price, into_price}
 use Rattle.vs_prices.specs.Worth.{IsRoundedUp, IsWorth, fleet_price, least, least_price, table_value, trip_price, trips_pay, vehicles_pay}
 use Rattle.vs_prices.specs.declared.bound.Bound.{Bound}
 use Rattle.vs_prices.specs.declared.bound.Bound.TheVariants.{AtLeast, NoPlan}

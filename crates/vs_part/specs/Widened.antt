@@ -1,5 +1,5 @@
 -- A table of a part, widened to the instance.
-use Rattle.std.specs.Prelude.{◌≡◌, ◌≢◌, ◌⊎◌, ℕ, ◌+◌, ◌*◌, ◌<◌, List, length, ℤ, neg_ℤ}
+use Rattle.std.specs.Prelude.{◌≡◌, ◌≢◌, ℕ, ◌+◌, ◌*◌, ◌<◌, List, length, ℤ, neg_ℤ}
 use Rattle.vs_types.specs.declared.layer_set.LayerSet.{LayerSet}
 use Rattle.vs_types.specs.LayerSet.{Has}
 use Rattle.vs_instance.specs.HoldingTable.{price_of}

@@ -11,3 +11,4 @@ pub mod Outlines
 pub mod SetMembers
 pub mod NarrowerSets
 pub mod PartTurn
+pub mod OnCourse

@@ -13,7 +13,7 @@ loop-i-preserved c =
     let sets = c.args.sets.now in
     let l = c.args.l.0 in
     let i = c.loop-i.i in
-    let price = c.args.price in
+    let price = to_z w64 (of_z w64 c.args.price) in
     let x = c.settled.result in
     let first = c.args.prices.now in
     let now = c.loop-i.prices in
@@ -23,8 +23,13 @@ loop-i-preserved c =
     let within : i < length p.trips = subst (λ (n : ℕ). i < n) count c.loop-i-test.true in
     let place : l * c.trips-trips.result + i ≡ place_of p l i = ap (λ (n : ℕ). l * n + i) count in
     let inside : place_of p l i < length now =
-    omega (arith, row_inside (length p.trips) l (length p.layers) c.requires.layer, within, inv.size,
-    c.requires.size) in
+    omega (
+      arith,
+      row_inside (length p.trips) l (length p.layers) c.requires.layer,
+      within,
+      inv.size,
+      c.requires.size,
+    ) in
     let written : set now (l * c.trips-trips.result + i) (to_z w64 (of_z w64 x)) ≡ set now (place_of p l i) x =
     ap (λ (n : ℕ). set now n (to_z w64 (of_z w64 x))) place
     ∙ ap (λ (y : ℤ). set now (place_of p l i) y) (as_word x is.price) in
@@ -33,7 +38,7 @@ loop-i-preserved c =
     record {
       left_out = λ out.
           let given = is.settled.left_out out in
-          let bits = as_word price c.requires.price in
+          let bits = as_word c.args.price c.requires.price in
           cc;
       kept = λ stays.
           let given = is.settled.kept stays in
