@@ -191,10 +191,10 @@ module _ (part : Tree) where
   leaves-with_part sets (Leaf table) (suc k) leaf stands = absurd cc
   leaves-with_part sets (Split trip left lower upper) k leaf stands = by_test (nat_lt k (count_leaves lower)) refl
     where
-      abbrev on_left : List LeafPlace
+      on_left : List LeafPlace
       on_left = leaves (with_set sets trip left) lower
 
-      abbrev on_right : List LeafPlace
+      on_right : List LeafPlace
       on_right = leaves (with_set sets trip (right_of sets trip left)) upper
 
       by_test : (b : Bool) → nat_lt k (count_leaves lower) ≡ b → IsIn sets (Split trip left lower upper) k leaf

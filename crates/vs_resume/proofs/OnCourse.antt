@@ -20,8 +20,7 @@ turns-more p left nodes s t u [] are turn =
     (subst (λ (v : Standing). IsTurn p left v u nodes) are turn, refl)
 turns-more p left nodes s t u (first ∷ turns) are turn =
     let rest : left - nodes_of (first ∷ turns) ≡ left - first.nodes - nodes_of turns =
-    omega (arith, nodes-cons first turns) in
-    (
+    omega (arith, nodes-cons first turns) in (
       are.0,
       turns-more p (left - first.nodes) nodes first.standing t u turns are.1
           (subst (λ (n : ℕ). IsTurn p n t u nodes) rest turn),

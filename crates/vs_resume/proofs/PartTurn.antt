@@ -148,8 +148,11 @@ module _ (p : Problem) (is : IsInstance p) (left nodes k : ℕ) (t : Search) (ol
 
   inside : k < count_leaves s.tree
   inside =
-      omega (arith, slice_get_within places k (record { sets = sets; table = put.leaf.table }) stands,
-      count-leaves (permitted_sets p) s.tree)
+      omega (
+        arith,
+        slice_get_within places k (record { sets = sets; table = put.leaf.table }) stands,
+        count-leaves (permitted_sets p) s.tree,
+      )
 
   -- the part's tree
   abbrev own : Tree
@@ -170,9 +173,13 @@ module _ (p : Problem) (is : IsInstance p) (left nodes k : ℕ) (t : Search) (ol
 
   enough : count_leaves own ≤ length numbers
   enough =
-      omega (arith, length-map put.settled (λ (found : Case). found.table),
-      AllZip-long (IsSettled p put.table put.leaf.table (length old.tables.items)) put.fresh put.settled put.are_settled,
-      AllZip-long (IsCaseOf p put.added) (leaves sets own) put.fresh fresh_are, count-leaves sets own)
+      omega (
+        arith,
+        length-map put.settled (λ (found : Case). found.table),
+        AllZip-long (IsSettled p put.table put.leaf.table (length old.tables.items)) put.fresh put.settled put.are_settled,
+        AllZip-long (IsCaseOf p put.added) (leaves sets own) put.fresh fresh_are,
+        count-leaves sets own,
+      )
 
   abbrev shape : Tree
   shape = renamed own numbers

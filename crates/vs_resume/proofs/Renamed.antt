@@ -157,7 +157,7 @@ pub renumbered : (tree : Tree) (all places : List ℕ)
     → IsRenumbered all tree (renamed tree places)
 renumbered tree all places stand = by_tree tree places stand
   where
-    abbrev Stand : List ℕ → List ℕ → Type 0
+    Stand : List ℕ → List ℕ → Type 0
     Stand some numbers = AllZip (λ place n. slice_get all place ≡ Some n) some numbers
 
     apart : (some xs ys : List ℕ) → Stand some (xs ++ ys)
@@ -173,8 +173,7 @@ renumbered tree all places stand = by_tree tree places stand
     by_tree (Leaf table) (place ∷ some) stands = stands.0
     by_tree (Split trip left lower upper) some stands =
         let size = length-named lower in
-        let both = apart some (tables_named lower) (tables_named upper) stands in
-        (
+        let both = apart some (tables_named lower) (tables_named upper) stands in (
           refl,
           refl,
           by_tree lower (take (count_leaves lower) some)

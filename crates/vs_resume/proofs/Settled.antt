@@ -88,8 +88,7 @@ named_worths p tables [] [] are = tt
 named_worths p tables [] (f ∷ fs) are = absurd are
 named_worths p tables (leaf ∷ places) [] are = absurd are
 named_worths p tables (leaf ∷ places) (f ∷ fs) are =
-    let is = are.0 in
-    (
+    let is = are.0 in (
       (
         prices_of is.table,
         slice_get-map prices_of tables leaf.table ∙ ap (λ (o : Option Table). option_map prices_of o) is.named,

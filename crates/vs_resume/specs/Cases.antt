@@ -1,5 +1,5 @@
 -- The leaves of a tree with the layers of each, its table, and what that is worth.
-use Rattle.std.specs.Prelude.{◌≡◌, ◌⊎◌, ℕ, ◌+◌, ◌<◌, List, [], ◌∷◌, ◌++◌, All, map, reverse, slice_get, Some}
+use Rattle.std.specs.Prelude.{◌≡◌, ◌⊎◌, ℕ, ◌+◌, ◌<◌, List, [], ◌∷◌, ◌++◌, All, length, map, reverse, slice_get, Some}
 use Rattle.std.specs.List.{AllZip}
 use Rattle.vs_types.specs.declared.layer_set.LayerSet.{LayerSet}
 use Rattle.vs_instance.specs.Problem.{Problem}
@@ -25,6 +25,16 @@ pub record IsCaseOf (p : Problem) (tables : List Table) (leaf : LeafPlace) (foun
 -- leaf by leaf
 abbrev pub AreCasesOf : Problem → List Table → List LeafPlace → List Case → Type 0
 AreCasesOf p tables places cases = AllZip (IsCaseOf p tables) places cases
+
+-- the leaves of the tree whose rows these are
+abbrev pub AreCasesOfRows : Problem → List Table → List LayerSet → List Shape → List Case → Type 0
+AreCasesOfRows p tables sets rows cases =
+    (tree : Tree) → rows ≡ preorder tree → AreCasesOf p tables (leaves sets tree) cases
+
+-- a row whose part has these layers names a table of so many, or a trip
+abbrev pub CanGoOver : ℕ → List LayerSet → Shape → Type 0
+CanGoOver tables here (Leaf table) = table < tables
+CanGoOver tables here (Split trip left) = trip.0 < length here
 
 -- the rows are those of a tree whose splits share out these layers and whose leaves name tables of so many
 pub record AreGoodRows (sets : List LayerSet) (tables : ℕ) (rows : List Shape) : Type 0 where

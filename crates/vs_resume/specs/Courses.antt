@@ -7,10 +7,8 @@ use Rattle.vs_instance.specs.Restriction.{permitted_sets}
 use Rattle.vs_plan.specs.Blocks.{blocks_of}
 use Rattle.vs_plan.specs.CheckedPlan.{Checked}
 use Rattle.vs_prices.specs.Table.{Fits, HoldingTable}
-use Rattle.vs_prices.specs.declared.bound.Bound.{Bound}
 use Rattle.vs_prices.specs.declared.table.Table.{Table}
-use Rattle.vs_cases.specs.Tree.{IsGoodTree, Tree, leaves}
-use Rattle.vs_rows.specs.Shapes.{preorder}
+use Rattle.vs_cases.specs.Tree.{IsGoodTree, leaves}
 use Rattle.vs_rows.specs.declared.document.Document.{Document}
 use Rattle.vs_rows.specs.declared.document.Shape.{Shape}
 use Rattle.vs_tree.specs.History.{IsCheaper, incumbent}
@@ -20,13 +18,13 @@ use Rattle.vs_cert.specs.TreeRows.{AreRowsOf}
 use Rattle.vs_resume.specs.declared.cases.Case.{Case}
 use Rattle.vs_resume.specs.declared.course.Course.{Course}
 use Rattle.vs_resume.specs.declared.deepen.TheConstants.{MAX_TURN}
-use Rattle.vs_resume.specs.Cases.{AreCasesOf, AreSettled}
+use Rattle.vs_resume.specs.Cases.{AreCasesOf, AreCasesOfRows, AreSettled}
 use Rattle.vs_resume.specs.InPlace.{in_place, row_of_leaf}
 use Rattle.vs_resume.specs.Order.{worths_in}
 use Rattle.vs_resume.specs.Outlines.{IsOutline}
 use Rattle.vs_resume.specs.Parts.{AreWidenedTables}
 use Rattle.vs_resume.specs.Standing.{IsPrinted, Standing}
-use Rattle.vs_resume.specs.Turns.{IsNextOf, IsTurn}
+use Rattle.vs_resume.specs.Turns.{IsNextIn, IsTurn}
 
 -- the blocks are a plan of the cost, and where there is no cost there are none
 abbrev pub HasPlanOf : Problem → Option ℤ → List LayerBlock → Type 0
@@ -63,11 +61,14 @@ HasNewTables old new = length new.tables.items ≤ length old.tables.items + MAX
 
 -- leaf k comes next
 abbrev pub AreNext : Course → ℕ → Type 0
-AreNext c k = (worth : Bound) × IsNextOf c.cost (worths_in c.cases.items) k worth
+AreNext c k = IsNextIn c.cost (worths_in c.cases.items) k
 
--- the layers of leaf k
+-- leaf k, and its layers
 abbrev pub IsCaseAt : Course → ℕ → Case → Type 0
 IsCaseAt c k found = slice_get c.cases.items k ≡ Some found
+
+abbrev pub HasSetsAt : Course → ℕ → List LayerSet → Type 0
+HasSetsAt c k sets = (found : Case) → IsCaseAt c k found → found.sets.items ≡ sets
 
 -- the plan stays, or is this one now
 pub record IsSamePlan (old new : Course) : Type 0 where
@@ -101,7 +102,7 @@ pub record IsPartPut (p : Problem) (k : ℕ) (t : Search) (old new : Course) : T
   pub added : List Table
   pub widened : AreWidenedTables p leaf.sets.items (state t) numbers added
   pub fresh : List Case
-  pub are_fresh : (tree : Tree) → rows ≡ preorder tree → AreCasesOf p added (leaves leaf.sets.items tree) fresh
+  pub are_fresh : AreCasesOfRows p added leaf.sets.items rows fresh
   pub settled : List Case
   pub are_settled : AreSettled p table leaf.table (length old.tables.items) fresh settled
   pub tables_are : new.tables.items ≡ old.tables.items ++ added

@@ -23,6 +23,10 @@ pub record IsNextOf (cost : Option ℤ) (worths : List Bound) (k : ℕ) (worth :
   pub least : (j : ℕ) (other : Bound) → slice_get worths j ≡ Some other → IsNoLess other worth
   pub first : (j : ℕ) (other : Bound) → slice_get worths j ≡ Some other → IsNoLess worth other → k ≤ j
 
+-- some worth comes next as worth k
+abbrev pub IsNextIn : Option ℤ → List Bound → ℕ → Type 0
+IsNextIn cost worths k = (worth : Bound) × IsNextOf cost worths k worth
+
 -- the leaf that comes next: of those below the cost the one of least worth, and of these the first
 pub record IsNextLeaf (p : Problem) (s : Standing) (k : ℕ) (leaf : LeafPlace) (worth : Bound) : Type 0 where
   pub worths : List Bound

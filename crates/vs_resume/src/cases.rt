@@ -1,11 +1,10 @@
 //! The leaves of a tree of cases: the layers of each, its table, and what that is worth there.
 
 ghost use Rattle.std.specs.Prelude.{◌≡◌, ◌<◌, ◌+◌, ◌^◌, ◌∷◌, [], ◌++◌, length, map, All, IfOk, OnOk};
-ghost use Rattle.vs_cases.specs.Tree.{leaves, right_of, with_set};
+ghost use Rattle.vs_cases.specs.Tree.{right_of, with_set};
 ghost use Rattle.vs_instance.specs.Restriction.{IsRestriction};
 ghost use Rattle.vs_prices.specs.Table.{Fits};
-ghost use Rattle.vs_resume.specs.Cases.{AreCasesOf, AreGoodRows, AreSettled, GoesOver, sets_ahead};
-ghost use Rattle.vs_rows.specs.Shapes.{preorder};
+ghost use Rattle.vs_resume.specs.Cases.{AreCasesOfRows, AreGoodRows, AreSettled, CanGoOver, GoesOver, sets_ahead};
 
 use std::alloc::Global;
 use vs_document::Shape;
@@ -44,8 +43,8 @@ pub(crate) fn cases_of(
     requires tables { All (Fits instance.now) tables.now }
     requires sets { IsRestriction instance.now sets.items }
     requires rows { AreGoodRows sets.items (length tables.now) rows.now }
-    ensures { IfOk result (λ cases. (tree : _) → rows.now ≡ preorder tree
-        → AreCasesOf instance.now tables.now (leaves sets.items tree) cases.items) }
+    ensures { IfOk result (λ cases.
+        AreCasesOfRows instance.now tables.now sets.items rows.now cases.items) }
 {
     let mut walk = begin(alloc, sets)?;
     for row in rows {
@@ -80,8 +79,7 @@ fn go_over(
 ) -> Result<(), Memory>
     requires tables { All (Fits instance.now) tables.now }
     requires here { IsRestriction instance.now here.items }
-    requires leaf { (table : _) → row ≡ Shape.Leaf table → table < length tables.now }
-    requires split { (trip left : _) → row ≡ Shape.Split trip left → trip.0 < length here.items }
+    requires row { CanGoOver (length tables.now) here.items row }
     ensures { OnOk result (GoesOver instance.now tables.now row here.items walk.old walk.new) }
 {
     match row {

@@ -1,17 +1,17 @@
 //! Which leaf comes next, and the bound that all leaves leave.
 
-ghost use Rattle.std.specs.Prelude.{◌≡◌, ◌⊎◌, ◌<◌, length, map, All, IfSome, IfNone};
+ghost use Rattle.std.specs.Prelude.{◌≡◌, ◌⊎◌, ◌<◌, length, All, IfSome, IfNone};
 ghost use Rattle.vs_prices.specs.Bounds.{IsBelow, IsNoLess};
 ghost use Rattle.vs_tree.specs.Report.{bound_of};
 ghost use Rattle.vs_resume.specs.Order.{IsFirstLeast, IsLeastWith, worths_in};
-ghost use Rattle.vs_resume.specs.Turns.{IsNextOf};
+ghost use Rattle.vs_resume.specs.Turns.{IsNextIn};
 
 use crate::cases::Case;
 use vs_prices::Bound;
 
 /// The first leaf of least worth, where that is below the cost.
 pub(crate) fn next_case(cases: &[Case], cost: Option<i64>) -> Option<usize>
-    ensures next { IfSome result (λ k. (worth : _) × IsNextOf cost (worths_in cases.now) k worth) }
+    ensures next { IfSome result (IsNextIn cost (worths_in cases.now)) }
     ensures none { IfNone result (All (λ found. ¬ (IsBelow found.worth cost)) cases.now) }
 {
     if cases.is_empty() {

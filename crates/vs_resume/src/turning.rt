@@ -4,7 +4,7 @@ ghost use Rattle.std.specs.Prelude.{◌≡◌, ◌<◌, ◌≤◌, length, IfOk,
 ghost use Rattle.vs_instance.specs.Narrowed.{narrowed};
 ghost use Rattle.vs_instance.specs.Restriction.{IsRestriction};
 ghost use Rattle.vs_resume.specs.declared.deepen.TheConstants.{MAX_TURN};
-ghost use Rattle.vs_resume.specs.Courses.{AreNext, HasFewTables, HasNewTables, IsCaseAt, IsPartPut, IsPlanTaken};
+ghost use Rattle.vs_resume.specs.Courses.{AreNext, HasFewTables, HasNewTables, HasSetsAt, IsPartPut, IsPlanTaken};
 ghost use Rattle.vs_resume.specs.Courses.{IsSomeCourse, TurnsOn};
 ghost use Rattle.vs_resume.specs.Deepened.{IsDeepened};
 
@@ -93,7 +93,7 @@ fn put_part(
 ) -> Result<(), Memory>
     requires course { IsSomeCourse instance.now course.old }
     requires leaf { k < length course.old.cases.items }
-    requires sets { (found : _) → IsCaseAt course.old k found → found.sets.items ≡ sets.items }
+    requires sets { HasSetsAt course.old k sets.items }
     requires part { tree.now.opening.problem ≡ narrowed instance.now sets.items }
     requires few { HasFewTables course.old }
     ensures put { OnOk result (IsPartPut instance.now k tree.now course.old course.new) }
@@ -108,7 +108,13 @@ fn put_part(
     } = rows_of_tree(alloc, tree)?;
     let mut tables = widened_tables(alloc, instance, &sets, tree, &numbers)?;
     let mut cases = cases_of(alloc, instance, sets, &rows, &tables)?;
-    settle(instance, &course.tables[number as usize], number, base, &mut cases);
+    settle(
+        instance,
+        &course.tables[number as usize],
+        number,
+        base,
+        &mut cases,
+    );
     course.tables.append(&mut tables)?;
     put_in_place(&mut course.rows, at, rows)?;
     put_in_place(&mut course.cases, k, cases)?;
