@@ -24,8 +24,8 @@ map-in_place : {A B : Type 0} (f : A → B) (xs zs : List A) (k : ℕ)
 map-in_place {B = B} f xs zs k =
     map-append f (take k xs) (zs ++ drop (k + 1) xs)
     ∙ ap (λ (ys : List B). map f (take k xs) ++ ys) (map-append f zs (drop (k + 1) xs))
-    ∙ ap (λ (ys : List B). ys ++ map f zs ++ map f (drop (k + 1) xs)) (map-take f k xs)
-    ∙ ap (λ (ys : List B). take k (map f xs) ++ map f zs ++ ys) (map-drop f (k + 1) xs)
+    ∙ ap (λ (ys : List B). ys ++ (map f zs ++ map f (drop (k + 1) xs))) (map-take f k xs)
+    ∙ ap (λ (ys : List B). take k (map f xs) ++ (map f zs ++ ys)) (map-drop f (k + 1) xs)
 
 -- a leaf stands at the same row
 row-plain : (rows : List Shape) (k : ℕ) → row_of_leaf (map plain rows) k ≡ row_of_leaf rows k

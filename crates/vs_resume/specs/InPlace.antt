@@ -1,5 +1,5 @@
 -- A part of a tree of cases in the place of one of its leaves.
-use Rattle.std.specs.Prelude.{ℕ, suc, ◌+◌, ◌-◌, nat_lt, if◌then◌else◌, List, [], ◌∷◌, ◌++◌, take, drop}
+use Rattle.std.specs.Prelude.{ℕ, zero, suc, ◌+◌, ◌-◌, nat_lt, if◌then◌else◌, List, [], ◌∷◌, ◌++◌, take, drop}
 use Rattle.vs_cases.specs.Tree.{Leaf, Split, Tree}
 use Rattle.vs_rows.specs.declared.document.Shape.{Shape}
 use Rattle.vs_rows.specs.declared.document.Shape.TheVariants as shape
@@ -19,10 +19,10 @@ with_part (Split trip left lower upper) k part =
 -- the place of leaf k among the rows of a tree
 abbrev pub row_of_leaf : List Shape → ℕ → ℕ
 row_of_leaf [] k = 0
-row_of_leaf (shape.Leaf table ∷ rows) 0 = 0
+row_of_leaf (shape.Leaf table ∷ rows) zero = 0
 row_of_leaf (shape.Leaf table ∷ rows) (suc k) = suc (row_of_leaf rows k)
 row_of_leaf (shape.Split trip left ∷ rows) k = suc (row_of_leaf rows k)
 
 -- other items in the place of item k
 abbrev pub in_place : {A : Type 0} → List A → ℕ → List A → List A
-in_place items k others = take k items ++ others ++ drop (k + 1) items
+in_place items k others = take k items ++ (others ++ drop (k + 1) items)
