@@ -95,9 +95,12 @@ row_behind [] ys k =
     omega (arith, same)
 row_behind (shape.Leaf table ∷ xs) ys k =
     let next : leaf_rows xs + 1 + k ≡ suc (leaf_rows xs + k) = omega arith in
-    let rest = row_behind xs ys k in
-    ap (row_of_leaf (shape.Leaf table ∷ xs ++ ys)) next ∙ ap suc rest
-row_behind (shape.Split trip left ∷ xs) ys k = ap suc (row_behind xs ys k)
+    let sum : suc (length xs + row_of_leaf ys k) ≡ length (shape.Leaf table ∷ xs) + row_of_leaf ys k = omega arith in
+    ap (row_of_leaf (shape.Leaf table ∷ xs ++ ys)) next ∙ ap suc (row_behind xs ys k) ∙ sum
+row_behind (shape.Split trip left ∷ xs) ys k =
+    let sum : suc (length xs + row_of_leaf ys k) ≡ length (shape.Split trip left ∷ xs) + row_of_leaf ys k =
+    omega arith in
+    ap suc (row_behind xs ys k) ∙ sum
 
 -- the part stands in the place of leaf k
 module _ (part : Tree) where

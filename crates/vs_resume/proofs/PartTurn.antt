@@ -36,7 +36,7 @@ use Rattle.vs_resume.specs.declared.cases.Case.{Case}
 use Rattle.vs_resume.specs.declared.course.Course.{Course}
 use Rattle.vs_resume.specs.declared.deepen.TheConstants.{MAX_TURN}
 use Rattle.vs_resume.specs.Cases.{AreCasesOf, AreSettled, IsCaseOf, IsSettled}
-use Rattle.vs_resume.specs.Courses.{AreNext, HasPlanOf, IsCourseOf, IsPartPut, IsPlanTaken, IsTurnedOn}
+use Rattle.vs_resume.specs.Courses.{AreNext, HasPlanOf, IsCourseOf, IsPartPut, IsPlanNow, IsPlanTaken, IsSamePlan, IsTurnedOn}
 use Rattle.vs_resume.specs.Deepened.{IsDeepened}
 use Rattle.vs_resume.specs.InPlace.{count_leaves, in_place, with_part}
 use Rattle.vs_resume.specs.Order.{worths_in}
@@ -238,6 +238,10 @@ module _ (p : Problem) (is : IsInstance p) (left nodes k : ℕ) (t : Search) (ol
   Found = (found : Checked) × (incumbent st ≡ Some found) × IsCheaper found.cost old.cost × (new.cost ≡ Some found.cost)
       × (blocks_of new.plan ≡ found.blocks)
 
+  abbrev Told : Option Checked → Type 0
+  Told best = MatchOption best (IsSamePlan mid new) (λ found. (IsCheaper found.cost mid.cost × IsPlanNow found new)
+      ⊎ ((¬ (IsCheaper found.cost mid.cost)) × IsSamePlan mid new))
+
   record IsPlanKnown : Type 0 where
     choice : Kept ⊎ Found
     no_more : IsNoMore new.cost (known st)
@@ -255,14 +259,14 @@ module _ (p : Problem) (is : IsInstance p) (left nodes k : ℕ) (t : Search) (ol
       by_plan : (best : Option Checked) → incumbent st ≡ best → IsPlanKnown
       by_plan None at =
           let none : known st ≡ None = ap (option_map (λ (plan : Checked). plan.cost)) at in
-          let same = subst (λ (best : Option Checked). MatchOption best _ _) at taken.plan in
+          let same = subst Told at taken.plan in
           record {
             choice = inl (same.cost ∙ put.cost, same.plan ∙ put.plan);
             no_more = subst (λ (c : Option ℤ). IsNoMore new.cost c) (sym none) tt;
           }
       by_plan (Some found) at =
           let some : known st ≡ Some found.cost = ap (option_map (λ (plan : Checked). plan.cost)) at in
-          let told = subst (λ (best : Option Checked). MatchOption best _ _) at taken.plan in
+          let told = subst Told at taken.plan in
           elim told [
             | inl takes ↦ record {
               choice = inr (

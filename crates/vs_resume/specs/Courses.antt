@@ -75,7 +75,7 @@ pub record IsSamePlan (old new : Course) : Type 0 where
   pub cost : new.cost ≡ old.cost
   pub plan : new.plan ≡ old.plan
 
-pub record IsPlanOf (found : Checked) (new : Course) : Type 0 where
+pub record IsPlanNow (found : Checked) (new : Course) : Type 0 where
   pub cost : new.cost ≡ Some found.cost
   pub blocks : blocks_of new.plan ≡ found.blocks
 
@@ -85,7 +85,7 @@ pub record IsPlanTaken (t : Search) (old new : Course) : Type 0 where
   pub rows : new.rows ≡ old.rows
   pub cases : new.cases ≡ old.cases
   pub plan : MatchOption (incumbent (state t)) (IsSamePlan old new)
-      (λ found. (IsCheaper found.cost old.cost × IsPlanOf found new)
+      (λ found. (IsCheaper found.cost old.cost × IsPlanNow found new)
       ⊎ ((¬ (IsCheaper found.cost old.cost)) × IsSamePlan old new))
 
 -- the tree of a search of a part stands in the place of leaf k, and the plan stays
