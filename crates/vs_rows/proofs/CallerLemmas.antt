@@ -1,4 +1,5 @@
 -- What crates above may cite of these proofs.
+pub use Rattle.vs_rows.proofs.rows.SplitLayers.{some_member}
 pub use Rattle.vs_rows.proofs.rows.SaysOnce.{first_word, none_is_no_number, says_once, word_of}
 pub use Rattle.vs_rows.proofs.written.PriceRanges.{price_anywhere, prices_in_all}
 pub use Rattle.vs_rows.proofs.written.WrittenForms.{block_form, shape_form, stands}

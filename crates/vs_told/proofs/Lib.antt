@@ -1,0 +1,13 @@
+pub mod ErrorsPass
+pub mod RefusedRows
+pub mod PriceRows
+pub mod PriceReading
+pub mod KindsOfRows
+pub mod LayerReading
+pub mod SamePlaces
+pub mod BlockReading
+pub mod SplitForms
+pub mod StepReading
+pub mod TellsOnce
+pub mod OneReading
+pub mod WholeReading

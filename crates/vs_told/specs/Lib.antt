@@ -1,0 +1,5 @@
+pub mod Forms
+pub mod Places
+pub mod TraceRefusals
+pub mod RowKinds
+pub mod Reading

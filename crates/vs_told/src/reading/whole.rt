@@ -1,0 +1,54 @@
+//! The reading of a whole trace.
+
+ghost use Rattle.std.specs.Prelude.{◌≤◌, IfOk, IfErr, [], length};
+ghost use Rattle.vs_rows.specs.RowForms.{IsInput};
+ghost use Rattle.vs_trace.specs.Traces.{IsReadFor};
+ghost use Rattle.vs_trace.specs.declared.trace.Trace.{Trace as TraceOf};
+ghost use Rattle.vs_told.specs.Reading.{IsEnd, IsRefusalOf, IsTraceOf};
+ghost use Rattle.vs_told.specs.TraceRefusals.{IsRefusedError};
+
+use crate::reading::beginning::{read_first, read_opening};
+use crate::reading::forms::is_head;
+use crate::reading::steps::read_steps;
+use crate::refused::{TraceError, TraceWhy, refusal};
+use std::alloc::Global;
+use vs_reader::Input;
+use vs_trace::Trace;
+
+/// The trace for which the rows of the input's rest stand; else the first row that is refused, and why. Prices for trips
+/// that a layer may not run, which no row tells, are 0.
+pub fn read(alloc: Global, input: &Input) -> Result<Trace, TraceError>
+    requires { IsInput input.now }
+    ensures found { IfOk result (IsTraceOf input.now) }
+    ensures read_for { IfOk result (IsReadFor input.now.instance) }
+    ensures refused { IfErr result (IsRefusalOf input.now) }
+    ensures none { IfErr result (λ e. IsRefusedError e → (t : TraceOf) → ¬ (IsTraceOf input.now t)) }
+{
+    // Names are apart, and so a row says one thing.
+    let _names = (input.names.layers(), input.names.trips());
+    read_rows(alloc, input)
+}
+
+/// The trace for which the rows stand; else the first row that is refused.
+fn read_rows(alloc: Global, input: &Input) -> Result<Trace, TraceError>
+    requires { IsInput input.now }
+    ensures found { IfOk result (IsTraceOf input.now) }
+    ensures read_for { IfOk result (IsReadFor input.now.instance) }
+    ensures refused { IfErr result (IsRefusalOf input.now) }
+{
+    if input.rest.len() == 0 || !is_head(&input.rest, 0) {
+        return Err(refusal(input, 0, TraceWhy::NoTrace));
+    }
+    let (budget, workers) = read_opening(alloc, input)?;
+    let (first, at) = read_first(alloc, input)?;
+    let (steps, end) = read_steps(alloc, input, at)?;
+    if end + 1 < input.rest.len() {
+        return Err(refusal(input, end + 1, TraceWhy::RowsAfterEnd));
+    }
+    Ok(Trace {
+        budget,
+        workers,
+        first,
+        steps,
+    })
+}
