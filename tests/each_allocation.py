@@ -1,25 +1,35 @@
 #!/usr/bin/env python3
 """Has each call for memory fail in turn, and sees that the program ends as it promises: with status 6 and nothing
-written, or with the answer that it gives with ample memory.
+written, or with the answer that it gives with ample memory. Of a crew of two workers it sees what search they hand
+back then.
 
-    tests/each_allocation.py [PROGRAM]
+    tests/each_allocation.py [PROGRAM [MEETING]]
 
-PROGRAM is bin/mdvsp, or what the gate built, where it isn't given. A small C library (tests/refuse_nth.c, built by
-gcc or another C compiler) is preloaded, which refuses the call of a number. Each number is tried twice: that call
-alone is refused, and it and all later ones are. First the calls of a run with ample memory are counted. Up to 1,000
-calls all are tried; of more the first 400, the last 100, and 300 evenly between. A number past the last call has to
-meet no refusal.
+PROGRAM is bin/mdvsp, or what the gate built, where it isn't given. MEETING is the program of crates/trial_meeting,
+which has a crew share a search whose root is split, and prints what the crew made of it; where it isn't given, the one
+that was built, if any. A small C library (tests/refuse_nth.c, built by gcc or another C compiler) is preloaded, which
+refuses the call of a number. Each number is tried twice: that call alone is refused, and it and all later ones are.
+First the calls of a run with ample memory are counted. Up to 1,000 calls all are tried; of more the first 400, the
+last 100, and 300 evenly between. A number past the last call has to meet no refusal.
 
 A run of one worker has to print the same bytes where it ends well. Of two workers the documents may differ: the
 claim, the cost and the bound have to be the same, and `check` has to say yes to each document. The calls of two
 workers come in another order each time, so there a number stands for another call in each run.
 
+A run of MEETING has to end with status 6 and nothing written, or to print a row in which no worker holds a leaf and
+the history has gone on: it begins with the steps that stood, and no count, cost or bound is worse than before. Where
+the crew says that the search is over, claim, cost and bound have to be those that are found with ample memory. Where
+it hands the search back as it was, for want of memory, a second row has to tell what a further crew made of it; that
+one has to find the same, if the call was refused alone. Each of these answers has to come in some run, so that it was
+tried.
+
 Nothing of the program is made of this. It ends with 0 where all is as promised, with 1 and a line for each run that
-isn't, and how to repeat it. It takes some ten seconds.
+isn't, and how to repeat it. It takes some twenty seconds.
 """
 
 import concurrent.futures
 import os
+import re
 import shutil
 import struct
 import subprocess
@@ -28,6 +38,8 @@ import tempfile
 
 TOP = os.path.dirname(os.path.dirname(os.path.abspath(__file__)))
 SECONDS = 30
+# A crew whose workers wait for each other for ever is given up after so many.
+MEETING_SECONDS = 10
 NO_MEMORY = 6
 
 
@@ -63,18 +75,30 @@ def program():
     sys.exit("each_allocation: no program is built: `make` builds bin/mdvsp")
 
 
-class Trial:
-    """The program over the preloaded library."""
+def meeting():
+    """The program whose crew is tried: the one that was named, else the one that was built; nothing where none was."""
+    if len(sys.argv) > 2:
+        return os.path.abspath(sys.argv[2])
+    path = os.path.join(TOP, "crates/trial_meeting/out/trial_meeting")
+    return path if os.access(path, os.X_OK) else None
 
-    def __init__(self, path, room):
-        self.path, self.room = path, room
-        self.library = os.path.join(room, "refuse_nth.so")
-        source = os.path.join(TOP, "tests", "refuse_nth.c")
-        known = [shutil.which(name) for name in (os.environ.get("CC", "gcc"), "cc", "clang")]
-        compiler = next((path for path in known if path), None)
-        if not compiler:
-            sys.exit("each_allocation: no C compiler is found, by which the library is built that refuses calls")
-        subprocess.run([compiler, "-O2", "-shared", "-fPIC", "-o", self.library, source, "-ldl"], check=True)
+
+def library(room):
+    """Builds the library that refuses calls."""
+    known = [shutil.which(name) for name in (os.environ.get("CC", "gcc"), "cc", "clang")]
+    compiler = next((path for path in known if path), None)
+    if not compiler:
+        sys.exit("each_allocation: no C compiler is found, by which the library is built that refuses calls")
+    built, source = os.path.join(room, "refuse_nth.so"), os.path.join(TOP, "tests", "refuse_nth.c")
+    subprocess.run([compiler, "-O2", "-shared", "-fPIC", "-o", built, source, "-ldl"], check=True)
+    return built
+
+
+class Trial:
+    """A program over the preloaded library, and after how many seconds a run is given up."""
+
+    def __init__(self, path, room, refusing, seconds):
+        self.path, self.room, self.library, self.seconds = path, room, refusing, seconds
 
     def run(self, words, text, at=0, on=False):
         """Runs the words with the call of this number refused; gives how it ended, and the calls and refusals."""
@@ -86,7 +110,7 @@ class Trial:
             known["REFUSE_ON"] = "1"
         try:
             command = [self.path, *words]
-            done = subprocess.run(command, input=text.encode(), capture_output=True, timeout=SECONDS, env=known)
+            done = subprocess.run(command, input=text.encode(), capture_output=True, timeout=self.seconds, env=known)
         except subprocess.TimeoutExpired:
             done = None
         with open(tally, "rb") as file:
@@ -114,10 +138,10 @@ def numbers(calls):
     return [*range(1, 401), *between, *range(calls - 99, calls + 1)]
 
 
-def fault(trial, words, text, shared, ample, done):
-    """What is wrong with how a run ended; nothing where it is as promised."""
+def fault(trial, ample, done, judge, on):
+    """What is wrong with how a run ended; nothing where it is as promised. What it wrote, if anything, is judged."""
     if done is None:
-        return f"it ran for {SECONDS} seconds"
+        return f"it ran for {trial.seconds} seconds"
     if done.returncode < 0:
         return f"it died by signal {-done.returncode}"
     if done.stderr:
@@ -126,21 +150,100 @@ def fault(trial, words, text, shared, ample, done):
         return f"status 6, and it wrote {done.stdout[:60]!r}" if done.stdout else ""
     if done.returncode != ample.returncode:
         return f"status {done.returncode}, with ample memory {ample.returncode}"
-    if not shared:
-        return "" if done.stdout == ample.stdout else f"other bytes: {done.stdout[:100]!r}"
-    if told(done.stdout) != told(ample.stdout):
-        return f"another claim, cost or bound: {told(done.stdout)!r}"
-    return "" if trial.judged(text, done.stdout) else "`check` says no to its document"
+    return judge(ample.stdout, done.stdout, on)
 
 
-def tried(trial, words, text, shared):
+def same_bytes(ample, written, _on):
+    """What is wrong with what one worker wrote."""
+    return "" if written == ample else f"other bytes: {written[:100]!r}"
+
+
+def same_answer(trial, text):
+    """Judges what two workers wrote."""
+
+    def judge(ample, written, _on):
+        if told(written) != told(ample):
+            return f"another claim, cost or bound: {told(written)!r}"
+        return "" if trial.judged(text, written) else "`check` says no to its document"
+
+    return judge
+
+
+# A row of MEETING: which crew it tells of, what that answered, and how the search stood before and after it.
+COUNT, COST = r"\d+", r"none|\d+"
+COLUMNS = {"steps": COUNT, "spots": COUNT, "finished": COUNT, "cost": COST, "bound": COUNT}
+ROW = re.compile(
+    r"(?P<crew>crew|again),(?P<answer>ok|memory),met,(?P<met>\d+),held,(?P<held>yes|no),stands,(?P<stands>yes|no)"
+    + "".join(f",{name},(?P<{name}_before>{form}),(?P<{name}>{form})" for name, form in COLUMNS.items())
+    + r",claim,(?P<claim>\w+)"
+)
+
+
+def crew_rows(written):
+    """The rows that MEETING wrote; nothing where they have another form."""
+    lines = written.decode("ascii", "replace").splitlines()
+    rows = [ROW.fullmatch(line) for line in lines]
+    right = all(rows) and [row["crew"] for row in rows] in (["crew"], ["crew", "again"])
+    return rows if right and written.endswith(b"\n") else []
+
+
+def found(row):
+    """What a search has found."""
+    return row["claim"], row["cost"], row["bound"]
+
+
+def worse(row):
+    """What of a search is worse than before."""
+    for name in ("steps", "spots", "finished", "bound"):
+        if int(row[name]) < int(row[f"{name}_before"]):
+            yield name
+    if row["cost_before"] != "none" and (row["cost"] == "none" or int(row["cost"]) > int(row["cost_before"])):
+        yield "cost"
+
+
+def row_fault(ample, row):
+    """What is wrong with the search that a crew handed back."""
+    if row["held"] == "yes":
+        return "a worker holds a leaf"
+    if row["stands"] != "yes":
+        return "the history doesn't begin with the steps that stood"
+    for name in worse(row):
+        return f"{name} before: {row[f'{name}_before']}, now: {row[name]}"
+    if row["answer"] == "ok" and found(row) != found(ample):
+        return f"the search is over with {found(row)}, with ample memory with {found(ample)}"
+    return ""
+
+
+class Crews:
+    """Judges what crews made of a search, and counts their answers."""
+
+    KINDS = ("the search over", "no memory and the search as it was", "no memory and the search gone on")
+
+    def __init__(self):
+        self.seen = dict.fromkeys(self.KINDS, 0)
+
+    def __call__(self, ample, written, on):
+        rows = crew_rows(written)
+        if not rows:
+            return f"it wrote {written[:200]!r}"
+        first, again = rows[0], rows[1] if len(rows) > 1 else None
+        over, moved = first["answer"] == "ok", first["steps"] != first["steps_before"]
+        self.seen[self.KINDS[0 if over else 2 if moved else 1]] += 1
+        if bool(again) != (not over and not moved):
+            return "a further crew had the search, though it had moved" if again else "no further crew had the search"
+        if again and not on and again["answer"] != "ok":
+            return "a further crew found no memory, though no call of its own was refused"
+        faults = [row_fault(crew_rows(ample)[0], row) for row in rows]
+        return next((f"{bad}: {row[0]}" for bad, row in zip(faults, rows) if bad), "")
+
+
+def tried(trial, name, words, text, shared, judge):
     """Tries each number with these words; prints what came, and gives how many runs were wrong."""
     ample, calls, _ = trial.run(words, text)
-    name = " ".join(words)
     if ample is None or calls == 0:
         print(f"{name}: no call for memory was counted, so nothing is shown: isn't the C library linked by the loader?")
         return 1
-    if ample.returncode == 2 and words[0] == "trial":
+    if ample.returncode == 2 and words[:1] == ["trial"]:
         print(f"{name}: this program has no such command")
         return 0
     if ample.returncode != 0:
@@ -154,7 +257,7 @@ def tried(trial, words, text, shared):
     with concurrent.futures.ThreadPoolExecutor(os.cpu_count()) as pool:
         ended = pool.map(lambda way: (way, *trial.run(words, text, *way)), ways)
         for (at, on), done, _, refused in ended:
-            bad = fault(trial, words, text, shared, ample, done)
+            bad = fault(trial, ample, done, judge, on)
             if at > 2 * calls and refused:
                 bad = "past the last call there still was a refusal"
             if at <= calls and not refused and not shared:
@@ -164,7 +267,8 @@ def tried(trial, words, text, shared):
             if bad:
                 wrong += 1
                 print(f"{name}, call {at}{' and all later ones' if on else ''} refused: {bad}")
-                print(f"  repeat it: REFUSE_AT={at} {'REFUSE_ON=1 ' if on else ''}LD_PRELOAD=.. {trial.path} {name}")
+                command = " ".join([trial.path, *words])
+                print(f"  repeat it: REFUSE_AT={at} {'REFUSE_ON=1 ' if on else ''}LD_PRELOAD=.. {command}")
     scope = "all" if len(chosen) == calls else f"{len(chosen)}"
     print(
         f"{name}: {calls} calls, {scope} tried, in {len(ways)} runs: {without} without memory, "
@@ -173,11 +277,28 @@ def tried(trial, words, text, shared):
     return wrong
 
 
+def crews_tried(trial):
+    """Tries each number of a crew's calls; prints what came, and gives how much was wrong."""
+    crews = Crews()
+    wrong = tried(trial, "a crew of two workers", [], "", True, crews)
+    for kind, times in crews.seen.items():
+        print(f"  {kind}: {times}" if times else f"  {kind}: in no run, so this isn't shown")
+    return wrong + list(crews.seen.values()).count(0)
+
+
 def main():
-    path = program()
+    path, of_crew = program(), meeting()
+    wrong = 0
     with tempfile.TemporaryDirectory() as room:
-        trial = Trial(path, room)
-        wrong = sum(tried(trial, *run) for run in RUNS)
+        refusing = library(room)
+        trial = Trial(path, room, refusing, SECONDS)
+        for words, text, shared in RUNS:
+            judge = same_answer(trial, text) if shared else same_bytes
+            wrong += tried(trial, " ".join(words), words, text, shared, judge)
+        if of_crew:
+            wrong += crews_tried(Trial(of_crew, room, refusing, MEETING_SECONDS))
+        else:
+            print("a crew of two workers: crates/trial_meeting isn't built, so none is tried")
     return 1 if wrong else 0
 
 
