@@ -10,9 +10,6 @@ use vs_refusal::refusal_text;
 const SHORTER: &str = "instance,1\nstop,P\nstop,Q\nstop,R\n\
     deadhead,P,Q,7,900\ndeadhead,Q,R,5,600\ndeadhead,P,R,15,2000\n";
 
-/// The first row of a text of peaks.
-const PEAKS: &str = "result,1,peak\n";
-
 const OPEN: &str = "instance,1\nstop,P\nstop,Q\nstop,R\ndeadhead,P,Q,7,900\ndeadhead,Q,R,5,600\n";
 
 /// A text, the row that is written for it, and the words.
@@ -266,42 +263,6 @@ const TOLD: &[(&[&str], &str, &str)] = &[
         "no,3,TableBroken,1,link,L1,t1,t2\n",
         "table 1: to go from trip t1 to trip t2 in layer L1 is worth more than it costs",
     ),
-    (
-        &[STOPS, LAYER, TRIPS],
-        "refused,14,60,NoPeak\n",
-        "record 14: no text of peaks follows the timetable",
-    ),
-    (
-        &[STOPS, LAYER, TRIPS, PEAKS, "peak,L1,x\n"],
-        "refused,15,61,BadRow\n",
-        "record 15: no row of a text of peaks looks like this: peak,L1,x",
-    ),
-    (
-        &[STOPS, LAYER, TRIPS, PEAKS, "end\n"],
-        "refused,15,62,OutOfOrder\n",
-        "record 15: another row of the text of peaks has to come here than end",
-    ),
-    (
-        &[STOPS, LAYER, TRIPS, PEAKS],
-        "refused,15,63,EndsEarly\n",
-        "record 15: the text of peaks ends here, without its row end: was it cut off?",
-    ),
-    (
-        &[STOPS, LAYER, PEAKS, "peak,L1,0\nfleet,L1,0\nend\nmore\n"],
-        "refused,16,64,RowsAfterEnd\n",
-        "record 16: behind the end of the text of peaks stands more",
-    ),
-    (
-        &[
-            STOPS,
-            LAYER,
-            PEAKS,
-            "peak,L1,0\nfleet,L1,1000000000000000001\n",
-        ],
-        "refused,14,65,PriceRange\n",
-        "record 14: a price is greater than 1000000000000000000 or less than its negative: \
-            fleet,L1,1000000000000000001",
-    ),
     (&[STOPS, LAYER, TRIPS], "yes,optimal,1080,1080\n", ""),
     (&[STOPS, LAYER, TRIPS], "", ""),
 ];
@@ -345,43 +306,6 @@ const FLAWS: &[(&str, &str)] = &[
     (
         "no,6,ClaimDiffers,optimal,open\n",
         "the document claims optimal, and its cost and its bound together say open",
-    ),
-    (
-        "no,8,Blocks,L1,NoPullOut,1\n",
-        "layer L1: no vehicle is in time for the first trip of block 1, or no deadhead leads there",
-    ),
-    (
-        "no,8,Blocks,L1,NoConnection,1,2\n",
-        "layer L1: in block 1 no vehicle is in time for trip number 2 after the one before, \
-            or no deadhead leads there",
-    ),
-    (
-        "no,8,Blocks,L1,NoPullIn,2\n",
-        "layer L1: no deadhead leads from the last trip of block 2 to the depot",
-    ),
-    (
-        "no,8,Blocks,L1,Twice,t1\n",
-        "layer L1: trip t1 stands in the blocks more than once",
-    ),
-    (
-        "no,8,Blocks,L1,Uncovered,t2\n",
-        "layer L1: no block runs trip t2",
-    ),
-    (
-        "no,9,CountDiffers,L1,2,1\n",
-        "layer L1: the count is 2, and the number of blocks is 1",
-    ),
-    (
-        "no,10,TableBroken,L1,link,L1,t1,t2\n",
-        "the prices of layer L1: to go from trip t1 to trip t2 in layer L1 is worth more than it costs",
-    ),
-    (
-        "no,11,TooWeak,L1,1,2\n",
-        "layer L1: by the prices the peak is at least 1, and the count is 2",
-    ),
-    (
-        "no,11,TooWeak,L1,0,none\n",
-        "layer L1: the prices don't show that no number of vehicles is enough",
     ),
     // What no version of the program writes yet.
     ("no,7,Other,1\n", "the document doesn't hold: Other"),

@@ -9,7 +9,6 @@ mod flaw;
 mod forms;
 mod instance;
 mod numbers;
-mod peaks;
 mod records;
 mod sentence;
 mod telling;
