@@ -1,10 +1,12 @@
 //! Tests of what judges: worked examples of documents, plans, prices and verdicts, and that each call can answer
 //! something else than `Memory`; and of the words that tell why there is no plan, what is refused, and why a document
-//! doesn't hold.
+//! or a text of peaks doesn't hold.
 #![tactic(auto)]
 
 #[cfg(test)]
 mod documents;
+#[cfg(test)]
+mod peaks;
 #[cfg(test)]
 mod plans;
 #[cfg(test)]

@@ -1,6 +1,7 @@
 //! The words for what is refused, and for a document that doesn't hold.
 
 use std::alloc::Global;
+use std::process::Abort;
 use std::test::Fail;
 use trial_fixtures::joined;
 use trial_fixtures::texts::{BLOCK, END, HEAD, LAYER, RESTING_STOPS, STOPS, TABLE, TRIPS};
@@ -12,8 +13,10 @@ const SHORTER: &str = "instance,1\nstop,P\nstop,Q\nstop,R\n\
 
 const OPEN: &str = "instance,1\nstop,P\nstop,Q\nstop,R\ndeadhead,P,Q,7,900\ndeadhead,Q,R,5,600\n";
 
-/// A text, the row that is written for it, and the words.
-const TOLD: &[(&[&str], &str, &str)] = &[
+/// A text, the row that is written for it, and the words: none where nothing is told.
+pub type Told = (&'static [&'static str], &'static str, &'static str);
+
+const TOLD: &[Told] = &[
     (
         &["trip,t1\n"],
         "refused,1,1,NoHeader\n",
@@ -184,7 +187,8 @@ const TOLD: &[(&[&str], &str, &str)] = &[
     (
         &[STOPS, LAYER, TRIPS],
         "refused,0,40,TooLarge\n",
-        "so many cases are too many: trips times layers times --nodes is 3000000 at most",
+        "so many cases are too many: trips times layers times --nodes is 3000000 at most, and for resume, the \
+            document's cases among them, 6000000",
     ),
     (
         &[STOPS, LAYER, TRIPS],
@@ -267,50 +271,59 @@ const TOLD: &[(&[&str], &str, &str)] = &[
     (&[STOPS, LAYER, TRIPS], "", ""),
 ];
 
-/// Rows that say no and whose words need no text, and the words.
-const FLAWS: &[(&str, &str)] = &[
+/// Rows that say no, whose words need no text.
+const FLAWS: &[Told] = &[
     (
+        &[],
         "no,1,Twice,t1\n",
         "trip t1 stands in the blocks more than once",
     ),
-    ("no,1,Uncovered,t2\n", "no block runs trip t2"),
-    ("no,1,NoPullIn,1\n", "block 1 can't be run"),
+    (&[], "no,1,Uncovered,t2\n", "no block runs trip t2"),
+    (&[], "no,1,NoPullIn,1\n", "block 1 can't be run"),
     (
+        &[],
         "no,2,CostDiffers,1079,1080\n",
         "the blocks cost 1080, and the document says 1079",
     ),
     (
+        &[],
         "no,3,TableBroken,2,fleet,L1\n",
         "table 2: a vehicle of layer L1 has a price below 0",
     ),
     (
+        &[],
         "no,3,TableBroken,2,out,L1,t1\n",
         "table 2: to leave the depot for trip t1 in layer L1 is worth more than it costs",
     ),
     (
+        &[],
         "no,3,TableBroken,2,in,L1,t1\n",
         "table 2: to go home from trip t1 in layer L1 is worth more than it costs",
     ),
     (
+        &[],
         "no,4,BadSplit,1\n",
         "row 1 of the tree: the split names all layers that its trip may be run in there, or another",
     ),
     (
+        &[],
         "no,5,LeafTooWeak,1,1080,1081\n",
         "row 1 of the tree: the leaf's table shows a cost of 1080 at least, and the bound is 1081",
     ),
     (
+        &[],
         "no,5,LeafTooWeak,3,0,none\n",
         "row 3 of the tree: the leaf's table doesn't show that there is no plan",
     ),
     (
+        &[],
         "no,6,ClaimDiffers,optimal,open\n",
         "the document claims optimal, and its cost and its bound together say open",
     ),
     // What no version of the program writes yet.
-    ("no,7,Other,1\n", "the document doesn't hold: Other"),
-    ("refused,14,27,Other\n", "record 14: Other: "),
-    ("words,1\n", ""),
+    (&[], "no,7,Other,1\n", "the document doesn't hold: Other"),
+    (&[], "refused,14,27,Other\n", "record 14: Other: "),
+    (&[], "words,1\n", ""),
 ];
 
 /// The words for a row that was written for an input, and nothing where there are none.
@@ -322,20 +335,21 @@ fn told(alloc: Global, input: &[&str], row: &str) -> Result<String, Fail> {
     }
 }
 
-#[test]
-fn tell_what_was_refused(rt: HostRuntime) -> Result<(), Fail> {
-    for &(input, row, words) in TOLD {
-        let found = told(rt.alloc(), input, row)?;
+/// So all rows of a table are told.
+pub fn are_told<R: Abort>(rt: &R, alloc: Global, rows: &[Told]) -> Result<(), Fail> {
+    for &(input, row, words) in rows {
+        let found = told(alloc, input, row)?;
         assert_eq!(rt; found.as_str(), words);
     }
     Ok(())
 }
 
 #[test]
+fn tell_what_was_refused(rt: HostRuntime) -> Result<(), Fail> {
+    are_told(&rt, rt.alloc(), TOLD)
+}
+
+#[test]
 fn tell_why_documents_do_not_hold(rt: HostRuntime) -> Result<(), Fail> {
-    for &(row, words) in FLAWS {
-        let found = told(rt.alloc(), &[], row)?;
-        assert_eq!(rt; found.as_str(), words);
-    }
-    Ok(())
+    are_told(&rt, rt.alloc(), FLAWS)
 }

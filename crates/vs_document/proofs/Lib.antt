@@ -1,4 +1,3 @@
-pub mod words
 pub mod rows
 pub mod parts
 pub mod alike

@@ -1,8 +1,6 @@
 pub mod SamePlaces
 pub mod TreeReading
 pub mod BlockReading
-pub mod PriceReading
-pub mod PriceRows
-pub mod LayerReading
+pub mod PricePlaces
 pub mod TableReading
 pub mod WholeDocument

@@ -2,4 +2,5 @@ pub mod RowKinds
 pub mod RefusedRows
 pub mod BoundBesideCost
 pub mod AcceptedRows
+pub mod ReadThrough
 pub mod RefusedOnce

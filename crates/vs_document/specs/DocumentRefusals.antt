@@ -8,7 +8,8 @@ use Rattle.vs_document.specs.declared.refused.DocWhy.TheVariants.{NoResult, BadR
 use Rattle.vs_document.specs.declared.refused.DocError.{DocError}
 use Rattle.vs_document.specs.declared.refused.DocError.TheVariants as error
 use Rattle.vs_rows.specs.DocumentRows.{DocumentRow, Says}
-use Rattle.vs_document.specs.Places.{Place, AtClaim, AtEnd, HasNumber, HasPrices, SuitsCost, behind}
+use Rattle.vs_rows.specs.PriceOrder.{HasPrices}
+use Rattle.vs_document.specs.Places.{Place, AtClaim, AtEnd, HasNumber, SuitsCost, behind}
 
 -- a row of good form that says this at the place
 pub record SaysAt (names : NameLists) (place : Place) (row : Row) (said : DocumentRow) : Type 0 where

@@ -1,19 +1,8 @@
 -- Which row comes next in a document.
-use Rattle.std.specs.Prelude.{ℕ, zero, suc, ◌+◌, ◌≡◌, ◌≤◌, ◌==◌, ◌&&◌, if◌then◌else◌, List, [], ◌∷◌, map, flat_map, ℤ, Option, Some, None}
-use Rattle.std.specs.List.{range_with_len}
-use Rattle.std.specs.Prelude.{length}
+use Rattle.std.specs.Prelude.{ℕ, zero, suc, ◌+◌, ◌≡◌, ◌≤◌, ◌==◌, ◌&&◌, if◌then◌else◌, List, [], ◌∷◌, ℤ, Option, Some, None}
 use Rattle.vs_instance.specs.Problem.{Problem}
-use Rattle.vs_prices.specs.Table.{IsPrice}
-use Rattle.vs_rows.specs.DocumentRows.{DocumentRow, ClaimRow, CostRow, BoundRow, NodesRow, BlockRow, TableRow, FleetRow, PriceRow, SplitRow, LeafRow, EndRow, permitted_trips}
-
--- a row of prices: of a layer's vehicle, or of a layer and a trip
-pub data PriceOf : Type 0 where
-  Vehicle : ℕ → PriceOf
-  Trip : ℕ → ℕ → PriceOf
-
--- the rows of prices that a table has, in order
-abbrev pub prices_of : Problem → List PriceOf
-prices_of p = flat_map (λ l. Vehicle l ∷ map (Trip l) (permitted_trips p l)) (range_with_len 0 (length p.layers))
+use Rattle.vs_rows.specs.DocumentRows.{DocumentRow, ClaimRow, CostRow, BoundRow, NodesRow, BlockRow, TableRow, FleetRow, PriceRow, SplitRow, LeafRow, EndRow}
+use Rattle.vs_rows.specs.PriceOrder.{PriceOf, Trip, Vehicle, prices_of}
 
 -- a place between two rows
 pub data Place : Type 0 where
@@ -79,12 +68,6 @@ abbrev pub HasNumber : Place → DocumentRow → Type 0
 HasNumber place (TableRow number ray) = number ≡ tables_before place + 1
 HasNumber place (LeafRow number) = (1 ≤ number) × (number ≤ tables_before place)
 HasNumber place said = Unit {0}
-
--- what is given for a price is one
-abbrev pub HasPrices : DocumentRow → Type 0
-HasPrices (FleetRow l price) = IsPrice price
-HasPrices (PriceRow l i into from) = IsPrice into × IsPrice from
-HasPrices said = Unit {0}
 
 -- no bound stands beside a cost only where there is none
 abbrev pub SuitsCost : Place → DocumentRow → Type 0

@@ -3,6 +3,7 @@ use Rattle.vs_plan.specs.Blocks.{pair_of}
 use Rattle.vs_document.specs.declared.reading.said.Said.{Said}
 use Rattle.vs_document.specs.declared.reading.said.Said.TheVariants as said
 use Rattle.vs_rows.specs.DocumentRows.{DocumentRow, ClaimRow, CostRow, BoundRow, NodesRow, BlockRow, TableRow, FleetRow, PriceRow, SplitRow, LeafRow, EndRow}
+use Rattle.vs_rows.specs.PriceOrder.{priced_row}
 
 -- what the row says
 abbrev pub row_said : Said → DocumentRow
@@ -12,8 +13,7 @@ row_said (said.Bound bound) = BoundRow bound
 row_said (said.Nodes n) = NodesRow n
 row_said (said.Block b) = BlockRow (pair_of b)
 row_said (said.Table number ray) = TableRow number ray
-row_said (said.Fleet layer price) = FleetRow layer.0 price
-row_said (said.Price layer trip into from) = PriceRow layer.0 trip.0 into from
+row_said (said.Prices prices) = priced_row prices
 row_said (said.Split trip left) = SplitRow trip left
 row_said (said.Leaf number) = LeafRow number
 row_said said.End = EndRow
@@ -25,12 +25,6 @@ IsHeadRow (CostRow cost) = Unit {0}
 IsHeadRow (BoundRow bound) = Unit {0}
 IsHeadRow (NodesRow n) = Unit {0}
 IsHeadRow said = ⊥
-
--- a row of a table's prices
-abbrev pub IsPriceRow : DocumentRow → Type 0
-IsPriceRow (FleetRow l price) = Unit {0}
-IsPriceRow (PriceRow l i into from) = Unit {0}
-IsPriceRow said = ⊥
 
 -- a row that is neither one of prices nor a block
 abbrev pub IsOtherRow : DocumentRow → Type 0

@@ -3,12 +3,11 @@
 ghost use Rattle.std.specs.Prelude.{◌≡◌, ◌<◌, length, map, All, IfOk, OnOk};
 ghost use Rattle.vs_counting.specs.Counting.{counting};
 ghost use Rattle.vs_peakcheck.specs.Claims.{AreClaimed, IsClaimed};
-ghost use Rattle.vs_peakcheck.specs.PeakRows.{CountRow, PartRow, layer_rows, layers_rows, peak_text, price_rows};
+ghost use Rattle.vs_peakcheck.specs.PeakRows.{CountRow, layer_rows, layers_rows, peak_text, price_rows};
 ghost use Rattle.vs_plan.specs.Blocks.{pairs_of};
 ghost use Rattle.vs_prices.specs.Table.{IsPrice};
 ghost use Rattle.vs_reader.specs.Names.{HaveCounts};
 ghost use Rattle.vs_reader.specs.Rows.{lines};
-ghost use Rattle.vs_rows.specs.DocumentRows.{FleetRow, PriceRow};
 ghost use Rattle.vs_peak.specs.Writing.{AddsPeakRow, AddsPeakRows, AreTripsOf, own_row, own_rows};
 
 use std::alloc::Global;
@@ -18,7 +17,7 @@ use vs_peakcheck::Claimed;
 use vs_plan::Block;
 use vs_prices::Table;
 use vs_reader::Names;
-use vs_rows::Text;
+use vs_rows::{Text, write_fleet, write_price};
 use vs_types::{LayerNo, Memory, TripNo};
 
 /// The text that claims this of each layer, by the names of the instance.
@@ -147,17 +146,6 @@ fn write_block(
     text.end_row()
 }
 
-/// Writes the price of a vehicle of layer l.
-fn write_fleet(text: &mut Text, names: &Names, l: LayerNo, fleet: i64) -> Result<(), Memory>
-    requires { l.0 < length names.now.layers }
-    ensures { OnOk result (AddsPeakRow names.now (PartRow (FleetRow l.0 fleet)) text.old text.new) }
-{
-    text.begin_row("fleet")?;
-    text.field(names.layer(l))?;
-    text.number(fleet)?;
-    text.end_row()
-}
-
 /// Writes the prices of layer l's trips.
 fn write_prices(
     text: &mut Text,
@@ -180,26 +168,4 @@ fn write_prices(
         write_price(text, names, l, trips[k], table.into[k], table.from[k])?;
     }
     Ok(())
-}
-
-/// Writes the prices for entering and for leaving a trip of layer l.
-fn write_price(
-    text: &mut Text,
-    names: &Names,
-    l: LayerNo,
-    i: TripNo,
-    into: i64,
-    from: i64,
-) -> Result<(), Memory>
-    requires layer { l.0 < length names.now.layers }
-    requires trip { i.0 < length names.now.trips }
-    ensures { OnOk result
-        (AddsPeakRow names.now (PartRow (PriceRow l.0 i.0 into from)) text.old text.new) }
-{
-    text.begin_row("price")?;
-    text.field(names.layer(l))?;
-    text.field(names.trip(i))?;
-    text.number(into)?;
-    text.number(from)?;
-    text.end_row()
 }

@@ -24,7 +24,8 @@ use Rattle.vs_counting.proofs.CallerLemmas.{all_permitted, count_is, has_number}
 use Rattle.vs_instance.specs.declared.limits.TheConstants.{MAX_FLEET}
 use Rattle.vs_peakcheck.specs.PeakRows.{PartRow, PeakRow, block_rows}
 use Rattle.vs_peakcheck.specs.Places.{AtBlocks, MayRun, behind, may_run}
-use Rattle.vs_peakcheck.specs.Reading.{IsCountedBlock, IsNoBlock, ReadsBlocks, ReadsTo}
+use Rattle.vs_rows.specs.Standing.{IsNoBlock}
+use Rattle.vs_peakcheck.specs.Reading.{IsCountedBlock, ReadsBlocks, ReadsTo}
 use Rattle.vs_peakcheck.proofs.RefusedRows.{read_on, reads_none, reads_one}
 
 module _ (p : Problem) (l : LayerNo) where

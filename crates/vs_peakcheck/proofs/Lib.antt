@@ -10,5 +10,4 @@ pub mod alike
 pub mod OtherKinds
 pub mod RowParts
 pub mod PriceKinds
-pub mod ErrorsPass
 pub mod CallerLemmas

@@ -166,7 +166,7 @@ module _ (p : Problem) where
   leads_prices l (i ∷ trips) (x ∷ into) [] a b c d = absurd (omega (arith, b))
   leads_prices l (i ∷ trips) (x ∷ into) (y ∷ from) a b c d = (
     in_prices l trips,
-    price_order p l i trips x y,
+    price_order p l i l i trips x y refl refl,
     (All-head IsPrice x into c, All-head IsPrice y from d),
     leads_prices l trips into from (omega (arith, a)) (omega (arith, b)) (All-tail IsPrice x into c)
         (All-tail IsPrice y from d),
@@ -190,7 +190,7 @@ module _ (p : Problem) where
       let one_fleet : 0 < length c.table.fleet.items = let e = is.fits.fleet_size in omega arith in
       let behind_blocks : LeadsTo p (AtBlocks l c.count) (PartRow (FleetRow l price) ∷ prices) (AtLayer (l + 1)) = (
         in_prices l trips,
-        fleet_order p l c.count price,
+        fleet_order p l c.count l price refl,
         is.fits.fleet 0 (pos 0) one_fleet,
         leads_prices l trips c.table.into.items c.table.from.items
             (let e = is.fits.into_size in omega (arith, e, size)) (let e = is.fits.from_size in omega (arith, e, size))

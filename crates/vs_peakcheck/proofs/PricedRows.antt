@@ -1,141 +1,80 @@
 -- The rows of prices, each in its place.
-use Rattle.std.proofs.Common.{◌≡◌, ◌≢◌, ℕ, ◌+◌, ◌<◌, ◌≤◌, Bool, true, cond, ◌&&◌, List, [], ◌∷◌, ◌++◌, length, get_or, map, take, drop, refl, sym, ap, ◌∙◌, subst, inl, inr, ◌⊎◌, ℤ, eqb, Some, None, Option, to_z, of_z, w64, FitsSigned, rules, arith}
-use Rattle.std.specs.Int.{w128}
+use Rattle.std.proofs.Common.{◌≡◌, ℕ, ◌+◌, ◌<◌, ◌≤◌, Bool, true, cond, ◌&&◌, List, [], ◌∷◌, ◌++◌, length, get_or, map, take, drop, refl, sym, ap, ◌∙◌, subst, ℤ, eqb, Some, None, Option, arith}
 use Rattle.std.specs.List.{All}
-use Rattle.std.proofs.lemmas.Int.{to_z-of_z}
-use Rattle.std.proofs.lemmas.Bool.{and_left, and_right, eq-eqb, ne_eqb}
+use Rattle.std.proofs.lemmas.Bool.{eq-eqb}
 use Rattle.std.proofs.lemmas.List.{drop_all, drop_more, get_or-map, length-take, length_push, take_all, take_more}
 use Rattle.std.proofs.lemmas.List.Elements.{All-nil, All-push}
 use Rattle.vs_types.specs.declared.numbers.TripNo.{TripNo}
 use Rattle.vs_instance.specs.Problem.{Problem}
 use Rattle.vs_prices.specs.Table.{IsPrice}
 use Rattle.vs_reader.specs.declared.input.Input.{Input}
-use Rattle.vs_rows.specs.declared.limits.TheConstants.{MAX_PRINTED_PRICE}
-use Rattle.vs_rows.specs.DocumentRows.{FleetRow, IsWithin, PriceRow}
+use Rattle.vs_rows.specs.declared.wrong.PriceWhy.TheVariants.{Range}
+use Rattle.vs_rows.specs.DocumentRows.{DocumentRow, FleetRow, PriceRow}
+use Rattle.vs_rows.specs.PriceOrder.{HasPrices, Trip, Vehicle}
+use Rattle.vs_rows.specs.TableReading.{IsThere, IsWrong, ReadsFleet, ReadsPrice}
 use Rattle.vs_counting.specs.Counting.{numbered, permitted_trips}
-use Rattle.vs_peakcheck.specs.declared.refused.PeakWhy.TheVariants.{OutOfOrder, PriceRange}
+use Rattle.vs_peakcheck.specs.declared.refused.PeakWhy.TheVariants.{PriceRange}
 use Rattle.vs_peakcheck.specs.declared.refused.PeakError.{PeakError}
 use Rattle.vs_peakcheck.specs.declared.refused.PeakError.TheVariants as error
-use Rattle.vs_peakcheck.specs.PeakRows.{PartRow, PeakRow, SaysPeak, price_rows}
+use Rattle.vs_peakcheck.specs.PeakRows.{PartRow, PeakRow, price_rows}
 use Rattle.vs_peakcheck.specs.Places.{AtBlocks, AtLayer, AtPrices, behind, in_prices}
-use Rattle.vs_peakcheck.specs.Reading.{IsRefusedAt, ReadsFleet, ReadsPrice, ReadsTo}
-use Rattle.vs_peakcheck.proofs.RefusedRows.{no_prices, out_of_order, read_on, reads_none, reads_one}
+use Rattle.vs_peakcheck.specs.Reading.{IsRefusedAt, ReadsTo}
+use Rattle.vs_peakcheck.proofs.RefusedRows.{no_prices, read_on, reads_none, reads_one}
 
--- a price as a number of 64 bits
-pub as_word : (a : ℤ) → IsPrice a → to_z w64 (of_z w64 a) ≡ a
-as_word a price = let fits : FitsSigned w64 a = search (rules, price) in to_z-of_z w64 a fits
+pub fleet_order : (p : Problem) (l : ℕ) (count : Option ℕ) (layer : ℕ) (price : ℤ) → layer ≡ l
+    → behind p (AtBlocks l count) (PartRow (FleetRow layer price)) ≡ Some (in_prices l (permitted_trips p l))
+fleet_order p l count layer price same =
+    ap (λ (b : Bool). cond b (Some (in_prices l (permitted_trips p l))) None) (eq-eqb layer l same)
 
--- a number of at most 19 digits as one of 128 bits
-abbrev pub wide : ℤ → ℤ
-wide a = to_z w128 (of_z w128 a)
+pub price_order : (p : Problem) (l i layer trip : ℕ) (later : List ℕ) (into from : ℤ) → layer ≡ l → trip ≡ i
+    → behind p (AtPrices l i later) (PartRow (PriceRow layer trip into from)) ≡ Some (in_prices l later)
+price_order p l i layer trip later into from same_layer same_trip =
+    ap (λ (b : Bool). cond (b && eqb trip i) (Some (in_prices l later)) None) (eq-eqb layer l same_layer)
+    ∙ ap (λ (b : Bool). cond (true && b) (Some (in_prices l later)) None) (eq-eqb trip i same_trip)
 
-as_wide : (a : ℤ) → IsWithin MAX_PRINTED_PRICE a → wide a ≡ a
-as_wide a range = let fits : FitsSigned w128 a = search (rules, range) in to_z-of_z w128 a fits
+module _ (input : Input) (row l : ℕ) where
+  -- a vehicle's price, and a number that is none
+  pub fleet_reads : (count : Option ℕ) (price : ℤ) → ReadsFleet input row l price
+      → ReadsTo input row (AtBlocks l count) (PartRow (FleetRow l price) ∷ []) (row + 1)
+      (in_prices l (permitted_trips input.instance l))
+  fleet_reads count price r =
+      reads_one input row r.here (AtBlocks l count) (PartRow (FleetRow l price)) (λ e. cc) (tt, r.says)
+      (in_prices l (permitted_trips input.instance l)) (fleet_order input.instance l count l price refl) r.is_price
 
-narrow : (a : ℤ) → IsWithin MAX_PRINTED_PRICE a → IsPrice (wide a) → IsPrice a
-narrow a range price = let P : ℤ → Type 0 = λ x. IsPrice x in subst P (as_wide a range) price
+  fleet_refused : (count : Option ℕ) (said : DocumentRow) → IsThere input row (Vehicle l) said
+      → ¬ (HasPrices said)
+      → IsRefusedAt input row (AtBlocks l count) (error.Refused (input.before + 1 + row) PriceRange)
+  fleet_refused count (FleetRow layer price) there none =
+      no_prices input row there.here (AtBlocks l count) (PartRow (FleetRow layer price)) (λ e. cc) (tt, there.says)
+      (in_prices l (permitted_trips input.instance l))
+      (fleet_order input.instance l count layer price there.is_of) none
+  fleet_refused count _ there none = absurd there.is_of
 
-widen : (a : ℤ) → IsWithin MAX_PRINTED_PRICE a → IsPrice a → IsPrice (wide a)
-widen a range price = let P : ℤ → Type 0 = λ x. IsPrice x in subst P (sym (as_wide a range)) price
+  pub fleet_range : (count : Option ℕ) → IsWrong input row (Vehicle l) Range
+      → IsRefusedAt input row (AtBlocks l count) (error.Refused (input.before + 1 + row) PriceRange)
+  fleet_range count (said, there, none) = fleet_refused count said there none
 
-pub fleet_order : (p : Problem) (l : ℕ) (count : Option ℕ) (price : ℤ)
-    → behind p (AtBlocks l count) (PartRow (FleetRow l price)) ≡ Some (in_prices l (permitted_trips p l))
-fleet_order p l count price =
-    ap (λ (b : Bool). cond b (Some (in_prices l (permitted_trips p l))) None) (eq-eqb l l refl)
+  module _ (i : ℕ) (later : List ℕ) where
+    -- a trip's prices, and a number that is none
+    pub price_reads : (prices : ℤ × ℤ) → ReadsPrice input row l i prices
+        → ReadsTo input row (AtPrices l i later) (PartRow (PriceRow l i prices.0 prices.1) ∷ []) (row + 1)
+        (in_prices l later)
+    price_reads prices r =
+        reads_one input row r.here (AtPrices l i later) (PartRow (PriceRow l i prices.0 prices.1)) (λ e. cc)
+        (tt, r.says) (in_prices l later) (price_order input.instance l i l i later prices.0 prices.1 refl refl)
+        (r.into_price, r.from_price)
 
-pub fleet_elsewhere : (p : Problem) (l : ℕ) (count : Option ℕ) (layer : ℕ) (price : ℤ) → layer ≢ l
-    → behind p (AtBlocks l count) (PartRow (FleetRow layer price)) ≡ None
-fleet_elsewhere p l count layer price other =
-    ap (λ (b : Bool). cond b (Some (in_prices l (permitted_trips p l))) None) (ne_eqb layer l other)
+    price_refused : (said : DocumentRow) → IsThere input row (Trip l i) said → ¬ (HasPrices said)
+        → IsRefusedAt input row (AtPrices l i later) (error.Refused (input.before + 1 + row) PriceRange)
+    price_refused (PriceRow layer trip into from) there none =
+        no_prices input row there.here (AtPrices l i later) (PartRow (PriceRow layer trip into from)) (λ e. cc)
+        (tt, there.says) (in_prices l later)
+        (price_order input.instance l i layer trip later into from there.is_of.0 there.is_of.1) none
+    price_refused _ there none = absurd there.is_of
 
-pub price_order : (p : Problem) (l i : ℕ) (later : List ℕ) (into from : ℤ)
-    → behind p (AtPrices l i later) (PartRow (PriceRow l i into from)) ≡ Some (in_prices l later)
-price_order p l i later into from =
-    ap (λ (b : Bool). cond (b && eqb i i) (Some (in_prices l later)) None) (eq-eqb l l refl)
-    ∙ ap (λ (b : Bool). cond (true && b) (Some (in_prices l later)) None) (eq-eqb i i refl)
-
-price_elsewhere : (p : Problem) (l i layer trip : ℕ) (later : List ℕ) (into from : ℤ)
-    → (layer ≢ l) ⊎ (trip ≢ i) → behind p (AtPrices l i later) (PartRow (PriceRow layer trip into from)) ≡ None
-price_elsewhere p l i layer trip later into from (inl other) =
-    ap (λ (b : Bool). cond b (Some (in_prices l later)) None)
-    (and_left (eqb layer l) (eqb trip i) (ne_eqb layer l other))
-price_elsewhere p l i layer trip later into from (inr other) =
-    ap (λ (b : Bool). cond b (Some (in_prices l later)) None)
-    (and_right (eqb layer l) (eqb trip i) (ne_eqb trip i other))
-
-module _ (input : Input) (row l : ℕ) (lt : row < length input.rest) where
-  module _ (count : Option ℕ) (layer : ℕ) (price : ℤ) (says : SaysPeak input row (PartRow (FleetRow layer price)))
-    where
-      pub fleet_of_another : layer ≢ l
-          → IsRefusedAt input row (AtBlocks l count) (error.Refused (input.before + 1 + row) OutOfOrder)
-      fleet_of_another other =
-          out_of_order input row lt (AtBlocks l count) (PartRow (FleetRow layer price)) (λ e. cc) says
-          (fleet_elsewhere input.instance l count layer price other)
-
-      module _ (same : layer ≡ l) where
-        here : SaysPeak input row (PartRow (FleetRow l price))
-        here = let P : ℕ → Type 0 = λ k. SaysPeak input row (PartRow (FleetRow k price)) in subst P same says
-
-        pub fleet_read : (word : ℤ) → word ≡ wide price → IsPrice (wide price)
-            → ReadsFleet input row l count (to_z w64 (of_z w64 word))
-        fleet_read word equal is_wide =
-            let range = says.1.form.1 in
-            let is_price = narrow price range is_wide in
-            let is : word ≡ price = equal ∙ as_wide price range in
-            let P : ℤ → Type 0 = λ x. ReadsFleet input row l count x in
-            subst P (sym (ap (λ (x : ℤ). to_z w64 (of_z w64 x)) is ∙ as_word price is_price))
-            (record {
-              is_price = is_price;
-              reads = reads_one input row lt (AtBlocks l count) (PartRow (FleetRow l price)) (λ e. cc) here
-                  (in_prices l (permitted_trips input.instance l)) (fleet_order input.instance l count price) is_price;
-            })
-
-        pub fleet_range : ¬ (IsPrice (wide price))
-            → IsRefusedAt input row (AtBlocks l count) (error.Refused (input.before + 1 + row) PriceRange)
-        fleet_range wrong =
-            no_prices input row lt (AtBlocks l count) (PartRow (FleetRow l price)) (λ e. cc) here
-            (in_prices l (permitted_trips input.instance l)) (fleet_order input.instance l count price)
-            (λ is. wrong (widen price says.1.form.1 is))
-
-  module _ (i layer trip : ℕ) (into from : ℤ)
-      (says : SaysPeak input row (PartRow (PriceRow layer trip into from))) where
-    pub price_of_another : (layer ≢ l) ⊎ (trip ≢ i) → (later : List ℕ)
-        → IsRefusedAt input row (AtPrices l i later) (error.Refused (input.before + 1 + row) OutOfOrder)
-    price_of_another other later =
-        out_of_order input row lt (AtPrices l i later) (PartRow (PriceRow layer trip into from)) (λ e. cc) says
-        (price_elsewhere input.instance l i layer trip later into from other)
-
-    module _ (same_layer : layer ≡ l) (same_trip : trip ≡ i) where
-      says_here : SaysPeak input row (PartRow (PriceRow l i into from))
-      says_here =
-          let P : ℕ → Type 0 = λ k. SaysPeak input row (PartRow (PriceRow k trip into from)) in
-          let Q : ℕ → Type 0 = λ k. SaysPeak input row (PartRow (PriceRow l k into from)) in
-          subst Q same_trip (subst P same_layer says)
-
-      pub price_read : (a b : ℤ) → a ≡ wide into → b ≡ wide from → IsPrice (wide into) → IsPrice (wide from)
-          → ReadsPrice input row l i (to_z w64 (of_z w64 a), to_z w64 (of_z w64 b))
-      price_read a b a_equal b_equal into_wide from_wide =
-          let into_price = narrow into says.1.form.2 into_wide in
-          let from_price = narrow from says.1.form.3 from_wide in
-          let a_is : a ≡ into = a_equal ∙ as_wide into says.1.form.2 in
-          let b_is : b ≡ from = b_equal ∙ as_wide from says.1.form.3 in
-          let P : ℤ → Type 0 = λ x. ReadsPrice input row l i (x, to_z w64 (of_z w64 b)) in
-          let Q : ℤ → Type 0 = λ x. ReadsPrice input row l i (into, x) in
-          subst P (sym (ap (λ (x : ℤ). to_z w64 (of_z w64 x)) a_is ∙ as_word into into_price))
-          (subst Q (sym (ap (λ (x : ℤ). to_z w64 (of_z w64 x)) b_is ∙ as_word from from_price))
-          (record {
-            into_price = into_price;
-            from_price = from_price;
-            reads = λ later. reads_one input row lt (AtPrices l i later) (PartRow (PriceRow l i into from)) (λ e. cc)
-                says_here (in_prices l later) (price_order input.instance l i later into from) (into_price, from_price);
-          }))
-
-      pub price_range : ¬ (IsPrice (wide into) × IsPrice (wide from)) → (later : List ℕ)
-          → IsRefusedAt input row (AtPrices l i later) (error.Refused (input.before + 1 + row) PriceRange)
-      price_range wrong later =
-          no_prices input row lt (AtPrices l i later) (PartRow (PriceRow l i into from)) (λ e. cc) says_here
-          (in_prices l later) (price_order input.instance l i later into from)
-          (λ is. wrong (widen into says.1.form.2 is.0, widen from says.1.form.3 is.1))
+    pub price_range : IsWrong input row (Trip l i) Range
+        → IsRefusedAt input row (AtPrices l i later) (error.Refused (input.before + 1 + row) PriceRange)
+    price_range (said, there, none) = price_refused said there none
 
 -- one price row more
 pub rows_more : (l : ℕ) (trips : List ℕ) (into from : List ℤ) (i : ℕ) (x y : ℤ) → length into ≡ length trips
@@ -209,7 +148,7 @@ module _ (input : Input) (at l : ℕ) where
       let t = get_or ts k 0 in
       let here : ReadsPrice input row l t (x, y) =
       let P : ℕ → Type 0 = λ j. ReadsPrice input row l j (x, y) in subst P is read in
-      let next = here.reads (drop (k + 1) ts) in
+      let next = price_reads input row l t (drop (k + 1) ts) (x, y) here in
       let P : List ℕ → Type 0 = λ later.
       ReadsTo input row (in_prices l later) (PartRow (PriceRow l t x y) ∷ []) (row + 1)
       (in_prices l (drop (k + 1) ts)) in

@@ -16,6 +16,7 @@ use Rattle.vs_reader.specs.Rows.{Row, all_fields, row_of}
 use Rattle.vs_reader.specs.declared.input.Input.{Input}
 use Rattle.vs_rows.specs.DocumentRows.{EndRow, FleetRow}
 use Rattle.vs_rows.specs.RowForms.{IsInput}
+use Rattle.vs_rows.specs.TableReading.{ReadsFleet}
 use Rattle.vs_counting.specs.Counting.{counting, own_blocks, permitted_trips}
 use Rattle.vs_counting.proofs.CallerLemmas.{count_is}
 use Rattle.vs_peakcheck.specs.declared.claimed.Claimed.{Claimed}
@@ -27,7 +28,8 @@ use Rattle.vs_peakcheck.specs.Claims.{CanBeChecked, IsClaimed, IsShort, PeakText
 use Rattle.vs_peakcheck.specs.PeakRefusals.{AreRefused, AreRefusedFrom}
 use Rattle.vs_peakcheck.specs.PeakRows.{CountRow, IsCount, PartRow, PeakRow, SayAllSo, SaysPeak, block_rows, head_row, layer_rows, layers_rows, price_rows}
 use Rattle.vs_peakcheck.specs.Places.{AtBlocks, AtEnd, AtLayer, behind, in_prices}
-use Rattle.vs_peakcheck.specs.Reading.{IsLast, IsRefusalOf, IsRefusedAt, ReadsBlocks, ReadsCount, ReadsFleet, ReadsLayer, ReadsLayers, ReadsPrices, ReadsTo}
+use Rattle.vs_peakcheck.specs.Reading.{IsLast, IsRefusalOf, IsRefusedAt, ReadsBlocks, ReadsCount, ReadsLayer, ReadsLayers, ReadsPrices, ReadsTo}
+use Rattle.vs_peakcheck.proofs.PricedRows.{fleet_reads}
 use Rattle.vs_peakcheck.proofs.RefusedRows.{read_on, reads_none, reads_one}
 
 -- the row of a count
@@ -61,7 +63,7 @@ module _ (input : Input) (is_input : IsInput input) (at : ℕ) (l : LayerNo) (co
     (fleet_is : c.table.fleet.items ≡ price ∷ []) (ray_is : c.table.ray ≡ is_none count)
     (counted : ReadsCount input at l.0 count)
     (blocks : ReadsBlocks input (at + 1) l count fleet_at (pairs_of c.blocks.items))
-    (fleet : ReadsFleet input fleet_at l.0 count price) (priced : ReadsPrices input (fleet_at + 1) l.0 prices) where
+    (fleet : ReadsFleet input fleet_at l.0 price) (priced : ReadsPrices input (fleet_at + 1) l.0 prices) where
   claimed_is : IsClaimed (counting input.instance l.0) c
   claimed_is =
       let size = count_is MAX_FLEET input.instance l.0 in
@@ -95,7 +97,7 @@ module _ (input : Input) (is_input : IsInput input) (at : ℕ) (l : LayerNo) (co
       let of_fleet : List PeakRow = PartRow (FleetRow l.0 price) ∷ [] in
       let of_prices = price_rows l.0 trips prices.into.items prices.from.items in
       let last = read_on input fleet_at (fleet_at + 1) to (AtBlocks l.0 count) (in_prices l.0 trips)
-      (AtLayer (l.0 + 1)) of_fleet of_prices fleet.reads priced.reads in
+      (AtLayer (l.0 + 1)) of_fleet of_prices (fleet_reads input fleet_at l.0 count price fleet) priced.reads in
       let middle = read_on input (at + 1) fleet_at to (AtBlocks l.0 count) (AtBlocks l.0 count) (AtLayer (l.0 + 1)) own
       (of_fleet ++ of_prices) blocks.reads last in
       let all = read_on input at (at + 1) to (AtLayer l.0) (AtBlocks l.0 count) (AtLayer (l.0 + 1))

@@ -1,5 +1,5 @@
 -- How far the rows of a text that claims peaks have been read.
-use Rattle.std.specs.Prelude.{◌≡◌, ◌≢◌, ℕ, ◌+◌, ◌<◌, ◌≤◌, List, [], ◌∷◌, ◌++◌, length, take, drop, All, ℤ, Option, IfNone, IsSome, slice_index_or}
+use Rattle.std.specs.Prelude.{◌≡◌, ◌≢◌, ℕ, ◌+◌, ◌<◌, ◌≤◌, List, [], ◌∷◌, ◌++◌, length, take, drop, All, Option, IfNone, IsSome, slice_index_or}
 use Rattle.vs_types.specs.declared.numbers.LayerNo.{LayerNo}
 use Rattle.vs_instance.specs.Problem.{Problem}
 use Rattle.vs_instance.specs.Plan.{LayerBlock, all_trips}
@@ -7,8 +7,9 @@ use Rattle.vs_plan.specs.Blocks.{IsOfInstance, pair_of}
 use Rattle.vs_prices.specs.Table.{IsPrice}
 use Rattle.vs_reader.specs.declared.input.Input.{Input}
 use Rattle.vs_reader.specs.Rows.{all_fields}
-use Rattle.vs_rows.specs.DocumentRows.{BlockRow, EndRow, FleetRow, PriceRow}
-use Rattle.vs_rows.specs.RowForms.{SaysThere}
+use Rattle.vs_rows.specs.DocumentRows.{BlockRow, EndRow}
+use Rattle.vs_rows.specs.PriceOrder.{priced_row}
+use Rattle.vs_rows.specs.Standing.{IsNoBlock}
 use Rattle.vs_counting.specs.Counting.{counting, own_blocks, own_trips, permitted_trips}
 use Rattle.vs_peakcheck.specs.declared.claimed.Claimed.{Claimed}
 use Rattle.vs_peakcheck.specs.declared.reading.prices.Prices.{Prices}
@@ -19,21 +20,14 @@ use Rattle.vs_peakcheck.specs.declared.refused.PeakError.TheVariants as error
 use Rattle.vs_peakcheck.specs.Claims.{IsClaimed, IsShort, PeakText}
 use Rattle.vs_peakcheck.specs.PeakRefusals.{AreRefusedFrom, IsRefusal}
 use Rattle.vs_peakcheck.specs.PeakRows.{CountRow, IsCount, PartRow, PeakRow, SayAllSo, SaysPeak, block_rows, layer_rows, layers_rows, price_rows}
-use Rattle.vs_peakcheck.specs.Places.{AtBlocks, AtEnd, AtLayer, AtPrices, Place, in_prices}
+use Rattle.vs_peakcheck.specs.Places.{AtBlocks, AtEnd, AtLayer, Place, in_prices}
 
 -- what the row says
 abbrev pub peak_said : Said → PeakRow
 peak_said (said.Count layer count) = CountRow layer.0 count
 peak_said (said.Block b) = PartRow (BlockRow (pair_of b))
-peak_said (said.Fleet layer price) = PartRow (FleetRow layer.0 price)
-peak_said (said.Price layer trip into from) = PartRow (PriceRow layer.0 trip.0 into from)
+peak_said (said.Prices prices) = PartRow (priced_row prices)
 peak_said said.End = PartRow EndRow
-
--- a row of prices
-abbrev pub IsPriceRow : PeakRow → Type 0
-IsPriceRow (PartRow (FleetRow l price)) = Unit {0}
-IsPriceRow (PartRow (PriceRow l i into from)) = Unit {0}
-IsPriceRow said = ⊥
 
 -- of the rows from one on, which come at a place, the first that is refused is told and why
 abbrev pub IsRefusedAt : Input → ℕ → Place → PeakError → Type 0
@@ -66,10 +60,6 @@ pub record IsCountedBlock (p : Problem) (l : LayerNo) (own counted : LayerBlock)
   pub trips : All (λ k. k.0 < length (permitted_trips p l.0)) counted.1
   pub own_is : own_trips p l.0 counted.1 ≡ own.1
 
--- the row is no block's
-abbrev pub IsNoBlock : Input → ℕ → Type 0
-IsNoBlock input row = (b : LayerBlock) → ¬ (SaysThere input row (BlockRow b))
-
 -- the rows are those of these blocks of layer l, beside a count
 pub record ReadsBlocks (input : Input) (at : ℕ) (l : LayerNo) (count : Option ℕ) (to : ℕ)
     (blocks : List LayerBlock) : Type 0 where
@@ -79,19 +69,6 @@ pub record ReadsBlocks (input : Input) (at : ℕ) (l : LayerNo) (count : Option 
   pub ends : IsSome count → IsNoBlock input to
   pub reads : ReadsTo input at (AtBlocks l.0 count) (block_rows (own_blocks input.instance l blocks)) to
       (AtBlocks l.0 count)
-
--- the row tells a vehicle's price in layer l
-pub record ReadsFleet (input : Input) (row l : ℕ) (count : Option ℕ) (price : ℤ) : Type 0 where
-  pub is_price : IsPrice price
-  pub reads : ReadsTo input row (AtBlocks l count) (PartRow (FleetRow l price) ∷ []) (row + 1)
-      (in_prices l (permitted_trips input.instance l))
-
--- the row tells a trip's prices in layer l
-pub record ReadsPrice (input : Input) (row l i : ℕ) (prices : ℤ × ℤ) : Type 0 where
-  pub into_price : IsPrice prices.0
-  pub from_price : IsPrice prices.1
-  pub reads : (later : List ℕ) → ReadsTo input row (AtPrices l i later)
-      (PartRow (PriceRow l i prices.0 prices.1) ∷ []) (row + 1) (in_prices l later)
 
 -- the rows tell the prices of the trips that layer l may run
 pub record ReadsPrices (input : Input) (at l : ℕ) (prices : Prices) : Type 0 where

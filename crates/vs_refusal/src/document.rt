@@ -1,6 +1,6 @@
 //! The words for a document that is refused.
 
-use crate::sentence::{Part, begin_of, sentence, words_for};
+use crate::sentence::{Part, sentence, shown_words};
 use csv::ByteRecord;
 use std::alloc::Global;
 use vs_reader::{field, is_text};
@@ -32,12 +32,7 @@ pub fn document_words(alloc: Global, row: &ByteRecord, at: &ByteRecord) -> Resul
     if is_text(name, "TableNumber") {
         return table_words(alloc, at);
     }
-    let begin = begin_of(alloc, at)?;
-    let shown = Part::Bytes(begin.as_slice());
-    match words_for(REFUSED, name) {
-        Some(words) => sentence(alloc, words, &[shown]),
-        None => sentence(alloc, "%: %", &[Part::of(row, 3), shown]),
-    }
+    shown_words(alloc, REFUSED, row, at)
 }
 
 /// The words for a table that hasn't the next number, or a leaf that names no table.

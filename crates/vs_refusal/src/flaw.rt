@@ -1,20 +1,28 @@
 //! The words for a document that doesn't hold.
 
 use crate::blocks::plan_words;
+use crate::peaks::peak_flaw_words;
+use crate::records::number_in;
 use crate::sentence::{Part, sentence};
 use csv::ByteRecord;
 use std::alloc::Global;
 use vs_reader::{field, is_text};
 use vs_types::Memory;
 
-/// The words for a row that says why a document doesn't hold.
+/// The number of the first flaw of a text of peaks.
+const FIRST_OF_PEAKS: u64 = 8;
+
+/// The words for a row that says why a document or a text of peaks doesn't hold.
 pub fn flaw_words(alloc: Global, input: &[u8], row: &ByteRecord) -> Result<String, Memory> {
+    if number_in(row, 1) >= FIRST_OF_PEAKS {
+        return peak_flaw_words(alloc, row);
+    }
     if is_text(field(row, 1), "1") {
         return plan_words(alloc, input, row);
     }
     let name = field(row, 2);
     if is_text(name, "TableBroken") {
-        return table_words(alloc, row);
+        return table_words(alloc, "table", row);
     }
     if is_text(name, "LeafTooWeak") {
         return leaf_words(alloc, row);
@@ -60,29 +68,29 @@ fn leaf_words(alloc: Global, row: &ByteRecord) -> Result<String, Memory> {
     sentence(alloc, words, &parts)
 }
 
-/// The words for a table whose prices are worth more somewhere than what they pay for costs.
-fn table_words(alloc: Global, row: &ByteRecord) -> Result<String, Memory> {
-    let (table, layer) = (Part::of(row, 3), Part::of(row, 5));
+/// The words for prices that are worth more somewhere than what they pay for costs, and whose they are.
+pub fn table_words(alloc: Global, whose: &str, row: &ByteRecord) -> Result<String, Memory> {
+    let (whose, of, layer) = (Part::Word(whose), Part::of(row, 3), Part::of(row, 5));
     let (first, second) = (Part::of(row, 6), Part::of(row, 7));
     let place = field(row, 4);
     if is_text(place, "fleet") {
         return sentence(
             alloc,
-            "table %: a vehicle of layer % has a price below 0",
-            &[table, layer],
+            "% %: a vehicle of layer % has a price below 0",
+            &[whose, of, layer],
         );
     }
     if is_text(place, "link") {
         return sentence(
             alloc,
-            "table %: to go from trip % to trip % in layer % is worth more than it costs",
-            &[table, first, second, layer],
+            "% %: to go from trip % to trip % in layer % is worth more than it costs",
+            &[whose, of, first, second, layer],
         );
     }
     let words = if is_text(place, "out") {
-        "table %: to leave the depot for trip % in layer % is worth more than it costs"
+        "% %: to leave the depot for trip % in layer % is worth more than it costs"
     } else {
-        "table %: to go home from trip % in layer % is worth more than it costs"
+        "% %: to go home from trip % in layer % is worth more than it costs"
     };
-    sentence(alloc, words, &[table, first, layer])
+    sentence(alloc, words, &[whose, of, first, layer])
 }

@@ -9,6 +9,7 @@ mod flaw;
 mod forms;
 mod instance;
 mod numbers;
+mod peaks;
 mod records;
 mod sentence;
 mod telling;

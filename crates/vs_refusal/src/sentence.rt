@@ -98,3 +98,18 @@ pub fn begin_of(alloc: Global, row: &ByteRecord) -> Result<Vec<u8>, Memory> {
     }
     Ok(bytes)
 }
+
+/// The sentence that a table has for the name of a refusal, with the record that it names in its gap.
+pub fn shown_words(
+    alloc: Global,
+    table: &[(&'static str, &'static str)],
+    row: &ByteRecord,
+    at: &ByteRecord,
+) -> Result<String, Memory> {
+    let begin = begin_of(alloc, at)?;
+    let shown = Part::Bytes(begin.as_slice());
+    match words_for(table, field(row, 3)) {
+        Some(words) => sentence(alloc, words, &[shown]),
+        None => sentence(alloc, "%: %", &[Part::of(row, 3), shown]),
+    }
+}

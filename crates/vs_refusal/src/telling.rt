@@ -9,11 +9,17 @@ use crate::deadheads::deadheads_words;
 use crate::document::document_words;
 use crate::flaw::flaw_words;
 use crate::instance::instance_words;
+use crate::peaks::peaks_words;
 use crate::records::{first_record, number_in, record_at};
 use csv::ByteRecord;
 use std::alloc::Global;
 use vs_reader::{field, is_text};
 use vs_types::Memory;
+
+/// The numbers of the first refusals of documents and of texts of peaks.
+const FIRST_OF_DOCUMENTS: u64 = 20;
+
+const FIRST_OF_PEAKS: u64 = 60;
 
 /// What a row tells that was written for an input, in a sentence without a line's end: what was refused, and where, or
 /// why a document doesn't hold, by the names of the input. None exactly where the row is neither a refusal's nor one
@@ -68,8 +74,11 @@ fn why_words(alloc: Global, input: &[u8], row: &ByteRecord) -> Result<String, Me
         return deadheads_words(alloc, input, row);
     }
     let at = record_at(alloc, input, number)?.unwrap_or(ByteRecord::new(alloc));
-    if number_in(row, 2) < 20 {
+    if number_in(row, 2) < FIRST_OF_DOCUMENTS {
         return instance_words(alloc, input, row, &at);
     }
-    document_words(alloc, row, &at)
+    if number_in(row, 2) < FIRST_OF_PEAKS {
+        return document_words(alloc, row, &at);
+    }
+    peaks_words(alloc, row, &at)
 }

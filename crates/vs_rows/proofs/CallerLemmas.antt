@@ -1,5 +1,8 @@
 -- What crates above may cite of these proofs.
 pub use Rattle.vs_rows.proofs.rows.SaysOnce.{first_word, none_is_no_number, says_once, word_of}
+pub use Rattle.vs_rows.proofs.tables.ErrorsPass.{err_passes, err_weaker, ok_weaker}
+pub use Rattle.vs_rows.proofs.tables.PriceRows.{as_word}
+pub use Rattle.vs_rows.proofs.tables.Standing.{stand_on, stand_within, wrong_within}
 pub use Rattle.vs_rows.proofs.written.PriceRanges.{price_anywhere, prices_in_all}
 pub use Rattle.vs_rows.proofs.written.WrittenForms.{block_form, shape_form, stands}
 pub use Rattle.vs_rows.proofs.written.WrittenParts.{written-flat_map, written_in_turn}

@@ -1,4 +1,5 @@
 pub mod words
 pub mod rows
+pub mod tables
 pub mod written
 pub mod CallerLemmas

@@ -2,6 +2,9 @@ pub mod Fields
 pub mod Shapes
 pub mod DocumentRows
 pub mod DocumentText
+pub mod PriceOrder
+pub mod Standing
+pub mod TableReading
 pub mod Writing
 pub mod RowForms
 pub mod Laws

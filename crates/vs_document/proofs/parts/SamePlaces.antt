@@ -1,10 +1,9 @@
 -- Places at which the same rows come.
 use Rattle.std.proofs.Common.{◌≡◌, ◌≢◌, ℕ, suc, ◌+◌, List, [], ◌∷◌, length, drop, get_or, refl, sym, ap, ◌∙◌, subst, inl, inr, ◌⊎◌, Some, None, Option, ℤ, arith, codes, IsSome, Bool}
 use Rattle.vs_instance.specs.Problem.{Problem}
-use Rattle.vs_instance.specs.Plan.{LayerBlock}
-use Rattle.std.proofs.lemmas.List.{get_or-drop, length-map}
+use Rattle.std.proofs.lemmas.List.{get_or-drop}
 use Rattle.vs_reader.specs.Rows.{Row, field_of, row_of}
-use Rattle.vs_reader.specs.Names.{NameLists, name_of}
+use Rattle.vs_reader.specs.Names.{NameLists}
 use Rattle.vs_reader.specs.declared.input.Input.{Input}
 use Rattle.vs_types.specs.declared.layer_set.LayerSet.{LayerSet}
 use Rattle.vs_types.specs.declared.numbers.TripNo.{TripNo}
@@ -14,11 +13,13 @@ use Rattle.vs_document.specs.declared.refused.DocError.{DocError}
 use Rattle.vs_document.specs.declared.refused.DocError.TheVariants as error
 use Rattle.vs_document.specs.declared.reading.said.Said.{Said}
 use Rattle.vs_document.specs.declared.reading.said.Said.TheVariants as said
+use Rattle.vs_rows.specs.declared.priced.Priced.TheVariants as priced
 use Rattle.vs_rows.specs.DocumentRows.{DocumentRow, BlockRow, TableRow, LeafRow, Says}
 use Rattle.vs_document.specs.DocumentRefusals.{AreRefusedFrom, IsAccepted, IsRefusedRow}
 use Rattle.vs_document.specs.Places.{Place, AtEnd, AtBlocks, InTable, InTree, HasNumber, SuitsCost, behind}
 use Rattle.vs_document.specs.Reading.{IsRefusedAt, LeadTo}
-use Rattle.vs_rows.specs.RowForms.{BeginsAs, IsOfKind}
+use Rattle.vs_rows.specs.RowForms.{IsOfKind}
+use Rattle.vs_rows.specs.Standing.{IsNoBlock}
 use Rattle.vs_document.specs.RowKinds.{row_said}
 use Rattle.vs_document.proofs.rows.RefusedRows.{ends_early, refused_here, refused_behind}
 use Rattle.vs_rows.proofs.CallerLemmas.{first_word, word_of}
@@ -116,37 +117,22 @@ blocks_of_number cost (TableRow n ray) is = is
 blocks_of_number cost (LeafRow n) is = is
 blocks_of_number cost _ is = tt
 
--- a row of a block has three fields or more
-pub block_begins : (names : NameLists) (row : Row) (b : LayerBlock) → Says names row (BlockRow b)
-    → BeginsAs (codes "block") row
-block_begins names row b says = record {
-  kind_is = ap (λ (r : Row). get_or r 0 []) says.written;
-  many = omega (
-    arith,
-    says.form.some_trip,
-    ap length says.written,
-    length-map b.1 (λ (t : TripNo). name_of names.trips t.0),
-  );
-}
-
-order_of_blocks : (p : Problem) (names : NameLists) (cost : Option ℤ) (row : Row)
-    → (IsSome cost → ¬ (BeginsAs (codes "block") row)) → (said : DocumentRow) → Says names row said
-    → behind p (AtBlocks cost) said ≡ behind p (InTable 0 []) said
-order_of_blocks p names None row none said says = refl
-order_of_blocks p names (Some cost) row none (BlockRow b) says =
-    absurd (none refl (block_begins names row b says))
-order_of_blocks p names (Some cost) row none _ says = refl
+order_of_blocks : (input : Input) (at : ℕ) (cost : Option ℤ) → (IsSome cost → IsNoBlock input at)
+    → (said : DocumentRow) → Says input.names (row_of input.rest at) said
+    → behind input.instance (AtBlocks cost) said ≡ behind input.instance (InTable 0 []) said
+order_of_blocks input at None none said says = refl
+order_of_blocks input at (Some cost) none (BlockRow b) says = absurd (none refl b says)
+order_of_blocks input at (Some cost) none _ says = refl
 
 -- where no block comes, the first table or the tree comes
 pub blocks_end : (input : Input) (at : ℕ) (cost : Option ℤ)
-    → (IsSome cost → ¬ (BeginsAs (codes "block") (row_of input.rest at)))
-    → LeadTo input at (AtBlocks cost) at (InTable 0 [])
+    → (IsSome cost → IsNoBlock input at) → LeadTo input at (AtBlocks cost) at (InTable 0 [])
 blocks_end input at cost none = same_place input at (AtBlocks cost) (InTable 0 []) (record {
   going = λ e. cc;
   other_going = λ e. cc;
   suits = λ said. tt;
   other_suits = λ said. tt;
-  order = order_of_blocks input.instance input.names cost (row_of input.rest at) none;
+  order = order_of_blocks input at cost none;
   number = number_of_blocks cost;
   other_number = blocks_of_number cost;
 })
@@ -185,19 +171,12 @@ tables_end input at n none = same_place input at (InTable n []) (InTree n 1) (re
   other_number = tables_of_number n;
 })
 
--- a row that begins as a table, or as a block, and isn't one says nothing
+-- a row that begins as a table and isn't one says nothing
 pub no_table : (names : NameLists) (row : Row) → field_of row 0 ≡ codes "table"
     → ((n : ℕ) (ray : Bool) → ¬ (Says names row (TableRow n ray))) → (said : DocumentRow) → ¬ (Says names row said)
 no_table names row begins none (TableRow n ray) says = none n ray says
 no_table names row begins none other says =
     let e : codes "table" ≡ word_of other = sym begins ∙ first_word names row other says in
-    omega (arith, ap (λ (bs : List ℕ). get_or bs 0 0) e, ap (λ (bs : List ℕ). get_or bs 1 0) e)
-
-pub no_block : (names : NameLists) (row : Row) → field_of row 0 ≡ codes "block"
-    → ((b : LayerBlock) → ¬ (Says names row (BlockRow b))) → (said : DocumentRow) → ¬ (Says names row said)
-no_block names row begins none (BlockRow b) says = none b says
-no_block names row begins none other says =
-    let e : codes "block" ≡ word_of other = sym begins ∙ first_word names row other says in
     omega (arith, ap (λ (bs : List ℕ). get_or bs 0 0) e, ap (λ (bs : List ℕ). get_or bs 1 0) e)
 
 -- in the tree only a split or a leaf comes
@@ -206,4 +185,6 @@ pub tree_order : (p : Problem) (tables parts : ℕ) (s : Said)
     → behind p (InTree tables (suc parts)) (row_said s) ≡ None
 tree_order p tables parts (said.Split trip left) split leaf = absurd (split trip left refl)
 tree_order p tables parts (said.Leaf n) split leaf = absurd (leaf n refl)
+tree_order p tables parts (said.Prices (priced.Vehicle layer price)) split leaf = refl
+tree_order p tables parts (said.Prices (priced.Trip layer trip into from)) split leaf = refl
 tree_order p tables parts _ split leaf = refl

@@ -12,9 +12,12 @@ use Rattle.vs_reader.specs.declared.input.Input.{Input}
 use Rattle.vs_rows.specs.declared.limits.TheConstants.{MAX_NUMBER}
 use Rattle.vs_rows.specs.DocumentText.{IsBlankElsewhere}
 use Rattle.vs_rows.specs.DocumentRows.{DocumentRow, table_rows, tables_rows}
+use Rattle.vs_rows.specs.TableReading.{ReadsTable}
 use Rattle.vs_document.specs.Places.{InTable, InTree}
-use Rattle.vs_document.specs.Reading.{ReadsTable, ReadsTables, ReadsTo}
+use Rattle.vs_document.specs.Reading.{ReadsTables, ReadsTo}
 use Rattle.vs_rows.specs.RowForms.{IsOfKind}
+use Rattle.vs_document.proofs.rows.AcceptedRows.{leads_table}
+use Rattle.vs_document.proofs.rows.ReadThrough.{reads_through}
 use Rattle.vs_document.proofs.rows.RefusedRows.{lead_on, read_on, reads_none}
 use Rattle.vs_document.proofs.parts.SamePlaces.{tables_end}
 
@@ -71,7 +74,10 @@ module _ (input : Input) (at : ℕ) where
             (subst P (sym (tables_rows-push input.instance tables table))
             (read_on input at row next (InTable 0 []) (InTable (length tables) []) (InTable (length tables + 1) [])
             (tables_rows input.instance tables) (table_rows input.instance
-            (length tables + 1, table)) s.reads r.reads));
+            (length tables + 1, table)) s.reads
+            (reads_through input (table_rows input.instance (length tables + 1, table)) (InTable (length tables) [])
+            (InTable (length tables + 1) []) row next (leads_table input.instance (length tables) table r.fits)
+            r.stand)));
       }
 
   pub tables_done : (row : ℕ) (tables : List Table) → TablesSoFar input at row tables

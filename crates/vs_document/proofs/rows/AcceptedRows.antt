@@ -13,13 +13,14 @@ use Rattle.vs_cases.specs.Tree.{Tree, Leaf, Split}
 use Rattle.vs_rows.specs.declared.document.Document.{Document}
 use Rattle.vs_rows.specs.declared.document.Shape.{Shape}
 use Rattle.vs_rows.specs.declared.document.Shape.TheVariants as shape
-use Rattle.vs_rows.specs.DocumentRows.{DocumentRow, BlockRow, TableRow, PriceRow, EndRow, head_rows, layer_rows, permitted_trips, rows_of_document, shape_row, table_rows, tables_rows}
+use Rattle.vs_rows.specs.DocumentRows.{DocumentRow, BlockRow, TableRow, FleetRow, PriceRow, EndRow, head_rows, layer_rows, permitted_trips, rows_of_document, shape_row, table_rows, tables_rows}
 use Rattle.vs_rows.specs.DocumentText.{HasText}
-use Rattle.vs_document.specs.Places.{Place, AtClaim, AtCost, AtBound, AtNodes, AtBlocks, InTable, InTree, AtEnd, PriceOf, Trip, Vehicle, HasNumber, HasPrices, SuitsCost, behind, prices_of}
+use Rattle.vs_rows.specs.PriceOrder.{PriceOf, Trip, Vehicle, HasPrices, prices_of}
+use Rattle.vs_document.specs.Places.{Place, AtClaim, AtCost, AtBound, AtNodes, AtBlocks, InTable, InTree, AtEnd, HasNumber, SuitsCost, behind}
 use Rattle.vs_rows.specs.Shapes.{IsShapeOf, preorder}
 use Rattle.vs_document.proofs.rows.BoundBesideCost.{suits}
 use Rattle.vs_rows.proofs.CallerLemmas.{price_anywhere, prices_in_all}
-use Rattle.vs_document.proofs.parts.PriceRows.{fleet_order, price_order}
+use Rattle.vs_document.proofs.parts.PricePlaces.{price_order}
 use Rattle.vs_document.proofs.parts.SamePlaces.{number_of_blocks, number_of_tables}
 
 -- rows that say this are accepted one by one, from one place to another
@@ -82,7 +83,7 @@ module _ (p : Problem) where
   at_blocks (Some n) (said ∷ rows) leads =
       (leads.0, tt, leads.2, number_of_blocks (Some n) said leads.3, leads.4, leads.5)
 
-  leads_blocks : (cost : Option ℤ) (blocks : List LayerBlock) → IfNone cost (blocks ≡ [])
+  pub leads_blocks : (cost : Option ℤ) (blocks : List LayerBlock) → IfNone cost (blocks ≡ [])
       → LeadsTo p (AtBlocks cost) (map BlockRow blocks) (AtBlocks cost)
   leads_blocks cost [] none = refl
   leads_blocks None (b ∷ blocks) none = absurd (omega (arith, ap length none))
@@ -96,7 +97,8 @@ module _ (p : Problem) where
     leads_trips l (i ∷ trips) later = (
       InTable n (map (Trip l) trips ++ later),
       tt,
-      price_order p n l i (map (Trip l) trips ++ later) (into_price p table l i) (from_price p table l i),
+      price_order p n (Trip l i) (map (Trip l) trips ++ later)
+          (PriceRow l i (into_price p table l i) (from_price p table l i)) (refl, refl),
       tt,
       (
         price_anywhere _ i (prices_in_all p l table.into.items fits.into),
@@ -113,13 +115,26 @@ module _ (p : Problem) where
         let later : List PriceOf = flat_map (λ k. Vehicle k ∷ map (Trip k) (permitted_trips p k)) layers in (
           InTable n (map (Trip l) (permitted_trips p l) ++ later),
           tt,
-          fleet_order p n l (map (Trip l) (permitted_trips p l) ++ later) (vehicle_price table l),
+          price_order p n (Vehicle l) (map (Trip l) (permitted_trips p l) ++ later)
+              (FleetRow l (vehicle_price table l)) refl,
           tt,
           price_anywhere table.fleet.items l fits.fleet,
           leads-append (InTable n (map (Trip l) (permitted_trips p l) ++ later)) (InTable n later) (InTable n [])
               (map (λ i. PriceRow l i (into_price p table l i) (from_price p table l i)) (permitted_trips p l))
               (flat_map (layer_rows p table) layers) (leads_trips l (permitted_trips p l) later) (leads_layers layers),
         )
+
+  -- the rows of one table
+  pub leads_table : (n : ℕ) (table : Table) → Fits p table
+      → LeadsTo p (InTable n []) (table_rows p (n + 1, table)) (InTable (n + 1) [])
+  leads_table n table fits = (
+    InTable (n + 1) (prices_of p),
+    tt,
+    refl,
+    refl,
+    tt,
+    leads_layers table fits (n + 1) (range_with_len 0 (length p.layers)),
+  )
 
   leads_tables : (n m : ℕ) (tables : List Table) → All (Fits p) tables → m ≡ n + 1
       → LeadsTo p (InTable n []) (flat_map (table_rows p) (enumerate_from m tables)) (InTable (n + length tables) [])

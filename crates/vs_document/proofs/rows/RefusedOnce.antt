@@ -11,7 +11,8 @@ use Rattle.vs_document.specs.declared.refused.DocError.TheVariants as error
 use Rattle.vs_rows.specs.DocumentRows.{DocumentRow, SayAll, rows_of_document}
 use Rattle.vs_document.specs.DocumentRefusals.{AreRefused, AreRefusedFrom, IsAccepted, IsRefusal, IsRefusedError, IsRefusedRow, IsRefusedSaying}
 use Rattle.vs_rows.specs.DocumentText.{DocumentText}
-use Rattle.vs_document.specs.Places.{Place, AtClaim, AtCost, AtBound, AtNodes, AtBlocks, InTable, InTree, AtEnd, HasNumber, HasPrices, behind}
+use Rattle.vs_rows.specs.PriceOrder.{HasPrices}
+use Rattle.vs_document.specs.Places.{Place, AtClaim, AtCost, AtBound, AtNodes, AtBlocks, InTable, InTree, AtEnd, HasNumber, behind}
 use Rattle.vs_document.proofs.rows.AcceptedRows.{LeadsTo, leads_document}
 use Rattle.vs_document.proofs.parts.SamePlaces.{refused_none, refused_some}
 use Rattle.vs_rows.proofs.CallerLemmas.{says_once}

@@ -11,7 +11,8 @@ use Rattle.vs_document.specs.declared.refused.DocError.{DocError}
 use Rattle.vs_document.specs.declared.refused.DocError.TheVariants as error
 use Rattle.vs_rows.specs.DocumentRows.{DocumentRow, SayAll, Says}
 use Rattle.vs_document.specs.DocumentRefusals.{AreRefusedFrom, IsAccepted, IsRefusedRow}
-use Rattle.vs_document.specs.Places.{Place, AtEnd, HasNumber, HasPrices, SuitsCost, behind}
+use Rattle.vs_rows.specs.PriceOrder.{HasPrices}
+use Rattle.vs_document.specs.Places.{Place, AtEnd, HasNumber, SuitsCost, behind}
 use Rattle.vs_document.specs.Reading.{IsRefusedAt, LeadTo, ReadsTo, SayTo}
 
 pub ends_early : (p : Problem) (names : NameLists) (n : ℕ) (place : Place) → place ≢ AtEnd

@@ -8,7 +8,8 @@ use Rattle.vs_reader.specs.Rows.{Row}
 use Rattle.vs_reader.specs.Names.{NameLists}
 use Rattle.vs_cases.specs.declared.claim.Claim.{Claim}
 use Rattle.vs_rows.specs.DocumentRows.{DocumentRow, ClaimRow, CostRow, BoundRow, NodesRow, BlockRow, TableRow, FleetRow, PriceRow, SplitRow, LeafRow, EndRow, Says}
-use Rattle.vs_document.specs.RowKinds.{IsHeadRow, IsOtherRow, IsPriceRow}
+use Rattle.vs_rows.specs.PriceOrder.{IsPriceRow}
+use Rattle.vs_document.specs.RowKinds.{IsHeadRow, IsOtherRow}
 
 -- what follows from a fact, follows for no value too
 pub none_weaker : {T : Type 0} (r : Option T) (P Q : Type 0) → IfNone r P → (P → Q) → IfNone r Q
@@ -25,13 +26,6 @@ module _ (names : NameLists) (row : Row) where
   no_head_row claim cost bound nodes (BoundRow x) is = bound x
   no_head_row claim cost bound nodes (NodesRow n) is = nodes n
   no_head_row claim cost bound nodes _ is = absurd is
-
-  pub no_price_row : ((l i : ℕ) (into from : ℤ) → ¬ (Says names row (PriceRow l i into from)))
-      → ((l : ℕ) (price : ℤ) → ¬ (Says names row (FleetRow l price)))
-      → (said : DocumentRow) → IsPriceRow said → ¬ (Says names row said)
-  no_price_row price fleet (PriceRow l i into from) is = price l i into from
-  no_price_row price fleet (FleetRow l n) is = fleet l n
-  no_price_row price fleet _ is = absurd is
 
   pub no_other_row : ((n : ℕ) → ¬ (Says names row (LeafRow n)))
       → ((trip : TripNo) (left : LayerSet) → ¬ (Says names row (SplitRow trip left)))

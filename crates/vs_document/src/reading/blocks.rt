@@ -6,14 +6,14 @@ ghost use Rattle.vs_document.specs.Places.{AtBlocks};
 ghost use Rattle.vs_rows.specs.RowForms.{IsInput};
 ghost use Rattle.vs_document.specs.Reading.{IsRefusedAt, ReadsBlocks};
 
-use crate::refused::{DocError, DocWhy, refusal};
+use crate::refused::DocError;
 use std::alloc::Global;
 use vs_plan::Block;
 use vs_reader::Input;
-use vs_rows::{begins_as, forms};
+use vs_rows::read_blocks;
 
 /// The blocks that stand from a row on beside a cost, and the row behind them.
-pub fn read_blocks(
+pub fn blocks_beside(
     alloc: Global,
     input: &Input,
     at: usize,
@@ -24,18 +24,9 @@ pub fn read_blocks(
     ensures found { IfOk result (λ r. ReadsBlocks input.now at cost r.1 (pairs_of r.0.items)) }
     ensures refused { IfErr result (IsRefusedAt input.now at (AtBlocks cost)) }
 {
-    let mut blocks = Vec::new(alloc);
     if cost.is_none() {
-        return Ok((blocks, at));
+        return Ok((Vec::new(alloc), at));
     }
-    for row in at..input.rest.len() {
-        if !begins_as(&input.rest, row, "block") {
-            return Ok((blocks, row));
-        }
-        let Some(block) = forms::block(alloc, input, row)? else {
-            return Err(refusal(input, row, DocWhy::BadRow));
-        };
-        blocks.push(block)?;
-    }
-    Ok((blocks, input.rest.len()))
+    let (blocks, next) = read_blocks(alloc, input, at)?;
+    Ok((blocks, next))
 }

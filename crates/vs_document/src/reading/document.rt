@@ -9,7 +9,7 @@ ghost use Rattle.vs_document.specs.Form.{IsReadFor};
 ghost use Rattle.vs_rows.specs.RowForms.{IsInput};
 ghost use Rattle.vs_document.specs.Reading.{IsDocumentOf, IsRefusalOf};
 
-use crate::reading::blocks::read_blocks;
+use crate::reading::blocks::blocks_beside;
 use crate::reading::head::read_head;
 use crate::reading::tables::read_tables;
 use crate::reading::tree::{read_end, read_tree};
@@ -49,7 +49,7 @@ fn read_rows(alloc: Global, input: &Input) -> Result<Document, DocError>
         return Err(refusal(input, 0, DocWhy::NoResult));
     }
     let head = read_head(alloc, input)?;
-    let (blocks, tables_from) = read_blocks(alloc, input, 4, head.cost)?;
+    let (blocks, tables_from) = blocks_beside(alloc, input, 4, head.cost)?;
     let (tables, tree_from) = read_tables(alloc, input, tables_from)?;
     let count = tables.len();
     let (shape, end) = read_tree(alloc, input, tree_from, count)?;

@@ -12,7 +12,6 @@ use crate::refused::{DocError, DocWhy, refusal};
 use std::alloc::Global;
 use vs_cases::Claim;
 use vs_reader::Input;
-use vs_rows::Likely;
 
 /// The first four rows of a document.
 #[derive(Clone, Copy)]
@@ -50,7 +49,7 @@ fn read_claim(alloc: Global, input: &Input) -> Result<Claim, DocError>
     ensures found { IfOk result (λ claim. ReadsRow input.now 0 AtClaim (ClaimRow claim) AtCost) }
     ensures refused { IfErr result (IsRefusedAt input.now 0 AtClaim) }
 {
-    let said = said_at(alloc, input, 0, Likely::first())?;
+    let said = said_at(alloc, input, 0)?;
     match said {
         Said::Claim(claim) => Ok(claim),
         _ => Err(refusal(input, 0, DocWhy::OutOfOrder)),
@@ -65,7 +64,7 @@ fn read_cost(alloc: Global, input: &Input) -> Result<Option<i64>, DocError>
     ensures range { IfOk result (λ cost. IfSome cost (IsBetween (pos 0) MAX_COST)) }
     ensures refused { IfErr result (IsRefusedAt input.now 1 AtCost) }
 {
-    let said = said_at(alloc, input, 1, Likely::first())?;
+    let said = said_at(alloc, input, 1)?;
     match said {
         Said::Cost(cost) => Ok(cost),
         _ => Err(refusal(input, 1, DocWhy::OutOfOrder)),
@@ -81,7 +80,7 @@ fn read_bound(alloc: Global, input: &Input, cost: Option<i64>) -> Result<Option<
     ensures no_cost { IfOk result (λ bound. IfNone bound (cost ≡ None)) }
     ensures refused { IfErr result (IsRefusedAt input.now 2 (AtBound cost)) }
 {
-    let said = said_at(alloc, input, 2, Likely::first())?;
+    let said = said_at(alloc, input, 2)?;
     match said {
         Said::Bound(bound) => {
             if bound.is_none() && cost.is_some() {
@@ -102,7 +101,7 @@ fn read_nodes(alloc: Global, input: &Input) -> Result<u64, DocError>
     ensures range { IfOk result (λ n. n ≤ MAX_FINISHED) }
     ensures refused { IfErr result (λ e. (cost : Option ℤ) → IsRefusedAt input.now 3 (AtNodes cost) e) }
 {
-    let said = said_at(alloc, input, 3, Likely::first())?;
+    let said = said_at(alloc, input, 3)?;
     match said {
         Said::Nodes(nodes) => Ok(nodes),
         _ => Err(refusal(input, 3, DocWhy::OutOfOrder)),

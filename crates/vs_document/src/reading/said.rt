@@ -4,15 +4,15 @@ ghost use Rattle.std.specs.Prelude.{◌≡◌, ◌<◌, ◌≤◌, length, IfOk,
 ghost use Rattle.vs_rows.specs.DocumentRows.{DocumentRow};
 ghost use Rattle.vs_rows.specs.RowForms.{IsInput, NeverTells, SaysThere, Tells};
 ghost use Rattle.vs_document.specs.Reading.{IsRefusedAnywhere};
-ghost use Rattle.vs_document.specs.RowKinds.{row_said, IsPriceRow, IsOtherRow, IsHeadRow};
+ghost use Rattle.vs_document.specs.RowKinds.{row_said, IsOtherRow, IsHeadRow};
 
 use crate::refused::{DocError, DocWhy, refusal};
 use std::alloc::Global;
 use vs_cases::Claim;
 use vs_plan::Block;
 use vs_reader::{Input, Rows};
-use vs_rows::{Likely, forms};
-use vs_types::{LayerNo, LayerSet, TripNo};
+use vs_rows::{Likely, Priced, forms, prices_said};
+use vs_types::{LayerSet, TripNo};
 
 /// What a row says.
 #[derive(Drop)]
@@ -24,35 +24,16 @@ pub enum Said {
     Bound(Option<i128>),
     Nodes(u64),
     Block(Block),
-    Table {
-        number: u32,
-        ray: bool,
-    },
-    /// The price of a vehicle, of at most 19 digits.
-    Fleet {
-        layer: LayerNo,
-        price: i128,
-    },
-    /// The prices for entering and for leaving a trip, each of at most 19 digits.
-    Price {
-        layer: LayerNo,
-        trip: TripNo,
-        into: i128,
-        from: i128,
-    },
-    Split {
-        trip: TripNo,
-        left: LayerSet,
-    },
-    Leaf {
-        number: u32,
-    },
+    Table { number: u32, ray: bool },
+    /// The prices of a vehicle or of a trip.
+    Prices(Priced),
+    Split { trip: TripNo, left: LayerSet },
+    Leaf { number: u32 },
     End,
 }
 
-/// What a row says. It is refused where there is none, and where it has the form of no row of a document. A
-/// row of prices is read fastest where it names what is likely.
-pub fn said_at(alloc: Global, input: &Input, row: usize, likely: Likely) -> Result<Said, DocError>
+/// What a row says. It is refused where there is none, and where it has the form of no row of a document.
+pub fn said_at(alloc: Global, input: &Input, row: usize) -> Result<Said, DocError>
     requires input { IsInput input.now }
     requires row { row ≤ length input.now.rest }
     ensures within { IfOk result (λ _. row < length input.now.rest) }
@@ -62,8 +43,8 @@ pub fn said_at(alloc: Global, input: &Input, row: usize, likely: Likely) -> Resu
     if row >= input.rest.len() {
         return Err(refusal(input, row, DocWhy::EndsEarly));
     }
-    if let Some(said) = price_said(input, row, likely) {
-        return Ok(said);
+    if let Some(prices) = prices_said(input, row, Likely::first()) {
+        return Ok(Said::Prices(prices));
     }
     if let Some(said) = other_said(input, row) {
         return Ok(said);
@@ -72,25 +53,6 @@ pub fn said_at(alloc: Global, input: &Input, row: usize, likely: Likely) -> Resu
         Some(block) => Ok(Said::Block(block)),
         None => Err(refusal(input, row, DocWhy::BadRow)),
     }
-}
-
-/// What a row of a table's prices says. None where it has not the form of one.
-fn price_said(input: &Input, row: usize, likely: Likely) -> Option<Said>
-    requires { row < length input.now.rest }
-    ensures says { IfSome result (λ said. SaysThere input.now row (row_said said)) }
-    ensures none { IfNone result ((said : DocumentRow) → IsPriceRow said
-        → ¬ (SaysThere input.now row said)) }
-{
-    if let Some((layer, trip, into, from)) = forms::price(input, row, likely) {
-        return Some(Said::Price {
-            layer,
-            trip,
-            into,
-            from,
-        });
-    }
-    let (layer, price) = forms::fleet(input, row, likely)?;
-    Some(Said::Fleet { layer, price })
 }
 
 /// What a row says that is neither one of prices nor a block. None where it has not the form of one.

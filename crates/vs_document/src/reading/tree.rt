@@ -10,7 +10,7 @@ use crate::reading::said::{Said, said_at};
 use crate::refused::{DocError, DocWhy, refusal};
 use std::alloc::Global;
 use vs_reader::Input;
-use vs_rows::{Likely, Shape};
+use vs_rows::Shape;
 
 /// The tree that stands from a row on behind so many tables, and the row behind it.
 pub fn read_tree(
@@ -54,7 +54,7 @@ fn read_part(alloc: Global, input: &Input, row: usize, tables: usize) -> Result<
     ensures found { IfOk result (ReadsPart input.now row tables) }
     ensures refused { IfErr result (IsRefusedInTree input.now row tables) }
 {
-    let said = said_at(alloc, input, row, Likely::first())?;
+    let said = said_at(alloc, input, row)?;
     match said {
         Said::Split { trip, left } => Ok(Shape::Split { trip, left }),
         Said::Leaf { number } => {
@@ -74,7 +74,7 @@ pub fn read_end(alloc: Global, input: &Input, row: usize, tables: usize) -> Resu
     ensures found { IfOk result (λ _. IsLast input.now row) }
     ensures refused { IfErr result (IsRefusedAt input.now row (InTree tables 0)) }
 {
-    match said_at(alloc, input, row, Likely::first())? {
+    match said_at(alloc, input, row)? {
         Said::End => {}
         _ => return Err(refusal(input, row, DocWhy::OutOfOrder)),
     }

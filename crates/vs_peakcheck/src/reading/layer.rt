@@ -7,14 +7,13 @@ ghost use Rattle.vs_peakcheck.specs.Reading.{IsRefusedAt, ReadsCount, ReadsLayer
 
 use crate::claimed::Claimed;
 use crate::reading::blocks::read_blocks;
-use crate::reading::prices::{read_fleet, read_prices};
+use crate::reading::prices::{fleet_at, read_prices};
 use crate::reading::said::{Said, said_at};
 use crate::refused::{PeakError, PeakWhy, refusal};
 use std::alloc::Global;
 use vs_counting::trips_of;
 use vs_prices::Table;
 use vs_reader::Input;
-use vs_rows::Likely;
 use vs_types::LayerNo;
 
 /// What is claimed of layer l from a row on, and the row behind it.
@@ -33,9 +32,9 @@ pub(crate) fn read_layer(
     let of_layer = trips_of(alloc, &input.instance, l)?;
     let trips = of_layer.as_slice();
     let count = read_count(alloc, input, at, l)?;
-    let (blocks, fleet_at) = read_blocks(alloc, input, at + 1, l, count, trips)?;
-    let fleet = read_fleet(alloc, input, fleet_at, l, count)?;
-    let prices = read_prices(alloc, input, fleet_at + 1, l, trips)?;
+    let (blocks, fleet_row) = read_blocks(alloc, input, at + 1, l, count, trips)?;
+    let fleet = fleet_at(alloc, input, fleet_row, l, count)?;
+    let prices = read_prices(alloc, input, fleet_row + 1, l, trips)?;
     let vehicles = vec![in alloc; fleet; 1]?;
     let table = Table {
         into: prices.into,
@@ -48,7 +47,7 @@ pub(crate) fn read_layer(
         blocks,
         table,
     };
-    Ok((claimed, fleet_at + 1 + trips.len()))
+    Ok((claimed, fleet_row + 1 + trips.len()))
 }
 
 /// How many vehicles layer l needs, in the row that has to tell it.
@@ -64,7 +63,7 @@ fn read_count(
     ensures found { IfOk result (ReadsCount input.now row l.0) }
     ensures refused { IfErr result (IsRefusedAt input.now row (AtLayer l.0)) }
 {
-    let said = said_at(alloc, input, row, Likely::first())?;
+    let said = said_at(alloc, input, row)?;
     let Said::Count { layer, count } = said else {
         return Err(refusal(input, row, PeakWhy::OutOfOrder));
     };

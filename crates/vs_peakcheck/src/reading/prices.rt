@@ -1,18 +1,20 @@
 //! The reading of prices.
 
-ghost use Rattle.std.specs.Prelude.{◌≡◌, ◌<◌, ◌≤◌, ℕ, List, [], ◌∷◌, ◌++◌, length, map, IfOk, IfErr, IsSome, MatchOption, OnOk, SomeIff};
-ghost use Rattle.vs_prices.specs.Table.{IsPrice};
+ghost use Rattle.std.specs.Prelude.{◌≡◌, ◌≢◌, ◌≤◌, ℕ, Option, None, List, [], ◌∷◌, ◌++◌, length, map, IfOk, IfErr, IsSome, OnOk};
+ghost use Rattle.vs_rows.specs.PriceOrder.{Trip, Vehicle};
 ghost use Rattle.vs_rows.specs.RowForms.{IsInput};
+ghost use Rattle.vs_rows.specs.TableReading.{IsWrong, ReadsFleet, ReadsPrice};
 ghost use Rattle.vs_counting.specs.Counting.{numbered, permitted_trips};
-ghost use Rattle.vs_peakcheck.specs.Places.{AtBlocks, AtPrices, in_prices};
-ghost use Rattle.vs_peakcheck.specs.Reading.{IsNoBlock, IsRefusedAt, ReadsFleet, ReadsPrice, ReadsPrices};
+ghost use Rattle.vs_peakcheck.specs.PeakRows.{PeakRow, SaysPeak};
+ghost use Rattle.vs_peakcheck.specs.Places.{AtBlocks, AtEnd, AtPrices, Place, behind, in_prices};
+ghost use Rattle.vs_rows.specs.Standing.{IsNoBlock};
+ghost use Rattle.vs_peakcheck.specs.Reading.{IsRefusedAt, ReadsPrices};
 
-use crate::reading::said::{Said, said_at};
+use crate::reading::said::said_at;
 use crate::refused::{PeakError, PeakWhy, refusal};
 use std::alloc::Global;
-use vs_prices::MAX_PRICE;
 use vs_reader::Input;
-use vs_rows::Likely;
+use vs_rows::{PriceWhy, read_fleet, read_price};
 use vs_types::{LayerNo, Memory, TripNo};
 
 /// The prices for entering and for leaving each trip of a layer.
@@ -42,7 +44,7 @@ pub(crate) fn read_prices(
     let mut all = Prices { into, from };
     let mut row = at;
     for k in 0..trips.len() {
-        let prices = read_price(alloc, input, row, l, trips[k])?;
+        let prices = price_at(alloc, input, row, l, trips[k])?;
         add_trip(&mut all, prices.0, prices.1)?;
         row += 1;
     }
@@ -59,8 +61,8 @@ fn add_trip(all: &mut Prices, into: i64, from: i64) -> Result<(), Memory>
     Ok(())
 }
 
-/// The price of a vehicle of a layer, in the row that has to tell it.
-pub(crate) fn read_fleet(
+/// The price of a vehicle of layer l, in the row that has to tell it.
+pub(crate) fn fleet_at(
     alloc: Global,
     input: &Input,
     row: usize,
@@ -70,28 +72,17 @@ pub(crate) fn read_fleet(
     requires input { IsInput input.now }
     requires row { row ≤ length input.now.rest }
     requires no_block { IsSome count → IsNoBlock input.now row }
-    ensures found { IfOk result (ReadsFleet input.now row l.0 count) }
+    ensures found { IfOk result (ReadsFleet input.now row l.0) }
     ensures refused { IfErr result (IsRefusedAt input.now row (AtBlocks l.0 count)) }
 {
-    let likely = Likely {
-        layer: l,
-        trip: TripNo(0),
-    };
-    let said = said_at(alloc, input, row, likely)?;
-    let Said::Fleet { layer, price } = said else {
-        return Err(refusal(input, row, PeakWhy::OutOfOrder));
-    };
-    if layer.0 != l.0 {
-        return Err(refusal(input, row, PeakWhy::OutOfOrder));
+    match read_fleet(input, row, l) {
+        Ok(price) => Ok(price),
+        Err(why) => Err(wrong_price(alloc, input, row, why)),
     }
-    let Some(price) = in_range(price) else {
-        return Err(refusal(input, row, PeakWhy::PriceRange));
-    };
-    Ok(price)
 }
 
 /// The prices for entering and for leaving a trip in a layer, in the row that has to tell them.
-fn read_price(
+fn price_at(
     alloc: Global,
     input: &Input,
     row: usize,
@@ -104,41 +95,37 @@ fn read_price(
     ensures refused { IfErr result (λ e. (later : List ℕ)
         → IsRefusedAt input.now row (AtPrices l.0 i.0 later) e) }
 {
-    let likely = Likely { layer: l, trip: i };
-    let said = said_at(alloc, input, row, likely)?;
-    let Said::Price {
-        layer,
-        trip,
-        into,
-        from,
-    } = said
-    else {
-        return Err(refusal(input, row, PeakWhy::OutOfOrder));
-    };
-    if layer.0 != l.0 || trip.0 != i.0 {
-        return Err(refusal(input, row, PeakWhy::OutOfOrder));
+    match read_price(input, row, l, i) {
+        Ok(prices) => Ok(prices),
+        Err(why) => Err(wrong_price(alloc, input, row, why)),
     }
-    let Some((into, from)) = both_in_range(into, from) else {
-        return Err(refusal(input, row, PeakWhy::PriceRange));
-    };
-    Ok((into, from))
 }
 
-/// The numbers as prices. None where one of them is less or greater than any.
-fn both_in_range(into: i128, from: i128) -> Option<(i64, i64)>
-    ensures { MatchOption result
-        (¬ (IsPrice into × IsPrice from))
-        (λ prices. (IsPrice into × IsPrice from) × (prices.0 ≡ into) × (prices.1 ≡ from)) }
+/// The refusal of a row of prices that is wrong.
+fn wrong_price(alloc: Global, input: &Input, row: usize, why: PriceWhy) -> PeakError
+    requires input { IsInput input.now }
+    requires row { row ≤ length input.now.rest }
+    ensures fleet { (l : ℕ) (count : Option ℕ) → (IsSome count → IsNoBlock input.now row)
+        → IsWrong input.now row (Vehicle l) why → IsRefusedAt input.now row (AtBlocks l count) result }
+    ensures price { (l i : ℕ) (later : List ℕ) → IsWrong input.now row (Trip l i) why
+        → IsRefusedAt input.now row (AtPrices l i later) result }
 {
-    Some((in_range(into)?, in_range(from)?))
+    match why {
+        PriceWhy::Another => another_row(alloc, input, row),
+        PriceWhy::Range => refusal(input, row, PeakWhy::PriceRange),
+    }
 }
 
-/// The number as a price. None where it is less or greater than any.
-fn in_range(n: i128) -> Option<i64>
-    ensures { SomeIff result (IsPrice n) n }
+/// The refusal of a row that says nothing which comes where it stands.
+fn another_row(alloc: Global, input: &Input, row: usize) -> PeakError
+    requires input { IsInput input.now }
+    requires row { row ≤ length input.now.rest }
+    ensures { (place : Place) → place ≢ AtEnd
+        → ((said : PeakRow) → SaysPeak input.now row said
+        → behind input.now.instance place said ≡ None) → IsRefusedAt input.now row place result }
 {
-    if n < -i128::from(MAX_PRICE) || n > i128::from(MAX_PRICE) {
-        return None;
+    match said_at(alloc, input, row) {
+        Ok(_) => refusal(input, row, PeakWhy::OutOfOrder),
+        Err(error) => error,
     }
-    Some(n as i64)
 }

@@ -16,7 +16,7 @@ use crate::reading::said::{Said, said_at};
 use crate::refused::{PeakError, PeakWhy, refusal};
 use std::alloc::Global;
 use vs_reader::{Input, Rows};
-use vs_rows::{Likely, is_of_kind};
+use vs_rows::is_of_kind;
 use vs_types::LayerNo;
 
 /// What the rows of the input's rest claim of each layer, in order; else the first row that is refused, and why.
@@ -84,7 +84,7 @@ fn read_end(alloc: Global, input: &Input, row: usize) -> Result<(), PeakError>
     ensures refused { IfErr result (IsRefusedAt input.now row
         (AtLayer (length input.now.instance.layers))) }
 {
-    let said = said_at(alloc, input, row, Likely::first())?;
+    let said = said_at(alloc, input, row)?;
     match said {
         Said::End => {}
         _ => return Err(refusal(input, row, PeakWhy::OutOfOrder)),

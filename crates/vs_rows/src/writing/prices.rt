@@ -41,7 +41,7 @@ pub fn write_layer(
 }
 
 /// Writes the price of a vehicle of a layer.
-fn write_fleet(text: &mut Text, names: &Names, l: LayerNo, fleet: i64) -> Result<(), Memory>
+pub fn write_fleet(text: &mut Text, names: &Names, l: LayerNo, fleet: i64) -> Result<(), Memory>
     requires { l.0 < length names.now.layers }
     ensures { OnOk result (AddsRow names.now (FleetRow l.0 fleet) text.old text.new) }
 {
@@ -51,8 +51,8 @@ fn write_fleet(text: &mut Text, names: &Names, l: LayerNo, fleet: i64) -> Result
     text.end_row()
 }
 
-/// Writes the prices of a trip in a layer.
-fn write_price(
+/// Writes the prices for entering and for leaving a trip in a layer.
+pub fn write_price(
     text: &mut Text,
     names: &Names,
     l: LayerNo,

@@ -47,7 +47,7 @@ fn write_split(text: &mut Text, names: &Names, trip: TripNo, left: LayerSet) -> 
 }
 
 /// Writes the names of the layers of a set as further fields of a row, in number order.
-fn write_layer_names(text: &mut Text, names: &Names, layers: LayerSet) -> Result<(), Memory>
+pub fn write_layer_names(text: &mut Text, names: &Names, layers: LayerSet) -> Result<(), Memory>
     requires { (l : ℕ) → Has layers l → l < length names.now.layers }
     ensures { OnOk result (text.new
         ≡ text.old ++ more_fields (map (name_of names.now.layers) (members layers))) }

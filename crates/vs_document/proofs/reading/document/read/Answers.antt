@@ -1,5 +1,5 @@
 use Rattle.vs_document.proofs.alike.AlikeDocuments.{alike}
-use Rattle.vs_document.proofs.words.ErrorsPass.{err_weaker, ok_weaker}
+use Rattle.vs_rows.proofs.CallerLemmas.{err_weaker, ok_weaker}
 use Rattle.vs_document.proofs.rows.RefusedOnce.{refusal_leaves_none}
 use Rattle.vs_document.proofs.reading.document.read.Goals as goal
 

@@ -2,7 +2,7 @@ use Rattle.std.proofs.Common.{[], ◌∷◌}
 use Rattle.vs_rows.specs.DocumentRows.{ClaimRow, CostRow, BoundRow, NodesRow}
 use Rattle.vs_document.specs.Places.{AtClaim, AtCost, AtBound, AtNodes, AtBlocks}
 use Rattle.vs_document.specs.Reading.{IsRefusedAt}
-use Rattle.vs_document.proofs.words.ErrorsPass.{err_passes}
+use Rattle.vs_rows.proofs.CallerLemmas.{err_passes}
 use Rattle.vs_document.proofs.rows.RefusedRows.{read_on}
 use Rattle.vs_document.proofs.reading.head.read_head.Goals as goal
 

@@ -2,7 +2,7 @@ use Rattle.std.proofs.Common.{refl, ℤ, Option}
 use Rattle.vs_rows.specs.DocumentRows.{NodesRow}
 use Rattle.vs_document.specs.Places.{AtNodes, AtBlocks}
 use Rattle.vs_document.specs.Reading.{IsRefusedAt}
-use Rattle.vs_document.proofs.words.ErrorsPass.{err_passes}
+use Rattle.vs_rows.proofs.CallerLemmas.{err_passes}
 use Rattle.vs_document.proofs.rows.RefusedRows.{reads_one}
 use Rattle.vs_document.proofs.reading.head.read_nodes.Goals as goal
 use Rattle.vs_document.proofs.reading.head.read_nodes.Goals.{in-Nodes, in_default}

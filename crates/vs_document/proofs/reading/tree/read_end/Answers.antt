@@ -4,7 +4,7 @@ use Rattle.vs_document.specs.declared.refused.DocWhy.TheVariants.{RowsAfterEnd}
 use Rattle.vs_document.specs.declared.refused.DocError.TheVariants as error
 use Rattle.vs_document.specs.Places.{InTree, AtEnd}
 use Rattle.vs_document.specs.Reading.{IsRefusedAt}
-use Rattle.vs_document.proofs.words.ErrorsPass.{err_passes}
+use Rattle.vs_rows.proofs.CallerLemmas.{err_passes}
 use Rattle.vs_document.proofs.rows.RefusedRows.{leads_one}
 use Rattle.vs_document.proofs.parts.TreeReading.{behind_end}
 use Rattle.vs_document.proofs.reading.tree.read_end.Goals as goal

@@ -2,7 +2,7 @@ use Rattle.std.proofs.Common.{ℕ, suc, refl, arith}
 use Rattle.vs_rows.specs.DocumentRows.{LeafRow, SplitRow}
 use Rattle.vs_document.specs.Places.{InTree}
 use Rattle.vs_document.specs.Reading.{IsRefusedAt}
-use Rattle.vs_document.proofs.words.ErrorsPass.{err_passes}
+use Rattle.vs_rows.proofs.CallerLemmas.{err_passes}
 use Rattle.vs_document.proofs.rows.RefusedRows.{leads_one, says_one, out_of_order, wrong_number}
 use Rattle.vs_document.specs.RowKinds.{row_said}
 use Rattle.vs_document.proofs.parts.SamePlaces.{tree_order}

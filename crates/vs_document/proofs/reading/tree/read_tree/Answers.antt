@@ -1,7 +1,7 @@
 use Rattle.std.proofs.Common.{◌≡◌, ℕ, arith, subst}
 use Rattle.vs_document.specs.Places.{InTree}
 use Rattle.vs_document.specs.Reading.{IsRefusedAt}
-use Rattle.vs_document.proofs.words.ErrorsPass.{err_passes}
+use Rattle.vs_rows.proofs.CallerLemmas.{err_passes}
 use Rattle.vs_document.proofs.parts.TreeReading.{TreeSoFar, tree_none, tree_more, tree_done, tree_refused, tree_ends_early}
 use Rattle.vs_document.proofs.reading.tree.read_tree.Goals as goal
 use Rattle.vs_document.proofs.reading.tree.read_tree.Goals.{in-Split, in-Leaf}

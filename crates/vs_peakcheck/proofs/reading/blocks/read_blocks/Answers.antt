@@ -1,9 +1,9 @@
-use Rattle.std.proofs.Common.{◌≡◌, ◌+◌, ◌<◌, ◌++◌, ◌∷◌, [], ap, ◌∙◌, arith, length}
+use Rattle.std.proofs.Common.{◌≡◌, ◌<◌, ◌++◌, ◌∷◌, [], ap, ◌∙◌, arith, length}
 use Rattle.std.proofs.lemmas.List.{map_push}
 use Rattle.vs_plan.specs.Blocks.{pair_of, pairs_of}
 use Rattle.vs_peakcheck.specs.Places.{AtBlocks}
 use Rattle.vs_peakcheck.specs.Reading.{IsRefusedAt}
-use Rattle.vs_peakcheck.proofs.ErrorsPass.{err_passes}
+use Rattle.vs_rows.proofs.CallerLemmas.{err_passes}
 use Rattle.vs_peakcheck.proofs.CountedRows.{one_more_block}
 use Rattle.vs_peakcheck.proofs.reading.blocks.read_blocks.Goals as goal
 

@@ -1,7 +1,7 @@
 use Rattle.vs_peakcheck.specs.PeakRows.{CountRow}
 use Rattle.vs_peakcheck.specs.Places.{AtLayer}
 use Rattle.vs_peakcheck.specs.Reading.{IsRefusedAt, peak_said}
-use Rattle.vs_peakcheck.proofs.ErrorsPass.{err_passes}
+use Rattle.vs_rows.proofs.CallerLemmas.{err_passes}
 use Rattle.vs_peakcheck.proofs.OtherKinds.{no_count_row}
 use Rattle.vs_peakcheck.proofs.ReadLayers.{count_of_another, count_read}
 use Rattle.vs_peakcheck.proofs.RefusedRows.{out_of_order}

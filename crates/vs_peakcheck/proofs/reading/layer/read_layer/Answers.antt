@@ -4,8 +4,10 @@ use Rattle.std.specs.Option.{is_some}
 use Rattle.std.proofs.lemmas.List.{length-map}
 use Rattle.vs_counting.specs.Counting.{numbered, permitted_trips}
 use Rattle.vs_peakcheck.specs.declared.claimed.Claimed.{Claimed}
-use Rattle.vs_peakcheck.specs.Reading.{ReadsLayer}
-use Rattle.vs_peakcheck.proofs.PricedRows.{as_word}
+use Rattle.vs_peakcheck.specs.Places.{AtLayer}
+use Rattle.vs_peakcheck.specs.Reading.{IsRefusedAt, ReadsLayer}
+use Rattle.vs_rows.proofs.CallerLemmas.{as_word, err_passes}
+use Rattle.vs_peakcheck.proofs.PricedRows.{fleet_reads}
 use Rattle.vs_peakcheck.proofs.ReadLayers.{layer_read}
 use Rattle.vs_peakcheck.proofs.reading.layer.read_layer.Goals as goal
 
@@ -13,6 +15,15 @@ use Rattle.vs_peakcheck.proofs.reading.layer.read_layer.Goals as goal
 ray_is : (count : Option ℕ) (b : Bool) → is_some count ≡ not b → b ≡ is_none count
 ray_is count true is = sym (ap not is)
 ray_is count false is = sym (ap not is)
+
+pub returns-in_err-prices-clause-refused : goal.returns-in_err-prices-clause-refused
+returns-in_err-prices-clause-refused c =
+    let input = c.args.input.now in
+    let fleet = fleet_reads input c.in_ok-blocks.fleet_row c.args.l.0 c.in_ok-count.count c.in_ok-fleet.fleet
+    c.in_ok-fleet.ensures.found in
+    err_passes _ (IsRefusedAt input c.args.at (AtLayer c.args.l.0)) c.from_residual-in_err-prices.ensures.1
+    (c.in_ok-count.ensures.found.reads.refused _
+    (c.in_ok-blocks.ensures.found.reads.refused _ (fleet.refused _ c.in_err-prices.ensures.refused)))
 
 pub returns-clause-found : goal.returns-clause-found
 returns-clause-found c =
@@ -31,9 +42,9 @@ returns-clause-found c =
         ray = c.is_none.result;
       };
     } in
-    let P : ℕ → Type 0 = λ n. ReadsLayer input c.args.at c.args.l (c.in_ok-blocks.fleet_at + 1 + n) claimed in
+    let P : ℕ → Type 0 = λ n. ReadsLayer input c.args.at c.args.l (c.in_ok-blocks.fleet_row + 1 + n) claimed in
     subst P (sym trips)
-    (layer_read input c.requires.input c.args.at c.args.l c.in_ok-count.count c.in_ok-blocks.fleet_at
+    (layer_read input c.requires.input c.args.at c.args.l c.in_ok-count.count c.in_ok-blocks.fleet_row
     c.in_ok-fleet.fleet c.in_ok-prices.prices claimed refl refl refl
     (c.in_ok-vehicles.ensures.items_if_clones_equal (λ y e. e)
     ∙ ap (λ (x : ℤ). x ∷ []) (as_word c.in_ok-fleet.fleet fleet.is_price))

@@ -1,7 +1,7 @@
 use Rattle.std.proofs.Common.{length, arith}
 use Rattle.vs_peakcheck.specs.Places.{AtLayer}
 use Rattle.vs_peakcheck.specs.Reading.{IsRefusedAt, peak_said}
-use Rattle.vs_peakcheck.proofs.ErrorsPass.{err_passes}
+use Rattle.vs_rows.proofs.CallerLemmas.{err_passes}
 use Rattle.vs_peakcheck.proofs.OtherKinds.{no_end}
 use Rattle.vs_peakcheck.proofs.ReadLayers.{rows_behind_end}
 use Rattle.vs_peakcheck.proofs.RefusedRows.{out_of_order}

@@ -1,0 +1,96 @@
+-- The rows of prices, each in its place.
+use Rattle.std.proofs.Common.{◌≡◌, ◌≢◌, ℕ, ◌+◌, Bool, true, false, cond, List, [], ◌∷◌, refl, sym, ap, ◌∙◌, subst, inl, inr, ◌⊎◌, ℤ, eqb, Some, None, Option}
+use Rattle.std.specs.Prelude.{◌&&◌}
+use Rattle.std.proofs.lemmas.Bool.{cases_eq, eq-eqb, ne_eqb}
+use Rattle.vs_instance.specs.Problem.{Problem}
+use Rattle.vs_reader.specs.declared.input.Input.{Input}
+use Rattle.vs_document.specs.declared.refused.DocWhy.TheVariants.{PriceRange}
+use Rattle.vs_document.specs.declared.refused.DocError.{DocError}
+use Rattle.vs_document.specs.declared.refused.DocError.TheVariants as error
+use Rattle.vs_rows.specs.declared.wrong.PriceWhy.{PriceWhy}
+use Rattle.vs_rows.specs.declared.wrong.PriceWhy.TheVariants.{Range}
+use Rattle.vs_rows.specs.DocumentRows.{DocumentRow, FleetRow, PriceRow, TableRow}
+use Rattle.vs_rows.specs.PriceOrder.{IsOf, PriceOf, Trip, Vehicle, prices_of}
+use Rattle.vs_rows.specs.TableReading.{AreWrongFrom, IsWrong, ReadsKind}
+use Rattle.vs_document.specs.Places.{HasNumber, InTable, behind}
+use Rattle.vs_document.specs.Reading.{IsRefusedAt}
+use Rattle.vs_document.proofs.rows.RefusedRows.{leads_one, no_prices}
+
+neither : {T : Type 0} (b : Bool) (x : Option T) → cond (b && false) x None ≡ None
+neither true x = refl
+neither false x = refl
+
+another_trip : (p : Problem) (n l i layer trip : ℕ) (later : List PriceOf) (into from : ℤ)
+    → (layer ≢ l) ⊎ (trip ≢ i) → behind p (InTable n (Trip l i ∷ later)) (PriceRow layer trip into from) ≡ None
+another_trip p n l i layer trip later into from (inl other) =
+    ap (λ (b : Bool). cond (b && eqb i trip) (Some (InTable n later)) None) (ne_eqb l layer (λ e. other (sym e)))
+another_trip p n l i layer trip later into from (inr other) =
+    ap (λ (b : Bool). cond (eqb l layer && b) (Some (InTable n later)) None) (ne_eqb i trip (λ e. other (sym e)))
+    ∙ neither (eqb l layer) (Some (InTable n later))
+
+module _ (p : Problem) (n : ℕ) where
+  -- the row of prices that has to come leads to the next, and no other does
+  pub price_order : (price : PriceOf) (later : List PriceOf) (said : DocumentRow) → IsOf price said
+      → behind p (InTable n (price ∷ later)) said ≡ Some (InTable n later)
+  price_order (Vehicle l) later (FleetRow layer price) is =
+      ap (λ (b : Bool). cond b (Some (InTable n later)) None) (eq-eqb l layer (sym is))
+  price_order (Trip l i) later (PriceRow layer trip into from) is =
+      ap (λ (b : Bool). cond (b && eqb i trip) (Some (InTable n later)) None) (eq-eqb l layer (sym is.0))
+      ∙ ap (λ (b : Bool). cond (true && b) (Some (InTable n later)) None) (eq-eqb i trip (sym is.1))
+  price_order (Vehicle l) later _ is = absurd is
+  price_order (Trip l i) later _ is = absurd is
+
+  pub price_number : (price : PriceOf) (later : List PriceOf) (said : DocumentRow) → IsOf price said
+      → HasNumber (InTable n (price ∷ later)) said
+  price_number (Vehicle l) later (FleetRow layer price) is = tt
+  price_number (Trip l i) later (PriceRow layer trip into from) is = tt
+  price_number (Vehicle l) later _ is = absurd is
+  price_number (Trip l i) later _ is = absurd is
+
+  pub price_elsewhere : (price : PriceOf) (later : List PriceOf) (said : DocumentRow) → ¬ (IsOf price said)
+      → behind p (InTable n (price ∷ later)) said ≡ None
+  price_elsewhere (Vehicle l) later (FleetRow layer price) other =
+      ap (λ (b : Bool). cond b (Some (InTable n later)) None) (ne_eqb l layer (λ e. other (sym e)))
+  price_elsewhere (Trip l i) later (PriceRow layer trip into from) other = elim (cases_eq layer l) [
+    | inl same ↦ another_trip p n l i layer trip later into from (inr (λ e. other (same, e)))
+    | inr differ ↦ another_trip p n l i layer trip later into from (inl differ)
+  ]
+  price_elsewhere (Vehicle l) later _ other = refl
+  price_elsewhere (Trip l i) later _ other = refl
+
+module _ (input : Input) (n row : ℕ) where
+  -- a price that is none
+  pub price_range : (price : PriceOf) (later : List PriceOf) → IsWrong input row price Range
+      → IsRefusedAt input row (InTable n (price ∷ later)) (error.Refused (input.before + 1 + row) PriceRange)
+  price_range price later (said, there, none) =
+      no_prices input row there.here (InTable n (price ∷ later)) said (λ e. cc) there.says tt (InTable n later)
+      (price_order input.instance n price later said there.is_of)
+      (price_number input.instance n price later said there.is_of) none
+
+  module _ (why : PriceWhy) (e : DocError)
+      (refused : (price : PriceOf) (later : List PriceOf) → IsWrong input row price why
+      → IsRefusedAt input row (InTable n (price ∷ later)) e) where
+    -- where the first row that is wrong is refused, all are
+    pub prices_refused : (prices : List PriceOf) (at : ℕ) → AreWrongFrom input at prices row why
+        → IsRefusedAt input at (InTable n prices) e
+    prices_refused [] at wrong = absurd wrong
+    prices_refused (price ∷ prices) at (inl (same, wrong)) =
+        let P : ℕ → Type 0 = λ k. IsRefusedAt input k (InTable n (price ∷ prices)) e in
+        let Q : ℕ → Type 0 = λ k. IsWrong input k price why in
+        subst P same (refused price prices (subst Q (sym same) wrong))
+    prices_refused (price ∷ prices) at (inr (said, right, wrong)) =
+        (leads_one input at right.there.here (InTable n (price ∷ prices)) said (λ e. cc) right.there.says tt
+        (InTable n prices) (price_order input.instance n price prices said right.there.is_of)
+        (price_number input.instance n price prices said right.there.is_of) right.prices).refused e
+        (prices_refused prices (at + 1) wrong)
+
+-- a table is refused where a row of its prices is
+pub table_refused : (input : Input) (at n row : ℕ) (why : PriceWhy) (ray : Bool) (e : DocError)
+    → ReadsKind input at n ray → AreWrongFrom input (at + 1) (prices_of input.instance) row why
+    → ((price : PriceOf) (later : List PriceOf) → IsWrong input row price why
+    → IsRefusedAt input row (InTable (n + 1) (price ∷ later)) e)
+    → IsRefusedAt input at (InTable n []) e
+table_refused input at n row why ray e kind wrong refused =
+    (leads_one input at kind.here (InTable n []) (TableRow (n + 1) ray) (λ e. cc) kind.says tt
+    (InTable (n + 1) (prices_of input.instance)) refl refl tt).refused e
+    (prices_refused input (n + 1) row why e refused (prices_of input.instance) (at + 1) wrong)

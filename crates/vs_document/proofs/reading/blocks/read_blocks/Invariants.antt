@@ -1,6 +1,0 @@
-use Rattle.vs_plan.specs.Blocks.{pairs_of}
-use Rattle.vs_document.proofs.parts.BlockReading.{BlocksSoFar}
-use Rattle.vs_document.proofs.reading.blocks.read_blocks.Given as goal
-
-abbrev pub invariant-loop-row : goal.invariant-loop-row
-invariant-loop-row l = BlocksSoFar l.input l.at l.fn.cost l.row (pairs_of l.blocks.items)

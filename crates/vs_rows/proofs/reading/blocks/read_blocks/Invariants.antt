@@ -1,0 +1,6 @@
+use Rattle.vs_plan.specs.Blocks.{pairs_of}
+use Rattle.vs_rows.proofs.tables.BlockReading.{BlocksSoFar}
+use Rattle.vs_rows.proofs.reading.blocks.read_blocks.Given as goal
+
+abbrev pub invariant-loop-row : goal.invariant-loop-row
+invariant-loop-row l = BlocksSoFar l.input l.at l.row (pairs_of l.blocks.items)
