@@ -4,3 +4,4 @@ pub mod LawDocuments
 pub mod LawBounds
 pub mod owing
 pub mod once
+pub mod carried

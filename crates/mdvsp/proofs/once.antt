@@ -2,3 +2,4 @@
 pub mod OneAnswer
 pub mod SolveStatus
 pub mod SearchesAgree
+pub mod ResumeStatus

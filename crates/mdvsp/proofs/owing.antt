@@ -2,3 +2,4 @@
 pub mod SearchOwed
 pub mod RunEnds
 pub mod TrialOwed
+pub mod ResumeOwed

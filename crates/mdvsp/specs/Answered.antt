@@ -19,6 +19,7 @@ use Rattle.vs_document.specs.Alike.{AreAlike}
 use Rattle.vs_made.specs.Made.{IsWholeText}
 use Rattle.vs_reader.specs.Names.{NameLists}
 use Rattle.vs_reader.specs.Rows.{lines}
+use Rattle.vs_resume.specs.Answers.{ResumeAnswer}
 use Rattle.mdvsp.specs.SolveAnswer.{SolveAnswer}
 use Rattle.mdvsp.specs.Owed.{Owes}
 
@@ -57,3 +58,11 @@ AreWritten made written = (p : Problem) × (names : NameLists) × (d : Document)
 abbrev pub IsReadOf : List ℕ → List ℕ → Document → Type 0
 IsReadOf made written e =
     (p : Problem) (names : NameLists) (d : Document) → IsWritten made written p names d → AreAlike p d e
+
+-- the text is that of a document that answers another one within this budget, and the status that of its claim
+pub record IsResumed (problem : Problem) (names : NameLists) (budget : ℕ) (before : Document) (answer : Answer) : Type 0
+  where
+    pub document : Document
+    pub answers : ResumeAnswer problem budget before document
+    pub status_is : answer.status ≡ status_of document.claim
+    pub text_is : answer.text.items ≡ lines (document_rows problem names document)

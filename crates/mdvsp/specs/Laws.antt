@@ -1,5 +1,5 @@
 -- What the answers of `solve` have to do with each other, and which commands owe one thing.
-use Rattle.std.specs.Prelude.{◌≡◌, ◌≢◌, ◌⊎◌, ℕ, false, List, [], ◌∷◌, MatchOption, IfSome, IsSomeAnd, ℤ, ◌≤ℤ◌}
+use Rattle.std.specs.Prelude.{◌≡◌, ◌≢◌, ◌⊎◌, ℕ, false, List, [], ◌∷◌, MatchOption, IfSome, IsSomeAnd, None, ℤ, ◌≤ℤ◌}
 use Rattle.vs_instance.specs.Problem.{Problem}
 use Rattle.vs_instance.specs.Restriction.{permitted_sets}
 use Rattle.vs_plan.specs.Blocks.{blocks_of}
@@ -12,7 +12,7 @@ use Rattle.vs_rows.specs.declared.document.Document.{Document}
 use Rattle.vs_reader.specs.Rows.{Row}
 use Rattle.vs_words.specs.declared.command.Command.{Command}
 use Rattle.vs_words.specs.declared.command.Effort.{Effort}
-use Rattle.vs_words.specs.declared.command.Command.TheVariants.{Solve, Trial, Peak}
+use Rattle.vs_words.specs.declared.command.Command.TheVariants.{Solve, Trial, Peak, Resume}
 use Rattle.vs_reply.specs.declared.status.Status.{Status}
 use Rattle.vs_reply.specs.declared.status.Status.TheVariants as status
 use Rattle.mdvsp.specs.Owed.{OwesDocument}
@@ -41,12 +41,13 @@ pub record IsDoneWhereShown (effort : Effort) (bytes : List ℕ) (answer : Statu
   pub done_there : IsSomeAnd owed.document.cost (λ cost. cost ≤ℤ n) → answer ≡ status.Done
   pub or_open : (answer ≡ status.Done) ⊎ (answer ≡ status.StillOpen)
 
--- what the command owes is one thing; of `solve` and `trial` the definition leaves open which of several searches is
--- made, and of `peak` which of several blocks and prices show a peak
+-- what the command owes is one thing; of `solve`, `trial` and `resume` the definition leaves open which of several
+-- searches is made, and of `peak` which of several blocks and prices show a peak
 abbrev pub IsDetermined : Command → Type 0
 IsDetermined (Solve effort) = ⊥
 IsDetermined (Trial n) = ⊥
 IsDetermined Peak = ⊥
+IsDetermined (Resume effort) = ⊥
 IsDetermined _ = Unit {0}
 
 -- the answer settles what plans there are
@@ -63,6 +64,12 @@ MayBothBe a b = (a ≡ b) ⊎ ((a ≡ status.StillOpen) × IsSettled b) ⊎ ((b 
 -- the bound of one answer isn't above the cost of the other
 abbrev pub NeverPasses : Document → Document → Type 0
 NeverPasses d e = IfSome d.bound (λ bound. IfSome e.cost (λ cost. bound ≤ℤ cost))
+
+-- the second document's bound is no lower than the first one's, and its cost no higher: where the first one has no
+-- bound the second one has none, and where the first one has a cost the second one has one
+pub record NeverFalls (d e : Document) : Type 0 where
+  pub bound : MatchOption d.bound (e.bound ≡ None) (λ was. IfSome e.bound (λ bound. was ≤ℤ bound))
+  pub cost : IfSome d.cost (λ was. IsSomeAnd e.cost (λ cost. cost ≤ℤ was))
 
 -- where one answer shows that its plan is optimal, the other doesn't show that there is none, and a plan that it shows
 -- to be optimal costs the same

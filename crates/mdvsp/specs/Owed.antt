@@ -2,22 +2,23 @@
 use Rattle.std.specs.Prelude.{◌≡◌, ℕ, List, [], ◌∷◌, codes, decimal, Some, None, ◌⊎◌}
 use Rattle.vs_instance.specs.Problem.{Problem}
 use Rattle.vs_rows.specs.declared.document.Document.{Document}
-use Rattle.vs_check.specs.HoldingDocument.{ProvesItsClaim}
+use Rattle.vs_check.specs.HoldingDocument.{HoldingDocument, ProvesItsClaim}
 use Rattle.vs_reader.specs.Rows.{Row, lines}
 use Rattle.vs_reader.specs.Names.{NameLists}
 use Rattle.vs_rows.specs.DocumentRows.{claim_field, number_field, document_rows}
 use Rattle.vs_reply.specs.declared.status.Status.{Status}
 use Rattle.vs_reply.specs.declared.status.Status.TheVariants as status
-use Rattle.vs_reply.specs.Cases.{SolveText}
-use Rattle.vs_reply.specs.Owed.{BlocksOwes, CheckOwes, MakeOwes, NetworkOwes, OwesRefusal, PeakCheckOwes}
+use Rattle.vs_reply.specs.Cases.{CheckText, SolveText}
+use Rattle.vs_reply.specs.Owed.{BlocksOwes, CheckOwes, MakeOwes, NetworkOwes, OwesNo, OwesNoCase, OwesRefusal, PeakCheckOwes}
 use Rattle.vs_peaks.specs.Owed.{PeakOwes}
 use Rattle.vs_reply.specs.Status.{status_of}
 use Rattle.vs_report.specs.RefusalRows.{too_large_row}
 use Rattle.vs_words.specs.declared.command.Command.{Command}
 use Rattle.vs_words.specs.declared.command.Effort.{Effort}
-use Rattle.vs_words.specs.declared.command.Command.TheVariants.{Check, Solve, Network, Blocks, Make, Trial, Peak, PeakCheck}
+use Rattle.vs_words.specs.declared.command.Command.TheVariants.{Check, Solve, Network, Blocks, Make, Trial, Peak, PeakCheck, Resume}
 use Rattle.vs_make.specs.Generator.{make_rows}
-use Rattle.mdvsp.specs.Budgets.{budget_of}
+use Rattle.vs_resume.specs.Answers.{ResumeAnswer}
+use Rattle.mdvsp.specs.Budgets.{budget_of, resumed_budget}
 use Rattle.mdvsp.specs.SolveAnswer.{SolveAnswer}
 use Rattle.mdvsp.specs.declared.trial.TheConstants.{TRIAL_NODES, TRIAL_WORKERS}
 
@@ -79,6 +80,50 @@ TrialOwes n status.Infeasible rows = OwesTrial n status.Infeasible rows
 TrialOwes n status.StillOpen rows = OwesTrial n status.StillOpen rows
 TrialOwes n _ rows = ⊥
 
+-- `resume` is owed a document that answers the one behind the instance, which holds, within the budget, and that proves
+-- what it claims, with the status of its claim
+pub record OwesResumed (effort : Effort) (bytes : List ℕ) (answer : Status) (rows : List Row) : Type 0 where
+  pub problem : Problem
+  pub names : NameLists
+  pub before : Document
+  pub text : CheckText bytes problem names before
+  pub budget : ℕ
+  pub budget_is : resumed_budget problem before effort.nodes ≡ Some budget
+  pub held : HoldingDocument problem before
+  pub document : Document
+  pub answers : ResumeAnswer problem budget before document
+  pub proves : ProvesItsClaim problem document
+  pub status_is : answer ≡ status_of document.claim
+  pub rows_are : rows ≡ document_rows problem names document
+
+-- where the one behind the instance doesn't hold, what `check` is owed for it
+pub record OwesNoResuming (effort : Effort) (bytes : List ℕ) (rows : List Row) : Type 0 where
+  pub denied : OwesNo bytes rows
+  pub budget : ℕ
+  pub budget_is : resumed_budget denied.problem denied.document effort.nodes ≡ Some budget
+
+-- and where its leaves and so many nodes are too many for the instance, a refusal
+pub record OwesTooLargeBeside (effort : Effort) (bytes : List ℕ) (rows : List Row) : Type 0 where
+  pub problem : Problem
+  pub names : NameLists
+  pub document : Document
+  pub text : CheckText bytes problem names document
+  pub too_large : resumed_budget problem document effort.nodes ≡ None
+  pub rows_are : rows ≡ too_large_row ∷ []
+
+-- a text that is no instance with a document behind it is refused first
+abbrev pub OwesNoTurn : Effort → List ℕ → List Row → Type 0
+OwesNoTurn effort bytes rows = OwesNoCase bytes rows ⊎ OwesTooLargeBeside effort bytes rows
+
+-- what `resume` with this effort has to answer for these bytes, and which rows it has to write
+abbrev pub ResumeOwes : Effort → List ℕ → Status → List Row → Type 0
+ResumeOwes effort bytes status.Done rows = OwesResumed effort bytes status.Done rows
+ResumeOwes effort bytes status.Infeasible rows = OwesResumed effort bytes status.Infeasible rows
+ResumeOwes effort bytes status.StillOpen rows = OwesResumed effort bytes status.StillOpen rows
+ResumeOwes effort bytes status.SaysNo rows = OwesNoResuming effort bytes rows
+ResumeOwes effort bytes status.BadInput rows = OwesNoTurn effort bytes rows
+ResumeOwes effort bytes _ rows = ⊥
+
 -- what a command has to answer for the bytes that it read, and which rows it has to write
 abbrev pub Owes : Command → List ℕ → Status → List Row → Type 0
 Owes Check bytes = CheckOwes bytes
@@ -89,3 +134,4 @@ Owes (Make n) bytes = MakeOwes n
 Owes (Trial n) bytes = TrialOwes n
 Owes Peak bytes = PeakOwes bytes
 Owes PeakCheck bytes = PeakCheckOwes bytes
+Owes (Resume effort) bytes = ResumeOwes effort bytes

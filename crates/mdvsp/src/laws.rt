@@ -8,9 +8,9 @@ ghost use Rattle.vs_words.specs.declared.command.Command.{Command};
 ghost use Rattle.vs_words.specs.declared.command.Effort.{Effort};
 ghost use Rattle.vs_reply.specs.declared.status.Status.{Status};
 ghost use Rattle.vs_reply.specs.declared.status.Status.TheVariants as status;
-ghost use Rattle.mdvsp.specs.Laws.{IsDetermined, IsDoneWhereShown, MayBothBe, NeverDisagree, NeverPasses};
+ghost use Rattle.mdvsp.specs.Laws.{IsDetermined, IsDoneWhereShown, MayBothBe, NeverDisagree, NeverFalls, NeverPasses};
 ghost use Rattle.vs_reply.specs.Owed.{CheckOwes, yes_row};
-ghost use Rattle.mdvsp.specs.Owed.{Owes, OwesDocument};
+ghost use Rattle.mdvsp.specs.Owed.{Owes, OwesDocument, OwesResumed};
 ghost use Rattle.vs_document.specs.ReadingBack.{ReadsAs};
 ghost use Rattle.vs_reader.specs.Rows.{Row, lines};
 
@@ -25,8 +25,24 @@ pub fn solved_documents_hold()
         × ReadsAs (read ++ lines rows) owed.problem owed.names owed.text.before owed.document }
 {}
 
-/// What a command other than `solve`, `trial` and `peak` is owed for the bytes that it read is one thing: one status,
-/// and one list of rows. So no input has two verdicts.
+/// So is what `resume` has to write for an instance and a document.
+pub fn resumed_documents_hold()
+    ensures { (effort : Effort) (bytes read : List ℕ) (answer : Status) (rows : List Row)
+        (owed : OwesResumed effort bytes answer rows)
+        → HasRows read (take owed.text.before owed.text.instance.rows) → EndsInLine read
+        → CheckOwes (read ++ lines rows) status.Done (yes_row owed.document ∷ [])
+        × ReadsAs (read ++ lines rows) owed.problem owed.names owed.text.before owed.document }
+{}
+
+/// The bound of what `resume` writes is no lower than that of the document that it read, and its cost no higher.
+pub fn bounds_never_fall()
+    ensures { (effort : Effort) (bytes : List ℕ) (answer : Status) (rows : List Row)
+        (owed : OwesResumed effort bytes answer rows)
+        → NeverFalls owed.before owed.document }
+{}
+
+/// What a command other than `solve`, `trial`, `resume` and `peak` is owed for the bytes that it read is one thing: one
+/// status, and one list of rows. So no input has two verdicts.
 pub fn one_answer()
     ensures { (command : Command) (bytes : List ℕ) (a b : Status) (r s : List Row)
         → IsDetermined command → Owes command bytes a r → Owes command bytes b s

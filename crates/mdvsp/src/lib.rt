@@ -3,15 +3,17 @@
 #![tactic(auto)]
 
 mod budget;
+mod crew;
 mod laws;
+mod resuming;
 mod running;
 mod saying;
 mod solving;
 mod trial;
 
 pub use laws::{
-    bounds_never_pass_costs, done_where_shown, enough_nodes_leave_nothing_open, one_answer,
-    one_status, searches_agree, solved_documents_hold,
+    bounds_never_fall, bounds_never_pass_costs, done_where_shown, enough_nodes_leave_nothing_open,
+    one_answer, one_status, resumed_documents_hold, searches_agree, solved_documents_hold,
 };
 pub use running::run;
 pub use vs_make::make_text;

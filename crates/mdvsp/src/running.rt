@@ -2,10 +2,11 @@
 
 ghost use Rattle.std.specs.Prelude.{◌≡◌, ◌≤◌, List, length, IfErr, IfOk};
 ghost use Rattle.mdvsp.specs.Answered.{IsOwedFor};
-ghost use Rattle.mdvsp.specs.Outcome.{CouldNotRead, Ends, HasRead, StartsNoThread, unread_status};
+ghost use Rattle.mdvsp.specs.Outcome.{CouldNotRead, Ends, HasRead, Searches, StartsNoThread, unread_status};
 ghost use Rattle.vs_reply.specs.Cases.{input_limit};
 ghost use Rattle.vs_words.specs.Words.{AskFor, AskToRead, IsWithinLimits, Reads, Word, words_of};
 
+use crate::resuming::answer_resume;
 use crate::saying::say;
 use crate::solving::answer_solve;
 use crate::trial::answer_trial;
@@ -20,7 +21,7 @@ use vs_reply::{
     Answer, Status, answer_blocks, answer_check, answer_make, answer_network, answer_peakcheck,
 };
 use vs_types::Memory;
-use vs_words::{Command, Effort, command_of};
+use vs_words::{Command, command_of};
 
 /// Does what the words ask for, and says how it ended. The input is read to its end, and nothing is
 /// written before the whole output stands. Where the words are wrong, and by `make` and `trial`, nothing is read. The
@@ -50,25 +51,27 @@ pub fn run<R: Threads + Wait + Sync, I: Source, O: Sink, G: Gate + Sync>(
 {
     match command_of(words) {
         Ok(command) => match command {
-            Command::Solve(effort) => search(rt, alloc, effort, input, output, gate),
-            Command::Trial(n) => say(answer_trial(rt, alloc, n, gate), output),
+            Command::Solve(_) => search(rt, alloc, command, input, output, gate),
+            Command::Trial(_) => search(rt, alloc, command, input, output, gate),
+            Command::Resume(_) => search(rt, alloc, command, input, output, gate),
             _ => obey(alloc, command, input, output),
         },
         Err(bad) => say(Answer::bad_word(alloc, bad.0), output),
     }
 }
 
-/// Reads an instance, searches it with this effort, and says how it ended.
+/// Reads what a command takes that searches, does what it asks for, and says how it ended.
 fn search<R: Threads + Wait + Sync, I: Source, O: Sink, G: Gate + Sync>(
     rt: &R,
     alloc: Global,
-    effort: Effort,
+    command: Command,
     input: &mut I,
     output: &mut O,
     gate: &G,
 ) -> Status
-    requires { IsWithinLimits (Command.Solve effort) }
-    ensures ends { (words : List Word) → AskFor words (Command.Solve effort) → Ends (record {
+    requires limits { IsWithinLimits command }
+    requires searches { Searches command }
+    ensures ends { (words : List Word) → AskFor words command → Ends (record {
       words = words;
       left = I.left input.old;
       left_after = I.left input.new;
@@ -79,17 +82,39 @@ fn search<R: Threads + Wait + Sync, I: Source, O: Sink, G: Gate + Sync>(
       sink_faults = O.faults output.old;
       sink_faults_after = O.faults output.new;
     }) result }
+    ensures untouched { ¬ (Reads command) → input.new ≡ input.old }
     ensures never_falls { (I.faults input.old ≤ I.faults input.new)
         × (O.faults output.old ≤ O.faults output.new) }
 {
-    match input_of(alloc, Command::Solve(effort), input) {
-        Ok(bytes) => say(answer_solve(rt, alloc, effort, &bytes, gate), output),
+    match input_of(alloc, command, input) {
+        Ok(bytes) => say(answer_search(rt, alloc, command, &bytes, gate), output),
         Err(error) => unread(error),
     }
 }
 
-/// Reads what a command other than `solve` and `trial` takes, does what it asks for, and says how it ended. It starts
-/// no thread and waits for none.
+/// What a command that searches answers for the bytes of its input.
+fn answer_search<R: Threads + Wait + Sync, G: Gate + Sync>(
+    rt: &R,
+    alloc: Global,
+    command: Command,
+    bytes: &[u8],
+    gate: &G,
+) -> Result<Answer, Memory>
+    requires few { length bytes.now ≤ input_limit }
+    requires limits { IsWithinLimits command }
+    requires searches { Searches command }
+    ensures { IfOk result (IsOwedFor command bytes.now) }
+{
+    match command {
+        Command::Solve(effort) => answer_solve(rt, alloc, effort, bytes, gate),
+        Command::Trial(n) => answer_trial(rt, alloc, n, gate),
+        Command::Resume(effort) => answer_resume(rt, alloc, effort, bytes, gate),
+        _ => unreachable!(),
+    }
+}
+
+/// Reads what a command takes that doesn't search, does what it asks for, and says how it ended. It starts no thread
+/// and waits for none.
 fn obey<I: Source, O: Sink>(
     alloc: Global,
     command: Command,
@@ -151,7 +176,7 @@ fn input_of<I: Source>(
     }
 }
 
-/// What a command other than `solve` and `trial` answers for the bytes of its input.
+/// What a command that doesn't search answers for the bytes of its input.
 fn answer_to(alloc: Global, command: Command, bytes: &[u8]) -> Result<Answer, Memory>
     requires few { length bytes.now ≤ input_limit }
     requires limits { IsWithinLimits command }
@@ -167,5 +192,6 @@ fn answer_to(alloc: Global, command: Command, bytes: &[u8]) -> Result<Answer, Me
         Command::PeakCheck => answer_peakcheck(alloc, bytes),
         Command::Solve(_) => unreachable!(),
         Command::Trial(_) => unreachable!(),
+        Command::Resume(_) => unreachable!(),
     }
 }

@@ -13,13 +13,13 @@ ghost use Rattle.mdvsp.specs.SolveAnswer.{BeginsFor};
 ghost use Rattle.vs_words.specs.Words.{IsWithinLimits};
 
 use crate::budget::budget_of;
+use crate::crew::Crew;
 use std::alloc::Global;
 use std::sync::Wait;
 use std::thread::Threads;
 use vs_cert::write;
-use vs_crew::{Gate, run};
+use vs_crew::Gate;
 use vs_instance::Instance;
-use vs_match::layer_nets;
 use vs_plan::greedy;
 use vs_reader::{Timetable, read_instance};
 use vs_reply::{Answer, Status};
@@ -88,17 +88,13 @@ fn searched<R: Threads + Wait + Sync, G: Gate + Sync>(
     ensures worked { IfOk result (λ tree. AreWorked tree.opening tree.steps) }
     ensures over { IfOk result (λ tree. IsOver tree.opening (state tree)) }
 {
-    let nets = layer_nets(alloc, instance)?;
     let first = greedy(alloc, instance)?;
-    let tree = Tree::start(alloc, instance.copy(alloc)?, budget, workers, first)?;
-    match run(rt, alloc, instance, &nets, tree, workers, gate) {
-        Ok(tree) => Ok(tree),
-        Err((_, Memory)) => Err(Memory),
-    }
+    let crew = Crew { rt, gate, workers };
+    crew.search(alloc, instance, budget, first)
 }
 
 /// The status that goes with a claim.
-fn claim_status(claim: Claim) -> Status
+pub fn claim_status(claim: Claim) -> Status
     ensures { result ≡ status_of claim }
 {
     match claim {

@@ -1,17 +1,15 @@
 -- Prices widened place by place.
-use Rattle.std.proofs.Common.{◌≡◌, ◌≢◌, ℕ, ◌+◌, ◌-◌, ◌*◌, ◌<◌, ◌≤◌, inl, inr, List, length, get_or, set, take, drop, sym, ap, ◌∙◌, subst, arith, w64, ℤ, pos, neg_ℤ, FitsSigned, to_z, of_z}
+use Rattle.std.proofs.Common.{◌≡◌, ◌≢◌, ℕ, ◌+◌, ◌-◌, ◌*◌, ◌<◌, ◌≤◌, inl, inr, List, length, set, sym, ◌∙◌, subst, arith, w64, ℤ, pos, FitsSigned, to_z, of_z}
 use Rattle.std.proofs.Math.Nat.{add-mul}
 use Rattle.std.proofs.lemmas.Bool.{cases_eq, cases_lt}
 use Rattle.std.proofs.lemmas.Int.{ints, to_z-of_z}
-use Rattle.std.proofs.lemmas.List.{get_or-drop, get_or-set_other, get_or-set_same, get_or-take}
+use Rattle.std.proofs.lemmas.List.{get_or-set_other, get_or-set_same}
 use Rattle.std.proofs.lemmas.Nat.{mul-le}
 use Rattle.vs_types.specs.declared.layer_set.LayerSet.{LayerSet}
 use Rattle.vs_instance.specs.HoldingTable.{price_of}
 use Rattle.vs_instance.specs.Problem.{Problem}
-use Rattle.vs_instance.specs.declared.limits.TheConstants.{MAX_PRICE}
-use Rattle.vs_prices.specs.Table.{IsPrice, prices_in}
-use Rattle.vs_prices.specs.declared.table.Table.{Table}
-use Rattle.vs_part.specs.Widened.{ArePricesWidened, IsLayerWidened, IsSettled, IsWidened, place_of}
+use Rattle.vs_prices.specs.Table.{IsPrice}
+use Rattle.vs_part.specs.Widened.{IsLayerWidened, IsSettled, place_of}
 
 -- a layer's prices lie within those of so many layers
 pub row_inside : (n l layers : ℕ) → l < layers → l * n + n ≤ layers * n
@@ -24,15 +22,6 @@ apart n k l j i other below within =
       | inl lower ↦ λ same. omega (arith, row_inside n k l lower, same)
       | inr upper ↦ λ same. omega (arith, row_inside n l k (omega arith), same)
     ]
-
--- a price by its place
-pub price_at_place : (p : Problem) (prices : List ℤ) (l i : ℕ) → i < length p.trips
-    → price_of (prices_in p l prices) i ≡ price_of prices (place_of p l i)
-price_at_place p prices l i inside =
-    let size : l * length p.trips + length p.trips - l * length p.trips ≡ length p.trips = omega arith in
-    ap (λ (n : ℕ). get_or (take n (drop (l * length p.trips) prices)) i (pos 0)) size
-    ∙ get_or-take (length p.trips) (drop (l * length p.trips) prices) i (pos 0) inside
-    ∙ get_or-drop (l * length p.trips) prices i (pos 0)
 
 -- trip i of layer l gets a price
 module _ (p : Problem) (sets : List LayerSet) (l i : ℕ) (price x : ℤ) (first now : List ℤ) where
@@ -102,22 +91,3 @@ module _ (p : Problem) (sets : List LayerSet) (l : ℕ) (price : ℤ) (first now
       → (k i : ℕ) → l + 1 ≤ k → i < length p.trips → Kept new k i
   layers_kept after k i later within =
       widened.others k i (λ same. omega (arith, same)) within ∙ after k i (omega arith) within
-
--- tables whose prices are widened
-pub widened_table : (p : Problem) (sets : List LayerSet) (old new : Table) → new.ray ≡ old.ray → new.fleet ≡ old.fleet
-    → ArePricesWidened p sets (neg_ℤ MAX_PRICE) old.into.items new.into.items
-    → ArePricesWidened p sets MAX_PRICE old.from.items new.from.items → IsWidened p sets old new
-widened_table p sets old new ray fleet into from = record {
-  ray = ray;
-  fleet = fleet;
-  into_size = into.size;
-  from_size = from.size;
-  into_left_out = λ l i layer trip out. price_at_place p new.into.items l i trip
-      ∙ (into.layers l i layer trip).left_out out;
-  from_left_out = λ l i layer trip out. price_at_place p new.from.items l i trip
-      ∙ (from.layers l i layer trip).left_out out;
-  into_kept = λ l i layer trip stays. price_at_place p new.into.items l i trip
-      ∙ (into.layers l i layer trip).kept stays ∙ sym (price_at_place p old.into.items l i trip);
-  from_kept = λ l i layer trip stays. price_at_place p new.from.items l i trip
-      ∙ (from.layers l i layer trip).kept stays ∙ sym (price_at_place p old.from.items l i trip);
-}

@@ -8,13 +8,15 @@ use Rattle.std.proofs.lemmas.List.{length-map, get_or-map}
 use Rattle.std.proofs.lemmas.List.Elements.{All-nil, All-cons}
 use Rattle.vs_instance.specs.declared.limits.TheConstants.{MAX_BUDGET, MAX_TRIPS, MAX_WORKERS}
 use Rattle.vs_words.specs.declared.command.Command.{Command}
-use Rattle.vs_words.specs.declared.command.Command.TheVariants.{Check, Solve, Network, Blocks, Make, Trial, Peak, PeakCheck}
+use Rattle.vs_words.specs.declared.command.Command.TheVariants.{Check, Solve, Network, Blocks, Make, Trial, Peak, PeakCheck, Resume}
 use Rattle.vs_words.specs.declared.command.Effort.{Effort}
 use Rattle.vs_words.specs.declared.words.Counting.{Counting}
 use Rattle.vs_words.specs.declared.words.Counting.TheVariants as counting
+use Rattle.vs_words.specs.declared.words.Searching.{Searching}
+use Rattle.vs_words.specs.declared.words.Searching.TheVariants as searching
 use Rattle.vs_words.specs.declared.words.Setting.{Setting}
 use Rattle.vs_words.specs.declared.words.Setting.TheVariants.{Workers, Nodes}
-use Rattle.vs_words.specs.Words.{Word, AreAccepted, AreBadAt, AreFurther, AreOptions, AskFor, Begin, IsCount, IsNumberFor, IsNumberUpTo, IsWordAt, command_name, counted, default_effort, other_setting, setting_name, with_setting, words_of}
+use Rattle.vs_words.specs.Words.{Word, AreAccepted, AreBadAt, AreFurther, AreOptions, AskFor, Begin, IsCount, IsNumberFor, IsNumberUpTo, IsWordAt, command_name, counted, default_effort, other_setting, search_name, searched, setting_name, with_setting, words_of}
 
 -- words that ask for a command have its name first
 pub record BeginsAs (name : Word) (further : List Word) : Type 0 where
@@ -43,15 +45,34 @@ pub asks : (name : Word) (further : List Word) (command : Command) → name ≡ 
 asks name further command is f =
     record { further = further; words_are = ap (λ (n : Word). n ∷ further) is; are_further = f }
 
--- the options of `solve` with some effort
-abbrev SolveWords : List Word → Type 0
-SolveWords words = (effort : Effort) × AreOptions effort words
+-- the options of a search with some effort
+abbrev SearchWords : List Word → Type 0
+SearchWords words = (effort : Effort) × AreOptions effort words
 
 -- which further words each command takes
 solve_further : (d : Command) (words : List Word) → command_name d ≡ codes "solve" → AreFurther d words
-    → SolveWords words
+    → SearchWords words
 solve_further (Solve effort) words e f = (effort, f)
 solve_further _ words e f = absurd (omega (arith, ap sum e))
+
+resume_further : (d : Command) (words : List Word) → command_name d ≡ codes "resume" → AreFurther d words
+    → SearchWords words
+resume_further (Resume effort) words e f = (effort, f)
+resume_further _ words e f = absurd (omega (arith, ap sum e))
+
+search_further : (kind : Searching) (d : Command) (words : List Word) → command_name d ≡ search_name kind
+    → AreFurther d words → SearchWords words
+search_further searching.Solve d words e f = solve_further d words e f
+search_further searching.Resume d words e f = resume_further d words e f
+
+searched_name : (kind : Searching) (effort : Effort) → search_name kind ≡ command_name (searched kind effort)
+searched_name searching.Solve effort = refl
+searched_name searching.Resume effort = refl
+
+takes_options : (kind : Searching) (effort : Effort) (words : List Word) → AreOptions effort words
+    → AreFurther (searched kind effort) words
+takes_options searching.Solve effort words is = is
+takes_options searching.Resume effort words is = is
 
 -- a count of trips
 record Counts (words : List Word) : Type 0 where
@@ -111,20 +132,22 @@ number_as : (s t : Setting) (v w : Word) (n : ℕ) → t ≡ s → w ≡ v → I
 number_as s t v w n same word is =
     subst (λ (x : Setting). IsNumberFor x v n) same (subst (λ (x : Word). IsNumberFor t x n) word is)
 
-begun_solve : (a : Word) (words : List Word) → a ≡ codes "solve" → Begin (a ∷ words)
-    → (more : List Word) × SolveWords (words ++ more)
-begun_solve a words is begin =
+begun_search : (kind : Searching) (a : Word) (words : List Word) → a ≡ search_name kind → Begin (a ∷ words)
+    → (more : List Word) × SearchWords (words ++ more)
+begun_search kind a words is begin =
     let b = begun_as a words begin in
-    (b.0, solve_further b.1.command (words ++ b.0) (b.1.name_is ∙ is) b.1.are_further)
+    (b.0, search_further kind b.1.command (words ++ b.0) (b.1.name_is ∙ is) b.1.are_further)
 
-accepted_solve : (a : Word) (words : List Word) → a ≡ codes "solve" → AreAccepted (a ∷ words) → SolveWords words
-accepted_solve a words is accepted =
-    let b = accepted_as a words accepted in solve_further b.command words (b.name_is ∙ is) b.are_further
+accepted_search : (kind : Searching) (a : Word) (words : List Word) → a ≡ search_name kind → AreAccepted (a ∷ words)
+    → SearchWords words
+accepted_search kind a words is accepted =
+    let b = accepted_as a words accepted in search_further kind b.command words (b.name_is ∙ is) b.are_further
 
 -- what begins options, and what asks for a search by its options
-asks_solve : (a : Word) (effort : Effort) (words : List Word) → a ≡ codes "solve" → AreOptions effort words
-    → AskFor (a ∷ words) (Solve effort)
-asks_solve a effort words is options = asks a words (Solve effort) is options
+asks_search : (kind : Searching) (a : Word) (effort : Effort) (words : List Word) → a ≡ search_name kind
+    → AreOptions effort words → AskFor (a ∷ words) (searched kind effort)
+asks_search kind a effort words is options =
+    asks a words (searched kind effort) (is ∙ searched_name kind effort) (takes_options kind effort words options)
 
 one_option : (s : Setting) (b c : Word) (n : ℕ) → b ≡ setting_name s → IsNumberFor s c n
     → AreOptions (with_setting s default_effort n) (b ∷ c ∷ [])
@@ -216,88 +239,108 @@ pub no_option : (words : List Word) → ¬ (IsWordAt words 1 (codes "--workers")
 no_option words workers nodes Workers = workers
 no_option words workers nodes Nodes = nodes
 
--- behind `solve` only an option may stand
-pub solve_bad_second : (words : List Word) → IsWordAt words 0 (codes "solve")
+-- the name of a search alone asks for it
+pub search_alone : (kind : Searching) (words : List Word) → IsWordAt words 0 (search_name kind) → length words ≡ 1
+    → AskFor words (searched kind default_effort)
+search_alone kind [] first one = absurd (omega arith)
+search_alone kind (a ∷ []) first one = asks_search kind a default_effort [] first.word_is (inl (refl, refl))
+search_alone kind (a ∷ b ∷ words) first one = absurd (omega arith)
+
+-- behind it only an option may stand
+pub search_bad_second : (kind : Searching) (words : List Word) → IsWordAt words 0 (search_name kind)
     → ((s : Setting) → ¬ (IsWordAt words 1 (setting_name s))) → ¬ (length words ≡ 1) → AreBadAt words 2
-solve_bad_second [] first wrong more = absurd (let w = first.within in omega arith)
-solve_bad_second (a ∷ []) first wrong more = absurd (more refl)
-solve_bad_second (a ∷ b ∷ words) first wrong more = record {
+search_bad_second kind [] first wrong more = absurd (let w = first.within in omega arith)
+search_bad_second kind (a ∷ []) first wrong more = absurd (more refl)
+search_bad_second kind (a ∷ b ∷ words) first wrong more = record {
   some = omega arith;
   within = omega arith;
-  before = ([], (Solve default_effort, asks_solve a default_effort [] first.word_is (inl (refl, refl))));
+  before = ([], (searched kind default_effort, asks_search kind a default_effort [] first.word_is (inl (refl, refl))));
   bad = λ within begin.
-      let all = begun_solve a (b ∷ []) first.word_is begin in
+      let all = begun_search kind a (b ∷ []) first.word_is begin in
       let is = first_option b all.0 all.1.0 all.1.1 in
       wrong is.0 (record { within = omega arith; word_is = is.1 });
   missing = λ end. absurd (omega arith);
 }
 
 -- and behind its name only one of its numbers
-name_begins : (s : Setting) (a b : Word) → a ≡ codes "solve" → b ≡ setting_name s → Begin (a ∷ b ∷ [])
-name_begins s a b first second = (
+name_begins : (kind : Searching) (s : Setting) (a b : Word) → a ≡ search_name kind → b ≡ setting_name s
+    → Begin (a ∷ b ∷ [])
+name_begins kind s a b first second = (
   codes "1" ∷ [],
   (
-    Solve (with_setting s default_effort 1),
-    asks_solve a _ (b ∷ codes "1" ∷ []) first (one_option s b (codes "1") 1 second (one_for s)),
+    searched kind (with_setting s default_effort 1),
+    asks_search kind a _ (b ∷ codes "1" ∷ []) first (one_option s b (codes "1") 1 second (one_for s)),
   ),
 )
 
-pub solve_bad_third : (words : List Word) (s : Setting) → IsWordAt words 0 (codes "solve")
+pub search_bad_third : (kind : Searching) (words : List Word) (s : Setting) → IsWordAt words 0 (search_name kind)
     → IsWordAt words 1 (setting_name s)
     → ((word : Word) (n : ℕ) → IsWordAt words 2 word → ¬ (IsNumberFor s word n)) → AreBadAt words 3
-solve_bad_third [] s first second none = absurd (let w = first.within in omega arith)
-solve_bad_third (a ∷ []) s first second none = absurd (let w = second.within in omega arith)
-solve_bad_third (a ∷ b ∷ []) s first second none = record {
+search_bad_third kind [] s first second none = absurd (let w = first.within in omega arith)
+search_bad_third kind (a ∷ []) s first second none = absurd (let w = second.within in omega arith)
+search_bad_third kind (a ∷ b ∷ []) s first second none = record {
   some = omega arith;
   within = omega arith;
-  before = name_begins s a b first.word_is second.word_is;
+  before = name_begins kind s a b first.word_is second.word_is;
   bad = λ within. absurd (omega arith);
   missing = λ end accepted.
-      let all = accepted_solve a (b ∷ []) first.word_is accepted in not_a_name b all.0 all.1;
+      let all = accepted_search kind a (b ∷ []) first.word_is accepted in not_a_name b all.0 all.1;
 }
-solve_bad_third (a ∷ b ∷ c ∷ words) s first second none = record {
+search_bad_third kind (a ∷ b ∷ c ∷ words) s first second none = record {
   some = omega arith;
   within = omega arith;
-  before = name_begins s a b first.word_is second.word_is;
+  before = name_begins kind s a b first.word_is second.word_is;
   bad = λ within begin.
-      let all = begun_solve a (b ∷ c ∷ []) first.word_is begin in
+      let all = begun_search kind a (b ∷ c ∷ []) first.word_is begin in
       let is = first_number s b c all.0 all.1.0 second.word_is all.1.1 in
       none c is.0 (record { within = omega arith; word_is = refl }) is.1;
   missing = λ end. absurd (omega arith);
 }
 
--- words that begin with `solve`, an option and a number
-pub record OpenWith (s : Setting) (m : ℕ) (words : List Word) : Type 0 where
-  pub name : IsWordAt words 0 (codes "solve")
+-- words that begin with a search, an option and a number
+pub record OpenWith (kind : Searching) (s : Setting) (m : ℕ) (words : List Word) : Type 0 where
+  pub name : IsWordAt words 0 (search_name kind)
   pub option : IsWordAt words 1 (setting_name s)
   pub word : Word
   pub third : IsWordAt words 2 word
   pub number : IsNumberFor s word m
 
-number_third : (s : Setting) (m : ℕ) (a b c : Word) (words : List Word) → OpenWith s m (a ∷ b ∷ c ∷ words)
+number_third : (kind : Searching) (s : Setting) (m : ℕ) (a b c : Word) (words : List Word)
+    → OpenWith kind s m (a ∷ b ∷ c ∷ words)
     → IsNumberFor s c m
-number_third s m a b c words o = subst (λ (x : Word). IsNumberFor s x m) (sym o.third.word_is) o.number
+number_third kind s m a b c words o = subst (λ (x : Word). IsNumberFor s x m) (sym o.third.word_is) o.number
+
+-- with nothing behind them they ask for a search
+pub search_with_one : (kind : Searching) (words : List Word) (s : Setting) (m : ℕ) → OpenWith kind s m words
+    → length words ≡ 3 → AskFor words (searched kind (with_setting s default_effort m))
+search_with_one kind [] s m o three = absurd (omega arith)
+search_with_one kind (a ∷ []) s m o three = absurd (omega arith)
+search_with_one kind (a ∷ b ∷ []) s m o three = absurd (omega arith)
+search_with_one kind (a ∷ b ∷ c ∷ []) s m o three =
+    asks_search kind a _ (b ∷ c ∷ []) o.name.word_is
+    (one_option s b c m o.option.word_is (number_third kind s m a b c [] o))
+search_with_one kind (a ∷ b ∷ c ∷ d ∷ words) s m o three = absurd (omega arith)
 
 -- behind them only the other option may stand
-pub solve_bad_fourth : (words : List Word) (s : Setting) (m : ℕ) → OpenWith s m words
+pub search_bad_fourth : (kind : Searching) (words : List Word) (s : Setting) (m : ℕ) → OpenWith kind s m words
     → ¬ (IsWordAt words 3 (setting_name (other_setting s))) → ¬ (length words ≡ 3) → AreBadAt words 4
-solve_bad_fourth [] s m o wrong more = absurd (let w = o.name.within in omega arith)
-solve_bad_fourth (a ∷ []) s m o wrong more = absurd (let w = o.option.within in omega arith)
-solve_bad_fourth (a ∷ b ∷ []) s m o wrong more = absurd (let w = o.third.within in omega arith)
-solve_bad_fourth (a ∷ b ∷ c ∷ []) s m o wrong more = absurd (more refl)
-solve_bad_fourth (a ∷ b ∷ c ∷ d ∷ words) s m o wrong more = record {
+search_bad_fourth kind [] s m o wrong more = absurd (let w = o.name.within in omega arith)
+search_bad_fourth kind (a ∷ []) s m o wrong more = absurd (let w = o.option.within in omega arith)
+search_bad_fourth kind (a ∷ b ∷ []) s m o wrong more = absurd (let w = o.third.within in omega arith)
+search_bad_fourth kind (a ∷ b ∷ c ∷ []) s m o wrong more = absurd (more refl)
+search_bad_fourth kind (a ∷ b ∷ c ∷ d ∷ words) s m o wrong more = record {
   some = omega arith;
   within = omega arith;
   before = (
     [],
     (
-      Solve (with_setting s default_effort m),
-      asks_solve a _ (b ∷ c ∷ []) o.name.word_is
-          (one_option s b c m o.option.word_is (number_third s m a b c (d ∷ words) o)),
+      searched kind (with_setting s default_effort m),
+      asks_search kind a _ (b ∷ c ∷ []) o.name.word_is
+          (one_option s b c m o.option.word_is (number_third kind s m a b c (d ∷ words) o)),
     ),
   );
   bad = λ within begin.
-      let all = begun_solve a (b ∷ c ∷ d ∷ []) o.name.word_is begin in
+      let all = begun_search kind a (b ∷ c ∷ d ∷ []) o.name.word_is begin in
       wrong (record {
         within = omega arith;
         word_is = second_option s b c d all.0 all.1.0 o.option.word_is all.1.1;
@@ -306,40 +349,41 @@ solve_bad_fourth (a ∷ b ∷ c ∷ d ∷ words) s m o wrong more = record {
 }
 
 -- and behind its name only one of its numbers
-names_begin : (s : Setting) (m : ℕ) (a b c d : Word) (words : List Word) → OpenWith s m (a ∷ b ∷ c ∷ d ∷ words)
+names_begin : (kind : Searching) (s : Setting) (m : ℕ) (a b c d : Word) (words : List Word)
+    → OpenWith kind s m (a ∷ b ∷ c ∷ d ∷ words)
     → d ≡ setting_name (other_setting s) → Begin (a ∷ b ∷ c ∷ d ∷ [])
-names_begin s m a b c d words o fourth = (
+names_begin kind s m a b c d words o fourth = (
   codes "1" ∷ [],
   (
-    Solve (with_setting (other_setting s) (with_setting s default_effort m) 1),
-    asks_solve a _ (b ∷ c ∷ d ∷ codes "1" ∷ []) o.name.word_is
-        (both_options s b c d (codes "1") m 1 o.option.word_is (number_third s m a b c (d ∷ words) o) fourth
+    searched kind (with_setting (other_setting s) (with_setting s default_effort m) 1),
+    asks_search kind a _ (b ∷ c ∷ d ∷ codes "1" ∷ []) o.name.word_is
+        (both_options s b c d (codes "1") m 1 o.option.word_is (number_third kind s m a b c (d ∷ words) o) fourth
         (one_for (other_setting s))),
   ),
 )
 
-pub solve_bad_fifth : (words : List Word) (s : Setting) (m : ℕ) → OpenWith s m words
+pub search_bad_fifth : (kind : Searching) (words : List Word) (s : Setting) (m : ℕ) → OpenWith kind s m words
     → IsWordAt words 3 (setting_name (other_setting s))
     → ((word : Word) (n : ℕ) → IsWordAt words 4 word → ¬ (IsNumberFor (other_setting s) word n)) → AreBadAt words 5
-solve_bad_fifth [] s m o fourth none = absurd (let w = fourth.within in omega arith)
-solve_bad_fifth (a ∷ []) s m o fourth none = absurd (let w = fourth.within in omega arith)
-solve_bad_fifth (a ∷ b ∷ []) s m o fourth none = absurd (let w = fourth.within in omega arith)
-solve_bad_fifth (a ∷ b ∷ c ∷ []) s m o fourth none = absurd (let w = fourth.within in omega arith)
-solve_bad_fifth (a ∷ b ∷ c ∷ d ∷ []) s m o fourth none = record {
+search_bad_fifth kind [] s m o fourth none = absurd (let w = fourth.within in omega arith)
+search_bad_fifth kind (a ∷ []) s m o fourth none = absurd (let w = fourth.within in omega arith)
+search_bad_fifth kind (a ∷ b ∷ []) s m o fourth none = absurd (let w = fourth.within in omega arith)
+search_bad_fifth kind (a ∷ b ∷ c ∷ []) s m o fourth none = absurd (let w = fourth.within in omega arith)
+search_bad_fifth kind (a ∷ b ∷ c ∷ d ∷ []) s m o fourth none = record {
   some = omega arith;
   within = omega arith;
-  before = names_begin s m a b c d [] o fourth.word_is;
+  before = names_begin kind s m a b c d [] o fourth.word_is;
   bad = λ within. absurd (omega arith);
   missing = λ end accepted.
-      let all = accepted_solve a (b ∷ c ∷ d ∷ []) o.name.word_is accepted in
+      let all = accepted_search kind a (b ∷ c ∷ d ∷ []) o.name.word_is accepted in
       not_a_name_behind b c d all.0 all.1;
 }
-solve_bad_fifth (a ∷ b ∷ c ∷ d ∷ x ∷ words) s m o fourth none = record {
+search_bad_fifth kind (a ∷ b ∷ c ∷ d ∷ x ∷ words) s m o fourth none = record {
   some = omega arith;
   within = omega arith;
-  before = names_begin s m a b c d (x ∷ words) o fourth.word_is;
+  before = names_begin kind s m a b c d (x ∷ words) o fourth.word_is;
   bad = λ within begin.
-      let all = begun_solve a (b ∷ c ∷ d ∷ x ∷ []) o.name.word_is begin in
+      let all = begun_search kind a (b ∷ c ∷ d ∷ x ∷ []) o.name.word_is begin in
       let is = second_number s b c d x all.0 all.1.0 o.option.word_is all.1.1 in
       none x is.0 (record { within = omega arith; word_is = refl }) is.1;
   missing = λ end. absurd (omega arith);
@@ -352,47 +396,48 @@ pub record GoOnWith (s : Setting) (n : ℕ) (words : List Word) : Type 0 where
   pub fifth : IsWordAt words 4 word
   pub number : IsNumberFor s word n
 
-both_ask : (s : Setting) (m n : ℕ) (a b c d x : Word) (words : List Word)
-    → OpenWith s m (a ∷ b ∷ c ∷ d ∷ x ∷ words) → GoOnWith (other_setting s) n (a ∷ b ∷ c ∷ d ∷ x ∷ words)
-    → AskFor (a ∷ b ∷ c ∷ d ∷ x ∷ []) (Solve (with_setting (other_setting s) (with_setting s default_effort m) n))
-both_ask s m n a b c d x words o g =
-    asks_solve a _ (b ∷ c ∷ d ∷ x ∷ []) o.name.word_is
-    (both_options s b c d x m n o.option.word_is (number_third s m a b c (d ∷ x ∷ words) o) g.option.word_is
+both_ask : (kind : Searching) (s : Setting) (m n : ℕ) (a b c d x : Word) (words : List Word)
+    → OpenWith kind s m (a ∷ b ∷ c ∷ d ∷ x ∷ words) → GoOnWith (other_setting s) n (a ∷ b ∷ c ∷ d ∷ x ∷ words)
+    → AskFor (a ∷ b ∷ c ∷ d ∷ x ∷ [])
+    (searched kind (with_setting (other_setting s) (with_setting s default_effort m) n))
+both_ask kind s m n a b c d x words o g =
+    asks_search kind a _ (b ∷ c ∷ d ∷ x ∷ []) o.name.word_is
+    (both_options s b c d x m n o.option.word_is (number_third kind s m a b c (d ∷ x ∷ words) o) g.option.word_is
     (subst (λ (y : Word). IsNumberFor (other_setting s) y n) (sym g.fifth.word_is) g.number))
 
--- with nothing behind them they ask for a search
-pub solve_with_both : (words : List Word) (s : Setting) (m n : ℕ) → OpenWith s m words
+-- so do both with nothing behind them
+pub search_with_both : (kind : Searching) (words : List Word) (s : Setting) (m n : ℕ) → OpenWith kind s m words
     → GoOnWith (other_setting s) n words → length words ≡ 5
-    → AskFor words (Solve (with_setting (other_setting s) (with_setting s default_effort m) n))
-solve_with_both [] s m n o g five = absurd (omega arith)
-solve_with_both (a ∷ []) s m n o g five = absurd (omega arith)
-solve_with_both (a ∷ b ∷ []) s m n o g five = absurd (omega arith)
-solve_with_both (a ∷ b ∷ c ∷ []) s m n o g five = absurd (omega arith)
-solve_with_both (a ∷ b ∷ c ∷ d ∷ []) s m n o g five = absurd (omega arith)
-solve_with_both (a ∷ b ∷ c ∷ d ∷ x ∷ []) s m n o g five = both_ask s m n a b c d x [] o g
-solve_with_both (a ∷ b ∷ c ∷ d ∷ x ∷ y ∷ words) s m n o g five = absurd (omega arith)
+    → AskFor words (searched kind (with_setting (other_setting s) (with_setting s default_effort m) n))
+search_with_both kind [] s m n o g five = absurd (omega arith)
+search_with_both kind (a ∷ []) s m n o g five = absurd (omega arith)
+search_with_both kind (a ∷ b ∷ []) s m n o g five = absurd (omega arith)
+search_with_both kind (a ∷ b ∷ c ∷ []) s m n o g five = absurd (omega arith)
+search_with_both kind (a ∷ b ∷ c ∷ d ∷ []) s m n o g five = absurd (omega arith)
+search_with_both kind (a ∷ b ∷ c ∷ d ∷ x ∷ []) s m n o g five = both_ask kind s m n a b c d x [] o g
+search_with_both kind (a ∷ b ∷ c ∷ d ∷ x ∷ y ∷ words) s m n o g five = absurd (omega arith)
 
--- behind them nothing may stand
-pub solve_bad_sixth : (words : List Word) (s : Setting) (m n : ℕ) → OpenWith s m words
+-- and nothing may stand there
+pub search_bad_sixth : (kind : Searching) (words : List Word) (s : Setting) (m n : ℕ) → OpenWith kind s m words
     → GoOnWith (other_setting s) n words → ¬ (length words ≡ 5) → AreBadAt words 6
-solve_bad_sixth [] s m n o g more = absurd (let w = g.fifth.within in omega arith)
-solve_bad_sixth (a ∷ []) s m n o g more = absurd (let w = g.fifth.within in omega arith)
-solve_bad_sixth (a ∷ b ∷ []) s m n o g more = absurd (let w = g.fifth.within in omega arith)
-solve_bad_sixth (a ∷ b ∷ c ∷ []) s m n o g more = absurd (let w = g.fifth.within in omega arith)
-solve_bad_sixth (a ∷ b ∷ c ∷ d ∷ []) s m n o g more = absurd (let w = g.fifth.within in omega arith)
-solve_bad_sixth (a ∷ b ∷ c ∷ d ∷ x ∷ []) s m n o g more = absurd (more refl)
-solve_bad_sixth (a ∷ b ∷ c ∷ d ∷ x ∷ y ∷ words) s m n o g more = record {
+search_bad_sixth kind [] s m n o g more = absurd (let w = g.fifth.within in omega arith)
+search_bad_sixth kind (a ∷ []) s m n o g more = absurd (let w = g.fifth.within in omega arith)
+search_bad_sixth kind (a ∷ b ∷ []) s m n o g more = absurd (let w = g.fifth.within in omega arith)
+search_bad_sixth kind (a ∷ b ∷ c ∷ []) s m n o g more = absurd (let w = g.fifth.within in omega arith)
+search_bad_sixth kind (a ∷ b ∷ c ∷ d ∷ []) s m n o g more = absurd (let w = g.fifth.within in omega arith)
+search_bad_sixth kind (a ∷ b ∷ c ∷ d ∷ x ∷ []) s m n o g more = absurd (more refl)
+search_bad_sixth kind (a ∷ b ∷ c ∷ d ∷ x ∷ y ∷ words) s m n o g more = record {
   some = omega arith;
   within = omega arith;
   before = (
     [],
     (
-      Solve (with_setting (other_setting s) (with_setting s default_effort m) n),
-      both_ask s m n a b c d x (y ∷ words) o g,
+      searched kind (with_setting (other_setting s) (with_setting s default_effort m) n),
+      both_ask kind s m n a b c d x (y ∷ words) o g,
     ),
   );
   bad = λ within begin.
-      let all = begun_solve a (b ∷ c ∷ d ∷ x ∷ y ∷ []) o.name.word_is begin in
+      let all = begun_search kind a (b ∷ c ∷ d ∷ x ∷ y ∷ []) o.name.word_is begin in
       none_behind_both b c d x y all.0 all.1.0 all.1.1;
   missing = λ end. absurd (omega arith);
 }
@@ -476,15 +521,17 @@ not_the_name : (words : List Word) (c : Command) → ¬ (IsWordAt words 0 (codes
     → ¬ (IsWordAt words 0 (codes "network")) → ¬ (IsWordAt words 0 (codes "blocks"))
     → ¬ (IsWordAt words 0 (codes "solve")) → ¬ (IsWordAt words 0 (codes "make"))
     → ¬ (IsWordAt words 0 (codes "trial")) → ¬ (IsWordAt words 0 (codes "peak"))
-    → ¬ (IsWordAt words 0 (codes "peakcheck")) → ¬ (IsWordAt words 0 (command_name c))
-not_the_name words Check check network blocks solve make trial peak peakcheck = check
-not_the_name words Network check network blocks solve make trial peak peakcheck = network
-not_the_name words Blocks check network blocks solve make trial peak peakcheck = blocks
-not_the_name words (Solve effort) check network blocks solve make trial peak peakcheck = solve
-not_the_name words (Make n) check network blocks solve make trial peak peakcheck = make
-not_the_name words (Trial n) check network blocks solve make trial peak peakcheck = trial
-not_the_name words Peak check network blocks solve make trial peak peakcheck = peak
-not_the_name words PeakCheck check network blocks solve make trial peak peakcheck = peakcheck
+    → ¬ (IsWordAt words 0 (codes "peakcheck")) → ¬ (IsWordAt words 0 (codes "resume"))
+    → ¬ (IsWordAt words 0 (command_name c))
+not_the_name words Check check network blocks solve make trial peak peakcheck resume = check
+not_the_name words Network check network blocks solve make trial peak peakcheck resume = network
+not_the_name words Blocks check network blocks solve make trial peak peakcheck resume = blocks
+not_the_name words (Solve effort) check network blocks solve make trial peak peakcheck resume = solve
+not_the_name words (Make n) check network blocks solve make trial peak peakcheck resume = make
+not_the_name words (Trial n) check network blocks solve make trial peak peakcheck resume = trial
+not_the_name words Peak check network blocks solve make trial peak peakcheck resume = peak
+not_the_name words PeakCheck check network blocks solve make trial peak peakcheck resume = peakcheck
+not_the_name words (Resume effort) check network blocks solve make trial peak peakcheck resume = resume
 
 pub first_bad : (words : List Word) → ((c : Command) → ¬ (IsWordAt words 0 (command_name c))) → AreBadAt words 1
 first_bad [] none = record {
@@ -508,9 +555,9 @@ pub no_command : (words : List Word) → ¬ (IsWordAt words 0 (codes "check"))
     → ¬ (IsWordAt words 0 (codes "network")) → ¬ (IsWordAt words 0 (codes "blocks"))
     → ¬ (IsWordAt words 0 (codes "solve")) → ¬ (IsWordAt words 0 (codes "make"))
     → ¬ (IsWordAt words 0 (codes "trial")) → ¬ (IsWordAt words 0 (codes "peak"))
-    → ¬ (IsWordAt words 0 (codes "peakcheck")) → AreBadAt words 1
-no_command words check network blocks solve make trial peak peakcheck =
-    first_bad words (λ c. not_the_name words c check network blocks solve make trial peak peakcheck)
+    → ¬ (IsWordAt words 0 (codes "peakcheck")) → ¬ (IsWordAt words 0 (codes "resume")) → AreBadAt words 1
+no_command words check network blocks solve make trial peak peakcheck resume =
+    first_bad words (λ c. not_the_name words c check network blocks solve make trial peak peakcheck resume)
 
 -- a word that was read, as bytes
 pub word_read : (words : List (String Global)) (place : ℕ) (word : String Global) → place < length words

@@ -5,11 +5,13 @@ use Rattle.std.specs.declared.alloc.Global.{Global}
 use Rattle.vs_instance.specs.declared.limits.TheConstants.{MAX_BUDGET, MAX_TRIPS, MAX_WORKERS}
 use Rattle.vs_reader.specs.Numbers.{AreDigits}
 use Rattle.vs_words.specs.declared.command.Command.{Command}
-use Rattle.vs_words.specs.declared.command.Command.TheVariants.{Check, Solve, Network, Blocks, Make, Trial, Peak, PeakCheck}
+use Rattle.vs_words.specs.declared.command.Command.TheVariants.{Check, Solve, Network, Blocks, Make, Trial, Peak, PeakCheck, Resume}
 use Rattle.vs_words.specs.declared.command.Effort.{Effort}
 use Rattle.vs_words.specs.declared.words.BadWord.{BadWord}
 use Rattle.vs_words.specs.declared.words.Counting.{Counting}
 use Rattle.vs_words.specs.declared.words.Counting.TheVariants as counting
+use Rattle.vs_words.specs.declared.words.Searching.{Searching}
+use Rattle.vs_words.specs.declared.words.Searching.TheVariants as searching
 use Rattle.vs_words.specs.declared.words.Setting.{Setting}
 use Rattle.vs_words.specs.declared.words.Setting.TheVariants.{Workers, Nodes}
 use Rattle.vs_words.specs.declared.words.TheConstants.{DEFAULT_WORKERS, MAX_DIGITS}
@@ -28,11 +30,17 @@ command_name (Make n) = codes "make"
 command_name (Trial n) = codes "trial"
 command_name Peak = codes "peak"
 command_name PeakCheck = codes "peakcheck"
+command_name (Resume effort) = codes "resume"
 
 -- the command of so many trips
 abbrev pub counted : Counting → ℕ → Command
 counted counting.Make n = Make n
 counted counting.Trial n = Trial n
+
+-- the command of a search with this effort
+abbrev pub searched : Searching → Effort → Command
+searched searching.Solve effort = Solve effort
+searched searching.Resume effort = Resume effort
 
 -- 1 to 6 digits, with leading zeros or without, that write n, which is no greater than `most`
 pub record IsNumberUpTo (most : ℕ) (word : Word) (n : ℕ) : Type 0 where
@@ -40,7 +48,7 @@ pub record IsNumberUpTo (most : ℕ) (word : Word) (n : ℕ) : Type 0 where
   pub value : n ≡ digits_value 10 word
   pub few : n ≤ most
 
--- the word that an option of `solve` begins with
+-- the word that an option of a search begins with
 abbrev pub setting_name : Setting → Word
 setting_name Workers = codes "--workers"
 setting_name Nodes = codes "--nodes"
@@ -68,6 +76,10 @@ pub record IsNumberFor (setting : Setting) (word : Word) (n : ℕ) : Type 0 wher
 abbrev pub default_effort : Effort
 default_effort = record { workers = DEFAULT_WORKERS; nodes = None }
 
+-- the name of a search, whatever its effort
+abbrev pub search_name : Searching → Word
+search_name kind = command_name (searched kind default_effort)
+
 -- the effort with the option's number in it
 abbrev pub with_setting : Setting → Effort → ℕ → Effort
 with_setting Workers effort n = record effort { workers = n }
@@ -94,7 +106,7 @@ pub record SetBoth (effort : Effort) (words : List Word) : Type 0 where
   pub second_is : IsNumberFor (other_setting first) second_word n
   pub effort_is : effort ≡ with_setting (other_setting first) (with_setting first default_effort m) n
 
--- the options of `solve`: none, one, or both in either order
+-- the options of a search: none, one, or both in either order
 abbrev pub AreOptions : Effort → List Word → Type 0
 AreOptions effort words = ((words ≡ []) × (effort ≡ default_effort)) ⊎ SetOne effort words ⊎ SetBoth effort words
 
@@ -112,6 +124,7 @@ AreFurther (Make n) words = IsCount n words
 AreFurther (Trial n) words = IsCount n words
 AreFurther Peak words = words ≡ []
 AreFurther PeakCheck words = words ≡ []
+AreFurther (Resume effort) words = AreOptions effort words
 
 -- the words ask for the command
 pub record AskFor (words : List Word) (command : Command) : Type 0 where
@@ -149,12 +162,17 @@ IsAlone Peak = Unit {0}
 IsAlone PeakCheck = Unit {0}
 IsAlone _ = ⊥
 
+-- a search may have so many workers and nodes
+abbrev pub MayBeTaken : Effort → Type 0
+MayBeTaken effort =
+    (1 ≤ effort.workers) × (effort.workers ≤ MAX_WORKERS) × IfSome effort.nodes (λ n. n ≤ MAX_BUDGET)
+
 -- an instance may have as many trips as the command asks for, and a search as many workers and nodes
 abbrev pub IsWithinLimits : Command → Type 0
 IsWithinLimits (Make n) = n ≤ MAX_TRIPS
 IsWithinLimits (Trial n) = n ≤ MAX_TRIPS
-IsWithinLimits (Solve effort) = (1 ≤ effort.workers) × (effort.workers ≤ MAX_WORKERS) × IfSome effort.nodes
-    (λ n. n ≤ MAX_BUDGET)
+IsWithinLimits (Solve effort) = MayBeTaken effort
+IsWithinLimits (Resume effort) = MayBeTaken effort
 IsWithinLimits _ = Unit {0}
 
 -- the command takes input

@@ -27,4 +27,6 @@ pub enum Command {
     Peak,
     /// Judge a text that tells so.
     PeakCheck,
+    /// Carry a search on from the document that it ended with.
+    Resume(Effort),
 }

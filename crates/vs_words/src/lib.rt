@@ -7,4 +7,4 @@ mod words;
 
 pub use command::{Command, Effort};
 pub use laws::words_mean_one_thing;
-pub use words::{BadWord, Counting, DEFAULT_WORKERS, MAX_DIGITS, Setting, command_of};
+pub use words::{BadWord, Counting, DEFAULT_WORKERS, MAX_DIGITS, Searching, Setting, command_of};

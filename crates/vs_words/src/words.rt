@@ -1,7 +1,7 @@
 //! Words, read as a command.
 
-ghost use Rattle.std.specs.Prelude.{◌≡◌, ℕ, ◌≤◌, codes, IsTrue, MatchOption, ◌↔◌};
-ghost use Rattle.vs_words.specs.Words.{Answers, IsAlone, IsNumberFor, IsNumberUpTo, IsWordAt, Word, command_name, counted, least_of, most_of, other_setting, setting_name, with_setting, words_of};
+ghost use Rattle.std.specs.Prelude.{◌≡◌, ℕ, ◌≤◌, IsTrue, MatchOption, ◌↔◌};
+ghost use Rattle.vs_words.specs.Words.{Answers, IsAlone, IsNumberFor, IsNumberUpTo, IsWordAt, Word, command_name, counted, least_of, most_of, other_setting, search_name, searched, setting_name, with_setting, words_of};
 
 use crate::command::{Command, Effort};
 use vs_instance::{MAX_BUDGET, MAX_TRIPS, MAX_WORKERS};
@@ -22,7 +22,7 @@ const DEFAULT_EFFORT: Effort = Effort {
     nodes: None,
 };
 
-/// An option of `solve`, behind which a number stands.
+/// An option of a search, behind which a number stands.
 #[derive(Clone, Copy, Debug, PartialEq, Eq)]
 pub enum Setting {
     /// How many workers share the search.
@@ -108,8 +108,27 @@ impl Counting {
     }
 }
 
-/// What the words ask for: `check`, `network`, `blocks`, `peak`, `peakcheck`, `solve` with or without its options, or
-/// `make` or `trial` and a number.
+/// A command that takes the options of a search.
+#[derive(Clone, Copy, Debug, PartialEq, Eq)]
+pub enum Searching {
+    Solve,
+    Resume,
+}
+
+impl Searching {
+    /// The command with this effort.
+    fn command(self, effort: Effort) -> Command
+        ensures { result ≡ searched self effort }
+    {
+        match self {
+            Searching::Solve => Command::Solve(effort),
+            Searching::Resume => Command::Resume(effort),
+        }
+    }
+}
+
+/// What the words ask for: `check`, `network`, `blocks`, `peak`, `peakcheck`, `solve` or `resume` with or without their
+/// options, or `make` or `trial` and a number.
 #[tactic(auto, using(crate::proofs::CommandWords::no_command))]
 pub fn command_of(words: &[String]) -> Result<Command, BadWord>
     ensures { Answers (words_of words.now) result }
@@ -121,7 +140,7 @@ pub fn command_of(words: &[String]) -> Result<Command, BadWord>
     } else if is_word(words, 0, "blocks") {
         alone(words, Command::Blocks)
     } else if is_word(words, 0, "solve") {
-        solve_of(words)
+        search_of(words, Searching::Solve)
     } else if is_word(words, 0, "make") {
         count_of(words, Counting::Make)
     } else if is_word(words, 0, "trial") {
@@ -130,6 +149,8 @@ pub fn command_of(words: &[String]) -> Result<Command, BadWord>
         alone(words, Command::Peak)
     } else if is_word(words, 0, "peakcheck") {
         alone(words, Command::PeakCheck)
+    } else if is_word(words, 0, "resume") {
+        search_of(words, Searching::Resume)
     } else {
         Err(BadWord(1))
     }
@@ -148,27 +169,27 @@ fn alone(words: &[String], command: Command) -> Result<Command, BadWord>
     }
 }
 
-/// `solve`, with options or without.
-fn solve_of(words: &[String]) -> Result<Command, BadWord>
-    requires { IsWordAt (words_of words.now) 0 (codes "solve") }
+/// A search, with options or without.
+fn search_of(words: &[String], kind: Searching) -> Result<Command, BadWord>
+    requires { IsWordAt (words_of words.now) 0 (search_name kind) }
     ensures { Answers (words_of words.now) result }
 {
     let workers_first = is_word(words, 1, "--workers");
     let nodes_first = is_word(words, 1, "--nodes");
     if words.len() == 1 {
-        Ok(Command::Solve(DEFAULT_EFFORT))
+        Ok(kind.command(DEFAULT_EFFORT))
     } else if workers_first {
-        options_of(words, Setting::Workers)
+        options_of(words, kind, Setting::Workers)
     } else if nodes_first {
-        options_of(words, Setting::Nodes)
+        options_of(words, kind, Setting::Nodes)
     } else {
         Err(BadWord(2))
     }
 }
 
-/// `solve` with this option first, and maybe the other one behind its number.
-fn options_of(words: &[String], first: Setting) -> Result<Command, BadWord>
-    requires name { IsWordAt (words_of words.now) 0 (codes "solve") }
+/// A search with this option first, and maybe the other one behind its number.
+fn options_of(words: &[String], kind: Searching, first: Setting) -> Result<Command, BadWord>
+    requires name { IsWordAt (words_of words.now) 0 (search_name kind) }
     requires option { IsWordAt (words_of words.now) 1 (setting_name first) }
     ensures { Answers (words_of words.now) result }
 {
@@ -177,7 +198,7 @@ fn options_of(words: &[String], first: Setting) -> Result<Command, BadWord>
     };
     let effort = first.set(DEFAULT_EFFORT, n);
     if words.len() == 3 {
-        return Ok(Command::Solve(effort));
+        return Ok(kind.command(effort));
     }
     let second = first.other();
     if !is_word(words, 3, second.name()) {
@@ -187,7 +208,7 @@ fn options_of(words: &[String], first: Setting) -> Result<Command, BadWord>
         return Err(BadWord(5));
     };
     if words.len() == 5 {
-        Ok(Command::Solve(second.set(effort, m)))
+        Ok(kind.command(second.set(effort, m)))
     } else {
         Err(BadWord(6))
     }

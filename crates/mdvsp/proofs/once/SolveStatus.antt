@@ -37,11 +37,11 @@ bound_and_cost p d e (Some b) (Some c) is so proves also =
     let same = plan.1 in
     omega (arith, ints)
 
-never_passes : (p : Problem) (d e : Document) → ProvesItsClaim p d → ProvesItsClaim p e → NeverPasses d e
+pub never_passes : (p : Problem) (d e : Document) → ProvesItsClaim p d → ProvesItsClaim p e → NeverPasses d e
 never_passes p d e proves also = bound_and_cost p d e d.bound e.cost refl refl proves also
 
 -- no document proves that a plan is optimal where another proves that there is none
-never_both : (p : Problem) (d e : Document) → ProvesItsClaim p d → ProvesItsClaim p e → d.claim ≡ Optimal
+pub never_both : (p : Problem) (d e : Document) → ProvesItsClaim p d → ProvesItsClaim p e → d.claim ≡ Optimal
     → e.claim ≡ Infeasible → ⊥
 never_both p d e proves also optimal infeasible =
     also.infeasible infeasible (blocks_of d.plan) (proves.has_plan optimal)
@@ -63,7 +63,7 @@ module _ (bytes : List ℕ) (m n : Effort) (a b : Status) (r s : List Row) (owed
   not_both = never_both owed.problem owed.document also.document owed.proves proves
 
 -- the statuses of two claims
-claims_agree : (c d : Claim) → (c ≡ Optimal → d ≡ Infeasible → ⊥) → (d ≡ Optimal → c ≡ Infeasible → ⊥)
+pub claims_agree : (c d : Claim) → (c ≡ Optimal → d ≡ Infeasible → ⊥) → (d ≡ Optimal → c ≡ Infeasible → ⊥)
     → MayBothBe (status_of c) (status_of d)
 claims_agree Optimal Optimal never nor = inl refl
 claims_agree Optimal Infeasible never nor = absurd (never refl refl)

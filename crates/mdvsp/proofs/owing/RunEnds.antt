@@ -10,9 +10,9 @@ use Rattle.vs_reply.specs.declared.status.Status.{Status}
 use Rattle.vs_reply.specs.declared.status.Status.TheVariants.{Done, SaysNo, BadWords, BadInput, Infeasible, StillOpen}
 use Rattle.vs_words.specs.declared.command.Command.{Command}
 use Rattle.vs_words.specs.declared.command.Effort.{Effort}
-use Rattle.vs_words.specs.declared.command.Command.TheVariants.{Check, Solve, Network, Blocks, Make, Trial, Peak, PeakCheck}
+use Rattle.vs_words.specs.declared.command.Command.TheVariants.{Check, Solve, Network, Blocks, Make, Trial, Peak, PeakCheck, Resume}
 use Rattle.mdvsp.specs.Answered.{IsOwedFor, IsSaid}
-use Rattle.mdvsp.specs.Outcome.{Run, Told, Answered, CouldNotRead, Ends, HasRead, IsOwed, IsTold, StartsNoThread, TookFew, unread_status}
+use Rattle.mdvsp.specs.Outcome.{Run, Told, Answered, CouldNotRead, Ends, HasRead, IsOwed, IsTold, Searches, StartsNoThread, TookFew, unread_status}
 use Rattle.mdvsp.specs.Owed.{Owes}
 use Rattle.vs_reader.specs.Rows.{Row, lines}
 use Rattle.vs_words.specs.Words.{AreBadAt, AskFor}
@@ -50,6 +50,12 @@ answered_ends run PeakCheck bytes Done rows o w = w
 answered_ends run PeakCheck bytes SaysNo rows o w = w
 answered_ends run PeakCheck bytes BadInput rows o w = w
 answered_ends run PeakCheck bytes _ rows o w = absurd o
+answered_ends run (Resume effort) bytes Done rows o w = w
+answered_ends run (Resume effort) bytes SaysNo rows o w = w
+answered_ends run (Resume effort) bytes BadInput rows o w = w
+answered_ends run (Resume effort) bytes Infeasible rows o w = w
+answered_ends run (Resume effort) bytes StillOpen rows o w = w
+answered_ends run (Resume effort) bytes _ rows o w = absurd o
 
 ends_answered : (run : Run) (answer : Status) (rows : List Row) → IsOwed run answer rows
     → Appends run.taken run.taken_after (lines rows) → Ends run answer
@@ -80,6 +86,7 @@ took_few Network left left_after bytes h = (bytes, takes_all left left_after byt
 took_few Blocks left left_after bytes h = (bytes, takes_all left left_after bytes h.0, h.1)
 took_few Peak left left_after bytes h = (bytes, takes_all left left_after bytes h.0, h.1)
 took_few PeakCheck left left_after bytes h = (bytes, takes_all left left_after bytes h.0, h.1)
+took_few (Resume effort) left left_after bytes h = (bytes, takes_all left left_after bytes h.0, h.1)
 
 -- a command's answer was said
 pub command_ends : (run : Run) (command : Command) (bytes : List ℕ) (answer : Result Answer Memory) (said : Status)
@@ -129,14 +136,27 @@ pub unread_ends : (run : Run) (command : Command) (error : SlurpError) (said : S
 unread_ends run command error said is asked same could =
     subst (Ends run) (sym is) (unread_so run command error asked same could)
 
--- a command but these two is done without threads
+-- a command but these three is done without threads
 pub no_search : (command : Command) → ((effort : Effort) → ¬ (command ≡ Solve effort))
-    → ((n : ℕ) → ¬ (command ≡ Trial n)) → StartsNoThread command
-no_search Check other also = tt
-no_search (Solve effort) other also = other effort refl
-no_search Network other also = tt
-no_search Blocks other also = tt
-no_search (Make n) other also = tt
-no_search (Trial n) other also = also n refl
-no_search Peak other also = tt
-no_search PeakCheck other also = tt
+    → ((n : ℕ) → ¬ (command ≡ Trial n)) → ((effort : Effort) → ¬ (command ≡ Resume effort)) → StartsNoThread command
+no_search Check solve trial resume = tt
+no_search (Solve effort) solve trial resume = solve effort refl
+no_search Network solve trial resume = tt
+no_search Blocks solve trial resume = tt
+no_search (Make n) solve trial resume = tt
+no_search (Trial n) solve trial resume = trial n refl
+no_search Peak solve trial resume = tt
+no_search PeakCheck solve trial resume = tt
+no_search (Resume effort) solve trial resume = resume effort refl
+
+-- and such a command doesn't search
+pub not_both : (command : Command) → StartsNoThread command → ¬ (Searches command)
+not_both Check alone searches = searches
+not_both (Solve effort) alone searches = alone
+not_both Network alone searches = searches
+not_both Blocks alone searches = searches
+not_both (Make n) alone searches = searches
+not_both (Trial n) alone searches = alone
+not_both Peak alone searches = searches
+not_both PeakCheck alone searches = searches
+not_both (Resume effort) alone searches = alone

@@ -1,0 +1,4 @@
+pub mod trees
+pub mod worths
+pub mod parts
+pub mod documents

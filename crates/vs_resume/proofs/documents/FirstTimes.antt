@@ -1,0 +1,44 @@
+-- Numbers once each, in the order in which they first come.
+use Rattle.std.proofs.Common.{◌≡◌, ℕ, ◌+◌, ◌<◌, ◌≤◌, ◌==◌, not, Bool, true, false, cond, List, [], ◌∷◌, ◌++◌, length, filter, get_or, take, sym, ap, ◌∙◌, arith}
+use Rattle.std.specs.List.{All, AllPairs}
+use Rattle.std.proofs.lemmas.Bool.{eq-eqb}
+use Rattle.std.proofs.lemmas.List.Elements.{All-cons, All-filter, All-head, All-nil, All-tail, All-weaker, filter_passes}
+use Rattle.std.proofs.lemmas.List.Kept.{AllPairs-cons, AllPairs-filter}
+use Rattle.std.proofs.lemmas.List.Sums.{count_by-le-length, length-filter}
+use Rattle.vs_cert.specs.StateDocument.{first_times}
+use Rattle.vs_resume.specs.Writing.{IsOnce}
+
+abbrev others : ℕ → ℕ → Bool
+others n m = not (m == n)
+
+-- a number that passes the test is another one
+is_other : (n m : ℕ) → others n m ≡ true → ¬ (n ≡ m)
+is_other n m passes same =
+    let fails : others n m ≡ false = ap not (eq-eqb m n (sym same)) in
+    absurd cc
+
+-- none of them stands twice
+pub first_times_once : (xs : List ℕ) → IsOnce (first_times xs)
+first_times_once [] = λ i j d before below. absurd (omega (arith, below))
+first_times_once (n ∷ xs) =
+    let Differ : ℕ → ℕ → Type 0 = λ a b. ¬ (a ≡ b) in
+    AllPairs-cons Differ n (filter (others n) (first_times xs))
+    (All-weaker (λ (m : ℕ). others n m ≡ true) (Differ n) (is_other n) (filter (others n) (first_times xs))
+    (filter_passes (others n) (first_times xs)))
+    (AllPairs-filter Differ (others n) (first_times xs) (first_times_once xs))
+
+-- and there are no more than before
+pub first_times_few : (xs : List ℕ) → length (first_times xs) ≤ length xs
+first_times_few [] = omega arith
+first_times_few (n ∷ xs) =
+    let rest = first_times_few xs in
+    let kept = length-filter (others n) (first_times xs) in
+    let fewer = count_by-le-length (others n) (first_times xs) in
+    omega (arith, rest, kept, fewer)
+
+-- what is true of numbers is true of them once each
+pub first_times-All : (P : ℕ → Type 0) (xs : List ℕ) → All P xs → All P (first_times xs)
+first_times-All P [] each = All-nil P
+first_times-All P (n ∷ rest) each =
+    All-cons P n (filter (others n) (first_times rest)) (All-head P n rest each)
+    (All-filter (others n) P (first_times rest) (first_times-All P rest (All-tail P n rest each)))

@@ -1,0 +1,5 @@
+-- A search of a part, and the turn that it makes.
+pub mod PartTables
+pub mod PartLeaves
+pub mod PartPut
+pub mod PartTurn

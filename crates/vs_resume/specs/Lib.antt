@@ -1,0 +1,11 @@
+pub mod Standing
+pub mod InPlace
+pub mod Turns
+pub mod Answers
+pub mod Deepened
+pub mod Outlines
+pub mod Cases
+pub mod Order
+pub mod Parts
+pub mod Courses
+pub mod Writing

@@ -1,0 +1,33 @@
+//! Who searches the part of a leaf, and how much work that may be.
+
+ghost use Rattle.std.specs.Prelude.{◌*◌, ◌≤◌, length, IfOk};
+ghost use Rattle.vs_instance.specs.declared.limits.TheConstants.{MAX_BUDGET};
+ghost use Rattle.vs_resume.specs.Deepened.{IsDeepened};
+
+use std::alloc::Global;
+use vs_instance::Instance;
+use vs_tree::Tree;
+use vs_types::Memory;
+
+/// How many nodes a turn finishes at most: few enough that the search soon comes back to the leaf of least worth of
+/// all, and enough that a part is worth its nets.
+pub const MAX_TURN: u32 = 20;
+
+/// How many entering prices the tables of a search of a part may have together, with one table for each node of its
+/// budget.
+pub const MAX_PART_ENTRIES: u32 = 3_000_000;
+
+/// Who searches parts of an instance.
+pub trait Deepen {
+    /// What is so of a solver that may be called, and stays so.
+    ghost can_deepen: { Self → Type 0 };
+
+    /// A search of the part with this budget that began with no plan: it is over, and finished some node.
+    fn deepen(&mut self, alloc: Global, part: Instance, budget: u32) -> Result<Tree, Memory>
+        requires can { can_deepen self.old }
+        requires some { 1 ≤ budget }
+        requires budget { budget ≤ MAX_BUDGET }
+        requires room { length part.trips * length part.layers * budget ≤ MAX_PART_ENTRIES }
+        ensures stays { can_deepen self.new }
+        ensures found { IfOk result (IsDeepened part budget) };
+}

@@ -1,0 +1,55 @@
+//! A search carried on.
+
+ghost use Rattle.std.specs.Prelude.{◌≤◌, IfOk};
+ghost use Rattle.vs_check.specs.HoldingDocument.{HoldingDocument};
+ghost use Rattle.vs_instance.specs.declared.limits.TheConstants.{MAX_BUDGET};
+ghost use Rattle.vs_rows.specs.DocumentText.{HasText};
+ghost use Rattle.vs_resume.specs.Answers.{HasRoom, ResumeAnswer};
+
+use crate::course::Course;
+use crate::deepen::Deepen;
+use crate::order::next_case;
+use crate::turning::turn;
+use crate::writing::document_of;
+use std::alloc::Global;
+use vs_document::Document;
+use vs_instance::{Instance, MAX_TRIPS};
+use vs_types::Memory;
+
+/// How many entering prices the tables of a search that is carried on may have together, with one table for each leaf
+/// of its document and for each node of its budget: twice as many as a search may have, so that every document that one
+/// writes can be carried on.
+pub const MAX_RESUMED_ENTRIES: u32 = 6_000_000;
+
+/// Carries a search on from a document that holds, within a budget. While nodes are left and a leaf is below the cost,
+/// it takes the leaf of least worth, the first from left to right, has its part searched, puts the tree of that search
+/// in the leaf's place, with the better of the old and of the new table at each leaf, and takes the plan where it is
+/// cheaper. The nodes are those of this call alone. It returns where the solver does; after want of memory nothing is
+/// said of the solver.
+pub fn resume<S: Deepen>(
+    alloc: Global,
+    instance: &Instance,
+    document: Document,
+    budget: u32,
+    solver: &mut S,
+) -> Result<Document, Memory>
+    requires text { HasText instance.now document }
+    requires holds { HoldingDocument instance.now document }
+    requires budget { budget ≤ MAX_BUDGET }
+    requires room { HasRoom instance.now document budget }
+    requires can { S.can_deepen solver.old }
+    ensures { IfOk result (ResumeAnswer instance.now budget document) }
+{
+    // for the proof: the instance is within its limits
+    prove!(instance.trips() <= MAX_TRIPS);
+    let mut course = Course::of(alloc, instance, document)?;
+    let mut left = budget;
+    while left > 0 {
+        let Some(k) = next_case(&course.cases, course.cost) else {
+            break;
+        };
+        let finished = turn(alloc, instance, &mut course, k, left, solver)?;
+        left -= finished;
+    }
+    document_of(alloc, course, budget - left)
+}

@@ -1,0 +1,136 @@
+//! A turn: the next leaf gives place to a search of its part.
+
+ghost use Rattle.std.specs.Prelude.{◌≡◌, ◌<◌, ◌≤◌, length, IfOk, OnOk};
+ghost use Rattle.vs_instance.specs.Narrowed.{narrowed};
+ghost use Rattle.vs_instance.specs.Restriction.{IsRestriction};
+ghost use Rattle.vs_resume.specs.declared.deepen.TheConstants.{MAX_TURN};
+ghost use Rattle.vs_resume.specs.Courses.{AreNext, HasFewTables, HasNewTables, HasSetsAt, IsPartPut, IsPlanTaken};
+ghost use Rattle.vs_resume.specs.Courses.{IsSomeCourse, TurnsOn};
+ghost use Rattle.vs_resume.specs.Deepened.{IsDeepened};
+
+use crate::cases::{cases_of, settle};
+use crate::course::Course;
+use crate::deepen::{Deepen, MAX_TURN};
+use crate::part::{copy_of_plan, widened_tables};
+use crate::rows::{put_in_place, put_rows};
+use std::alloc::Global;
+use vs_cert::{TreeRows, rows_of_tree};
+use vs_document::Shape;
+use vs_instance::{Instance, MAX_LAYERS, MAX_TRIPS};
+use vs_prices::Table;
+use vs_tree::Tree;
+use vs_types::{LayerSet, Memory};
+
+/// Takes a turn at leaf k, which is the next one, where so many nodes are left. Gives how many it finished.
+pub(crate) fn turn<S: Deepen>(
+    alloc: Global,
+    instance: &Instance,
+    course: &mut Course,
+    k: usize,
+    left: u32,
+    solver: &mut S,
+) -> Result<u32, Memory>
+    requires course { IsSomeCourse instance.now course.old }
+    requires next { AreNext course.old k }
+    requires left { 1 ≤ left }
+    requires few { HasFewTables course.old }
+    requires can { S.can_deepen solver.old }
+    ensures stays { S.can_deepen solver.new }
+    ensures turn { IfOk result (TurnsOn instance.now left course.old course.new) }
+    ensures few { OnOk result (HasNewTables course.old course.new) }
+{
+    // for the proof: the instance is within its limits
+    prove!(instance.trips() <= MAX_TRIPS);
+    let sets = Vec::from_slice(alloc, &course.cases[k].sets)?;
+    let layers: &[LayerSet] = &sets;
+    let tree = deepened(alloc, instance, layers, left.min(MAX_TURN), solver)?;
+    // for the proof: the steps of a search are a history from an opening
+    let _part = tree.instance();
+    let finished = tree.report().finished;
+    put_part(alloc, instance, course, k, sets, &tree)?;
+    take_plan(alloc, course, &tree)?;
+    Ok(finished)
+}
+
+/// A search of the part that these sets leave, with this budget.
+fn deepened<S: Deepen>(
+    alloc: Global,
+    instance: &Instance,
+    sets: &[LayerSet],
+    budget: u32,
+    solver: &mut S,
+) -> Result<Tree, Memory>
+    requires sets { IsRestriction instance.now sets.now }
+    requires some { 1 ≤ budget }
+    requires few { budget ≤ MAX_TURN }
+    requires can { S.can_deepen solver.old }
+    ensures stays { S.can_deepen solver.new }
+    ensures found { IfOk result (IsDeepened (narrowed instance.now sets.now) budget) }
+{
+    let part = instance.narrow(alloc, sets)?;
+    // for the proof: the part is within its limits
+    prove!(part.trips() <= MAX_TRIPS);
+    prove!(part.layers() <= MAX_LAYERS);
+    solver.deepen(alloc, part, budget)
+}
+
+/// Takes the plan of a search of a part where it is cheaper.
+fn take_plan(alloc: Global, course: &mut Course, tree: &Tree) -> Result<(), Memory>
+    ensures { OnOk result (IsPlanTaken tree.now course.old course.new) }
+{
+    let Some(found) = tree.plan() else {
+        return Ok(());
+    };
+    let cost = found.cost();
+    if let Some(known) = course.cost {
+        if known <= cost {
+            return Ok(());
+        }
+    }
+    course.plan = copy_of_plan(alloc, found.plan())?;
+    course.cost = Some(cost);
+    Ok(())
+}
+
+/// Puts the tree of a search of a part in the place of leaf k, which has these layers. Each of its leaves has the
+/// better of its own table, widened, and of the table that leaf k had.
+fn put_part(
+    alloc: Global,
+    instance: &Instance,
+    course: &mut Course,
+    k: usize,
+    sets: Vec<LayerSet>,
+    tree: &Tree,
+) -> Result<(), Memory>
+    requires course { IsSomeCourse instance.now course.old }
+    requires leaf { k < length course.old.cases.items }
+    requires sets { HasSetsAt course.old k sets.items }
+    requires part { tree.now.opening.problem ≡ narrowed instance.now sets.items }
+    requires budget { tree.now.opening.budget ≤ MAX_TURN }
+    requires few { HasFewTables course.old }
+    ensures put { OnOk result (IsPartPut instance.now k tree.now course.old course.new) }
+    ensures few { OnOk result (HasNewTables course.old course.new) }
+{
+    // for the proof: the instance is within its limits, and the steps of a search are a history from an opening
+    prove!(instance.trips() <= MAX_TRIPS);
+    let _part = tree.instance();
+    let number = course.cases[k].table;
+    let base = course.tables.len() as u32;
+    let of_tree = rows_of_tree(alloc, tree)?;
+    let TreeRows {
+        rows,
+        tables: numbers,
+    } = of_tree;
+    let layers: &[LayerSet] = &sets;
+    let named: &[u32] = &numbers;
+    let mut tables = widened_tables(alloc, instance, layers, tree, named)?;
+    let shapes: &[Shape] = &rows;
+    let widened: &[Table] = &tables;
+    let mut cases = cases_of(alloc, instance, sets, shapes, widened)?;
+    let old = &course.tables[number as usize];
+    settle(instance, old, number, base, &mut cases);
+    course.tables.append(&mut tables)?;
+    put_rows(&mut course.rows, k, rows)?;
+    put_in_place(&mut course.cases, k, cases)?;
+    Ok(())
+}
