@@ -1,0 +1,2 @@
+pub mod NamedSteps
+pub mod WrittenSteps

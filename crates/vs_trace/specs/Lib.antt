@@ -1,0 +1,3 @@
+pub mod TraceRows
+pub mod Traces
+pub mod Writing

@@ -1,0 +1,10 @@
+//! The trace of a search: what it tells, and how it is written.
+#![tactic(auto)]
+
+mod limits;
+mod trace;
+mod writing;
+
+pub use limits::MAX_SPOTS;
+pub use trace::{Full, Trace};
+pub use writing::write;
