@@ -28,11 +28,11 @@ timed() {
     "$(told nodes)" "$seconds" "$(bin/mdvsp check < "$work/both" | cut -d, -f1)"
 }
 
-# Gives the instance of this name to CBC for at most 600 seconds, and prints a row.
+# Gives the instance of this name to CBC for at most $CBC_SECONDS seconds, 600 where that isn't set, and prints a row.
 mip() {
   local name=$1 seconds cost
   bench/time_space_model.py < "$work/$name" > "$work/model.mps"
-  seconds=$({ time cbc "$work/model.mps" sec 600 solve > "$work/cbc"; } 2>&1)
+  seconds=$({ time cbc "$work/model.mps" sec "${CBC_SECONDS:-600}" solve > "$work/cbc"; } 2>&1)
   cost=$(sed -n 's/^Objective value: *//p' "$work/cbc" | cut -d. -f1)
   row "$name, CBC" "" "$cost" "$(sed -n 's/^Lower bound: *//p' "$work/cbc" | cut -d. -f1)" "" "" "$seconds" ""
 }

@@ -1,7 +1,7 @@
 #!/usr/bin/env bash
 # Times the audit of a document of three million prices: 94 tables of zeros for 16 layers and 2,000 trips, each permitted in
-# every layer, in a tree of 93 splits whose leaves name each table once. Prints seconds and the greatest memory in kB, and
-# asserts nothing. Build bin/mdvsp first.
+# every layer, in a tree of 93 splits whose leaves name each table once; and how long it takes to carry that search on with no
+# node, beside `solve --nodes 0`. Prints seconds and the greatest memory in kB, and asserts nothing. Build bin/mdvsp first.
 set -u
 cd "$(dirname "$0")/.." || exit 1
 work=$(mktemp -d)
@@ -31,3 +31,9 @@ awk 'BEGIN {
 
 echo "check on $(wc -l < "$work/both") records, $(wc -c < "$work/both") bytes:"
 /usr/bin/time -f "%e seconds (%U of the processor), %M kB" bin/mdvsp check < "$work/both"
+for words in "solve --nodes 0" "resume --nodes 0"; do
+  echo "$words on them:"
+  /usr/bin/time -f "%e seconds (%U of the processor), %M kB" bin/mdvsp $words < "$work/both" > "$work/plan"
+  head -4 "$work/plan" | tr '\n' ' '
+  echo
+done

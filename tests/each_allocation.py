@@ -53,10 +53,18 @@ def example(name):
 TIMETABLE = example("two_depots.csv")
 DOCUMENT = example("two_depots_document.csv")
 
+# One whose one leaf leaves all open.
+OPEN = (
+    "result,1,open\ncost,none\nbound,30\nnodes,0\ntable,1,cost\n"
+    "fleet,L1,0\nprice,L1,t1,0,0\nfleet,L2,0\nprice,L2,t1,0,0\nleaf,1\nend\n"
+)
+
 # Words, input, and whether two workers share the run.
 RUNS = [
     (["solve", "--workers", "2"], TIMETABLE, True),
     (["solve", "--workers", "1"], TIMETABLE, False),
+    (["resume", "--workers", "2"], TIMETABLE + OPEN, True),
+    (["resume", "--workers", "1"], TIMETABLE + OPEN, False),
     (["check"], TIMETABLE + DOCUMENT, False),
     (["network"], TIMETABLE, False),
     (["blocks"], TIMETABLE + DOCUMENT, False),

@@ -1,31 +1,18 @@
 //! Searches of one trip that may be run in two layers, call by call.
 
-ghost use Rattle.std.specs.Prelude.{◌≡◌, ◌≤◌, [], length, IfOk};
+ghost use Rattle.std.specs.Prelude.{◌≡◌, ◌≤◌, []};
 ghost use Rattle.vs_tree.specs.History.{IsAmong};
 ghost use Rattle.vs_tree.specs.Search.{state};
 
 mod prices;
-pub mod root;
 pub mod worked;
 
 use std::alloc::Global;
 use std::test::Fail;
 use trial_fixtures::instance_of;
-use trial_fixtures::texts::{STOPS, TWO_LAYERS};
-use vs_instance::Instance;
+use trial_leaves::{one_trip, split};
 use vs_tree::{Claim, Report, Take, Tree};
-use worked::{answer, finished, split, taken_again};
-
-/// The instance of one trip and two layers.
-pub fn one_trip(alloc: Global) -> Result<Instance, Fail>
-    ensures { IfOk result (λ i. (length i.layers ≡ 2) × (length i.trips ≡ 1)) }
-{
-    let instance = instance_of(alloc, &[STOPS, TWO_LAYERS])?;
-    if instance.layers() != 2 || instance.trips() != 1 {
-        return Err(Fail::new("another instance"));
-    }
-    Ok(instance)
-}
+use worked::{answer, finished, taken_again};
 
 /// What a search reports that is over, and what worker 0 is told then.
 fn told_then(alloc: Global, tree: &mut Tree) -> Result<(Report, Take), Fail>

@@ -1,6 +1,5 @@
 //! Runs that take a while: large timetables, many workers, and two workers that meet.
 
-use crate::runs::{audit, ran};
 use mdvsp::{Status, make_text};
 use std::alloc::Global;
 use std::process::Abort;
@@ -10,6 +9,7 @@ use std::test::Fail;
 use std::thread::{Threads, yield_now};
 use trial_fixtures::joined;
 use trial_fixtures::texts::HALVES;
+use trial_runs::{audit, ran};
 use vs_crew::{Gate, NoGate};
 
 /// So many workers plan the generator's timetable of so many trips, working on so many leaves at most, and the document

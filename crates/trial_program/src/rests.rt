@@ -1,7 +1,6 @@
 //! Rests in the depot: as short and as long as they may be, where they cost as much as the direct way, and beside a
 //! plain count of all plans.
 
-use crate::runs::{Row, audit, come_out};
 use mdvsp::Status;
 use std::alloc::Global;
 use std::process::Abort;
@@ -11,6 +10,7 @@ use std::thread::Threads;
 use trial_fixtures::texts::{
     BLOCK, END, NOON_HEAD, NOON_TABLE, NOON_TRIPS, RESTING_LAYER, RESTING_STOPS, TRIPS,
 };
+use trial_runs::{Row, audit, come_out};
 use trial_small::{Small, least_cost, made, text_of};
 use vs_crew::NoGate;
 

@@ -1,85 +1,30 @@
 //! Two workers that work at the same time.
 
-ghost use Rattle.std.specs.Prelude.{◌≡◌, [], length, IfOk};
+ghost use Rattle.std.specs.Prelude.{◌≡◌, []};
 ghost use Rattle.vs_crew.specs.Sharing.{NoneIsHeld};
 ghost use Rattle.vs_tree.specs.Search.{state};
 
-use crate::trees::one_trip;
-use crate::trees::worked::split;
 use std::alloc::Global;
 use std::sync::Wait;
-use std::sync::atomic::{AtomicBool, AtomicU32, Ordering};
 use std::test::Fail;
-use std::thread;
 use std::thread::Threads;
-use vs_crew::{Gate, run};
+use std::time::Clock;
+use trial_leaves::{Meeting, one_trip, two_leaves};
+use vs_crew::run;
 use vs_instance::Instance;
 use vs_match::layer_nets;
 use vs_tree::{Claim, Report, Tree};
 
 /// How often a worker looks for the other one before it passes the gate alone.
-const TURNS: u32 = 1_000_000_000;
+const LOOKS: u32 = 1_000_000_000;
 
-/// A gate that a worker of spot 1 or 2 passes once the other of them was taken too.
-#[derive(Drop)]
-struct Meeting {
-    left: AtomicBool,
-    right: AtomicBool,
-    /// How many workers passed it so.
-    met: AtomicU32,
-}
-
-impl Meeting {
-    fn new() -> Meeting {
-        Meeting {
-            left: AtomicBool::new(false),
-            right: AtomicBool::new(false),
-            met: AtomicU32::new(0),
-        }
-    }
-
-    /// Tells the other worker of one's own spot, and waits for the other's.
-    fn meet(&self, own: &AtomicBool, other: &AtomicBool) {
-        own.store(true, Ordering::SeqCst);
-        for _ in 0..TURNS {
-            if other.load(Ordering::SeqCst) {
-                self.met.fetch_add(1, Ordering::SeqCst);
-                return;
-            }
-            thread::yield_now();
-        }
-    }
-}
-
-impl Gate for Meeting {
-    fn before(&self, _worker: u32, leaf: u32) {
-        match leaf {
-            1 => self.meet(&self.left, &self.right),
-            2 => self.meet(&self.right, &self.left),
-            _ => {}
-        }
-    }
-}
-
-/// A search by two workers whose root is split, and whose two leaves are free.
-fn two_leaves(alloc: Global, instance: &Instance) -> Result<Tree, Fail>
-    requires trips { length instance.now.trips ≡ 1 }
-    ensures problem { IfOk result (λ tree. tree.opening.problem ≡ instance.now) }
-    ensures workers { IfOk result (λ tree. tree.opening.workers ≡ 2) }
-    ensures none_held { IfOk result (λ tree. NoneIsHeld (state tree)) }
-    ensures none_gone { IfOk result (λ tree. (state tree).gone ≡ []) }
-{
-    let tree = split(alloc, instance, 5)?;
-    Ok(tree)
-}
-
-/// What the search of that tree reports, by two workers that pass the gate.
-fn reported<R: Threads + Wait + Sync>(
+/// What a search whose root is split reports, by two workers that pass the gate.
+fn reported<R: Threads + Wait + Sync + Clock>(
     rt: &R,
     alloc: Global,
     instance: &Instance,
     tree: Tree,
-    gate: &Meeting,
+    gate: &Meeting<'_, R>,
 ) -> Result<Report, Fail>
     requires problem { tree.opening.problem ≡ instance.now }
     requires workers { tree.opening.workers ≡ 2 }
@@ -94,10 +39,10 @@ fn reported<R: Threads + Wait + Sync>(
 }
 
 /// What two workers report that meet at the gate, of a search whose root is split.
-fn searched_by_two<R: Threads + Wait + Sync>(
+fn searched_by_two<R: Threads + Wait + Sync + Clock>(
     rt: &R,
     alloc: Global,
-    gate: &Meeting,
+    gate: &Meeting<'_, R>,
 ) -> Result<Report, Fail> {
     let instance = one_trip(alloc)?;
     let tree = two_leaves(alloc, &instance)?;
@@ -105,10 +50,10 @@ fn searched_by_two<R: Threads + Wait + Sync>(
 }
 
 /// How many of them passed the gate with the other, and what they report.
-fn met<R: Threads + Wait + Sync>(rt: &R, alloc: Global) -> Result<(u32, Report), Fail> {
-    let gate = Meeting::new();
+fn met<R: Threads + Wait + Sync + Clock>(rt: &R, alloc: Global) -> Result<(u32, Report), Fail> {
+    let gate = Meeting::new(rt, LOOKS);
     let report = searched_by_two(rt, alloc, &gate)?;
-    Ok((gate.met.load(Ordering::SeqCst), report))
+    Ok((gate.met(), report))
 }
 
 #[test]

@@ -3,11 +3,10 @@
 ghost use Rattle.std.specs.Prelude.{◌≡◌, [], ◌∷◌, length, true, None};
 ghost use Rattle.vs_tree.specs.Entries.{opening_entry};
 
-use crate::trees::one_trip;
-use crate::trees::root::{split_root, started};
 use std::alloc::Global;
 use std::sync::Wait;
 use std::test::Fail;
+use trial_leaves::{one_trip, split_root, started};
 use vs_instance::Instance;
 use vs_prices::{Table, permitted_sets};
 use vs_tree::{Step, Tree};

@@ -12,9 +12,9 @@ ghost use Rattle.vs_tree.specs.Takes.{IsTake, taking};
 ghost use Rattle.vs_tree.specs.declared.spot.Spot.TheVariants.{Held};
 
 use crate::trees::prices::table;
-use crate::trees::root::{split_root, started};
 use std::alloc::Global;
 use std::test::Fail;
+use trial_leaves::split;
 use vs_instance::Instance;
 use vs_plan::{CheckedPlan, greedy};
 use vs_prices::{Table, broken, permitted_sets, worth};
@@ -91,26 +91,7 @@ pub fn answer(alloc: Global, tree: &mut Tree, w: u32) -> Result<Take, Fail>
     Ok(told.take)
 }
 
-/// A search in which worker 0 took the root and split it with the table of zeros: on the left the trip is run in the
-/// first layer.
-pub fn split(alloc: Global, instance: &Instance, budget: u32) -> Result<Tree, Fail>
-    requires budget { budget ≤ 5 }
-    requires trips { length instance.now.trips ≡ 1 }
-    ensures { IfOk result (λ tree. (left : LayerSet) × (tree ≡ record {
-      opening = record { problem = instance.now; budget = budget; workers = 2; first = None };
-      steps = full.Took 0 0 ∷ full.Split 0 0 1 (record { 0 = 0 }) left (zero_prices instance.now) ∷ [];
-    })) }
-{
-    let mut tree = started(alloc, instance, budget)?;
-    let sets = permitted_sets(alloc, instance)?;
-    let table = Table::zero(alloc, instance)?;
-    if !split_root(&mut tree, sets, table) {
-        return Err(Fail::new("the root isn't split"));
-    }
-    Ok(tree)
-}
-
-/// The same, where worker 0 took the left leaf then; and what it was told.
+/// The search whose root is split, where worker 0 took the left leaf then; and what it was told.
 fn left_taken(alloc: Global, instance: &Instance) -> Result<(Tree, Told), Fail>
     requires trips { length instance.now.trips ≡ 1 }
     ensures tree { IfOk result (λ made. (left : LayerSet) × (made.0 ≡ record {

@@ -14,7 +14,7 @@ use Rattle.vs_tree.proofs.CallerLemmas.{same_opening}
 use Rattle.vs_turn.specs.Calls.{AreCalls, GoOn, has_ticket}
 use Rattle.vs_turn.specs.Seats.{HeldModel, SeatModel}
 use Rattle.vs_turn.proofs.CallerLemmas.{adds_none}
-use Rattle.trial_crew.specs.Steps.{AreBy}
+use Rattle.vs_crew.specs.Sharing.{AreBy}
 use Rattle.trial_crew.proofs.Searches.{fits_sized}
 use Rattle.trial_crew.proofs.crews.seats.split_in_turn.Given.{Over}
 use Rattle.trial_crew.proofs.crews.seats.split_in_turn.Goals as goal

@@ -1,6 +1,5 @@
 //! Documents that are judged.
 
-use crate::runs::{Row, come_out};
 use mdvsp::Status;
 use std::test::Fail;
 use trial_fixtures::texts::{
@@ -8,6 +7,7 @@ use trial_fixtures::texts::{
     NOON_TABLE, NOON_TRIPS, ONE_VEHICLE, OTHER_LAYER, RESTING_LAYER, RESTING_STOPS, SPLIT_HEAD,
     SPLIT_TABLE, STOPS, TABLE, TABLE_APART, TABLE_TOO_HIGH, TRIPS, TRIPS_APART, TWO_LAYERS,
 };
+use trial_runs::{Row, come_out};
 
 /// A table with the greatest price that there is for a vehicle, and for entering the first trip. For two vehicles it
 /// takes 2 * 10^18 away and gives 10^18 back: 10^15 units less than the 60 that the trips themselves cost.

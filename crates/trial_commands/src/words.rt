@@ -1,12 +1,12 @@
 //! Words that name no command.
 
-use crate::runs::reads_nothing;
 use mdvsp::Status;
 use std::alloc::Global;
 use std::process::Abort;
 use std::sync::Wait;
 use std::test::Fail;
 use std::thread::Threads;
+use trial_runs::reads_nothing;
 
 /// Words, and what is written of them.
 type Wrong = (&'static [&'static str], &'static str);

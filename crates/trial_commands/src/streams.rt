@@ -2,7 +2,6 @@
 
 ghost use Rattle.std.specs.Prelude.{◌≤◌};
 
-use crate::runs::ran_over;
 use mdvsp::Status;
 use std::alloc::Global;
 use std::process::Abort;
@@ -11,6 +10,7 @@ use std::test::Fail;
 use std::thread::Threads;
 use trial_fixtures::joined;
 use trial_fixtures::texts::{BLOCK, END, HEAD, LAYER, STOPS, TABLE, TRIPS};
+use trial_runs::ran_over;
 use vs_crew::NoGate;
 use vs_io::{MemSink, MemSource};
 

@@ -1,6 +1,5 @@
 //! `network`, `make`, `trial` and `blocks`.
 
-use crate::runs::{Row, come_out, ran, reads_nothing};
 use mdvsp::Status;
 use std::alloc::Global;
 use std::process::Abort;
@@ -11,6 +10,7 @@ use trial_fixtures::texts::{
     BLOCK, END, LAYER, LONG_TRIPS, NOON_HEAD, NOON_TABLE, NOON_TRIPS, RESTING_LAYER, RESTING_STOPS,
     STOPS, TABLE, TRIPS,
 };
+use trial_runs::{Row, come_out, ran, reads_nothing};
 
 /// Six trips: four from D to P, and two from Q to D.
 const SIX_TRIPS: &str = "\

@@ -1,11 +1,14 @@
 //! What is refused before it is planned or judged.
 
-use crate::runs::{Row, come_out};
 use mdvsp::Status;
+use std::alloc::Global;
+use std::sync::Wait;
 use std::test::Fail;
+use std::thread::Threads;
 use trial_fixtures::texts::{
     BLOCK, END, HEAD, LAYER, NOON_TRIPS, RESTING_STOPS, STOPS, TABLE, TRIPS,
 };
+use trial_runs::{Row, come_out};
 
 const NO_INSTANCES: &[Row] = &[
     Row {
@@ -188,12 +191,30 @@ const NO_INSTANCES: &[Row] = &[
     },
 ];
 
+/// By each of these words all rows of a table come out.
+fn come_out_by_each<R: Threads + Wait + Sync>(
+    rt: &R,
+    alloc: Global,
+    commands: &[&[&str]],
+    rows: &[Row],
+) -> Result<(), Fail> {
+    for words in commands {
+        come_out(rt, alloc, words, rows)?;
+    }
+    Ok(())
+}
+
+/// The commands that read an instance.
+const OF_INSTANCES: &[&[&str]] = &[
+    &["check"],
+    &["solve", "--nodes", "0"],
+    &["network"],
+    &["blocks"],
+];
+
 #[test]
 fn refuses_what_is_no_instance(rt: HostRuntime) -> Result<(), Fail> {
-    come_out(&rt, rt.alloc(), &["check"], NO_INSTANCES)?;
-    come_out(&rt, rt.alloc(), &["solve", "--nodes", "0"], NO_INSTANCES)?;
-    come_out(&rt, rt.alloc(), &["network"], NO_INSTANCES)?;
-    come_out(&rt, rt.alloc(), &["blocks"], NO_INSTANCES)
+    come_out_by_each(&rt, rt.alloc(), OF_INSTANCES, NO_INSTANCES)
 }
 
 const NO_DOCUMENTS: &[Row] = &[
@@ -428,8 +449,10 @@ const NO_DOCUMENTS: &[Row] = &[
     },
 ];
 
+/// The commands that read a document.
+const OF_DOCUMENTS: &[&[&str]] = &[&["check"], &["blocks"]];
+
 #[test]
 fn refuses_what_is_no_document(rt: HostRuntime) -> Result<(), Fail> {
-    come_out(&rt, rt.alloc(), &["check"], NO_DOCUMENTS)?;
-    come_out(&rt, rt.alloc(), &["blocks"], NO_DOCUMENTS)
+    come_out_by_each(&rt, rt.alloc(), OF_DOCUMENTS, NO_DOCUMENTS)
 }

@@ -1,6 +1,5 @@
 //! `peak` and `peakcheck`.
 
-use crate::runs::{Row, come_out, ran};
 use mdvsp::Status;
 use std::alloc::Global;
 use std::process::Abort;
@@ -11,6 +10,7 @@ use trial_fixtures::joined;
 use trial_fixtures::texts::{
     LATE_TRIPS, LAYER, ONE_VEHICLE, OTHER_LAYER, STOPS, TRIPS, TRIPS_APART,
 };
+use trial_runs::{Row, come_out, ran};
 
 const NO_PEAKS: &[Row] = &[
     Row {
