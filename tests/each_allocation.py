@@ -13,8 +13,9 @@ First the calls of a run with ample memory are counted. Up to 1,000 calls all ar
 last 100, and 300 evenly between. A number past the last call has to meet no refusal.
 
 A run of one worker has to print the same bytes where it ends well. Of two workers the documents may differ: the
-claim, the cost and the bound have to be the same, and `check` has to say yes to each document. The calls of two
-workers come in another order each time, so there a number stands for another call in each run.
+claim, the cost and the bound have to be the same, and `check` has to say yes to each document; so it is of the
+documents to which their traces replay. The calls of two workers come in another order each time, so there a number
+stands for another call in each run.
 
 A run of MEETING has to end with status 6 and nothing written, or to print a row in which no worker holds a leaf and
 the history has gone on: it begins with the steps that stood, and no count, cost or bound is worse than before. Where
@@ -59,17 +60,29 @@ OPEN = (
     "fleet,L1,0\nprice,L1,t1,0,0\nfleet,L2,0\nprice,L2,t1,0,0\nleaf,1\nend\n"
 )
 
-# Words, input, and whether two workers share the run.
+# The trace of a search of two workers that share it by a split.
+TRACE = (
+    "result,1,trace\nopening,5,2\nfirst,none\ntook,1,1\nsplit,1,1,t1,L1\n"
+    "table,1,cost\nfleet,L1,0\nprice,L1,t1,0,0\nfleet,L2,0\nprice,L2,t1,0,0\n"
+    "took,1,2\ntook,2,3\noffered,1,500\nblock,L1,t1\nclosed,1,2\n"
+    "table,2,cost\nfleet,L1,0\nprice,L1,t1,460000,-10000\nfleet,L2,0\nprice,L2,t1,455000,-15000\nclosed,2,3\n"
+    "table,3,cost\nfleet,L1,0\nprice,L1,t1,460000,-10000\nfleet,L2,0\nprice,L2,t1,455000,-15000\nend\n"
+)
+
+# Words, timetable, what stands behind it, and whether two workers share the run.
 RUNS = [
-    (["solve", "--workers", "2"], TIMETABLE, True),
-    (["solve", "--workers", "1"], TIMETABLE, False),
-    (["resume", "--workers", "2"], TIMETABLE + OPEN, True),
-    (["resume", "--workers", "1"], TIMETABLE + OPEN, False),
-    (["check"], TIMETABLE + DOCUMENT, False),
-    (["network"], TIMETABLE, False),
-    (["blocks"], TIMETABLE + DOCUMENT, False),
-    (["make", "2"], "", False),
-    (["trial", "2"], "", False),
+    (["solve", "--workers", "2"], TIMETABLE, "", True),
+    (["solve", "--workers", "1"], TIMETABLE, "", False),
+    (["resume", "--workers", "2"], TIMETABLE, OPEN, True),
+    (["resume", "--workers", "1"], TIMETABLE, OPEN, False),
+    (["trace", "--workers", "2"], TIMETABLE, "", True),
+    (["trace", "--workers", "1"], TIMETABLE, "", False),
+    (["replay"], TIMETABLE, TRACE, False),
+    (["check"], TIMETABLE, DOCUMENT, False),
+    (["network"], TIMETABLE, "", False),
+    (["blocks"], TIMETABLE, DOCUMENT, False),
+    (["make", "2"], "", "", False),
+    (["trial", "2"], "", "", False),
 ]
 
 
@@ -126,11 +139,18 @@ class Trial:
         os.unlink(tally)
         return done, calls, refused
 
-    def judged(self, text, document):
-        """Whether `check` says yes to a document, with ample memory."""
-        both = text.encode() + document
+    def judged(self, timetable, document):
+        """Whether `check` says yes to a document of the timetable, with ample memory."""
+        both = timetable.encode() + document
         done = subprocess.run([self.path, "check"], input=both, capture_output=True, timeout=SECONDS)
         return done.returncode == 0 and done.stdout.startswith(b"yes,")
+
+    def document(self, timetable, written):
+        """The document that was written of a timetable, or the one to which a trace of it replays, with ample memory."""
+        if not written.startswith(b"result,1,trace\n"):
+            return written
+        both = timetable.encode() + written
+        return subprocess.run([self.path, "replay"], input=both, capture_output=True, timeout=SECONDS).stdout
 
 
 def told(document):
@@ -166,13 +186,14 @@ def same_bytes(ample, written, _on):
     return "" if written == ample else f"other bytes: {written[:100]!r}"
 
 
-def same_answer(trial, text):
-    """Judges what two workers wrote."""
+def same_answer(trial, timetable):
+    """Judges what two workers wrote of a timetable: a document, or a trace by the document to which it replays."""
 
     def judge(ample, written, _on):
-        if told(written) != told(ample):
-            return f"another claim, cost or bound: {told(written)!r}"
-        return "" if trial.judged(text, written) else "`check` says no to its document"
+        wanted, found = trial.document(timetable, ample), trial.document(timetable, written)
+        if told(found) != told(wanted):
+            return f"another claim, cost or bound: {told(found)!r}"
+        return "" if trial.judged(timetable, found) else "`check` says no to its document"
 
     return judge
 
@@ -300,9 +321,9 @@ def main():
     with tempfile.TemporaryDirectory() as room:
         refusing = library(room)
         trial = Trial(path, room, refusing, SECONDS)
-        for words, text, shared in RUNS:
-            judge = same_answer(trial, text) if shared else same_bytes
-            wrong += tried(trial, " ".join(words), words, text, shared, judge)
+        for words, timetable, behind, shared in RUNS:
+            judge = same_answer(trial, timetable) if shared else same_bytes
+            wrong += tried(trial, " ".join(words), words, timetable + behind, shared, judge)
         if of_crew:
             wrong += crews_tried(Trial(of_crew, room, refusing, MEETING_SECONDS))
         else:
