@@ -1,4 +1,5 @@
 -- What crates above may cite of these proofs.
+pub use Rattle.vs_rows.proofs.rows.SplitLayers.{some_member}
 pub use Rattle.vs_rows.proofs.rows.SaysOnce.{first_word, none_is_no_number, says_once, word_of}
 pub use Rattle.vs_rows.proofs.tables.ErrorsPass.{err_passes, err_weaker, ok_weaker}
 pub use Rattle.vs_rows.proofs.tables.PriceRows.{as_word}

@@ -75,7 +75,7 @@ pub fn bound(rows: &Rows, row: usize) -> Option<Option<i128>>
 }
 
 /// The number from `low` to `high` that a field writes, or `none`.
-fn amount(field: &[u8], low: i128, high: i128) -> Option<Option<i128>>
+pub fn amount(field: &[u8], low: i128, high: i128) -> Option<Option<i128>>
     requires low { neg_ℤ MAX_BOUND ≤ℤ low }
     requires high { high ≤ℤ MAX_BOUND }
     ensures found { IfSome result (λ n. (field.now ≡ number_field n) × IfSome n (IsBetween low high)) }
@@ -219,23 +219,23 @@ pub fn split(input: &Input, row: usize) -> Option<(TripNo, LayerSet)>
     }
     let trip = trip_named(&input.names, input.rest.field(row, 1), TripNo(0))?;
     let _layers = input.instance.layers();
-    let left = layers(input, row)?;
+    let left = layers(input, row, 2)?;
     Some((trip, left))
 }
 
-/// The layers that the fields of a row name from the third on. None where one of them names none, or one
-/// that was named before.
-fn layers(input: &Input, row: usize) -> Option<LayerSet>
+/// The layers that the fields of a row name from one on, which is counted from 0. None where one of them names none, or
+/// one that was named before.
+pub fn layers(input: &Input, row: usize, from: usize) -> Option<LayerSet>
     requires input { IsInput input.now }
     requires row { row < length input.now.rest }
-    requires fields { 2 ≤ length (row_of input.now.rest row) }
-    ensures found { IfSome result (NameSet input.now.names.layers (drop 2 (row_of input.now.rest row))) }
+    requires fields { from ≤ length (row_of input.now.rest row) }
+    ensures found { IfSome result (NameSet input.now.names.layers (drop from (row_of input.now.rest row))) }
     ensures none { IfNone result ((left : SetOf) →
-        ¬ (NameSet input.now.names.layers (drop 2 (row_of input.now.rest row)) left)) }
+        ¬ (NameSet input.now.names.layers (drop from (row_of input.now.rest row)) left)) }
 {
     let _layers = input.instance.layers();
     let mut left = LayerSet(0);
-    for k in 2..input.rest.fields(row) {
+    for k in from..input.rest.fields(row) {
         let layer = layer_named(&input.names, input.rest.field(row, k), LayerNo(0))?;
         if left.has(layer) {
             return None;

@@ -108,44 +108,45 @@ module _ (names : List Field) where
       ∙ e) in
       s.set_is.once j k 0 j_few at_k.0 (same_j ∙ sym same_k)
 
-  module _ (row : List Field) where
-    -- the same of the fields of a row from the third on
-    third : (k : ℕ) (field : Field) → 2 ≤ k → field ≡ get_or row k [] → get_or (drop 2 row) (k - 2) [] ≡ field
-    third k field low is =
-        let place : 2 + (k - 2) ≡ k = omega arith in
-        get_or-drop 2 row (k - 2) [] ∙ ap (λ (n : ℕ). get_or row n []) place ∙ sym is
+  module _ (row : List Field) (from : ℕ) where
+    -- the same of the fields of a row from one on
+    later : (k : ℕ) (field : Field) → from ≤ k → field ≡ get_or row k [] → get_or (drop from row) (k - from) [] ≡ field
+    later k field low is =
+        let place : from + (k - from) ≡ k = omega arith in
+        get_or-drop from row (k - from) [] ∙ ap (λ (n : ℕ). get_or row n []) place ∙ sym is
 
-    pub no_layers_in_row : (k : ℕ) (field : Field) → 2 ≤ k → k < length row → field ≡ get_or row k []
+    pub no_layers_in_row : (k : ℕ) (field : Field) → from ≤ k → k < length row → field ≡ get_or row k []
         → ((l : ℕ) → l < length names → ¬ (field ≡ name_of names l))
-        → (set : LayerSet) → ¬ (NameSet names (drop 2 row) set)
+        → (set : LayerSet) → ¬ (NameSet names (drop from row) set)
     no_layers_in_row k field low lt is none =
-        no_layer (drop 2 row) (k - 2) (omega (arith, length-drop 2 row))
-        (λ l below e. none l below (sym (third k field low is) ∙ e))
+        no_layer (drop from row) (k - from) (omega (arith, length-drop from row))
+        (λ l below e. none l below (sym (later k field low is) ∙ e))
 
-    pub layer_twice_in_row : (k l : ℕ) (field : Field) (old : LayerSet) → AreNames names → 2 ≤ k → k < length row
-        → field ≡ get_or row k [] → NameSet names (take (k - 2) (drop 2 row)) old → l < length names
-        → field ≡ name_of names l → Has old l → (set : LayerSet) → ¬ (NameSet names (drop 2 row) set)
+    pub layer_twice_in_row : (k l : ℕ) (field : Field) (old : LayerSet) → AreNames names → from ≤ k → k < length row
+        → field ≡ get_or row k [] → NameSet names (take (k - from) (drop from row)) old → l < length names
+        → field ≡ name_of names l → Has old l → (set : LayerSet) → ¬ (NameSet names (drop from row) set)
     layer_twice_in_row k l field old are low lt is so_far below e has =
-        layer_twice (drop 2 row) (k - 2) l old are (omega (arith, length-drop 2 row)) so_far below
-        (third k field low is ∙ e) has
+        layer_twice (drop from row) (k - from) l old are (omega (arith, length-drop from row)) so_far below
+        (later k field low is ∙ e) has
 
-    pub row_layers_more : (k l : ℕ) (field : Field) (old new : LayerSet) → 2 ≤ k → k < length row
-        → field ≡ get_or row k [] → NameSet names (take (k - 2) (drop 2 row)) old → l < length names
+    pub row_layers_more : (k l : ℕ) (field : Field) (old new : LayerSet) → from ≤ k → k < length row
+        → field ≡ get_or row k [] → NameSet names (take (k - from) (drop from row)) old → l < length names
         → field ≡ name_of names l → ¬ (Has old l) → ((j : ℕ) → Has new j ↔ (Has old j ⊎ (j ≡ l)))
-        → NameSet names (take (k + 1 - 2) (drop 2 row)) new
+        → NameSet names (take (k + 1 - from) (drop from row)) new
     row_layers_more k l field old new low lt is so_far below e other with_it =
-        let next : k + 1 - 2 ≡ k - 2 + 1 = omega arith in
-        let fields : take (k + 1 - 2) (drop 2 row) ≡ take (k - 2) (drop 2 row) ++ field ∷ [] =
-        ap (λ (n : ℕ). take n (drop 2 row)) next ∙ take_more (drop 2 row) (k - 2) [] (omega (arith, length-drop 2 row))
-        ∙ ap (λ (f : Field). take (k - 2) (drop 2 row) ++ f ∷ []) (third k field low is) in
+        let next : k + 1 - from ≡ k - from + 1 = omega arith in
+        let fields : take (k + 1 - from) (drop from row) ≡ take (k - from) (drop from row) ++ field ∷ [] =
+        ap (λ (n : ℕ). take n (drop from row)) next
+        ∙ take_more (drop from row) (k - from) [] (omega (arith, length-drop from row))
+        ∙ ap (λ (f : Field). take (k - from) (drop from row) ++ f ∷ []) (later k field low is) in
         let P : List Field → Type 0 = λ fs. NameSet names fs new in
-        subst P (sym fields) (set_more (take (k - 2) (drop 2 row)) field old new l so_far below e other with_it)
+        subst P (sym fields) (set_more (take (k - from) (drop from row)) field old new l so_far below e other with_it)
 
-    pub row_layers_all : (k : ℕ) (set : LayerSet) → length row ≤ k → NameSet names (take (k - 2) (drop 2 row)) set
-        → NameSet names (drop 2 row) set
+    pub row_layers_all : (k : ℕ) (set : LayerSet) → length row ≤ k
+        → NameSet names (take (k - from) (drop from row)) set → NameSet names (drop from row) set
     row_layers_all k set le so_far =
         let P : List Field → Type 0 = λ fs. NameSet names fs set in
-        subst P (take_all (k - 2) (drop 2 row) (omega (arith, length-drop 2 row))) so_far
+        subst P (take_all (k - from) (drop from row) (omega (arith, length-drop from row))) so_far
 
 some_of : (set : LayerSet) (xs : List ℕ) → xs ≢ [] → All (λ l. (bit_at set.0 l == 1) ≡ true) xs
     → (l : ℕ) × Has set l
@@ -154,7 +155,7 @@ some_of set (x ∷ xs) some each =
     (x, eqb-true (bit_at set.0 x) 1 (All-head (λ l. (bit_at set.0 l == 1) ≡ true) x xs each))
 
 -- a set that isn't empty has a member
-some_member : (set : LayerSet) → members set ≢ [] → (l : ℕ) × Has set l
+pub some_member : (set : LayerSet) → members set ≢ [] → (l : ℕ) × Has set l
 some_member set some = some_of set (members set) some (filter_passes (λ l. bit_at set.0 l == 1) layer_numbers)
 
 two_fields : (row : Row) → 3 ≤ length row → row ≡ field_of row 0 ∷ field_of row 1 ∷ drop 2 row

@@ -4,4 +4,5 @@ use Rattle.vs_rows.specs.RowForms.{NameSet}
 use Rattle.vs_rows.proofs.forms.layers.Given as goal
 
 abbrev pub invariant-loop-k : goal.invariant-loop-k
-invariant-loop-k l = NameSet l.input.names.layers (take (l.k - 2) (drop 2 (row_of l.input.rest l.row))) l.left
+invariant-loop-k l =
+    NameSet l.input.names.layers (take (l.k - l.from) (drop l.from (row_of l.input.rest l.row))) l.left
