@@ -1,4 +1,5 @@
 -- Units before and after they are sent.
+pub mod Offering
 pub mod Preparing
 pub mod SmallArcs
 pub mod Settling

@@ -61,6 +61,11 @@ impl Standing {
         self.error.saturating_sub(part_of(step, self.slope))
     }
 
+    /// So much more is lacking of its free trips.
+    pub fn tilt(&mut self, more: i64) {
+        self.slope = self.slope.saturating_add(more);
+    }
+
     /// Counts a round, for which it has had no weight or has some.
     pub fn age(&mut self) {
         self.idle = if self.weight > 0 {

@@ -21,6 +21,21 @@ struct Peaks {
 }
 
 impl Peaks {
+    /// Those of no cuts.
+    fn none() -> Peaks {
+        Peaks {
+            high: 0,
+            highest: i64::MIN,
+            low: 0,
+            lowest: i64::MAX,
+        }
+    }
+
+    /// How far apart they lie.
+    fn gap(&self) -> i64 {
+        self.highest.saturating_sub(self.lowest)
+    }
+
     /// Takes the cut at a place into account.
     fn see(&mut self, place: usize, standing: &Standing, step: i64) {
         let height = standing.height(step);
@@ -101,8 +116,9 @@ impl LayerCuts {
     /// Moves weights, at most as often as there are places. Gives what that gained.
     fn balance(&mut self, step: i64, fine: i64) -> i64 {
         let mut gained: i64 = 0;
+        let mut peaks = self.peaks(step);
         for _ in 0..self.standings.len() {
-            let gain = self.shift(step, fine);
+            let gain = self.shift(step, fine, &mut peaks);
             if gain == 0 {
                 break;
             }
@@ -112,27 +128,22 @@ impl LayerCuts {
     }
 
     /// Moves weight from the highest cut that has some to the lowest one, where they lie further apart than is fine.
-    /// Gives what that gained.
-    fn shift(&mut self, step: i64, fine: i64) -> i64 {
-        let peaks = self.peaks(step);
-        let gap = peaks.highest.saturating_sub(peaks.lowest);
+    /// Gives what that gained, and lets the peaks be those that are then.
+    fn shift(&mut self, step: i64, fine: i64, peaks: &mut Peaks) -> i64 {
+        let gap = peaks.gap();
         if gap <= fine {
             return 0;
         }
-        let apart = self.apart(peaks.high, peaks.low);
-        let amount = best_move(gap, step, apart).min(self.standing(peaks.high).weight);
-        self.carry(peaks.high, peaks.low, amount);
+        let (high, low) = (peaks.high, peaks.low);
+        let apart = self.apart(high, low);
+        let amount = best_move(gap, step, apart).min(self.standing(high).weight);
+        *peaks = self.carry(high, low, amount, step);
         part_of(gap, amount)
     }
 
     /// The highest cut that has weight and the lowest one.
     fn peaks(&self, step: i64) -> Peaks {
-        let mut peaks = Peaks {
-            high: 0,
-            highest: i64::MIN,
-            low: 0,
-            lowest: i64::MAX,
-        };
+        let mut peaks = Peaks::none();
         for (place, standing) in self.standings.iter().enumerate() {
             if standing.held {
                 peaks.see(place, standing, step);
@@ -165,23 +176,28 @@ impl LayerCuts {
         }
     }
 
-    /// Moves so much weight from one cut to another one.
-    fn carry(&mut self, from: usize, to: usize, amount: i64) {
+    /// Moves so much weight from one cut to another one. Gives the peaks that are then.
+    fn carry(&mut self, from: usize, to: usize, amount: i64, step: i64) -> Peaks {
         self.add_weight(from, amount.saturating_neg());
         self.add_weight(to, amount);
-        if let (Some(left), Some(taken)) = (self.products.get(from), self.products.get(to)) {
-            tilt(&mut self.standings, left, taken, amount);
+        match (self.products.get(from), self.products.get(to)) {
+            (Some(left), Some(taken)) => tilt(&mut self.standings, left, taken, amount, step),
+            _ => self.peaks(step),
         }
     }
 }
 
 /// Changes how much is lacking of the trips of each cut of a layer, where so much weight goes from the cut that has the
-/// first products to the one that has the others.
-fn tilt(standings: &mut [Standing], left: &[i64], taken: &[i64], amount: i64) {
-    for ((standing, a), b) in standings.iter_mut().zip(left).zip(taken) {
-        let more = part_of(a.saturating_sub(*b), amount);
-        standing.slope = standing.slope.saturating_add(more);
+/// first products to the one that has the others. Gives the peaks that are then.
+fn tilt(standings: &mut [Standing], left: &[i64], taken: &[i64], amount: i64, step: i64) -> Peaks {
+    let mut peaks = Peaks::none();
+    for (place, ((standing, a), b)) in standings.iter_mut().zip(left).zip(taken).enumerate() {
+        if standing.held {
+            standing.tilt(part_of(a.saturating_sub(*b), amount));
+            peaks.see(place, standing, step);
+        }
     }
+    peaks
 }
 
 /// How much weight is best moved between two cuts that lie this far apart in height and in trips.

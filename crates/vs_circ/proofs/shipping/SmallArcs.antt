@@ -59,4 +59,5 @@ module _ (p : Problem) (is : IsInstance p) (l : ℕ) (n : LayerGraph) (lawful : 
     trip = λ i k within is_trip.
         (subst (λ (kind : ArcKind). IsLawfulArc p l n.points kind (arc_of n.graph k)) is_trip
         (lawful.arcs k within)).room;
+    one_arc = lawful.one_arc;
   }

@@ -4,10 +4,10 @@ use Rattle.vs_layer.specs.declared.arc.Arc.{Arc}
 use Rattle.vs_layer.specs.Graph.{arc_of}
 use Rattle.vs_match.specs.declared.arc_kind.ArcKind.{ArcKind}
 use Rattle.vs_match.specs.declared.arc_kind.ArcKind.TheVariants.{Trip, Return}
+use Rattle.vs_match.specs.declared.arc_kind.TheConstants.{UNLIMITED}
 use Rattle.vs_match.specs.declared.layer_net.TheConstants.{MAX_ARC_COST}
-use Rattle.vs_match.specs.LayerGraph.{LayerGraph, kind_of}
+use Rattle.vs_match.specs.LayerGraph.{LayerGraph, IsArcOfTrip, kind_of}
 use Rattle.vs_path.specs.Residual.{price_at}
-use Rattle.vs_circ.specs.declared.preparing.TheConstants.{UNLIMITED}
 use Rattle.vs_instance.specs.declared.limits.TheConstants.{MAX_FLEET, MAX_MULTIPLIER}
 use Rattle.vs_circ.specs.Offers.{offer_of, paid}
 
@@ -38,10 +38,11 @@ AreOfferedRooms n offers room = (k : ℕ) → k < length n.graph.arcs
 abbrev pub AreSmallOffers : List (Option ℤ) → Type 0
 AreSmallOffers offers = (i : ℕ) → IfSome (offer_of offers i) (λ m. (pos 0 ≤ℤ m) × (m ≤ℤ MAX_MULTIPLIER))
 
--- the costs and rooms of a lawful net's arcs
+-- the costs and rooms of a lawful net's arcs, of which one at most is a trip's
 pub record HasSmallArcs (n : LayerGraph) : Type 0 where
   pub no_gain : (k : ℕ) → k < length n.graph.arcs → pos 0 ≤ℤ (arc_of n.graph k).cost
   pub cost : (k : ℕ) → k < length n.graph.arcs → (arc_of n.graph k).cost ≤ℤ MAX_ARC_COST
   pub room : (k : ℕ) → k < length n.graph.arcs → (arc_of n.graph k).room ≤ MAX_FLEET
   pub trip : (i k : ℕ) → k < length n.graph.arcs → kind_of n k ≡ Trip (record { 0 = i })
       → (arc_of n.graph k).room ≡ 1
+  pub one_arc : (i j k : ℕ) → IsArcOfTrip n.kinds i j → IsArcOfTrip n.kinds i k → j ≡ k
