@@ -37,7 +37,7 @@ module _ (o : Opening) (opening : IsOpening o) (names : NameLists) (counts : Hav
         omega (arith, counts.layers, within);
   }
 
-  step_named : (s : State) (step : FullStep) → MayCome o s step → IsSound o s → HasNames names (plain_step step)
+  pub step_named : (s : State) (step : FullStep) → MayCome o s step → IsSound o s → HasNames names (plain_step step)
   step_named s (Took worker leaf) may sound = tt
   step_named s (Split worker leaf table trip left prices) may sound =
       let within = leaf_within s.places leaf (ap is_inner may.holds.1) in

@@ -1,3 +1,4 @@
 pub mod TraceRows
 pub mod Traces
+pub mod Told
 pub mod Writing
