@@ -1,8 +1,7 @@
 -- When a step of a trace may come, and that it is then made.
-use Rattle.std.proofs.Common.{◌≡◌, ℕ, ◌<◌, ◌↔◌, Bool, true, false, not, ◌==◌, List, length, refl, sym, ap, ◌∙◌, subst, inl, inr, arith, Option, Some, ℤ}
+use Rattle.std.proofs.Common.{◌≡◌, ℕ, ◌<◌, ◌↔◌, Bool, true, false, not, ◌==◌, length, refl, sym, ap, ◌∙◌, subst, inl, inr, arith, Some}
 use Rattle.std.specs.Prelude.{IsTrue}
 use Rattle.std.proofs.lemmas.Bool.{eq-eqb, eqb-true, false≢true}
-use Rattle.vs_types.specs.declared.layer_set.LayerSet.{LayerSet}
 use Rattle.vs_instance.specs.Problem.{Problem}
 use Rattle.vs_prices.specs.Table.{Fits, HoldingTable, prices_in}
 use Rattle.vs_prices.specs.declared.table.Table.{Table}

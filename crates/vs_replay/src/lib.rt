@@ -4,9 +4,12 @@
 mod finishing;
 mod ground;
 mod hands;
+mod laws;
 mod plans;
 mod replaying;
 mod steps;
 
+pub use laws::told_histories_come_back;
 pub use replaying::{Replayed, replay};
-pub use vs_trace::{Full, Trace, write};
+pub use vs_told::{TraceError, TraceWhy, read};
+pub use vs_trace::{Full, Trace, write, written_traces_stand};

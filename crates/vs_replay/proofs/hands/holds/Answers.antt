@@ -4,7 +4,7 @@ use Rattle.vs_tree.specs.History.{is_inner}
 use Rattle.vs_tree.specs.Search.{state}
 use Rattle.vs_tree.specs.declared.spot.Spot.TheVariants.{Held}
 use Rattle.vs_tree.proofs.CallerLemmas.{leaf_within}
-use Rattle.vs_replay.proofs.Holders.{same_holder}
+use Rattle.vs_trace.proofs.CallerLemmas.{same_holder}
 use Rattle.vs_replay.proofs.hands.holds.Goals as goal
 
 pub returns-then-leaf-spots : goal.returns-then-leaf-spots

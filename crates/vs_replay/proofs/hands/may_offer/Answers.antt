@@ -2,7 +2,7 @@ use Rattle.std.proofs.Common.{arith, subst}
 use Rattle.std.proofs.lemmas.Bool.{false≢true}
 use Rattle.vs_tree.specs.Search.{IsHandOf, state}
 use Rattle.vs_tree.specs.declared.calls.Hand.{Hand}
-use Rattle.vs_replay.proofs.Holders.{holders}
+use Rattle.vs_trace.proofs.CallerLemmas.{holders}
 use Rattle.vs_replay.proofs.MadeSteps.{hand_may_offer, hand_may_not}
 use Rattle.vs_tree.proofs.CallerLemmas.{histories_are_sound}
 use Rattle.vs_replay.proofs.hands.may_offer.Goals as goal
