@@ -1,0 +1,10 @@
+pub mod SameTables
+pub mod OneTrace
+pub mod ComeBack
+pub mod OneDocument
+pub mod OneStep
+pub mod PlainRows
+pub mod ReplayOwed
+pub mod OneReplay
+pub mod WrittenBack
+pub mod CallerLemmas

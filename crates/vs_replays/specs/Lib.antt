@@ -1,0 +1,5 @@
+pub mod Room
+pub mod ReplayRows
+pub mod Owed
+pub mod Answered
+pub mod Laws
