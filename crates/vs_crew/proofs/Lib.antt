@@ -1,3 +1,4 @@
 pub mod leaves
 pub mod others
 pub mod Crews
+pub mod CallerLemmas

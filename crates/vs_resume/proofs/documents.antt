@@ -7,3 +7,6 @@ pub mod WrittenLeaves
 pub mod Naming
 pub mod Taking
 pub mod Resumed
+pub mod TurnCounts
+pub mod WrittenOnce
+pub mod EnoughNodes

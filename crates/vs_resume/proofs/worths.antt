@@ -6,3 +6,5 @@ pub mod NarrowerSets
 pub mod Settled
 pub mod Settling
 pub mod Counts
+pub mod NamedWorths
+pub mod OpenClaims

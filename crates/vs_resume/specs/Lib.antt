@@ -9,3 +9,4 @@ pub mod Order
 pub mod Parts
 pub mod Courses
 pub mod Writing
+pub mod Laws

@@ -1,9 +1,10 @@
 -- The turns by which a search is carried on: each takes the leaf of least worth and puts a part in its place.
-use Rattle.std.specs.Prelude.{◌≡◌, ◌⊎◌, ℕ, ◌+◌, ◌-◌, ◌≤◌, List, [], ◌∷◌, ◌++◌, All, sum_by, slice_get, Option, Some, ℤ, pos}
+use Rattle.std.specs.Prelude.{◌≡◌, ◌⊎◌, ℕ, ◌+◌, ◌-◌, ◌<◌, ◌≤◌, List, [], ◌∷◌, ◌++◌, All, length, sum_by, slice_get, Option, Some, ℤ, pos}
+use Rattle.std.specs.List.{AllZip}
 use Rattle.vs_types.specs.declared.layer_set.LayerSet.{LayerSet}
 use Rattle.vs_instance.specs.Lagrangian.{IsStartingValue}
 use Rattle.vs_instance.specs.Narrowed.{narrowed}
-use Rattle.vs_instance.specs.Plan.{IsPlan, LayerBlock, plan_cost}
+use Rattle.vs_instance.specs.Plan.{IsPlan, plan_cost}
 use Rattle.vs_instance.specs.Problem.{Problem}
 use Rattle.vs_instance.specs.Restriction.{IsWithin}
 use Rattle.vs_prices.specs.Bounds.{IsBelow, IsNoLess, ReachesValue}
@@ -14,7 +15,7 @@ use Rattle.vs_tree.specs.Prices.{AreLawful, Prices}
 use Rattle.vs_answer.specs.Answers.{count_not_below}
 use Rattle.vs_resume.specs.declared.deepen.TheConstants.{MAX_TURN}
 use Rattle.vs_resume.specs.InPlace.{with_part}
-use Rattle.vs_resume.specs.Standing.{AreNamedWorths, Standing, leaves_of}
+use Rattle.vs_resume.specs.Standing.{AreNamedWorths, IsNamedWorth, Standing, leaves_of}
 
 -- worth k is below the cost and no more than any other, and the first of those that are as low
 pub record IsNextOf (cost : Option ℤ) (worths : List Bound) (k : ℕ) (worth : Bound) : Type 0 where
@@ -41,6 +42,25 @@ pub record AreDeeper (p : Problem) (sets : List LayerSet) (worth : Bound) (worth
   pub reach_start : (value : ℤ) → IsStartingValue (narrowed p sets) value
       → All (λ deeper. ReachesValue deeper value) worths
 
+-- the same leaf with another table
+abbrev pub with_table : LeafPlace → ℕ → LeafPlace
+with_table leaf n = record { sets = leaf.sets; table = n }
+
+-- a leaf names its own table or the old one, whichever is worth more there
+pub record IsBetterOf (p : Problem) (tables : List Prices) (old own : ℕ) (leaf : LeafPlace) : Type 0 where
+  pub choice : (leaf.table ≡ own) ⊎ (leaf.table ≡ old)
+  pub no_less_than_own : (worth other : Bound) → IsNamedWorth p tables leaf worth
+      → IsNamedWorth p tables (with_table leaf own) other → IsNoLess worth other
+  pub no_less_than_old : (worth other : Bound) → IsNamedWorth p tables leaf worth
+      → IsNamedWorth p tables (with_table leaf old) other → IsNoLess worth other
+
+-- each of some leaves has a table of its own, which is one of those from a number on, and names the better of that and
+-- of the old one
+pub record AreBetter (p : Problem) (tables : List Prices) (first old : ℕ) (places : List LeafPlace) : Type 0 where
+  pub own : List ℕ
+  pub new : All (λ n. (first ≤ n) × (n < length tables)) own
+  pub each : AllZip (IsBetterOf p tables old) own places
+
 -- the plan stays
 pub record IsPlanKept (s t : Standing) : Type 0 where
   pub cost : t.cost ≡ s.cost
@@ -53,8 +73,8 @@ pub record IsPlanFound (p : Problem) (sets : List LayerSet) (s t : Standing) : T
   pub costs : t.cost ≡ Some (pos (plan_cost p t.blocks))
   pub cheaper : IsCheaper (pos (plan_cost p t.blocks)) s.cost
 
--- A turn, before which so many nodes are left, finishes so many. The next leaf gives place to a part, whose leaves name
--- tables of before or new ones.
+-- A turn, before which so many nodes are left, finishes so many. The next leaf gives place to a part, each of whose
+-- leaves names a new table of its own, or that of the leaf before where this is worth more.
 pub record IsTurn (p : Problem) (left : ℕ) (s t : Standing) (nodes : ℕ) : Type 0 where
   pub number : ℕ
   pub leaf : LeafPlace
@@ -66,6 +86,7 @@ pub record IsTurn (p : Problem) (left : ℕ) (s t : Standing) (nodes : ℕ) : Ty
   pub added : List Prices
   pub lawful : All (AreLawful p) added
   pub tables : t.tables ≡ s.tables ++ added
+  pub better : AreBetter p t.tables (length s.tables) leaf.table (leaves leaf.sets part)
   pub worths : List Bound
   pub are_worths : AreNamedWorths p t.tables (leaves leaf.sets part) worths
   pub deeper : AreDeeper p leaf.sets worth worths

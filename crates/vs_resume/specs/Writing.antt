@@ -1,5 +1,5 @@
 -- The document that is written once all turns are over.
-use Rattle.std.specs.Prelude.{◌≡◌, ℕ, List, length, map, slice_get, Some}
+use Rattle.std.specs.Prelude.{◌≡◌, ℕ, List, map, slice_get, Some}
 use Rattle.std.specs.List.{AllPairs, AllZip}
 use Rattle.vs_instance.specs.Problem.{Problem}
 use Rattle.vs_prices.specs.declared.table.Table.{Table}

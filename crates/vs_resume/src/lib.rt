@@ -5,6 +5,7 @@
 mod cases;
 mod course;
 mod deepen;
+mod laws;
 mod order;
 mod part;
 mod resuming;
@@ -13,4 +14,5 @@ mod turning;
 mod writing;
 
 pub use deepen::{Deepen, MAX_PART_ENTRIES, MAX_TURN};
+pub use laws::enough_nodes_leave_nothing_open;
 pub use resuming::{MAX_RESUMED_ENTRIES, resume};

@@ -21,11 +21,12 @@ use vs_types::Memory;
 /// writes can be carried on.
 pub const MAX_RESUMED_ENTRIES: u32 = 6_000_000;
 
-/// Carries a search on from a document that holds, within a budget. While nodes are left and a leaf is below the cost,
-/// it takes the leaf of least worth, the first from left to right, has its part searched, puts the tree of that search
-/// in the leaf's place, with the better of the old and of the new table at each leaf, and takes the plan where it is
-/// cheaper. The nodes are those of this call alone. It returns where the solver does; after want of memory nothing is
-/// said of the solver.
+/// Goes on with a search where a document that holds left it, until the budget is spent or every leaf shows what the
+/// cheapest plan costs. Each turn goes to the weakest leaf, and of several as weak to the leftmost. The solver searches
+/// its part of the instance, and that search's tree grows where the leaf stood; a new leaf has its own table, or that
+/// of the leaf before where this shows more. A cheaper plan that was found is the plan from then on. What is counted
+/// are the nodes of this call alone. It returns where the solver does. Whatever it answers, the solver may be called
+/// again.
 pub fn resume<S: Deepen>(
     alloc: Global,
     instance: &Instance,
@@ -38,7 +39,8 @@ pub fn resume<S: Deepen>(
     requires budget { budget ≤ MAX_BUDGET }
     requires room { HasRoom instance.now document budget }
     requires can { S.can_deepen solver.old }
-    ensures { IfOk result (ResumeAnswer instance.now budget document) }
+    ensures stays { S.can_deepen solver.new }
+    ensures answers { IfOk result (ResumeAnswer instance.now budget document) }
 {
     // for the proof: the instance is within its limits
     prove!(instance.trips() <= MAX_TRIPS);

@@ -185,7 +185,7 @@ module _ (old new : Search) (w leaf : ℕ) (task : Task) (outcome : Outcome) (op
           tt,
         )))
 
-    state_last : state last ≡ after n step
+    pub state_last : state last ≡ after n step
     state_last = ap state adds ∙ state-last (first_state new.opening) new.steps step
 
     -- and the worker is idle again

@@ -1,5 +1,5 @@
 -- The document that names tables in the order in which leaves first do prints what is in memory.
-use Rattle.std.proofs.Common.{◌≡◌, ℕ, ◌<◌, ◌≤◌, List, [], ◌∷◌, ◌++◌, length, map, refl, sym, ap, ◌∙◌, subst, arith, Option, Some, None, option_map, slice_get, slice_index_or}
+use Rattle.std.proofs.Common.{◌≡◌, ℕ, ◌<◌, List, [], ◌∷◌, ◌++◌, length, map, refl, sym, ap, ◌∙◌, subst, arith, Some, option_map, slice_get, slice_index_or}
 use Rattle.std.specs.List.{All, AllZip}
 use Rattle.std.proofs.lemmas.List.{map-append}
 use Rattle.std.proofs.lemmas.List.Elements.{All-cons, All-nil}
@@ -22,7 +22,7 @@ use Rattle.vs_resume.specs.declared.writing.Named.{Named}
 use Rattle.vs_resume.specs.Cases.{AreCasesOf}
 use Rattle.vs_resume.specs.Courses.{IsCourseOf}
 use Rattle.vs_resume.specs.InPlace.{count_leaves}
-use Rattle.vs_resume.specs.Outlines.{plain, with_numbers}
+use Rattle.vs_resume.specs.Outlines.{with_numbers}
 use Rattle.vs_resume.specs.Standing.{IsWrittenFor, Standing}
 use Rattle.vs_resume.specs.Writing.{AreFirstNamed, AreTaken}
 use Rattle.vs_resume.proofs.trees.InPlace.{leaf_rows, leaf_rows-preorder}

@@ -1,15 +1,14 @@
 -- The document that is written behind the last turn answers the one that the search was carried on from.
-use Rattle.std.proofs.Common.{◌≡◌, ℕ, ◌+◌, ◌-◌, ◌<◌, ◌≤◌, ◌⊎◌, inl, inr, Bool, true, false, cond, List, [], ◌∷◌, ◌++◌, length, map, refl, sym, ap, ◌∙◌, subst, arith, rules, Option, Some, None, MatchOption, ℤ, pos, ◌≤ℤ◌, slice_index_or}
-use Rattle.std.specs.Prelude.{Contains, IfNone, IfSome, count_by}
+use Rattle.std.proofs.Common.{◌≡◌, ℕ, ◌+◌, ◌-◌, ◌<◌, ◌≤◌, ◌⊎◌, inl, inr, cond, List, [], ◌∷◌, length, map, refl, sym, ap, ◌∙◌, subst, arith, rules, Option, Some, None, ℤ, pos, slice_index_or}
+use Rattle.std.specs.Prelude.{IfNone, IfSome, count_by}
 use Rattle.std.specs.List.{All}
 use Rattle.std.proofs.lemmas.Int.{ints}
-use Rattle.std.proofs.lemmas.List.{length-map}
 use Rattle.std.proofs.lemmas.List.Elements.{All-cons, All-contains, All-map, All-nil, All-weaker}
 use Rattle.std.proofs.lemmas.List.Sums.{sum_by-cons}
 use Rattle.std.proofs.lemmas.Option.{slice_get_within}
 use Rattle.vs_instance.specs.Blocks.{IsBlock}
 use Rattle.vs_instance.specs.Instance.{IsInstance}
-use Rattle.vs_instance.specs.Plan.{IsPlan, LayerBlock, plan_cost}
+use Rattle.vs_instance.specs.Plan.{LayerBlock}
 use Rattle.vs_instance.specs.Problem.{Problem}
 use Rattle.vs_instance.specs.Restriction.{permitted_sets}
 use Rattle.vs_instance.specs.declared.limits.TheConstants.{MAX_BUDGET}
@@ -18,10 +17,8 @@ use Rattle.vs_plan.specs.Blocks.{IsOfInstance, blocks_of}
 use Rattle.vs_prices.specs.Bounds.{IsBelow, IsNoLess}
 use Rattle.vs_prices.specs.Table.{Fits}
 use Rattle.vs_prices.specs.declared.bound.Bound.{Bound}
-use Rattle.vs_prices.specs.declared.bound.Bound.TheVariants.{AtLeast, NoPlan}
 use Rattle.vs_prices.specs.declared.table.Table.{Table}
-use Rattle.vs_cases.specs.Claims.{claim_found}
-use Rattle.vs_cases.specs.Tree.{IsGoodTree, LeafPlace, Tree, leaves}
+use Rattle.vs_cases.specs.Tree.{LeafPlace, leaves}
 use Rattle.vs_cases.specs.declared.claim.Claim.TheVariants.{StillOpen}
 use Rattle.vs_rows.specs.DocumentRows.{IsBetween, IsWithin}
 use Rattle.vs_rows.specs.DocumentText.{HasText}
@@ -33,21 +30,20 @@ use Rattle.vs_rows.specs.declared.limits.TheConstants.{MAX_BOUND, MAX_COST}
 use Rattle.vs_check.specs.HoldingDocument.{HasPlan, HoldingDocument}
 use Rattle.vs_tree.specs.Prices.{Prices, no_prices, prices_of}
 use Rattle.vs_tree.specs.Report.{bound_of}
-use Rattle.vs_cert.specs.StateDocument.{IsRenumbered, first_times, tables_named}
+use Rattle.vs_cert.specs.StateDocument.{first_times, tables_named}
 use Rattle.vs_cert.proofs.CallerLemmas.{rows_of_instance}
 use Rattle.vs_answer.specs.Answers.{AreNamedInOrder, AreWorths, IsBoundOf}
-use Rattle.vs_answer.proofs.CallerLemmas.{IsOneOf, lesser_is_bound, named_in_order, not_open, renumbered_good}
+use Rattle.vs_answer.proofs.CallerLemmas.{lesser_is_bound, named_in_order, not_open, renumbered_good}
 use Rattle.vs_resume.specs.declared.cases.Case.{Case}
 use Rattle.vs_resume.specs.declared.course.Course.{Course}
 use Rattle.vs_resume.specs.declared.resuming.TheConstants.{MAX_RESUMED_ENTRIES}
 use Rattle.vs_resume.specs.Cases.{AreCasesOf}
 use Rattle.vs_resume.specs.Answers.{HasRoom, IsCarriedOn, ResumeAnswer, is_leaf}
-use Rattle.vs_resume.specs.Courses.{HasPlanOf, IsCourseOf}
+use Rattle.vs_resume.specs.Courses.{HasPlanOf}
 use Rattle.vs_resume.specs.InPlace.{count_leaves}
 use Rattle.vs_resume.specs.Order.{IsLeastWith, worths_in}
 use Rattle.vs_resume.specs.Standing.{IsWrittenFor, Standing}
 use Rattle.vs_resume.specs.Writing.{IsPrintedOf}
-use Rattle.vs_resume.specs.Turns.{nodes_of}
 use Rattle.vs_resume.proofs.documents.FirstTimes.{first_times-All, first_times_few}
 use Rattle.vs_resume.proofs.trees.Growth.{few_leaves, turns_leaves}
 use Rattle.vs_resume.proofs.trees.InPlace.{leaf_rows, leaf_rows-preorder}

@@ -1,6 +1,5 @@
 -- The leaves of a search of a part are worth in it what their widened tables are worth in the instance.
-use Rattle.std.proofs.Common.{◌≡◌, ℕ, List, [], ◌∷◌, ◌++◌, map, refl, sym, ap, ◌∙◌, subst, Some, slice_get, slice_index_or}
-use Rattle.std.specs.List.{AllZip}
+use Rattle.std.proofs.Common.{◌≡◌, ℕ, List, [], ◌∷◌, ◌++◌, sym, ap, ◌∙◌, subst, Some, slice_get, slice_index_or}
 use Rattle.std.proofs.lemmas.List.{map-append}
 use Rattle.vs_types.specs.declared.layer_set.LayerSet.{LayerSet}
 use Rattle.vs_types.specs.declared.numbers.TripNo.{TripNo}
@@ -15,7 +14,7 @@ use Rattle.vs_prices.proofs.CallerLemmas.{worth_of-IsWorth, worth_once}
 use Rattle.vs_cases.specs.Tree.{Leaf, Split, Tree, leaves, right_of, with_set}
 use Rattle.vs_part.specs.Widened.{IsWidened}
 use Rattle.vs_part.proofs.CallerLemmas.{widened_worth}
-use Rattle.vs_tree.specs.History.{Opening, State, IsLeaf, IsLeafWorth, prices_at, sets_at}
+use Rattle.vs_tree.specs.History.{Opening, State, IsLeafWorth, prices_at, sets_at}
 use Rattle.vs_tree.specs.Prices.{no_prices, prices_of}
 use Rattle.vs_tree.specs.Sound.{IsSound}
 use Rattle.vs_tree.specs.StateTree.{IsTreeAt}

@@ -1,5 +1,5 @@
 -- What a search of a part is, for those who put it in the place of a leaf.
-use Rattle.std.proofs.Common.{◌≡◌, ℕ, zero, suc, ◌+◌, ◌<◌, ◌≤◌, List, [], ◌∷◌, ◌++◌, length, get_or, sym, ap, ◌∙◌, subst, arith, Some, slice_get, slice_index_or}
+use Rattle.std.proofs.Common.{◌≡◌, ℕ, zero, suc, ◌+◌, ◌<◌, ◌≤◌, List, [], ◌∷◌, length, get_or, sym, ap, ◌∙◌, subst, arith, Some, slice_get, slice_index_or}
 use Rattle.std.specs.List.{All}
 use Rattle.std.proofs.lemmas.List.{length-map}
 use Rattle.std.proofs.lemmas.List.Elements.{All-append, All-cons, All-head, All-nil, All-tail}
@@ -18,7 +18,7 @@ use Rattle.vs_cases.proofs.CallerLemmas.{leaves_restrict}
 use Rattle.vs_rows.specs.Shapes.{preorder}
 use Rattle.vs_rows.specs.declared.document.Shape.{Shape}
 use Rattle.vs_rows.specs.declared.document.Shape.TheVariants as row
-use Rattle.vs_tree.specs.History.{IsHistory, State, state_of}
+use Rattle.vs_tree.specs.History.{IsHistory, State}
 use Rattle.vs_tree.specs.Prices.{no_prices}
 use Rattle.vs_tree.specs.Search.{Search, state}
 use Rattle.vs_tree.specs.Sound.{IsOpening, IsSound}

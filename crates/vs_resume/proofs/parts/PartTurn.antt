@@ -1,6 +1,6 @@
 -- A part that was searched and put in the place of a leaf makes a turn.
-use Rattle.std.proofs.Common.{◌≡◌, ℕ, ◌+◌, ◌<◌, ◌≤◌, ◌⊎◌, inl, inr, List, [], ◌∷◌, ◌++◌, length, map, refl, sym, ap, ◌∙◌, subst, arith, Option, Some, None, option_map, MatchOption, slice_get, slice_index_or, ℤ, pos, ◌≤ℤ◌, ◌<ℤ◌}
-use Rattle.std.specs.List.{All, AllZip, last_or}
+use Rattle.std.proofs.Common.{◌≡◌, ℕ, ◌+◌, ◌<◌, ◌≤◌, ◌⊎◌, inl, inr, List, [], ◌∷◌, ◌++◌, length, map, refl, sym, ap, ◌∙◌, subst, arith, Option, Some, None, option_map, MatchOption, slice_get, slice_index_or, ℤ, pos, ◌≤ℤ◌}
+use Rattle.std.specs.List.{All, AllZip}
 use Rattle.std.specs.Prelude.{IfSome}
 use Rattle.std.proofs.lemmas.Int.{ints}
 use Rattle.std.proofs.lemmas.List.{length-map, map-append}
@@ -14,7 +14,7 @@ use Rattle.vs_instance.specs.Narrowed.{narrowed}
 use Rattle.vs_instance.specs.Plan.{IsPlan, LayerBlock, plan_cost}
 use Rattle.vs_instance.specs.Problem.{Problem}
 use Rattle.vs_instance.specs.Restriction.{IsRestriction, IsWithin, permitted_sets}
-use Rattle.vs_instance.proofs.CallerLemmas.{narrowed-IsInstance, permitted_sets-IsRestriction}
+use Rattle.vs_instance.proofs.CallerLemmas.{permitted_sets-IsRestriction}
 use Rattle.vs_plan.specs.Blocks.{blocks_of}
 use Rattle.vs_plan.specs.CheckedPlan.{Checked}
 use Rattle.vs_plan.specs.declared.costs.TheConstants.{MAX_PLAN_COST}
@@ -26,10 +26,9 @@ use Rattle.vs_prices.specs.declared.table.Table.{Table}
 use Rattle.vs_cases.specs.Tree.{IsGoodTree, LeafPlace, Tree, leaves, splits}
 use Rattle.vs_cases.proofs.CallerLemmas.{leaves_restrict}
 use Rattle.vs_rows.specs.DocumentRows.{IsBetween}
-use Rattle.vs_rows.specs.Shapes.{preorder}
 use Rattle.vs_rows.specs.declared.limits.TheConstants.{MAX_COST}
 use Rattle.vs_part.proofs.CallerLemmas.{plans_of_part}
-use Rattle.vs_tree.specs.History.{IsCheaper, IsHistory, State, count_spots, incumbent, is_closed, is_inner, known, state_of}
+use Rattle.vs_tree.specs.History.{IsCheaper, IsHistory, State, count_spots, incumbent, is_inner, known}
 use Rattle.vs_tree.specs.Prices.{AreLawful, Prices, no_prices, prices_of}
 use Rattle.vs_tree.specs.Search.{Search, state}
 use Rattle.vs_tree.specs.Sound.{IsOpening, IsPlanOf, IsSound}
@@ -47,15 +46,16 @@ use Rattle.vs_resume.specs.InPlace.{count_leaves, in_place, with_part}
 use Rattle.vs_resume.specs.Order.{worths_in}
 use Rattle.vs_resume.specs.Outlines.{plain}
 use Rattle.vs_resume.specs.Standing.{AreNamedWorths, Standing, leaves_of}
-use Rattle.vs_resume.specs.Turns.{AreDeeper, IsPlanFound, IsPlanKept, IsTurn}
+use Rattle.vs_resume.specs.Turns.{AreBetter, AreDeeper, IsPlanFound, IsPlanKept, IsTurn}
 use Rattle.vs_resume.proofs.worths.BoundOrder.{no_less-trans, reaches-more}
 use Rattle.vs_resume.proofs.worths.Counts.{more_not_below}
 use Rattle.vs_resume.proofs.trees.InPlace.{count-leaves, leaves-with_part, slice_get-left}
 use Rattle.vs_resume.proofs.worths.NarrowerSets.{narrower-no_less}
 use Rattle.vs_resume.proofs.trees.Outlines.{outline-with_part}
+use Rattle.vs_resume.proofs.parts.BetterTables.{better_all}
 use Rattle.vs_resume.proofs.parts.PartLeaves.{spot_worths}
 use Rattle.vs_resume.proofs.parts.PartTables.{all-at, sets_of_part, tables_lawful}
-use Rattle.vs_resume.proofs.trees.Renamed.{good-renamed, leaves-renamed, plain-renamed, renamed, renumber, splits-renamed}
+use Rattle.vs_resume.proofs.trees.Renamed.{good-renamed, leaves-renamed, plain-renamed, renamed, splits-renamed}
 use Rattle.vs_resume.proofs.worths.Settled.{IsNoMore, named_worths, settled_cases, settled_no_less, tables_in}
 use Rattle.vs_resume.proofs.trees.Within.{AreNarrower, leaves-narrower}
 use Rattle.vs_resume.proofs.trees.Zips.{zip-beside, zip-in_place, zip-weaker}
@@ -441,6 +441,19 @@ module _ (p : Problem) (is : IsInstance p) (left nodes k : ℕ) (t : Search) (ol
         (fresh_reach value starts);
   }
 
+  -- each leaf has the better of two tables
+  better : AreBetter p (map prices_of new.tables.items) (length s.tables) put.leaf.table (leaves sets shape)
+  better =
+      let all = better_all p old.tables.items put.added put.table put.leaf.table put.is_table (leaves sets own)
+      (leaves sets shape) put.fresh put.settled fresh_are put.are_settled
+      (subst (λ (tables : List Table). AreCasesOf p tables (leaves sets shape) put.settled) tables_are shape_cases) in
+      let size : length old.tables.items ≡ length s.tables =
+      sym (ap (λ (xs : List Prices). length xs) course.tables ∙ length-map old.tables.items prices_of) in
+      subst (λ (n : ℕ). AreBetter p (map prices_of new.tables.items) n put.leaf.table (leaves sets shape)) size
+      (subst (λ (tables : List Table).
+      AreBetter p (map prices_of tables) (length old.tables.items) put.leaf.table (leaves sets shape))
+      (sym tables_are) all)
+
   next_leaf_worths : AreNamedWorths p s.tables places (worths_in old.cases.items)
   next_leaf_worths =
       subst (λ (tables : List Prices). AreNamedWorths p tables places (worths_in old.cases.items)) (sym course.tables)
@@ -470,6 +483,7 @@ module _ (p : Problem) (is : IsInstance p) (left nodes k : ℕ) (t : Search) (ol
     lawful = added_prices put.added added_lawful;
     tables = ap (map prices_of) tables_are ∙ map-append prices_of old.tables.items put.added
         ∙ ap (λ (xs : List Prices). xs ++ map prices_of put.added) (sym course.tables);
+    better = better;
     worths = worths_in put.settled;
     are_worths = named_worths p new.tables.items (leaves sets shape) put.settled shape_cases;
     deeper = deeper;

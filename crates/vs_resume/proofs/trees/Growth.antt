@@ -1,5 +1,5 @@
 -- How many leaves turns lead to.
-use Rattle.std.proofs.Common.{◌≡◌, ◌≢◌, ℕ, ◌+◌, ◌-◌, ◌*◌, ◌<◌, ◌≤◌, max, nat_lt, Bool, true, false, if◌then◌else◌, List, [], ◌∷◌, length, get_or, refl, ap, ◌∙◌, arith}
+use Rattle.std.proofs.Common.{◌≡◌, ◌≢◌, ℕ, ◌+◌, ◌-◌, ◌*◌, ◌<◌, ◌≤◌, max, nat_lt, Bool, true, false, if◌then◌else◌, List, [], ◌∷◌, length, get_or, refl, ap, arith}
 use Rattle.std.proofs.lemmas.Bool.Decides.{nat_tests}
 use Rattle.std.proofs.lemmas.List.{length-map}
 use Rattle.std.proofs.lemmas.Nat.{mul-le}
@@ -22,7 +22,7 @@ use Rattle.vs_resume.proofs.documents.OnCourse.{nodes-cons}
 use Rattle.vs_resume.proofs.worths.SetMembers.{member}
 
 -- a tree has one leaf more than splits
-leaves-splits : (tree : Tree) → count_leaves tree ≡ splits tree + 1
+pub leaves-splits : (tree : Tree) → count_leaves tree ≡ splits tree + 1
 leaves-splits (Leaf table) = omega arith
 leaves-splits (Split trip left lower upper) =
     let below = leaves-splits lower in

@@ -1,11 +1,11 @@
 -- A part in the place of a leaf: the rows, the leaves and the splits of the tree.
-use Rattle.std.proofs.Common.{◌≡◌, ℕ, zero, suc, ◌+◌, ◌-◌, ◌<◌, ◌≤◌, nat_lt, Bool, true, false, if◌then◌else◌, List, [], ◌∷◌, ◌++◌, length, take, drop, refl, sym, ap, ◌∙◌, subst, arith, append_assoc, length-append, Option, Some, slice_get}
+use Rattle.std.proofs.Common.{◌≡◌, ℕ, zero, suc, ◌+◌, ◌-◌, ◌<◌, ◌≤◌, nat_lt, Bool, true, false, if◌then◌else◌, List, [], ◌∷◌, ◌++◌, length, take, drop, refl, sym, ap, ◌∙◌, subst, arith, append_assoc, length-append, Some, slice_get}
 use Rattle.std.proofs.Math.Seq.{take-append-add, drop-append-add}
 use Rattle.std.proofs.lemmas.Bool.Decides.{nat_tests}
 use Rattle.std.proofs.lemmas.List.{append-nil, drop-append-le, take-append-le}
 use Rattle.vs_types.specs.declared.layer_set.LayerSet.{LayerSet}
 use Rattle.vs_types.specs.declared.numbers.TripNo.{TripNo}
-use Rattle.vs_cases.specs.Tree.{IsGoodTree, Leaf, LeafPlace, Split, Tree, leaves, right_of, splits, with_set}
+use Rattle.vs_cases.specs.Tree.{IsGoodTree, Leaf, LeafPlace, Split, Tree, leaves, right_of, with_set}
 use Rattle.vs_rows.specs.Shapes.{preorder}
 use Rattle.vs_rows.specs.declared.document.Shape.{Shape}
 use Rattle.vs_rows.specs.declared.document.Shape.TheVariants as shape
@@ -28,7 +28,7 @@ module _ {A : Type 0} (xs ys zs : List A) (k : ℕ) where
       ∙ ap (λ (l : List A). (xs ++ take k ys) ++ (zs ++ l)) (drop-append-add xs ys (k + 1))
       ∙ append_assoc xs (take k ys) (zs ++ drop (k + 1) ys)
 
-in_place-cons : {A : Type 0} (x : A) (xs zs : List A) (k : ℕ) → in_place (x ∷ xs) (suc k) zs ≡ x ∷ in_place xs k zs
+pub in_place-cons : {A : Type 0} (x : A) (xs zs : List A) (k : ℕ) → in_place (x ∷ xs) (suc k) zs ≡ x ∷ in_place xs k zs
 in_place-cons {A = A} x xs zs k =
     let one : suc k ≡ length (x ∷ []) + k = omega arith in
     ap (λ (n : ℕ). in_place (x ∷ xs) n zs) one ∙ behind (x ∷ []) xs zs k

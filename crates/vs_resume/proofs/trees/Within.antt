@@ -1,5 +1,5 @@
 -- The leaves of a tree leave no trip a layer that its root doesn't, and a table is worth no less there.
-use Rattle.std.proofs.Common.{ℕ, ◌<◌, List, [], ◌∷◌, length, sym, subst, inl, inr}
+use Rattle.std.proofs.Common.{ℕ, ◌<◌, List, [], length, sym, subst, inl, inr}
 use Rattle.std.specs.List.{All}
 use Rattle.std.proofs.lemmas.Bool.{cases_eq}
 use Rattle.std.proofs.lemmas.List.Elements.{All-append, All-cons, All-nil, All-weaker}

@@ -1,5 +1,5 @@
 -- Bounds in their order.
-use Rattle.std.proofs.Common.{arith, ◌⊎◌, inl, inr, ℤ, ◌≤ℤ◌, ◌<ℤ◌, Option, Some, None}
+use Rattle.std.proofs.Common.{arith, ℤ, ◌≤ℤ◌, Option, Some, None}
 use Rattle.std.proofs.lemmas.Int.{ints}
 use Rattle.vs_prices.specs.Bounds.{IsBelow, IsNoLess, ReachesValue}
 use Rattle.vs_prices.specs.declared.bound.Bound.{Bound}

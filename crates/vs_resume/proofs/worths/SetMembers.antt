@@ -1,16 +1,12 @@
 -- What sets of layers have.
-use Rattle.std.proofs.Common.{◌≡◌, ◌≢◌, ℕ, zero, suc, ◌<◌, ◌↔◌, eqb, List, [], ◌∷◌, length, get_or, refl, sym, ap, ◌∙◌, subst, arith, inl, inr}
-use Rattle.std.specs.Prelude.{Contains}
+use Rattle.std.proofs.Common.{◌≡◌, ℕ, ◌<◌, eqb, length, get_or, refl, sym, subst, arith}
 use Rattle.std.specs.Int.{bit_at}
 use Rattle.std.specs.List.{All, range_with_len}
-use Rattle.std.proofs.lemmas.Bool.{cases_eq, eqb-true}
-use Rattle.std.proofs.lemmas.List.{get_or_default}
+use Rattle.std.proofs.lemmas.Bool.{eqb-true}
 use Rattle.std.proofs.lemmas.List.Elements.{All-filter, All-from_get_or, filter_passes}
 use Rattle.std.proofs.lemmas.List.FromFn.{get_or-range_with_len, length-range_with_len}
 use Rattle.vs_types.specs.LayerSet.{Has, members, layer_numbers}
 use Rattle.vs_types.specs.declared.layer_set.LayerSet.{LayerSet}
-use Rattle.vs_types.proofs.CallerLemmas.{Contains-members_below, IsStrictlyIncreasing-members, members-some, Has-rest}
-use Rattle.vs_types.specs.Parts.{rest_of, IsProperPart}
 
 layer_numbers-range : layer_numbers ≡ range_with_len 0 16
 unfolding layer_numbers

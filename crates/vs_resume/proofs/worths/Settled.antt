@@ -1,9 +1,7 @@
 -- The leaves of a part with the better of their own tables and of the old one.
-use Rattle.std.proofs.Common.{◌≡◌, ℕ, ◌+◌, ◌<◌, not, Bool, true, false, cond, List, [], ◌∷◌, ◌++◌, length, map, refl, sym, ap, ◌∙◌, subst, arith, inl, inr, Option, Some, None, slice_get, ℤ, ◌≤ℤ◌, ◌<ℤ◌}
+use Rattle.std.proofs.Common.{◌≡◌, ℕ, ◌+◌, List, [], ◌∷◌, ◌++◌, length, map, refl, sym, ap, ◌∙◌, subst, inl, inr, Option, Some, None, slice_get, ℤ, ◌≤ℤ◌}
 use Rattle.std.specs.Prelude.{option_map}
-use Rattle.std.specs.List.{All, AllZip}
-use Rattle.std.proofs.lemmas.List.Elements.{All-cons, All-head, All-nil, All-tail}
-use Rattle.std.proofs.lemmas.List.Sums.{sum_by-cons}
+use Rattle.std.specs.List.{AllZip}
 use Rattle.std.proofs.lemmas.Option.{slice_get-map, slice_get_within}
 use Rattle.vs_types.specs.declared.layer_set.LayerSet.{LayerSet}
 use Rattle.vs_instance.specs.Problem.{Problem}
@@ -13,7 +11,6 @@ use Rattle.vs_prices.specs.declared.bound.Bound.{Bound}
 use Rattle.vs_prices.specs.declared.table.Table.{Table}
 use Rattle.vs_cases.specs.Tree.{LeafPlace}
 use Rattle.vs_tree.specs.Prices.{prices_of}
-use Rattle.vs_answer.specs.Answers.{count_not_below, is_below}
 use Rattle.vs_resume.specs.Cases.{AreCasesOf, AreSettled, IsCaseOf, IsSettled}
 use Rattle.vs_resume.specs.Order.{worths_in}
 use Rattle.vs_resume.specs.Standing.{AreNamedWorths}

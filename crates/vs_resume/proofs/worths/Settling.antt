@@ -1,6 +1,5 @@
 -- Leaves settled one by one.
 use Rattle.std.proofs.Common.{◌≡◌, ℕ, ◌+◌, ◌<◌, List, [], ◌∷◌, ◌++◌, length, get_or, set, take, drop, sym, ap, ◌∙◌, subst, arith}
-use Rattle.std.specs.List.{AllZip}
 use Rattle.std.proofs.lemmas.List.{drop-set-lt, get_or-drop, take_more, take_more_set}
 use Rattle.std.proofs.lemmas.Grind.{drop_more_same}
 use Rattle.vs_instance.specs.Problem.{Problem}

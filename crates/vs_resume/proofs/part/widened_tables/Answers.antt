@@ -1,4 +1,4 @@
-use Rattle.std.proofs.Common.{◌≡◌, ℕ, ◌+◌, ◌<◌, List, [], ◌∷◌, ◌++◌, length, get_or, take, sym, ◌∙◌, subst, slice_index_or}
+use Rattle.std.proofs.Common.{ℕ, ◌+◌, List, [], ◌∷◌, ◌++◌, get_or, take, sym, ◌∙◌, subst, slice_index_or}
 use Rattle.std.proofs.lemmas.List.{take_more}
 use Rattle.vs_prices.specs.declared.table.Table.{Table}
 use Rattle.vs_tree.specs.Prices.{no_prices}

@@ -1,4 +1,4 @@
-use Rattle.std.proofs.Common.{◌≡◌, ◌⊎◌, ◌-◌, ◌≤◌, inl, inr, List, subst, arith}
+use Rattle.std.proofs.Common.{◌≡◌, ◌⊎◌, ◌-◌, inl, inr, subst, arith}
 use Rattle.std.specs.List.{All}
 use Rattle.std.proofs.lemmas.Result.{IfOk-weaker}
 use Rattle.vs_instance.specs.Restriction.{permitted_sets}
@@ -31,8 +31,8 @@ document_of-requires-clause-named g c =
     cases_named p c.loop-left.course.tables.items (leaves (permitted_sets p) on.last.tree)
     c.loop-left.course.cases.items on.course.cases
 
-pub returns : goal.returns
-returns g c =
+pub returns-clause-answers : goal.returns-clause-answers
+returns-clause-answers g c =
     let p = c.args.instance.now in
     let d = c.args.document in
     let now = c.loop-left.course in

@@ -1,4 +1,4 @@
-use Rattle.std.proofs.Common.{◌*◌, ◌≤◌, length, subst, arith, IfOk}
+use Rattle.std.proofs.Common.{◌*◌, length, subst, arith, IfOk}
 use Rattle.std.proofs.lemmas.Nat.{mul-le}
 use Rattle.vs_instance.specs.Problem.{Problem}
 use Rattle.vs_resume.specs.Deepened.{IsDeepened}

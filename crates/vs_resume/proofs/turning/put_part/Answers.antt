@@ -1,4 +1,4 @@
-use Rattle.std.proofs.Common.{◌≡◌, ◌+◌, ◌<◌, ◌^◌, List, length, refl, sym, ap, ◌∙◌, subst, arith, length-append, ℕ}
+use Rattle.std.proofs.Common.{◌≡◌, ◌+◌, ◌<◌, List, length, refl, sym, ap, ◌∙◌, subst, arith, length-append, ℕ}
 use Rattle.std.specs.List.{All}
 use Rattle.std.proofs.lemmas.List.{with_items_is}
 use Rattle.std.proofs.lemmas.Slice.Zip.{AllZip-long}
@@ -11,7 +11,7 @@ use Rattle.vs_rows.specs.declared.document.Shape.{Shape}
 use Rattle.vs_tree.specs.Search.{state}
 use Rattle.vs_resume.specs.declared.cases.Case.{Case}
 use Rattle.vs_resume.specs.Cases.{AreCasesOfRows, AreGoodRows, AreSettled, IsSettled}
-use Rattle.vs_resume.specs.InPlace.{in_place, row_of_leaf}
+use Rattle.vs_resume.specs.InPlace.{in_place}
 use Rattle.vs_resume.specs.Parts.{AreWidenedTables}
 use Rattle.vs_resume.proofs.parts.PartPut.{as_many, case_at, each_few, each_restricts, few_numbers, good_rows, leaf_restricts, part_numbers, row_there, table_fits, table_stands, table_within, widened_fit}
 use Rattle.vs_resume.proofs.turning.put_part.Goals as goal

@@ -1,7 +1,6 @@
 use Rattle.std.proofs.Common.{◌≡◌, ℕ, ◌+◌, ◌<◌, List, length, get_or, take, refl, sym, ap, ◌∙◌, subst, arith, Some, slice_get}
 use Rattle.std.proofs.lemmas.List.{take_all}
 use Rattle.std.proofs.lemmas.Option.{slice_get-get_or}
-use Rattle.vs_prices.specs.declared.table.Table.{Table}
 use Rattle.vs_resume.specs.Writing.{AreTaken}
 use Rattle.vs_resume.proofs.documents.Taking.{left_more, taken_more}
 use Rattle.vs_resume.proofs.writing.taken.Goals as goal

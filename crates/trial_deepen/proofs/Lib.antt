@@ -1,0 +1,3 @@
+mod AloneSearches
+mod HandedIn
+mod Ends
