@@ -90,10 +90,11 @@ module _ (p : Problem) (workers : ℕ) (d : Document) (solves : SolveAnswer p 0 
 
   first : IsDocumentOf o (first_state o) d
   first = subst (λ (steps : List FullStep). IsDocumentOf o (state_of o steps) d)
-      (no_steps o solves.searched.steps solves.searched.begins.budget solves.searched.history) solves.searched.of_state
+      (no_steps o solves.searched.steps solves.searched.made.begins.budget solves.searched.made.history)
+      solves.searched.of_state
 
   pub greedy_plan : HasGreedyPlan p d
-  greedy_plan = greedy_first p o.first d.cost (blocks_of d.plan) solves.searched.begins.first
+  greedy_plan = greedy_first p o.first d.cost (blocks_of d.plan) solves.searched.made.begins.first
       (first.cost ∙ first.is_report.cost) first.blocks
 
   listed : map prices_of d.tables.items ≡ zero_prices o.problem ∷ []
@@ -105,4 +106,4 @@ module _ (p : Problem) (workers : ℕ) (d : Document) (solves : SolveAnswer p 0 
   zero_listed =
       let one = one_listed d.tables.items (zero_prices o.problem) listed in
       let fits = All-head (Fits p) one.0 [] (subst (All (Fits p)) one.1 solves.has_text.fits) in
-      (one.0, one.1, zero_table p one.0 fits (one.2 ∙ ap zero_prices solves.searched.begins.problem))
+      (one.0, one.1, zero_table p one.0 fits (one.2 ∙ ap zero_prices solves.searched.made.begins.problem))

@@ -2,6 +2,8 @@ pub mod SearchAnswers
 pub mod FirstStates
 pub mod LawDocuments
 pub mod LawBounds
+pub mod TraceRoom
+pub mod LawTraces
 pub mod owing
 pub mod once
 pub mod carried

@@ -6,12 +6,9 @@ use Rattle.vs_prices.specs.Bounds.{IsNoLess}
 use Rattle.vs_prices.specs.declared.bound.Bound.{Bound}
 use Rattle.vs_prices.specs.declared.bound.Bound.TheVariants.{AtLeast, NoPlan}
 use Rattle.vs_cases.specs.Claims.{claim_found}
-use Rattle.vs_tree.specs.History.{FullStep, IsHistory, Opening, State, state_of}
+use Rattle.vs_tree.specs.History.{FullStep, Opening, State, state_of}
 use Rattle.vs_tree.specs.Report.{IsLesser, IsReport, bound_of}
 use Rattle.vs_tree.specs.declared.calls.Report.{Report}
-use Rattle.vs_tree.specs.Sound.{IsOpening}
-use Rattle.vs_tree.specs.Takes.{IsOver}
-use Rattle.vs_node.specs.WorkedHistory.{AreWorked}
 use Rattle.vs_node.proofs.CallerLemmas.{worked_searches_reach_the_start}
 use Rattle.vs_rows.specs.DocumentText.{HasText}
 use Rattle.vs_cert.specs.StateDocument.{IsDocumentOf}
@@ -19,38 +16,28 @@ use Rattle.vs_rows.specs.declared.document.Document.{Document}
 use Rattle.vs_answer.specs.Answers.{IsAnswer, ReachesStart}
 use Rattle.vs_answer.specs.Laws.{EachReachesTheStart}
 use Rattle.vs_answer.proofs.CallerLemmas.{bounds_reach_the_start, finished_searches_answer}
-use Rattle.mdvsp.specs.SolveAnswer.{BeginsFor, SolveAnswer}
+use Rattle.mdvsp.specs.SolveAnswer.{IsSearchOf, SolveAnswer}
 
 module _ (p : Problem) (budget workers : ℕ) (o : Opening) (steps : List FullStep) (d : Document)
-    (opening : IsOpening o) (history : IsHistory o steps) (begins : BeginsFor p budget workers o)
-    (worked : AreWorked o steps) (over : IsOver o (state_of o steps)) (of_state : IsDocumentOf o (state_of o steps) d)
+    (made : IsSearchOf p budget workers o steps) (of_state : IsDocumentOf o (state_of o steps) d)
     (text : HasText o.problem d) where
   each_reaches : 1 ≤ d.nodes → EachReachesTheStart o (state_of o steps)
   each_reaches some value start k worth leaf is_worth =
-      worked_searches_reach_the_start o steps k worth value opening history worked
+      worked_searches_reach_the_start o steps k worth value made.is_opening made.history made.worked
       (let same = of_state.nodes in omega arith) leaf is_worth start
 
   answers : IsAnswer p budget d
-  answers = subst (λ (x : Problem). IsAnswer x budget d) begins.problem
-      (subst (λ (n : ℕ). IsAnswer o.problem n d) begins.budget
-      (finished_searches_answer o steps d opening history over of_state))
+  answers = subst (λ (x : Problem). IsAnswer x budget d) made.begins.problem
+      (subst (λ (n : ℕ). IsAnswer o.problem n d) made.begins.budget
+      (finished_searches_answer o steps d made.is_opening made.history made.over of_state))
 
   pub search_answers : SolveAnswer p budget workers d
   search_answers = record {
-    has_text = subst (λ (x : Problem). HasText x d) begins.problem text;
+    has_text = subst (λ (x : Problem). HasText x d) made.begins.problem text;
     answer = answers;
-    start = λ some. subst (λ (x : Problem). IfSome d.bound (ReachesStart x d)) begins.problem
-        (bounds_reach_the_start o steps d opening history of_state (each_reaches some));
-    searched = record {
-      opening = o;
-      begins = begins;
-      is_opening = opening;
-      steps = steps;
-      history = history;
-      worked = worked;
-      over = over;
-      of_state = of_state;
-    };
+    start = λ some. subst (λ (x : Problem). IfSome d.bound (ReachesStart x d)) made.begins.problem
+        (bounds_reach_the_start o steps d made.is_opening made.history of_state (each_reaches some));
+    searched = record { opening = o; steps = steps; made = made; of_state = of_state };
   }
 
 -- two bounds of which neither is less are the same

@@ -3,3 +3,4 @@ pub mod OneAnswer
 pub mod SolveStatus
 pub mod SearchesAgree
 pub mod ResumeStatus
+pub mod TraceStatus

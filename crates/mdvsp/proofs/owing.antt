@@ -3,3 +3,4 @@ pub mod SearchOwed
 pub mod RunEnds
 pub mod TrialOwed
 pub mod ResumeOwed
+pub mod TraceOwed

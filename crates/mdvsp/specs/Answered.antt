@@ -10,6 +10,9 @@ use Rattle.vs_reply.specs.declared.status.Status.{Status}
 use Rattle.vs_reply.specs.declared.status.Status.TheVariants.{WriteFault, NoMemory}
 use Rattle.vs_words.specs.declared.command.Command.{Command}
 use Rattle.mdvsp.specs.Outcome.{Told}
+use Rattle.vs_trace.specs.TraceRows.{trace_text}
+use Rattle.vs_tree.specs.History.{FullStep, Opening}
+use Rattle.vs_tree.specs.declared.calls.Report.{Report}
 use Rattle.vs_instance.specs.Problem.{Problem}
 use Rattle.vs_rows.specs.declared.document.Document.{Document}
 use Rattle.vs_rows.specs.DocumentRows.{document_rows}
@@ -20,7 +23,7 @@ use Rattle.vs_made.specs.Made.{IsWholeText}
 use Rattle.vs_reader.specs.Names.{NameLists}
 use Rattle.vs_reader.specs.Rows.{lines}
 use Rattle.vs_resume.specs.Answers.{ResumeAnswer}
-use Rattle.mdvsp.specs.SolveAnswer.{SolveAnswer}
+use Rattle.mdvsp.specs.SolveAnswer.{SolveAnswer, TraceAnswer}
 use Rattle.mdvsp.specs.Owed.{Owes}
 
 -- the text is the lines of rows that are owed for the bytes, with this answer
@@ -42,6 +45,15 @@ pub record IsDocumentOf (problem : Problem) (names : NameLists) (budget workers 
   pub solves : SolveAnswer problem budget workers document
   pub status_is : answer.status ≡ status_of document.claim
   pub text_is : answer.text.items ≡ lines (document_rows problem names document)
+
+-- the text is the trace of such a search, and the status that of what it reports
+pub record IsTraceOf (problem : Problem) (names : NameLists) (budget workers : ℕ) (answer : Answer) : Type 0 where
+  pub opening : Opening
+  pub steps : List FullStep
+  pub report : Report
+  pub tells : TraceAnswer problem budget workers opening steps report
+  pub status_is : answer.status ≡ status_of report.claim
+  pub text_is : answer.text.items ≡ lines (trace_text names opening steps)
 
 -- one text is an instance text and no more, and the other that of a document for this instance, which holds
 pub record IsWritten (made written : List ℕ) (p : Problem) (names : NameLists) (d : Document) : Type 0 where

@@ -4,7 +4,8 @@ use Rattle.vs_instance.specs.Problem.{Problem}
 use Rattle.vs_rows.specs.declared.document.Document.{Document}
 use Rattle.vs_resume.specs.Answers.{is_leaf}
 use Rattle.vs_resume.specs.declared.resuming.TheConstants.{MAX_RESUMED_ENTRIES}
-use Rattle.mdvsp.specs.declared.budget.TheConstants.{DEFAULT_NODES, MAX_ENTRIES}
+use Rattle.vs_replays.specs.declared.room.TheConstants.{MAX_ENTRIES}
+use Rattle.mdvsp.specs.declared.budget.TheConstants.{DEFAULT_NODES}
 
 -- how many entering prices a table has, and as many leaving ones
 abbrev pub entries_of : Problem → ℕ

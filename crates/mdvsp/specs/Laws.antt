@@ -9,10 +9,15 @@ use Rattle.vs_prices.specs.declared.table.Table.{Table}
 use Rattle.vs_prices.specs.Table.{AreZeros, Fits}
 use Rattle.vs_prices.specs.Worth.{IsWorth}
 use Rattle.vs_rows.specs.declared.document.Document.{Document}
-use Rattle.vs_reader.specs.Rows.{Row}
+use Rattle.vs_reader.specs.Names.{NameLists}
+use Rattle.vs_reader.specs.Rows.{Row, lines}
+use Rattle.vs_rows.specs.DocumentRows.{document_rows}
+use Rattle.vs_cert.specs.StateDocument.{IsDocumentOf}
+use Rattle.vs_tree.specs.History.{FullStep, Opening, state_of}
+use Rattle.mdvsp.specs.SolveAnswer.{SolveAnswer}
 use Rattle.vs_words.specs.declared.command.Command.{Command}
 use Rattle.vs_words.specs.declared.command.Effort.{Effort}
-use Rattle.vs_words.specs.declared.command.Command.TheVariants.{Solve, Trial, Peak, Resume}
+use Rattle.vs_words.specs.declared.command.Command.TheVariants.{Solve, Trial, Peak, Resume, Trace}
 use Rattle.vs_reply.specs.declared.status.Status.{Status}
 use Rattle.vs_reply.specs.declared.status.Status.TheVariants as status
 use Rattle.mdvsp.specs.Owed.{OwesDocument}
@@ -41,13 +46,14 @@ pub record IsDoneWhereShown (effort : Effort) (bytes : List ℕ) (answer : Statu
   pub done_there : IsSomeAnd owed.document.cost (λ cost. cost ≤ℤ n) → answer ≡ status.Done
   pub or_open : (answer ≡ status.Done) ⊎ (answer ≡ status.StillOpen)
 
--- what the command owes is one thing; of `solve`, `trial` and `resume` the definition leaves open which of several
--- searches is made, and of `peak` which of several blocks and prices show a peak
+-- what the command owes is one thing; of `solve`, `trial`, `resume` and `trace` the definition leaves open which of
+-- several searches is made, and of `peak` which of several blocks and prices show a peak
 abbrev pub IsDetermined : Command → Type 0
 IsDetermined (Solve effort) = ⊥
 IsDetermined (Trial n) = ⊥
 IsDetermined Peak = ⊥
 IsDetermined (Resume effort) = ⊥
+IsDetermined (Trace effort) = ⊥
 IsDetermined _ = Unit {0}
 
 -- the answer settles what plans there are
@@ -60,6 +66,14 @@ IsSettled _ = ⊥
 -- settles
 abbrev pub MayBothBe : Status → Status → Type 0
 MayBothBe a b = (a ≡ b) ⊎ ((a ≡ status.StillOpen) × IsSettled b) ⊎ ((b ≡ status.StillOpen) × IsSettled a)
+
+-- the rows are written as those of a document of the state that a search came to, which the search may answer
+pub record WritesAnswer (p : Problem) (names : NameLists) (budget workers : ℕ) (opening : Opening)
+    (steps : List FullStep) (rows : List Row) : Type 0 where
+  pub document : Document
+  pub of_state : IsDocumentOf opening (state_of opening steps) document
+  pub solves : SolveAnswer p budget workers document
+  pub lines_are : lines rows ≡ lines (document_rows p names document)
 
 -- the bound of one answer isn't above the cost of the other
 abbrev pub NeverPasses : Document → Document → Type 0

@@ -1,7 +1,7 @@
 -- How a run may end: with what was read, and what was written.
 use Rattle.std.specs.Prelude.{◌≡◌, ℕ, ◌<◌, ◌≤◌, List, [], ◌∷◌, length, Option, ◌⊎◌}
 use Rattle.vs_words.specs.declared.command.Command.{Command}
-use Rattle.vs_words.specs.declared.command.Command.TheVariants.{Make, Solve, Trial, Resume}
+use Rattle.vs_words.specs.declared.command.Command.TheVariants.{Make, Solve, Trial, Resume, Trace}
 use Rattle.vs_io.specs.Bytes.{Takes, TakesAll, Appends, AppendsPrefix}
 use Rattle.vs_io.specs.Faults.{Rose}
 use Rattle.vs_io.specs.declared.slurping.SlurpError.{SlurpError}
@@ -41,6 +41,7 @@ abbrev pub StartsNoThread : Command → Type 0
 StartsNoThread (Solve effort) = ⊥
 StartsNoThread (Trial n) = ⊥
 StartsNoThread (Resume effort) = ⊥
+StartsNoThread (Trace effort) = ⊥
 StartsNoThread _ = Unit {0}
 
 -- the command searches, which threads may share
@@ -48,6 +49,7 @@ abbrev pub Searches : Command → Type 0
 Searches (Solve effort) = Unit {0}
 Searches (Trial n) = Unit {0}
 Searches (Resume effort) = Unit {0}
+Searches (Trace effort) = Unit {0}
 Searches _ = ⊥
 
 -- why it couldn't, with the count of the source's faults before and after it

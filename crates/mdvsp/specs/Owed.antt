@@ -11,15 +11,19 @@ use Rattle.vs_reply.specs.declared.status.Status.TheVariants as status
 use Rattle.vs_reply.specs.Cases.{CheckText, SolveText}
 use Rattle.vs_reply.specs.Owed.{BlocksOwes, CheckOwes, MakeOwes, NetworkOwes, OwesNo, OwesNoCase, OwesRefusal, PeakCheckOwes}
 use Rattle.vs_peaks.specs.Owed.{PeakOwes}
+use Rattle.vs_replays.specs.Owed.{ReplayOwes}
 use Rattle.vs_reply.specs.Status.{status_of}
 use Rattle.vs_report.specs.RefusalRows.{too_large_row}
 use Rattle.vs_words.specs.declared.command.Command.{Command}
 use Rattle.vs_words.specs.declared.command.Effort.{Effort}
-use Rattle.vs_words.specs.declared.command.Command.TheVariants.{Check, Solve, Network, Blocks, Make, Trial, Peak, PeakCheck, Resume}
+use Rattle.vs_words.specs.declared.command.Command.TheVariants.{Check, Solve, Network, Blocks, Make, Trial, Peak, PeakCheck, Resume, Trace, Replay}
 use Rattle.vs_make.specs.Generator.{make_rows}
 use Rattle.vs_resume.specs.Answers.{ResumeAnswer}
+use Rattle.vs_trace.specs.TraceRows.{trace_text}
+use Rattle.vs_tree.specs.History.{FullStep, Opening}
+use Rattle.vs_tree.specs.declared.calls.Report.{Report}
 use Rattle.mdvsp.specs.Budgets.{budget_of, resumed_budget}
-use Rattle.mdvsp.specs.SolveAnswer.{SolveAnswer}
+use Rattle.mdvsp.specs.SolveAnswer.{SolveAnswer, TraceAnswer}
 use Rattle.mdvsp.specs.declared.trial.TheConstants.{TRIAL_NODES, TRIAL_WORKERS}
 
 -- `solve` is owed a document that a search of the instance answers, made by as many workers as are asked for within the
@@ -124,6 +128,30 @@ ResumeOwes effort bytes status.SaysNo rows = OwesNoResuming effort bytes rows
 ResumeOwes effort bytes status.BadInput rows = OwesNoTurn effort bytes rows
 ResumeOwes effort bytes _ rows = ⊥
 
+-- `trace` is owed the trace of a search of the instance, made by as many workers as are asked for within the budget,
+-- whose document `solve` may be owed, with the status of what it reports
+pub record OwesTrace (effort : Effort) (bytes : List ℕ) (answer : Status) (rows : List Row) : Type 0 where
+  pub problem : Problem
+  pub names : NameLists
+  pub text : SolveText bytes problem names
+  pub budget : ℕ
+  pub budget_is : budget_of problem effort.nodes ≡ Some budget
+  pub opening : Opening
+  pub steps : List FullStep
+  pub report : Report
+  pub tells : TraceAnswer problem budget effort.workers opening steps report
+  pub status_is : answer ≡ status_of report.claim
+  pub rows_are : rows ≡ trace_text names opening steps
+
+-- what `trace` with this effort has to answer for these bytes, and which rows it has to write; what `solve` refuses, it
+-- refuses in the same way
+abbrev pub TraceOwes : Effort → List ℕ → Status → List Row → Type 0
+TraceOwes effort bytes status.Done rows = OwesTrace effort bytes status.Done rows
+TraceOwes effort bytes status.Infeasible rows = OwesTrace effort bytes status.Infeasible rows
+TraceOwes effort bytes status.StillOpen rows = OwesTrace effort bytes status.StillOpen rows
+TraceOwes effort bytes status.BadInput rows = OwesNoSearch effort bytes rows
+TraceOwes effort bytes _ rows = ⊥
+
 -- what a command has to answer for the bytes that it read, and which rows it has to write
 abbrev pub Owes : Command → List ℕ → Status → List Row → Type 0
 Owes Check bytes = CheckOwes bytes
@@ -135,3 +163,5 @@ Owes (Trial n) bytes = TrialOwes n
 Owes Peak bytes = PeakOwes bytes
 Owes PeakCheck bytes = PeakCheckOwes bytes
 Owes (Resume effort) bytes = ResumeOwes effort bytes
+Owes (Trace effort) bytes = TraceOwes effort bytes
+Owes Replay bytes = ReplayOwes bytes

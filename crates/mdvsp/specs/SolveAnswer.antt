@@ -1,11 +1,14 @@
 -- What a document has to be that a search answers.
-use Rattle.std.specs.Prelude.{◌≡◌, ℕ, ◌≤◌, List, IfSome, MatchOption, Option}
+use Rattle.std.specs.Prelude.{◌≡◌, ℕ, ◌<◌, ◌≤◌, ◌^◌, List, length, IfSome, MatchOption, Option}
 use Rattle.vs_instance.specs.Problem.{Problem}
 use Rattle.vs_plan.specs.CheckedPlan.{Checked}
 use Rattle.vs_plan.specs.Greedy.{GreedyGetsStuck, GreedyGives}
 use Rattle.vs_tree.specs.History.{FullStep, IsHistory, Opening, state_of}
+use Rattle.vs_tree.specs.Laws.{IsTrueClaim}
+use Rattle.vs_tree.specs.Report.{IsReport}
 use Rattle.vs_tree.specs.Sound.{IsOpening, IsPlanOf}
 use Rattle.vs_tree.specs.Takes.{IsOver}
+use Rattle.vs_tree.specs.declared.calls.Report.{Report}
 use Rattle.vs_node.specs.WorkedHistory.{AreWorked}
 use Rattle.vs_rows.specs.DocumentText.{HasText}
 use Rattle.vs_cert.specs.StateDocument.{IsDocumentOf}
@@ -23,16 +26,20 @@ pub record BeginsFor (p : Problem) (nodes crew : ℕ) (opening : Opening) : Type
   pub workers : opening.workers ≡ crew
   pub first : IsGreedyPlan p opening.first
 
--- The document is that of the state that such a search comes to once it is over and no worker holds a leaf. Each leaf
--- that it split or closed was worked on.
-pub record IsSearched (p : Problem) (budget workers : ℕ) (d : Document) : Type 0 where
-  pub opening : Opening
+-- The steps are those of such a search, which is over; no worker holds a leaf. Each leaf that they split or closed was
+-- worked on.
+pub record IsSearchOf (p : Problem) (budget workers : ℕ) (opening : Opening) (steps : List FullStep) : Type 0 where
   pub begins : BeginsFor p budget workers opening
   pub is_opening : IsOpening opening
-  pub steps : List FullStep
   pub history : IsHistory opening steps
   pub worked : AreWorked opening steps
   pub over : IsOver opening (state_of opening steps)
+
+-- the document is that of the state that such a search came to
+pub record IsSearched (p : Problem) (budget workers : ℕ) (d : Document) : Type 0 where
+  pub opening : Opening
+  pub steps : List FullStep
+  pub made : IsSearchOf p budget workers opening steps
   pub of_state : IsDocumentOf opening (state_of opening steps) d
 
 -- A document that a search with this budget and so many workers may answer: it has a text, holds, and says what the
@@ -42,3 +49,14 @@ pub record SolveAnswer (p : Problem) (budget workers : ℕ) (d : Document) : Typ
   pub answer : IsAnswer p budget d
   pub start : 1 ≤ d.nodes → IfSome d.bound (ReachesStart p d)
   pub searched : IsSearched p budget workers d
+
+-- Such a search, of no more steps than a list may have, and what it reports of the state that it came to: that is true
+-- of all plans of the instance, and each document of the state is one that a search may answer.
+pub record TraceAnswer (p : Problem) (budget workers : ℕ) (opening : Opening) (steps : List FullStep) (report : Report)
+    : Type 0 where
+  pub made : IsSearchOf p budget workers opening steps
+  pub few_steps : length steps < 2 ^ 63
+  pub is_report : IsReport p (state_of opening steps) report
+  pub proves : IsTrueClaim p (state_of opening steps) report report.claim
+  pub documents : (d : Document) → HasText p d → IsDocumentOf opening (state_of opening steps) d
+      → SolveAnswer p budget workers d

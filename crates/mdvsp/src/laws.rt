@@ -8,9 +8,11 @@ ghost use Rattle.vs_words.specs.declared.command.Command.{Command};
 ghost use Rattle.vs_words.specs.declared.command.Effort.{Effort};
 ghost use Rattle.vs_reply.specs.declared.status.Status.{Status};
 ghost use Rattle.vs_reply.specs.declared.status.Status.TheVariants as status;
-ghost use Rattle.mdvsp.specs.Laws.{IsDetermined, IsDoneWhereShown, MayBothBe, NeverDisagree, NeverFalls, NeverPasses};
+ghost use Rattle.mdvsp.specs.Laws.{IsDetermined, IsDoneWhereShown, MayBothBe, NeverDisagree, NeverFalls, NeverPasses, WritesAnswer};
 ghost use Rattle.vs_reply.specs.Owed.{CheckOwes, yes_row};
-ghost use Rattle.mdvsp.specs.Owed.{Owes, OwesDocument, OwesResumed};
+ghost use Rattle.mdvsp.specs.Owed.{Owes, OwesDocument, OwesResumed, OwesTrace};
+ghost use Rattle.vs_replays.specs.Owed.{ReplayOwes};
+ghost use Rattle.vs_words.specs.Words.{IsWithinLimits};
 ghost use Rattle.vs_document.specs.ReadingBack.{ReadsAs};
 ghost use Rattle.vs_reader.specs.Rows.{Row, lines};
 
@@ -41,8 +43,20 @@ pub fn bounds_never_fall()
         → NeverFalls owed.before owed.document }
 {}
 
-/// What a command other than `solve`, `trial`, `resume` and `peak` is owed for the bytes that it read is one thing: one
-/// status, and one list of rows. So no input has two verdicts.
+/// For what `trace` has to write for an instance, behind the instance's records, the last of which is ended by a line
+/// end, `replay` is owed a document of the state that the search came to, one that the search may answer, and nothing
+/// else.
+pub fn written_traces_replay()
+    ensures { (effort : Effort) (bytes read : List ℕ) (answer replayed : Status) (rows others : List Row)
+        (owed : OwesTrace effort bytes answer rows) → IsWithinLimits (Command.Trace effort)
+        → HasRows read (take owed.text.before owed.text.instance.rows) → EndsInLine read
+        → ReplayOwes (read ++ lines rows) replayed others
+        → (replayed ≡ status.Done) × WritesAnswer owed.problem owed.names owed.budget effort.workers
+        owed.opening owed.steps others }
+{}
+
+/// What a command other than `solve`, `trial`, `resume`, `trace` and `peak` is owed for the bytes that it read is one
+/// thing: one status, and one list of rows. So no input has two verdicts.
 pub fn one_answer()
     ensures { (command : Command) (bytes : List ℕ) (a b : Status) (r s : List Row)
         → IsDetermined command → Owes command bytes a r → Owes command bytes b s
@@ -84,5 +98,12 @@ pub fn done_where_shown()
 pub fn enough_nodes_leave_nothing_open()
     ensures { (effort : Effort) (bytes : List ℕ) (answer : Status) (rows : List Row)
         (owed : OwesDocument effort bytes answer rows)
+        → 2 * choices (permitted_sets owed.problem) ≤ owed.budget + 1 → answer ≢ status.StillOpen }
+{}
+
+/// Nor is a search that is carried on with so many nodes, from whatever document that holds.
+pub fn enough_nodes_end_what_is_resumed()
+    ensures { (effort : Effort) (bytes : List ℕ) (answer : Status) (rows : List Row)
+        (owed : OwesResumed effort bytes answer rows)
         → 2 * choices (permitted_sets owed.problem) ≤ owed.budget + 1 → answer ≢ status.StillOpen }
 {}

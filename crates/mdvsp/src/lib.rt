@@ -9,11 +9,13 @@ mod resuming;
 mod running;
 mod saying;
 mod solving;
+mod tracing;
 mod trial;
 
 pub use laws::{
-    bounds_never_fall, bounds_never_pass_costs, done_where_shown, enough_nodes_leave_nothing_open,
-    one_answer, one_status, resumed_documents_hold, searches_agree, solved_documents_hold,
+    bounds_never_fall, bounds_never_pass_costs, done_where_shown, enough_nodes_end_what_is_resumed,
+    enough_nodes_leave_nothing_open, one_answer, one_status, resumed_documents_hold,
+    searches_agree, solved_documents_hold, written_traces_replay,
 };
 pub use running::run;
 pub use vs_make::make_text;

@@ -9,6 +9,7 @@ ghost use Rattle.vs_words.specs.Words.{AskFor, AskToRead, IsWithinLimits, Reads,
 use crate::resuming::answer_resume;
 use crate::saying::say;
 use crate::solving::answer_solve;
+use crate::tracing::answer_trace;
 use crate::trial::answer_trial;
 use std::alloc::Global;
 use std::sync::Wait;
@@ -17,6 +18,7 @@ use vs_crew::Gate;
 use vs_io::{Sink, SlurpError, Source, slurp};
 use vs_peaks::answer_peak;
 use vs_reader::MAX_BYTES;
+use vs_replays::answer_replay;
 use vs_reply::{
     Answer, Status, answer_blocks, answer_check, answer_make, answer_network, answer_peakcheck,
 };
@@ -54,6 +56,7 @@ pub fn run<R: Threads + Wait + Sync, I: Source, O: Sink, G: Gate + Sync>(
             Command::Solve(_) => search(rt, alloc, command, input, output, gate),
             Command::Trial(_) => search(rt, alloc, command, input, output, gate),
             Command::Resume(_) => search(rt, alloc, command, input, output, gate),
+            Command::Trace(_) => search(rt, alloc, command, input, output, gate),
             _ => obey(alloc, command, input, output),
         },
         Err(bad) => say(Answer::bad_word(alloc, bad.0), output),
@@ -109,6 +112,7 @@ fn answer_search<R: Threads + Wait + Sync, G: Gate + Sync>(
         Command::Solve(effort) => answer_solve(rt, alloc, effort, bytes, gate),
         Command::Trial(n) => answer_trial(rt, alloc, n, gate),
         Command::Resume(effort) => answer_resume(rt, alloc, effort, bytes, gate),
+        Command::Trace(effort) => answer_trace(rt, alloc, effort, bytes, gate),
         _ => unreachable!(),
     }
 }
@@ -190,8 +194,10 @@ fn answer_to(alloc: Global, command: Command, bytes: &[u8]) -> Result<Answer, Me
         Command::Make(n) => answer_make(alloc, n),
         Command::Peak => answer_peak(alloc, bytes),
         Command::PeakCheck => answer_peakcheck(alloc, bytes),
+        Command::Replay => answer_replay(alloc, bytes),
         Command::Solve(_) => unreachable!(),
         Command::Trial(_) => unreachable!(),
         Command::Resume(_) => unreachable!(),
+        Command::Trace(_) => unreachable!(),
     }
 }

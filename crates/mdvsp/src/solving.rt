@@ -73,7 +73,7 @@ pub fn plan_of<R: Threads + Wait + Sync, G: Gate + Sync>(
 }
 
 /// A search of the instance by so many workers that begins with the greedy rule's plan, once it is over.
-fn searched<R: Threads + Wait + Sync, G: Gate + Sync>(
+pub fn searched<R: Threads + Wait + Sync, G: Gate + Sync>(
     rt: &R,
     alloc: Global,
     instance: &Instance,

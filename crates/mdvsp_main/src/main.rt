@@ -29,6 +29,9 @@ commands:
             and they work on so many cases, 0 to 100000, at most
   resume [--workers N] [--nodes N]
             go on from the plan's document behind the timetable, where it ended, in the same way
+  trace [--workers N] [--nodes N]
+            plan as solve does, and write each step of the search in place of the plan's document
+  replay    make the steps of such a trace behind its timetable again, and write the document to which they lead
   check     judge a plan's document behind its timetable
   blocks    print the timetable of a plan's vehicles
   network   tell how large a timetable's networks are
@@ -40,9 +43,9 @@ commands:
             print this, or the version of the program
 
 exit status:
-  0 done, solve, resume, trial: the plan is optimal   1 check, resume, blocks, peakcheck: no   2 wrong words
-  3 the input is refused   4 reading failed   5 writing failed   6 no memory   7 the input is too long
-  10 solve, resume, trial: there is no plan   11 solve, resume, trial: open, the cases ran out";
+  0 done, solve, resume, trace, trial: the plan is optimal   1 check, resume, replay, blocks, peakcheck: no
+  2 wrong words   3 the input is refused   4 reading failed   5 writing failed   6 no memory
+  7 the input is too long   10 solve, resume, trace, trial: there is no plan   11 they are open, the cases ran out";
 
 /// Runs the words after the program's name over standard input and output, and ends with the run's code. Where standard
 /// error is a terminal, it tells there how far the run has come, why there is no plan where there is none, and what was

@@ -1,6 +1,6 @@
 //! Tests of what judges: worked examples of documents, plans, prices and verdicts, and that each call can answer
-//! something else than `Memory`; and of the words that tell why there is no plan, what is refused, and why a document
-//! or a text of peaks doesn't hold.
+//! something else than `Memory`; and of the words that tell why there is no plan, what is refused, and why a document,
+//! a trace or a text of peaks doesn't hold.
 #![tactic(auto)]
 
 #[cfg(test)]
@@ -15,5 +15,7 @@ mod prices;
 mod reasons;
 #[cfg(test)]
 mod refusals;
+#[cfg(test)]
+mod traces;
 #[cfg(test)]
 mod verdicts;

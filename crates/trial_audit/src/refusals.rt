@@ -187,8 +187,8 @@ const TOLD: &[Told] = &[
     (
         &[STOPS, LAYER, TRIPS],
         "refused,0,40,TooLarge\n",
-        "so many cases are too many: trips times layers times --nodes is 3000000 at most, and for resume, the \
-            document's cases among them, 6000000",
+        "so many cases are too many: trips times layers times --nodes, or the cases of a trace's opening, is 3000000 \
+            at most, and for resume, the document's cases among them, 6000000",
     ),
     (
         &[STOPS, LAYER, TRIPS],

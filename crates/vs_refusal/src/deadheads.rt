@@ -44,8 +44,8 @@ pub fn deadheads_words(alloc: Global, input: &[u8], row: &ByteRecord) -> Result<
     if is_text(field(row, 3), "TooLarge") {
         return sentence(
             alloc,
-            "so many cases are too many: trips times layers times --nodes is 3000000 at most, and for resume, the \
-                document's cases among them, 6000000",
+            "so many cases are too many: trips times layers times --nodes, or the cases of a trace's opening, is \
+                3000000 at most, and for resume, the document's cases among them, 6000000",
             &[],
         );
     }

@@ -1,9 +1,10 @@
-//! The words for a document that doesn't hold.
+//! The words for a document, a trace or a text of peaks that doesn't hold.
 
 use crate::blocks::plan_words;
 use crate::peaks::peak_flaw_words;
 use crate::records::number_in;
 use crate::sentence::{Part, sentence};
+use crate::traces::step_words;
 use csv::ByteRecord;
 use std::alloc::Global;
 use vs_reader::{field, is_text};
@@ -12,7 +13,7 @@ use vs_types::Memory;
 /// The number of the first flaw of a text of peaks.
 const FIRST_OF_PEAKS: u64 = 8;
 
-/// The words for a row that says why a document or a text of peaks doesn't hold.
+/// The words for a row that says why a document, a trace or a text of peaks doesn't hold.
 pub fn flaw_words(alloc: Global, input: &[u8], row: &ByteRecord) -> Result<String, Memory> {
     if number_in(row, 1) >= FIRST_OF_PEAKS {
         return peak_flaw_words(alloc, row);
@@ -26,6 +27,9 @@ pub fn flaw_words(alloc: Global, input: &[u8], row: &ByteRecord) -> Result<Strin
     }
     if is_text(name, "LeafTooWeak") {
         return leaf_words(alloc, row);
+    }
+    if is_text(name, "NotAStep") {
+        return step_words(alloc, row);
     }
     claim_words(alloc, name, row)
 }

@@ -13,6 +13,7 @@ mod peaks;
 mod records;
 mod sentence;
 mod telling;
+mod traces;
 mod twice;
 mod unknown;
 

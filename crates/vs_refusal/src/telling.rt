@@ -11,13 +11,16 @@ use crate::flaw::flaw_words;
 use crate::instance::instance_words;
 use crate::peaks::peaks_words;
 use crate::records::{first_record, number_in, record_at};
+use crate::traces::trace_words;
 use csv::ByteRecord;
 use std::alloc::Global;
 use vs_reader::{field, is_text};
 use vs_types::Memory;
 
-/// The numbers of the first refusals of documents and of texts of peaks.
+/// The numbers of the first refusals of documents, of traces and of texts of peaks.
 const FIRST_OF_DOCUMENTS: u64 = 20;
+
+const FIRST_OF_TRACES: u64 = 50;
 
 const FIRST_OF_PEAKS: u64 = 60;
 
@@ -77,8 +80,11 @@ fn why_words(alloc: Global, input: &[u8], row: &ByteRecord) -> Result<String, Me
     if number_in(row, 2) < FIRST_OF_DOCUMENTS {
         return instance_words(alloc, input, row, &at);
     }
-    if number_in(row, 2) < FIRST_OF_PEAKS {
+    if number_in(row, 2) < FIRST_OF_TRACES {
         return document_words(alloc, row, &at);
+    }
+    if number_in(row, 2) < FIRST_OF_PEAKS {
+        return trace_words(alloc, row, &at);
     }
     peaks_words(alloc, row, &at)
 }

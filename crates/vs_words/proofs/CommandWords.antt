@@ -8,7 +8,7 @@ use Rattle.std.proofs.lemmas.List.{length-map, get_or-map}
 use Rattle.std.proofs.lemmas.List.Elements.{All-nil, All-cons}
 use Rattle.vs_instance.specs.declared.limits.TheConstants.{MAX_BUDGET, MAX_TRIPS, MAX_WORKERS}
 use Rattle.vs_words.specs.declared.command.Command.{Command}
-use Rattle.vs_words.specs.declared.command.Command.TheVariants.{Check, Solve, Network, Blocks, Make, Trial, Peak, PeakCheck, Resume}
+use Rattle.vs_words.specs.declared.command.Command.TheVariants.{Check, Solve, Network, Blocks, Make, Trial, Peak, PeakCheck, Resume, Trace, Replay}
 use Rattle.vs_words.specs.declared.command.Effort.{Effort}
 use Rattle.vs_words.specs.declared.words.Counting.{Counting}
 use Rattle.vs_words.specs.declared.words.Counting.TheVariants as counting
@@ -60,19 +60,27 @@ resume_further : (d : Command) (words : List Word) → command_name d ≡ codes 
 resume_further (Resume effort) words e f = (effort, f)
 resume_further _ words e f = absurd (omega (arith, ap sum e))
 
+trace_further : (d : Command) (words : List Word) → command_name d ≡ codes "trace" → AreFurther d words
+    → SearchWords words
+trace_further (Trace effort) words e f = (effort, f)
+trace_further _ words e f = absurd (omega (arith, ap sum e))
+
 search_further : (kind : Searching) (d : Command) (words : List Word) → command_name d ≡ search_name kind
     → AreFurther d words → SearchWords words
 search_further searching.Solve d words e f = solve_further d words e f
 search_further searching.Resume d words e f = resume_further d words e f
+search_further searching.Trace d words e f = trace_further d words e f
 
 searched_name : (kind : Searching) (effort : Effort) → search_name kind ≡ command_name (searched kind effort)
 searched_name searching.Solve effort = refl
 searched_name searching.Resume effort = refl
+searched_name searching.Trace effort = refl
 
 takes_options : (kind : Searching) (effort : Effort) (words : List Word) → AreOptions effort words
     → AreFurther (searched kind effort) words
 takes_options searching.Solve effort words is = is
 takes_options searching.Resume effort words is = is
+takes_options searching.Trace effort words is = is
 
 -- a count of trips
 record Counts (words : List Word) : Type 0 where
@@ -522,16 +530,19 @@ not_the_name : (words : List Word) (c : Command) → ¬ (IsWordAt words 0 (codes
     → ¬ (IsWordAt words 0 (codes "solve")) → ¬ (IsWordAt words 0 (codes "make"))
     → ¬ (IsWordAt words 0 (codes "trial")) → ¬ (IsWordAt words 0 (codes "peak"))
     → ¬ (IsWordAt words 0 (codes "peakcheck")) → ¬ (IsWordAt words 0 (codes "resume"))
+    → ¬ (IsWordAt words 0 (codes "trace")) → ¬ (IsWordAt words 0 (codes "replay"))
     → ¬ (IsWordAt words 0 (command_name c))
-not_the_name words Check check network blocks solve make trial peak peakcheck resume = check
-not_the_name words Network check network blocks solve make trial peak peakcheck resume = network
-not_the_name words Blocks check network blocks solve make trial peak peakcheck resume = blocks
-not_the_name words (Solve effort) check network blocks solve make trial peak peakcheck resume = solve
-not_the_name words (Make n) check network blocks solve make trial peak peakcheck resume = make
-not_the_name words (Trial n) check network blocks solve make trial peak peakcheck resume = trial
-not_the_name words Peak check network blocks solve make trial peak peakcheck resume = peak
-not_the_name words PeakCheck check network blocks solve make trial peak peakcheck resume = peakcheck
-not_the_name words (Resume effort) check network blocks solve make trial peak peakcheck resume = resume
+not_the_name words Check check network blocks solve make trial peak peakcheck resume trace replay = check
+not_the_name words Network check network blocks solve make trial peak peakcheck resume trace replay = network
+not_the_name words Blocks check network blocks solve make trial peak peakcheck resume trace replay = blocks
+not_the_name words (Solve effort) check network blocks solve make trial peak peakcheck resume trace replay = solve
+not_the_name words (Make n) check network blocks solve make trial peak peakcheck resume trace replay = make
+not_the_name words (Trial n) check network blocks solve make trial peak peakcheck resume trace replay = trial
+not_the_name words Peak check network blocks solve make trial peak peakcheck resume trace replay = peak
+not_the_name words PeakCheck check network blocks solve make trial peak peakcheck resume trace replay = peakcheck
+not_the_name words (Resume effort) check network blocks solve make trial peak peakcheck resume trace replay = resume
+not_the_name words (Trace effort) check network blocks solve make trial peak peakcheck resume trace replay = trace
+not_the_name words Replay check network blocks solve make trial peak peakcheck resume trace replay = replay
 
 pub first_bad : (words : List Word) → ((c : Command) → ¬ (IsWordAt words 0 (command_name c))) → AreBadAt words 1
 first_bad [] none = record {
@@ -555,9 +566,11 @@ pub no_command : (words : List Word) → ¬ (IsWordAt words 0 (codes "check"))
     → ¬ (IsWordAt words 0 (codes "network")) → ¬ (IsWordAt words 0 (codes "blocks"))
     → ¬ (IsWordAt words 0 (codes "solve")) → ¬ (IsWordAt words 0 (codes "make"))
     → ¬ (IsWordAt words 0 (codes "trial")) → ¬ (IsWordAt words 0 (codes "peak"))
-    → ¬ (IsWordAt words 0 (codes "peakcheck")) → ¬ (IsWordAt words 0 (codes "resume")) → AreBadAt words 1
-no_command words check network blocks solve make trial peak peakcheck resume =
-    first_bad words (λ c. not_the_name words c check network blocks solve make trial peak peakcheck resume)
+    → ¬ (IsWordAt words 0 (codes "peakcheck")) → ¬ (IsWordAt words 0 (codes "resume"))
+    → ¬ (IsWordAt words 0 (codes "trace")) → ¬ (IsWordAt words 0 (codes "replay")) → AreBadAt words 1
+no_command words check network blocks solve make trial peak peakcheck resume trace replay =
+    first_bad words (λ c. not_the_name words c check network blocks solve make trial peak peakcheck resume trace
+    replay)
 
 -- a word that was read, as bytes
 pub word_read : (words : List (String Global)) (place : ℕ) (word : String Global) → place < length words

@@ -3,7 +3,7 @@ use Rattle.std.proofs.Common.{◌≡◌, ℕ, ◌+◌, ◌-◌, ◌<◌, ◌≤�
 use Rattle.std.specs.Str.Parse.{digits_value}
 use Rattle.std.proofs.lemmas.List.{append-nil, take-append-drop, take-take}
 use Rattle.vs_words.specs.declared.command.Command.{Command}
-use Rattle.vs_words.specs.declared.command.Command.TheVariants.{Check, Solve, Network, Blocks, Make, Trial, Peak, PeakCheck, Resume}
+use Rattle.vs_words.specs.declared.command.Command.TheVariants.{Check, Solve, Network, Blocks, Make, Trial, Peak, PeakCheck, Resume, Trace, Replay}
 use Rattle.vs_words.specs.declared.command.Effort.{Effort}
 use Rattle.vs_words.specs.declared.words.Setting.{Setting}
 use Rattle.vs_words.specs.Words.{Word, AreAccepted, AreBadAt, AreFurther, AreOptions, AskFor, Begin, IsCount, IsNumberFor, command_name, other_setting, setting_name}
@@ -67,6 +67,8 @@ one_further (Trial m) (Trial n) words e f g = ap Trial (one_count words m n f g)
 one_further Peak Peak words e f g = refl
 one_further PeakCheck PeakCheck words e f g = refl
 one_further (Resume effort) (Resume also) words e f g = ap Resume (one_effort words effort also f g)
+one_further (Trace effort) (Trace also) words e f g = ap Trace (one_effort words effort also f g)
+one_further Replay Replay words e f g = refl
 one_further _ _ words e f g = absurd (omega (arith, ap sum e))
 
 pub one_command : (words : List Word) (c d : Command) → AskFor words c → AskFor words d → c ≡ d

@@ -5,7 +5,7 @@ use Rattle.std.specs.declared.alloc.Global.{Global}
 use Rattle.vs_instance.specs.declared.limits.TheConstants.{MAX_BUDGET, MAX_TRIPS, MAX_WORKERS}
 use Rattle.vs_reader.specs.Numbers.{AreDigits}
 use Rattle.vs_words.specs.declared.command.Command.{Command}
-use Rattle.vs_words.specs.declared.command.Command.TheVariants.{Check, Solve, Network, Blocks, Make, Trial, Peak, PeakCheck, Resume}
+use Rattle.vs_words.specs.declared.command.Command.TheVariants.{Check, Solve, Network, Blocks, Make, Trial, Peak, PeakCheck, Resume, Trace, Replay}
 use Rattle.vs_words.specs.declared.command.Effort.{Effort}
 use Rattle.vs_words.specs.declared.words.BadWord.{BadWord}
 use Rattle.vs_words.specs.declared.words.Counting.{Counting}
@@ -31,6 +31,8 @@ command_name (Trial n) = codes "trial"
 command_name Peak = codes "peak"
 command_name PeakCheck = codes "peakcheck"
 command_name (Resume effort) = codes "resume"
+command_name (Trace effort) = codes "trace"
+command_name Replay = codes "replay"
 
 -- the command of so many trips
 abbrev pub counted : Counting → ℕ → Command
@@ -41,6 +43,7 @@ counted counting.Trial n = Trial n
 abbrev pub searched : Searching → Effort → Command
 searched searching.Solve effort = Solve effort
 searched searching.Resume effort = Resume effort
+searched searching.Trace effort = Trace effort
 
 -- 1 to 6 digits, with leading zeros or without, that write n, which is no greater than `most`
 pub record IsNumberUpTo (most : ℕ) (word : Word) (n : ℕ) : Type 0 where
@@ -125,6 +128,8 @@ AreFurther (Trial n) words = IsCount n words
 AreFurther Peak words = words ≡ []
 AreFurther PeakCheck words = words ≡ []
 AreFurther (Resume effort) words = AreOptions effort words
+AreFurther (Trace effort) words = AreOptions effort words
+AreFurther Replay words = words ≡ []
 
 -- the words ask for the command
 pub record AskFor (words : List Word) (command : Command) : Type 0 where
@@ -160,6 +165,7 @@ IsAlone Network = Unit {0}
 IsAlone Blocks = Unit {0}
 IsAlone Peak = Unit {0}
 IsAlone PeakCheck = Unit {0}
+IsAlone Replay = Unit {0}
 IsAlone _ = ⊥
 
 -- a search may have so many workers and nodes
@@ -173,6 +179,7 @@ IsWithinLimits (Make n) = n ≤ MAX_TRIPS
 IsWithinLimits (Trial n) = n ≤ MAX_TRIPS
 IsWithinLimits (Solve effort) = MayBeTaken effort
 IsWithinLimits (Resume effort) = MayBeTaken effort
+IsWithinLimits (Trace effort) = MayBeTaken effort
 IsWithinLimits _ = Unit {0}
 
 -- the command takes input

@@ -29,4 +29,8 @@ pub enum Command {
     PeakCheck,
     /// Carry a search on from the document that it ended with.
     Resume(Effort),
+    /// Plan an instance by a search, and write its trace.
+    Trace(Effort),
+    /// Make the steps of a trace again.
+    Replay,
 }

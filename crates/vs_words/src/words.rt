@@ -113,6 +113,7 @@ impl Counting {
 pub enum Searching {
     Solve,
     Resume,
+    Trace,
 }
 
 impl Searching {
@@ -123,12 +124,13 @@ impl Searching {
         match self {
             Searching::Solve => Command::Solve(effort),
             Searching::Resume => Command::Resume(effort),
+            Searching::Trace => Command::Trace(effort),
         }
     }
 }
 
-/// What the words ask for: `check`, `network`, `blocks`, `peak`, `peakcheck`, `solve` or `resume` with or without their
-/// options, or `make` or `trial` and a number.
+/// What the words ask for: `check`, `network`, `blocks`, `peak`, `peakcheck` or `replay`, `solve`, `resume` or `trace`
+/// with or without their options, or `make` or `trial` and a number.
 #[tactic(auto, using(crate::proofs::CommandWords::no_command))]
 pub fn command_of(words: &[String]) -> Result<Command, BadWord>
     ensures { Answers (words_of words.now) result }
@@ -151,6 +153,10 @@ pub fn command_of(words: &[String]) -> Result<Command, BadWord>
         alone(words, Command::PeakCheck)
     } else if is_word(words, 0, "resume") {
         search_of(words, Searching::Resume)
+    } else if is_word(words, 0, "trace") {
+        search_of(words, Searching::Trace)
+    } else if is_word(words, 0, "replay") {
+        alone(words, Command::Replay)
     } else {
         Err(BadWord(1))
     }

@@ -1,7 +1,8 @@
 -- Searches that are carried on from one document have one status, but that one may leave open what another settles.
-use Rattle.std.proofs.Common.{◌≡◌, ℕ, inl, inr, refl, sym, ap, ◌∙◌, subst, List, Some, None}
+use Rattle.std.proofs.Common.{◌≡◌, ◌≢◌, ℕ, ◌+◌, ◌*◌, ◌≤◌, inl, inr, refl, sym, ap, ◌∙◌, subst, List, Some, None}
 use Rattle.std.specs.Prelude.{count_by}
 use Rattle.vs_instance.specs.Problem.{Problem}
+use Rattle.vs_instance.specs.Restriction.{permitted_sets}
 use Rattle.vs_reader.specs.Names.{NameLists}
 use Rattle.vs_reader.specs.Rows.{Row}
 use Rattle.vs_check.specs.HoldingDocument.{HoldingDocument, ProvesItsClaim}
@@ -11,12 +12,14 @@ use Rattle.vs_reply.specs.Cases.{CheckText}
 use Rattle.vs_reply.specs.declared.status.Status.{Status}
 use Rattle.vs_reply.specs.declared.status.Status.TheVariants as status
 use Rattle.vs_reply.proofs.CallerLemmas.{case_refused, same_case}
+use Rattle.vs_answer.specs.Answers.{choices}
 use Rattle.vs_resume.specs.Answers.{is_leaf}
+use Rattle.vs_resume.proofs.CallerLemmas.{enough_nodes_leave_nothing_open}
 use Rattle.vs_words.specs.declared.command.Effort.{Effort}
 use Rattle.mdvsp.specs.Budgets.{resumed_budget, resumed_nodes, room_for}
 use Rattle.mdvsp.specs.Laws.{MayBothBe}
 use Rattle.mdvsp.specs.Owed.{OwesNoResuming, OwesNoTurn, OwesResumed, ResumeOwes}
-use Rattle.mdvsp.proofs.once.SolveStatus.{claims_agree, never_both}
+use Rattle.mdvsp.proofs.once.SolveStatus.{claims_agree, never_both, open_claim}
 
 module _ (effort : Effort) (bytes : List ℕ) where
   -- a budget within the limit is none past it, whichever of its readings a text has
@@ -98,3 +101,12 @@ module _ (effort : Effort) (bytes : List ℕ) where
   pub resume_status : (a b : Status) (r s : List Row) → ResumeOwes effort bytes a r → ResumeOwes effort bytes b s
       → MayBothBe a b
   resume_status a b r s owed also = one_of_two a b r s (resumed a r owed) (resumed b s also)
+
+-- enough nodes leave nothing open
+pub enough_nodes_end_what_is_resumed : (effort : Effort) (bytes : List ℕ) (answer : Status) (rows : List Row)
+    (owed : OwesResumed effort bytes answer rows)
+    → 2 * choices (permitted_sets owed.problem) ≤ owed.budget + 1 → answer ≢ status.StillOpen
+enough_nodes_end_what_is_resumed effort bytes answer rows owed enough still =
+    (enough_nodes_leave_nothing_open owed.problem owed.budget owed.before owed.document owed.answers
+    owed.text.instance.text.makes.instance enough).claim
+    (open_claim owed.document.claim (sym owed.status_is ∙ still))

@@ -5,6 +5,7 @@ use Rattle.vs_instance.specs.Plan.{IsPlan, LayerBlock, plan_cost}
 use Rattle.vs_instance.specs.Problem.{Problem}
 use Rattle.vs_instance.specs.Restriction.{permitted_sets}
 use Rattle.vs_plan.specs.Blocks.{blocks_of}
+use Rattle.vs_reader.specs.Names.{NameLists}
 use Rattle.vs_reader.specs.Rows.{Row, lines}
 use Rattle.vs_reader.proofs.CallerLemmas.{one_reading, refused_none}
 use Rattle.vs_make.specs.Generator.{make_rows}
@@ -15,6 +16,7 @@ use Rattle.vs_answer.specs.Answers.{choices}
 use Rattle.vs_check.specs.HoldingDocument.{ProvesItsClaim}
 use Rattle.vs_answer.proofs.CallerLemmas.{enough_budgets_leave_nothing_open}
 use Rattle.vs_words.specs.declared.command.Effort.{Effort}
+use Rattle.vs_reply.specs.Cases.{SolveText}
 use Rattle.vs_reply.specs.declared.status.Status.{Status}
 use Rattle.vs_reply.specs.declared.status.Status.TheVariants as status
 use Rattle.mdvsp.specs.Budgets.{budget_of}
@@ -96,18 +98,22 @@ solved effort bytes status.BadInput rows owed = Refused refl owed
 solved effort bytes _ rows owed = absurd owed
 
 -- an instance that is searched isn't refused
-read_or_refused : (effort : Effort) (bytes : List ℕ) (answer : Status) (r s : List Row)
-    → OwesDocument effort bytes answer r → OwesNoSearch effort bytes s → ⊥
-read_or_refused effort bytes answer r s owed (inl refusal) =
-    refused_none bytes refusal.refused owed.problem owed.names owed.text.before owed.text.rest refusal.is_refused
-    owed.text.instance
-read_or_refused effort bytes answer r s owed (inr large) =
-    let same = (one_reading bytes owed.problem large.problem owed.names large.names owed.text.before large.text.before
-    owed.text.rest large.text.rest owed.text.instance large.text.instance).0 in
-    let none : budget_of owed.problem effort.nodes ≡ None =
+pub searched_or_refused : (effort : Effort) (bytes : List ℕ) (p : Problem) (names : NameLists)
+    → SolveText bytes p names → (budget : ℕ) → budget_of p effort.nodes ≡ Some budget → (rows : List Row)
+    → ¬ (OwesNoSearch effort bytes rows)
+searched_or_refused effort bytes p names text budget some rows (inl refusal) =
+    refused_none bytes refusal.refused p names text.before text.rest refusal.is_refused text.instance
+searched_or_refused effort bytes p names text budget some rows (inr large) =
+    let same = (one_reading bytes p large.problem names large.names text.before large.text.before text.rest
+    large.text.rest text.instance large.text.instance).0 in
+    let none : budget_of p effort.nodes ≡ None =
     subst (λ (x : Problem). budget_of x effort.nodes ≡ None) same large.too_large in
-    let some = owed.budget_is in
     cc
+
+read_or_refused : (effort : Effort) (bytes : List ℕ) (answer : Status) (r s : List Row)
+    → OwesDocument effort bytes answer r → ¬ (OwesNoSearch effort bytes s)
+read_or_refused effort bytes answer r s owed none =
+    searched_or_refused effort bytes owed.problem owed.names owed.text owed.budget owed.budget_is s none
 
 one_of_two : (effort : Effort) (bytes : List ℕ) (a b : Status) (r s : List Row) → Solved effort bytes a r
     → Solved effort bytes b s → MayBothBe a b
@@ -147,7 +153,7 @@ pub trial_status : (n : ℕ) (a b : Status) (r s : List Row) → TrialOwes n a r
 trial_status n a b r s owed also = tried_both n a b r s (trial_owed n a r owed) (trial_owed n b s also)
 
 -- enough nodes leave nothing open
-open_claim : (claim : Claim) → status_of claim ≡ status.StillOpen → claim ≡ StillOpen
+pub open_claim : (claim : Claim) → status_of claim ≡ status.StillOpen → claim ≡ StillOpen
 open_claim Optimal e = cc
 open_claim Infeasible e = cc
 open_claim StillOpen e = refl
@@ -158,6 +164,7 @@ pub enough_nodes_leave_nothing_open : (effort : Effort) (bytes : List ℕ) (answ
 enough_nodes_leave_nothing_open effort bytes answer rows owed enough still =
     let by = owed.solves.searched in
     let of_state = by.of_state in
-    enough_budgets_leave_nothing_open by.opening by.steps owed.document by.is_opening by.history by.over of_state
-    (rw (by.begins.problem, by.begins.budget) enough)
+    let made = by.made in
+    enough_budgets_leave_nothing_open by.opening by.steps owed.document made.is_opening made.history made.over of_state
+    (rw (made.begins.problem, made.begins.budget) enough)
     (open_claim owed.document.claim (sym owed.status_is ∙ still))

@@ -10,7 +10,7 @@ use Rattle.vs_reply.specs.declared.status.Status.{Status}
 use Rattle.vs_reply.specs.declared.status.Status.TheVariants.{Done, SaysNo, BadWords, BadInput, Infeasible, StillOpen}
 use Rattle.vs_words.specs.declared.command.Command.{Command}
 use Rattle.vs_words.specs.declared.command.Effort.{Effort}
-use Rattle.vs_words.specs.declared.command.Command.TheVariants.{Check, Solve, Network, Blocks, Make, Trial, Peak, PeakCheck, Resume}
+use Rattle.vs_words.specs.declared.command.Command.TheVariants.{Check, Solve, Network, Blocks, Make, Trial, Peak, PeakCheck, Resume, Trace, Replay}
 use Rattle.mdvsp.specs.Answered.{IsOwedFor, IsSaid}
 use Rattle.mdvsp.specs.Outcome.{Run, Told, Answered, CouldNotRead, Ends, HasRead, IsOwed, IsTold, Searches, StartsNoThread, TookFew, unread_status}
 use Rattle.mdvsp.specs.Owed.{Owes}
@@ -56,6 +56,15 @@ answered_ends run (Resume effort) bytes BadInput rows o w = w
 answered_ends run (Resume effort) bytes Infeasible rows o w = w
 answered_ends run (Resume effort) bytes StillOpen rows o w = w
 answered_ends run (Resume effort) bytes _ rows o w = absurd o
+answered_ends run (Trace effort) bytes Done rows o w = w
+answered_ends run (Trace effort) bytes BadInput rows o w = w
+answered_ends run (Trace effort) bytes Infeasible rows o w = w
+answered_ends run (Trace effort) bytes StillOpen rows o w = w
+answered_ends run (Trace effort) bytes _ rows o w = absurd o
+answered_ends run Replay bytes Done rows o w = w
+answered_ends run Replay bytes SaysNo rows o w = w
+answered_ends run Replay bytes BadInput rows o w = w
+answered_ends run Replay bytes _ rows o w = absurd o
 
 ends_answered : (run : Run) (answer : Status) (rows : List Row) → IsOwed run answer rows
     → Appends run.taken run.taken_after (lines rows) → Ends run answer
@@ -87,6 +96,8 @@ took_few Blocks left left_after bytes h = (bytes, takes_all left left_after byte
 took_few Peak left left_after bytes h = (bytes, takes_all left left_after bytes h.0, h.1)
 took_few PeakCheck left left_after bytes h = (bytes, takes_all left left_after bytes h.0, h.1)
 took_few (Resume effort) left left_after bytes h = (bytes, takes_all left left_after bytes h.0, h.1)
+took_few (Trace effort) left left_after bytes h = (bytes, takes_all left left_after bytes h.0, h.1)
+took_few Replay left left_after bytes h = (bytes, takes_all left left_after bytes h.0, h.1)
 
 -- a command's answer was said
 pub command_ends : (run : Run) (command : Command) (bytes : List ℕ) (answer : Result Answer Memory) (said : Status)
@@ -136,18 +147,21 @@ pub unread_ends : (run : Run) (command : Command) (error : SlurpError) (said : S
 unread_ends run command error said is asked same could =
     subst (Ends run) (sym is) (unread_so run command error asked same could)
 
--- a command but these three is done without threads
+-- a command but these four is done without threads
 pub no_search : (command : Command) → ((effort : Effort) → ¬ (command ≡ Solve effort))
-    → ((n : ℕ) → ¬ (command ≡ Trial n)) → ((effort : Effort) → ¬ (command ≡ Resume effort)) → StartsNoThread command
-no_search Check solve trial resume = tt
-no_search (Solve effort) solve trial resume = solve effort refl
-no_search Network solve trial resume = tt
-no_search Blocks solve trial resume = tt
-no_search (Make n) solve trial resume = tt
-no_search (Trial n) solve trial resume = trial n refl
-no_search Peak solve trial resume = tt
-no_search PeakCheck solve trial resume = tt
-no_search (Resume effort) solve trial resume = resume effort refl
+    → ((n : ℕ) → ¬ (command ≡ Trial n)) → ((effort : Effort) → ¬ (command ≡ Resume effort))
+    → ((effort : Effort) → ¬ (command ≡ Trace effort)) → StartsNoThread command
+no_search Check solve trial resume trace = tt
+no_search (Solve effort) solve trial resume trace = solve effort refl
+no_search Network solve trial resume trace = tt
+no_search Blocks solve trial resume trace = tt
+no_search (Make n) solve trial resume trace = tt
+no_search (Trial n) solve trial resume trace = trial n refl
+no_search Peak solve trial resume trace = tt
+no_search PeakCheck solve trial resume trace = tt
+no_search (Resume effort) solve trial resume trace = resume effort refl
+no_search (Trace effort) solve trial resume trace = trace effort refl
+no_search Replay solve trial resume trace = tt
 
 -- and such a command doesn't search
 pub not_both : (command : Command) → StartsNoThread command → ¬ (Searches command)
@@ -160,3 +174,5 @@ not_both (Trial n) alone searches = alone
 not_both Peak alone searches = searches
 not_both PeakCheck alone searches = searches
 not_both (Resume effort) alone searches = alone
+not_both (Trace effort) alone searches = alone
+not_both Replay alone searches = searches

@@ -1,4 +1,4 @@
--- What `solve` answers is owed.
+-- What `solve` answers is owed, and what it and `trace` refuse.
 use Rattle.std.proofs.Common.{◌≡◌, ℕ, List, [], ◌∷◌, Result, Ok, Err, Some, None, inl, inr, refl, IfOk}
 use Rattle.vs_types.specs.declared.memory.Memory.{Memory}
 use Rattle.vs_instance.specs.Problem.{Problem}
@@ -10,8 +10,9 @@ use Rattle.vs_rows.specs.DocumentRows.{document_rows}
 use Rattle.vs_check.proofs.CallerLemmas.{prove_their_claims}
 use Rattle.vs_report.specs.RefusalRows.{refusal_row, too_large_row}
 use Rattle.vs_reply.specs.declared.answer.Answer.{Answer}
+use Rattle.vs_reply.specs.declared.status.Status.{Status}
 use Rattle.vs_reply.specs.declared.status.Status.TheVariants as status
-use Rattle.vs_reply.specs.Answered.{RefusesText}
+use Rattle.vs_reply.specs.Answered.{IsTextOf, RefusesText}
 use Rattle.vs_reply.specs.Cases.{SolveText}
 use Rattle.vs_reply.specs.Status.{status_of}
 use Rattle.vs_reply.proofs.CallerLemmas.{owed_so}
@@ -19,25 +20,30 @@ use Rattle.vs_words.specs.declared.command.Effort.{Effort}
 use Rattle.vs_words.specs.declared.command.Command.TheVariants.{Solve}
 use Rattle.mdvsp.specs.Answered.{IsDocumentOf, IsOwedFor}
 use Rattle.mdvsp.specs.Budgets.{budget_of}
-use Rattle.mdvsp.specs.Owed.{SolveOwes, OwesDocument}
+use Rattle.mdvsp.specs.Owed.{OwesDocument, OwesNoSearch, SolveOwes}
 
--- a text that is refused is owed its refusal
-pub solve_refusal_owed : (effort : Effort) (bytes : List ℕ) (r : Result Answer Memory) → IfOk r (RefusesText bytes)
-    → IfOk r (IsOwedFor (Solve effort) bytes)
-solve_refusal_owed effort bytes (Ok a) says =
-    owed_so (SolveOwes effort bytes) a status.BadInput (refusal_row says.refused ∷ [])
-    (inl (record { refused = says.refused; is_refused = says.is_refused; rows_are = refl })) says.status_is says.text_is
-solve_refusal_owed effort bytes (Err m) says = tt
+-- what searches refuse, where that is owed
+module _ (effort : Effort) (bytes : List ℕ) (owes : Status → List Row → Type 0)
+    (refuses : (rows : List Row) → OwesNoSearch effort bytes rows → owes status.BadInput rows) where
+  -- a text that is refused is owed its refusal
+  pub refusal_owed : (r : Result Answer Memory) → IfOk r (RefusesText bytes) → IfOk r (IsTextOf owes)
+  refusal_owed (Ok a) says =
+      owed_so owes a status.BadInput (refusal_row says.refused ∷ [])
+      (refuses (refusal_row says.refused ∷ [])
+      (inl (record { refused = says.refused; is_refused = says.is_refused; rows_are = refl }))) says.status_is
+      says.text_is
+  refusal_owed (Err m) says = tt
 
--- and so is a search of too many nodes
-pub too_large_owed : (effort : Effort) (bytes : List ℕ) (p : Problem) (names : NameLists) (r : Result Answer Memory)
-    → SolveText bytes p names → budget_of p effort.nodes ≡ None
-    → IfOk r (λ a. (a.status ≡ status.BadInput) × (a.text.items ≡ lines (too_large_row ∷ [])))
-    → IfOk r (IsOwedFor (Solve effort) bytes)
-too_large_owed effort bytes p names (Ok a) text none says =
-    owed_so (SolveOwes effort bytes) a status.BadInput (too_large_row ∷ [])
-    (inr (record { problem = p; names = names; text = text; too_large = none; rows_are = refl })) says.0 says.1
-too_large_owed effort bytes p names (Err m) text none says = tt
+  -- and so is a search of too many nodes
+  pub too_large_owed : (p : Problem) (names : NameLists) (r : Result Answer Memory) → SolveText bytes p names
+      → budget_of p effort.nodes ≡ None
+      → IfOk r (λ a. (a.status ≡ status.BadInput) × (a.text.items ≡ lines (too_large_row ∷ [])))
+      → IfOk r (IsTextOf owes)
+  too_large_owed p names (Ok a) text none says =
+      owed_so owes a status.BadInput (too_large_row ∷ [])
+      (refuses (too_large_row ∷ [])
+      (inr (record { problem = p; names = names; text = text; too_large = none; rows_are = refl }))) says.0 says.1
+  too_large_owed p names (Err m) text none says = tt
 
 -- a document with its claim's status is what solve owes
 solve_owes : (effort : Effort) (bytes : List ℕ) (claim : Claim) (rows : List Row)

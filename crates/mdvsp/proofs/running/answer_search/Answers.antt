@@ -12,5 +12,6 @@ returns-in-Trial g c =
 pub unreachable-requires : goal.unreachable-requires
 unreachable-requires g c =
     not_both c.args.command
-    (no_search c.args.command c.in_default.not-Solve c.in_default.not-Trial c.in_default.not-Resume)
+    (no_search c.args.command c.in_default.not-Solve c.in_default.not-Trial c.in_default.not-Resume
+    c.in_default.not-Trace)
     c.requires.searches

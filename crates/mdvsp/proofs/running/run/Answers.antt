@@ -5,6 +5,7 @@ use Rattle.mdvsp.proofs.running.run.Goals as goal
 pub obey-requires-clause-alone : goal.obey-requires-clause-alone
 obey-requires-clause-alone g c =
     no_search c.in-Ok.command c.in_default.not-Solve c.in_default.not-Trial c.in_default.not-Resume
+    c.in_default.not-Trace
 
 pub returns-in_default-clause-untouched : goal.returns-in_default-clause-untouched
 returns-in_default-clause-untouched g c =

@@ -16,8 +16,13 @@ returns g c =
     record {
       document = text.document;
       solves = search_answers c.args.timetable.now.instance c.args.budget c.args.workers t.opening t.steps text.document
-          known.opening
-          known.history made.begins made.worked made.over text.of_state text.has_text;
+          (record {
+            begins = made.begins;
+            is_opening = known.opening;
+            history = known.history;
+            worked = made.worked;
+            over = made.over;
+          }) text.of_state text.has_text;
       status_is = c.claim_status.ensures
           ∙ ap status_of (one_claim t.opening.problem (state t) c.report.result text.of_state.report c.report.ensures
           text.of_state.is_report ∙ sym text.of_state.claim);
