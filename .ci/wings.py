@@ -19,6 +19,7 @@ AUDIT = [
 SEARCH = {
     "vs_queue", "vs_path", "vs_ship", "vs_circ", "vs_decomp", "vs_multi", "vs_cuts", "vs_bundle", "vs_node", "vs_ray",
     "vs_penalty", "vs_turn", "vs_tree", "vs_crew", "vs_cert", "vs_answer", "vs_resume", "vs_peak", "vs_peaks",
+    "vs_trace", "vs_told", "vs_replay", "vs_replays",
     "atomic_table",
 }
 

@@ -51,6 +51,8 @@ nothing_written() {
 # The timetable of one trip that two layers may run, with a document of it.
 cp examples/two_depots.csv "$work/timetable"
 cat "$work/timetable" examples/two_depots_document.csv > "$work/both"
+# And with the trace of a search of it.
+"$program" trace --workers 1 < "$work/timetable" | cat "$work/timetable" - > "$work/traced"
 # One that is refused, and one whose document doesn't hold.
 echo "instance,2,3" > "$work/refused"
 sed 's/^cost,500$/cost,499/' "$work/both" > "$work/flawed"
@@ -59,7 +61,8 @@ sed 's/^cost,500$/cost,499/' "$work/both" > "$work/flawed"
 # Each command, with the file that it reads. Words that are wrong and input that is refused write a row too.
 commands=(
   "solve both" "solve --workers 2 timetable" "check both" "check flawed" "check refused" "network timetable"
-  "blocks both" "resume --workers 2 both" "resume flawed" "make 2 nothing" "make 2000 nothing" "nonsense nothing" "--help nothing"
+  "blocks both" "resume --workers 2 both" "resume flawed" "trace --workers 2 timetable" "replay traced" "replay both"
+  "make 2 nothing" "make 2000 nothing" "nonsense nothing" "--help nothing"
 )
 
 for command in "${commands[@]}"; do
@@ -97,7 +100,7 @@ head -c 100 "$work/made" | cmp -s - "$work/part" || {
   echo "make 2000 | head -c 100: other bytes than make 2000's"
 }
 
-for words in solve resume check network blocks "solve --nodes 0"; do
+for words in solve resume trace replay check network blocks "solve --nodes 0"; do
   read -r -a words <<< "$words"
   what="${words[*]}"
   "$program" "${words[@]}" <&- > "$work/out" 2> "$work/err"

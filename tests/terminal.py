@@ -68,6 +68,20 @@ RUNS = [
         "no,1,Uncovered,t2\n",
         "no block runs trip t2\n",
     ),
+    (
+        ["replay"],
+        STOPS + LAYER + TRIPS + HEAD + "block,L1,t1,t2\n" + PRICES,
+        3,
+        "refused,14,50,NoTrace\n",
+        "record 14: no trace of a search follows the timetable\n",
+    ),
+    (
+        ["replay"],
+        STOPS + LAYER + TRIPS + "result,1,trace\nopening,1,1\nfirst,none\ntook,1,2\nend\n",
+        1,
+        "no,7,NotAStep,1\n",
+        "step 1 of the trace may not come there; where it has no such step, a leaf is still held at its end\n",
+    ),
     (["check"], STOPS + LAYER + TRIPS + HEAD + "block,L1,t1,t2\n" + PRICES, 0, "yes,optimal,1080,1080\n", ""),
 ]
 
