@@ -10,29 +10,11 @@
 # where all is as it has to be, and with 1 and a line for each run that isn't.
 set -u
 cd "$(dirname "$0")/.." || exit 1
-program=${1:-bin/mdvsp}
-[ -x "$program" ] || program=crates/mdvsp_main/out/mdvsp_main
-[ -x "$program" ] || { echo "replay_chain: no program is built: \`make\` builds bin/mdvsp"; exit 1; }
-work=$(mktemp -d)
-trap 'rm -rf "$work"' EXIT
-wrong=0
+name=replay_chain
+. tests/chains.sh
 
-# Tells what went wrong, and counts it.
-fails() {
-  wrong=$((wrong + 1))
-  echo "replay_chain: $1"
-}
-
-# What stands in the row of the document that begins so.
-field() {
-  sed -n "s/^$1,//p" "$work/document" | head -n 1
-}
-
-# The document is judged `yes`, says what its row says, and claims what goes with the status of its search.
-judged() {
-  local row
-  row=$(cat "$work/made" "$work/document" | "$program" check)
-  [ "$row" = "yes,$(field result,1),$(field cost),$(field bound)" ] || fails "$1: the document is judged $row"
+# The document claims what goes with the status of its search.
+claims() {
   case "$2 $(field result,1)" in
     "0 optimal" | "10 infeasible" | "11 open") ;;
     *) fails "$1: the search ends with status $2, and its document claims $(field result,1)" ;;
@@ -47,7 +29,8 @@ for workers in 1 4 16; do
   cat "$work/made" "$work/trace" | "$program" replay > "$work/document"
   replayed=$?
   [ "$replayed" -eq 0 ] || fails "$workers workers: replay ends with status $replayed: $(head -n 1 "$work/document")"
-  judged "$workers workers" "$status"
+  judged "$workers workers"
+  claims "$workers workers" "$status"
   if [ "$workers" -eq 1 ]; then
     cmp -s "$work/document" "$work/solved" || fails "one worker: the trace replays to another document than solve writes"
   fi

@@ -8,30 +8,8 @@
 # where all is as it has to be, and with 1 and a line for each run that isn't.
 set -u
 cd "$(dirname "$0")/.." || exit 1
-program=${1:-bin/mdvsp}
-[ -x "$program" ] || program=crates/mdvsp_main/out/mdvsp_main
-[ -x "$program" ] || { echo "resume_chain: no program is built: \`make\` builds bin/mdvsp"; exit 1; }
-work=$(mktemp -d)
-trap 'rm -rf "$work"' EXIT
-wrong=0
-
-# Tells what went wrong, and counts it.
-fails() {
-  wrong=$((wrong + 1))
-  echo "resume_chain: $1"
-}
-
-# What stands in the row of the last document that begins so.
-field() {
-  sed -n "s/^$1,//p" "$work/document" | head -n 1
-}
-
-# The last document is judged `yes`, and says what its row says.
-judged() {
-  local row
-  row=$(cat "$work/made" "$work/document" | "$program" check)
-  [ "$row" = "yes,$(field result,1),$(field cost),$(field bound)" ] || fails "$1 is judged $row"
-}
+name=resume_chain
+. tests/chains.sh
 
 "$program" make 100 > "$work/made"
 "$program" solve --workers 1 --nodes 0 < "$work/made" > "$work/document"
