@@ -1,5 +1,5 @@
 -- What is kept for a net from one call to the next.
-use Rattle.std.specs.Prelude.{◌≡◌, ℕ, ◌<◌, List, length, Some, slice_get}
+use Rattle.std.specs.Prelude.{◌≡◌, ◌≢◌, ℕ, ◌<◌, ◌≤◌, List, length, Some, slice_get, false}
 use Rattle.vs_layer.specs.Graph.{Graph}
 use Rattle.vs_ship.specs.declared.space.Space.{Space}
 use Rattle.vs_ship.specs.declared.start.Start.{Start}
@@ -47,3 +47,16 @@ pub record IsMadeFor (nets : List LayerGraph) (work : Work) : Type 0 where
 pub record IsReadyAt (g : Graph) (kept : List Kept) (place : ℕ) : Type 0 where
   pub within : place < length kept
   pub each : (k : Kept) → slice_get kept place ≡ Some k → IsReadyFor g k
+
+-- of no units and prices it is known that a call settled them
+pub record IsUnsettled (kept : Kept) : Type 0 where
+  pub now : kept.is_settled ≡ false
+  pub before : kept.was_settled ≡ false
+
+-- What stands at this place may be used for the net, and nothing is known of its units and prices. At the other places
+-- stands what stood there.
+pub record IsRenewedAt (g : Graph) (old new : List Kept) (place : ℕ) : Type 0 where
+  pub ready : IsReadyAt g new place
+  pub size : length old ≤ length new
+  pub unsettled : (k : Kept) → slice_get new place ≡ Some k → IsUnsettled k
+  pub others : (i : ℕ) → i < length old → i ≢ place → slice_get new i ≡ slice_get old i

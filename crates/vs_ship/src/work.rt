@@ -1,8 +1,8 @@
 //! What is kept for the nets of the layers from one call to the next.
 
-ghost use Rattle.std.specs.Prelude.{◌≡◌, IfOk, IsTrue, OnOk, length};
+ghost use Rattle.std.specs.Prelude.{◌≡◌, ◌≤◌, IfOk, IsTrue, OnOk, length};
 ghost use Rattle.vs_ship.specs.Shipments.{IsSized};
-ghost use Rattle.vs_ship.specs.Works.{IsKeptFor, IsMadeFor, IsReadyAt, IsReadyFor};
+ghost use Rattle.vs_ship.specs.Works.{IsKeptFor, IsMadeFor, IsReadyAt, IsReadyFor, IsRenewedAt, IsUnsettled};
 
 use crate::mirror::{is_like_mirror, is_mirror, mirror_of};
 use crate::shipment::Shipment;
@@ -20,7 +20,11 @@ use vs_types::Memory;
 #[derive(Drop)]
 pub struct Kept {
     pub shipment: Shipment,
+    /// Whether it is known that a call for this very net settled the units and prices of the shipment.
+    pub is_settled: bool,
     pub before: Start,
+    /// Whether it is known that a call for this very net settled the units and prices that were there before.
+    pub was_settled: bool,
     pub search: Search,
     pub loads: Loads,
     pub mirror: Net,
@@ -38,11 +42,14 @@ pub struct Work {
 impl Kept {
     /// A start for a net.
     fn new(alloc: Global, net: &Net) -> Result<Kept, Memory>
-        ensures { IfOk result (IsKeptFor net.now) }
+        ensures kept { IfOk result (IsKeptFor net.now) }
+        ensures new { IfOk result IsUnsettled }
     {
         Ok(Kept {
             shipment: empty_shipment(alloc, net)?,
+            is_settled: false,
             before: Start::new(alloc, net)?,
+            was_settled: false,
             search: Search::new(alloc, net.nodes())?,
             loads: Loads::new(alloc, net.nodes())?,
             mirror: mirror_of(alloc, net)?,
@@ -74,12 +81,27 @@ impl Kept {
         Ok(())
     }
 
+    /// Lets it be for this net, and forgets which units and prices were settled.
+    fn renew(&mut self, alloc: Global, net: &Net) -> Result<(), Memory>
+        ensures ready { OnOk result (IsReadyFor net.now self.new) }
+        ensures new { OnOk result (IsUnsettled self.new) }
+    {
+        if !self.is_of(net) {
+            *self = Kept::new(alloc, net)?;
+        }
+        self.is_settled = false;
+        self.was_settled = false;
+        Ok(())
+    }
+
     /// Exchanges the units and prices that the last call left with those that the one before it did.
     pub fn exchange(&mut self)
         ensures units { self.new.shipment.flow.units ≡ self.old.before.units }
         ensures prices { self.new.shipment.prices ≡ self.old.before.prices }
         ensures before_units { self.new.before.units ≡ self.old.shipment.flow.units }
         ensures before_prices { self.new.before.prices ≡ self.old.shipment.prices }
+        ensures is_settled { self.new.is_settled ≡ self.old.was_settled }
+        ensures was_settled { self.new.was_settled ≡ self.old.is_settled }
         ensures costs { self.new.shipment.costs ≡ self.old.shipment.costs }
         ensures surplus { self.new.shipment.surplus ≡ self.old.shipment.surplus }
         ensures search { self.new.search ≡ self.old.search }
@@ -89,6 +111,7 @@ impl Kept {
     {
         swap(&mut self.shipment.flow.units, &mut self.before.units);
         swap(&mut self.shipment.prices, &mut self.before.prices);
+        swap(&mut self.is_settled, &mut self.was_settled);
     }
 }
 
@@ -116,6 +139,20 @@ impl Work {
             }
         }
         self.add(alloc, net)
+    }
+
+    /// Lets what is kept at a place be for a net, where a place after all others is made, and forgets which units and
+    /// prices were settled there.
+    pub fn renew(&mut self, alloc: Global, place: usize, net: &Net) -> Result<(), Memory>
+        requires { place ≤ length self.old.kept.items }
+        ensures { OnOk result (IsRenewedAt net.now self.old.kept.items self.new.kept.items place) }
+    {
+        if place < self.kept.len() {
+            return self.kept[place].renew(alloc, net);
+        }
+        let kept = Kept::new(alloc, net)?;
+        self.kept.push(kept)?;
+        Ok(())
     }
 
     /// Keeps a start for a net, at the last place.

@@ -9,7 +9,7 @@ use Rattle.vs_layer.specs.Graph.{Graph}
 use Rattle.vs_match.specs.LayerGraph.{LayerGraph}
 use Rattle.vs_ship.specs.declared.work.Kept.{Kept}
 use Rattle.vs_ship.specs.declared.work.Work.{Work}
-use Rattle.vs_ship.specs.Works.{IsKeptFor, IsMadeFor, IsReadyAt, IsReadyFor}
+use Rattle.vs_ship.specs.Works.{IsKeptFor, IsMadeFor, IsReadyAt, IsReadyFor, IsRenewedAt, IsUnsettled}
 
 -- what was added for a net stands at the last place
 pub kept-at : (g : Graph) (old new : List Kept) (kept : Kept) (place : ℕ) → new ≡ old ++ kept ∷ [] → place ≡ length old
@@ -21,6 +21,26 @@ kept-at g old new kept place added at is = record {
       sym (ap (λ (ks : List Kept). get_or ks place k) added ∙ get_or_push old kept k place (sym at))
       ∙ get_or_from_slice_get new place k k stands in
       subst (IsReadyFor g) same is;
+}
+
+-- what was added is all that is new
+pub added-at : (g : Graph) (old new : List Kept) (kept : Kept) (place : ℕ) → new ≡ old ++ kept ∷ [] → place ≡ length old
+    → IsReadyFor g kept → IsUnsettled kept → IsRenewedAt g old new place
+added-at g old new kept place added at is fresh =
+    let longer : length old < length new =
+    omega (arith, ap (λ (ks : List Kept). length ks) added, length-append old (kept ∷ [])) in
+    record {
+  ready = kept-at g old new kept place added at is;
+  size = omega (arith, longer);
+  unsettled = λ k stands.
+      let same : kept ≡ k =
+      sym (ap (λ (ks : List Kept). get_or ks place k) added ∙ get_or_push old kept k place (sym at))
+      ∙ get_or_from_slice_get new place k k stands in
+      subst IsUnsettled same fresh;
+  others = λ i inside apart.
+      slice_get-get_or new i kept (omega (arith, inside, longer))
+      ∙ ap Some (ap (λ (ks : List Kept). get_or ks i kept) added ∙ get_or-append old (kept ∷ []) kept i inside)
+      ∙ sym (slice_get-get_or old i kept inside);
 }
 
 -- what is kept for the first so many nets, one place each
