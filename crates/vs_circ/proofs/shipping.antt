@@ -9,3 +9,4 @@ pub mod Covering
 pub mod Fixing
 pub mod Relaxed
 pub mod Running
+pub mod Readying

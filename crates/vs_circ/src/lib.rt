@@ -18,6 +18,6 @@ pub use circ::{Circ, FixedFlow, LayerPrices};
 pub use fixing::fixed;
 pub use laws::{covered_circulations, least_circulations, stuck_trips};
 pub use relaxing::relaxed;
-pub use running::runs;
+pub use running::{begin_runs, runs};
 pub use vs_instance::{MAX_MULTIPLIER, MAX_PRICE};
 pub use vs_ship::Work;

@@ -3,6 +3,7 @@
 ghost use Rattle.std.specs.Prelude.{◌≡◌, ◌<◌, length};
 ghost use Rattle.vs_layer.specs.Graph.{IsNet};
 ghost use Rattle.vs_ship.specs.Works.{IsReadyFor};
+ghost use Rattle.vs_circ.specs.shipping.Ready.{CanRun};
 ghost use Rattle.vs_circ.specs.shipping.Prepared.{AreSmallOffers, HasSmallArcs};
 
 use crate::preparing::{offered_cost, offered_room};
@@ -19,11 +20,13 @@ pub(crate) fn recall(net: &LayerNet, offers: &[Option<i64>], kept: &mut Kept)
     requires offers { AreSmallOffers offers.now }
     requires kept { IsReadyFor net.now.graph kept.old }
     ensures kept { IsReadyFor net.now.graph kept.new }
+    ensures can { CanRun net.now kept.old → CanRun net.now kept.new }
 {
     if is_before_nearer(net, offers, kept) {
         kept.exchange();
     } else {
         kept.before.take(&kept.shipment);
+        kept.was_settled = kept.is_settled;
     }
 }
 

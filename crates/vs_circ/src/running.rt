@@ -1,90 +1,73 @@
 //! The trips that a least circulation of offered trips runs, without prices.
 
-ghost use Rattle.std.specs.Prelude.{◌≡◌, ℕ, ◌<◌, ◌≤◌, ◌↔◌, IfOk, IsTrue, length, slice_index_or, true, false};
+ghost use Rattle.std.specs.Prelude.{◌≡◌, ℕ, ◌<◌, ◌≤◌, ◌↔◌, IsTrue, OnOk, length, slice_index_or, true, false};
 ghost use Rattle.vs_types.specs.declared.numbers.LayerNo.{LayerNo};
 ghost use Rattle.vs_instance.specs.Problem.{Problem};
 ghost use Rattle.vs_instance.specs.Instance.{IsInstance};
 ghost use Rattle.vs_instance.specs.declared.limits.TheConstants.{MAX_TRIPS};
 ghost use Rattle.vs_match.specs.LawfulNets.{IsLawful};
-ghost use Rattle.vs_path.specs.declared.residual.TheConstants.{MAX_SEARCH_NODES, MAX_SEARCH_PRICE};
-ghost use Rattle.vs_path.specs.Residual.{AllWithin};
+ghost use Rattle.vs_match.specs.LayerNets.{net_at};
 ghost use Rattle.vs_circ.specs.Circulations.{RunLeast, RunTrip};
 ghost use Rattle.vs_circ.specs.Offers.{AreOffers};
-ghost use Rattle.vs_ship.specs.Works.{IsReadyFor};
+ghost use Rattle.vs_circ.specs.shipping.Ready.{CanRun, IsReadyToRun};
 
 use crate::fixing::cost_of;
 use crate::misfits::recall;
-use crate::settling::settle;
+use crate::settling::settle_again;
 use std::alloc::Global;
 use vs_match::LayerNet;
-use vs_ship::{Kept, Work, bring_near};
-use vs_types::{Memory, TripNo};
+use vs_ship::{Kept, Work};
+use vs_types::{LayerNo, Memory, TripNo};
 
-/// The greatest price of a node, either way, that is kept for the next call, in 1/1000 of a cost unit: somewhat more
-/// than what prices lie within that were brought near, so this is done only where prices have drifted.
-const MAX_KEPT_PRICE: i64 = 750_000_000_000_000_000;
+/// Makes what is kept ready for `runs` in these nets, each by its number. It asks nothing of what is kept, and after it
+/// only `runs` may be called with it.
+pub fn begin_runs(alloc: Global, nets: &[LayerNet], work: &mut Work) -> Result<(), Memory>
+    ensures { OnOk result (IsReadyToRun nets.now work.new) }
+{
+    for (place, net) in nets.iter().enumerate() {
+        work.renew(alloc, place, net.net())?;
+    }
+    Ok(())
+}
 
-/// Marks the trips that a least circulation of offered trips runs, as `relaxed` finds one, without
-/// prices that show that it is. Every entry is set. Gives what that circulation costs, in 1/1000 of a cost unit, with
-/// no multipliers taken off.
+/// Marks the trips that a least circulation of offered trips runs in the net of this number, as `relaxed` finds one,
+/// without prices that show that it is. Every entry is set. Gives what that circulation costs, in 1/1000 of a cost unit,
+/// with no multipliers taken off.
 pub fn runs(
-    alloc: Global,
-    net: &LayerNet,
+    nets: &[LayerNet],
+    l: LayerNo,
     offers: &[Option<i64>],
     work: &mut Work,
     answer: &mut [bool],
-) -> Result<i128, Memory>
-    requires of_layer { (p : Problem) × (l : LayerNo) × IsInstance p × IsLawful p l.0 net.now
-        × AreOffers p l.0 offers.now }
+) -> i128
+    requires layer { l.0 < length nets.now }
+    requires of_layer { (p : Problem) × IsInstance p × IsLawful p l.0 (net_at nets.now l.0) × AreOffers p l.0 offers.now }
+    requires ready { IsReadyToRun nets.now work.old }
     requires each_trip { length answer.old ≡ length offers.now }
-    ensures least { IfOk result (λ cost. (p : Problem) (l : LayerNo) → IsInstance p
-        → IsLawful p l.0 net.now → AreOffers p l.0 offers.now
-        → RunLeast p l net.now offers.now answer.new cost) }
+    ensures ready { IsReadyToRun nets.now work.new }
+    ensures least { (p : Problem) → IsInstance p → IsLawful p l.0 (net_at nets.now l.0) → AreOffers p l.0 offers.now
+        → RunLeast p l (net_at nets.now l.0) offers.now answer.new result }
 {
-    let place = work.place_of(alloc, net.net())?;
-    Ok(run_from(net, offers, &mut work.kept[place], answer))
+    let place = l.0 as usize;
+    run_from(&nets[place], offers, &mut work.kept[place], answer)
 }
 
 /// Marks the trips of a least circulation, from what is kept for the net. Gives what it costs.
 fn run_from(net: &LayerNet, offers: &[Option<i64>], kept: &mut Kept, answer: &mut [bool]) -> i128
     requires of_layer { (p : Problem) × (l : LayerNo) × IsInstance p × IsLawful p l.0 net.now
         × AreOffers p l.0 offers.now }
-    requires nodes { net.now.graph.nodes ≤ MAX_SEARCH_NODES }
-    requires kept { IsReadyFor net.now.graph kept.old }
+    requires kept { CanRun net.now kept.old }
     requires each_trip { length answer.old ≡ length offers.now }
+    ensures kept { CanRun net.now kept.new }
     ensures least { (p : Problem) (l : LayerNo) → IsInstance p → IsLawful p l.0 net.now
         → AreOffers p l.0 offers.now → RunLeast p l net.now offers.now answer.new result }
 {
+    // for the proof: its contract says how many nodes there are at most
+    let _ = net.net();
     recall(net, offers, kept);
-    settle(net, offers, kept);
+    settle_again(net, offers, kept);
     mark(net, &kept.shipment.flow.units, answer);
-    let cost = cost_of(net, &kept.shipment.flow);
-    let space = &mut kept.space;
-    bring_back(&mut kept.shipment.prices, &mut space.turned, &mut space.low);
-    cost
-}
-
-/// Brings prices near where they have drifted. The other two slices, with as many numbers, are space to work in.
-fn bring_back(prices: &mut [i64], ascending: &mut [i64], levels: &mut [i64])
-    requires some { 0 < length prices.old }
-    requires few { length prices.old ≤ MAX_SEARCH_NODES }
-    requires within { AllWithin MAX_SEARCH_PRICE prices.old }
-    requires ascending { length ascending.old ≡ length prices.old }
-    requires levels { length levels.old ≡ length prices.old }
-{
-    if !are_kept_prices(prices) {
-        bring_near(prices, ascending, levels);
-    }
-}
-
-/// Whether prices needn't be brought nearer before the next call.
-fn are_kept_prices(prices: &[i64]) -> bool {
-    for price in prices {
-        if *price < -MAX_KEPT_PRICE || MAX_KEPT_PRICE < *price {
-            return false;
-        }
-    }
-    true
+    cost_of(net, &kept.shipment.flow)
 }
 
 /// Marks exactly the trips that units run.

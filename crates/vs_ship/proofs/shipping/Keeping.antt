@@ -30,18 +30,18 @@ added-at g old new kept place added at is fresh =
     let longer : length old < length new =
     omega (arith, ap (λ (ks : List Kept). length ks) added, length-append old (kept ∷ [])) in
     record {
-  ready = kept-at g old new kept place added at is;
-  size = omega (arith, longer);
-  unsettled = λ k stands.
-      let same : kept ≡ k =
-      sym (ap (λ (ks : List Kept). get_or ks place k) added ∙ get_or_push old kept k place (sym at))
-      ∙ get_or_from_slice_get new place k k stands in
-      subst IsUnsettled same fresh;
-  others = λ i inside apart.
-      slice_get-get_or new i kept (omega (arith, inside, longer))
-      ∙ ap Some (ap (λ (ks : List Kept). get_or ks i kept) added ∙ get_or-append old (kept ∷ []) kept i inside)
-      ∙ sym (slice_get-get_or old i kept inside);
-}
+      ready = kept-at g old new kept place added at is;
+      size = omega (arith, longer);
+      unsettled = λ k stands.
+          let same : kept ≡ k =
+          sym (ap (λ (ks : List Kept). get_or ks place k) added ∙ get_or_push old kept k place (sym at))
+          ∙ get_or_from_slice_get new place k k stands in
+          subst IsUnsettled same fresh;
+      others = λ i inside apart.
+          slice_get-get_or new i kept (omega (arith, inside, longer))
+          ∙ ap Some (ap (λ (ks : List Kept). get_or ks i kept) added ∙ get_or-append old (kept ∷ []) kept i inside)
+          ∙ sym (slice_get-get_or old i kept inside);
+    }
 
 -- what is kept for the first so many nets, one place each
 pub record AreKeptSoFar (nets : List LayerGraph) (kept : List Kept) (count : ℕ) : Type 0 where
