@@ -1,6 +1,7 @@
 //! Multipliers climbed to the greatest Lagrangian value.
 
 ghost use Rattle.std.specs.Prelude.{◌≡◌, ◌⊎◌, IfOk, length};
+ghost use Rattle.vs_circ.specs.shipping.Ready.{IsReadyToRun};
 ghost use Rattle.vs_multi.specs.Multipliers.{AreMultipliers, AreWithin};
 ghost use Rattle.vs_multi.specs.Rounds.{IsCase};
 ghost use Rattle.vs_bundle.specs.Climbs.{AreShares, CanClimb, IsAscentFor};
@@ -9,7 +10,7 @@ use crate::aim::Aim;
 use crate::stepping::go_further;
 use crate::stride::Stride;
 use crate::valuing::Trial;
-use vs_circ::Work;
+use vs_circ::{Work, begin_runs};
 use vs_cuts::{Bundle, Forecast, WHOLE};
 use vs_instance::{MAX_LAYERS, MAX_TRIPS};
 use vs_multi::Case;
@@ -69,14 +70,15 @@ impl Ascent {
     }
 
     /// Finds the first circulations.
-    fn begin(&mut self, case: &Case<'_>, multipliers: &[i64], work: &mut Work) -> Result<(), Memory>
-        requires { CanClimb case.now.instance.now case.now.nets.now case.now.sets.now multipliers.now self.old }
-        ensures { IsAscentFor case.now.instance.now self.new }
+    fn begin(&mut self, case: &Case<'_>, multipliers: &[i64], work: &mut Work)
+        requires can { CanClimb case.now.instance.now case.now.nets.now case.now.sets.now multipliers.now self.old }
+        requires ready { IsReadyToRun case.now.nets.now work.old }
+        ensures ascent { IsAscentFor case.now.instance.now self.new }
+        ensures ready { IsReadyToRun case.now.nets.now work.new }
     {
-        self.top = self.trial.value(case, multipliers, work)?;
+        self.top = self.trial.value(case, multipliers, work);
         self.bundle.take(&self.trial.found, multipliers);
         self.bundle.keep(&mut self.trial.found, WHOLE, multipliers);
-        Ok(())
     }
 
     /// One round. Gives whether there was one: none where it would gain next to nothing.
@@ -86,24 +88,26 @@ impl Ascent {
         aim: &Aim,
         multipliers: &mut [i64],
         work: &mut Work,
-    ) -> Result<bool, Memory>
-        requires { CanClimb case.now.instance.now case.now.nets.now case.now.sets.now multipliers.old self.old }
+    ) -> bool
+        requires can { CanClimb case.now.instance.now case.now.nets.now case.now.sets.now multipliers.old self.old }
+        requires ready { IsReadyToRun case.now.nets.now work.old }
         ensures multipliers { AreMultipliers case.now.instance.now multipliers.new }
         ensures ascent { IsAscentFor case.now.instance.now self.new }
+        ensures ready { IsReadyToRun case.now.nets.now work.new }
     {
         let step = self.stride.now;
         let tolerance = self.tolerance();
         let forecast = self.bundle.weigh(step, tolerance);
         self.forecast = forecast.gain();
         if self.forecast <= self.top / NEAR {
-            return Ok(false);
+            return false;
         }
         self.step(step, multipliers);
         let candidate: &[i64] = &self.candidate;
-        let value = self.trial.value(case, candidate, work)?;
+        let value = self.trial.value(case, candidate, work);
         self.judge(forecast, value, aim, multipliers);
         self.keep(multipliers);
-        Ok(true)
+        true
     }
 
     /// Tries the multipliers a step of this length further.
@@ -129,25 +133,20 @@ impl Ascent {
     }
 
     /// Round after round, as long as another one may gain something that is asked for. Gives how many there were.
-    fn go_on(
-        &mut self,
-        case: &Case<'_>,
-        aim: &Aim,
-        multipliers: &mut [i64],
-        work: &mut Work,
-    ) -> Result<u32, Memory>
-        requires { CanClimb case.now.instance.now case.now.nets.now case.now.sets.now multipliers.old self.old }
+    fn go_on(&mut self, case: &Case<'_>, aim: &Aim, multipliers: &mut [i64], work: &mut Work) -> u32
+        requires can { CanClimb case.now.instance.now case.now.nets.now case.now.sets.now multipliers.old self.old }
+        requires ready { IsReadyToRun case.now.nets.now work.old }
         ensures { AreMultipliers case.now.instance.now multipliers.new }
     {
         let begin = self.top;
         let most = aim.rounds_along(case.nets);
         for r in 0..most {
             let is_vain = r == aim.trial_rounds && self.top <= begin;
-            if is_vain || aim.is_reached(self.top) || !self.round(case, aim, multipliers, work)? {
-                return Ok(r);
+            if is_vain || aim.is_reached(self.top) || !self.round(case, aim, multipliers, work) {
+                return r;
             }
         }
-        Ok(most)
+        most
     }
 
     /// How much a move of weights has to gain.
@@ -195,8 +194,9 @@ pub fn climb(
     ensures shares { IfOk result (λ climbed. AreShares case.now.instance.now climbed.shares.items) }
 {
     let mut ascent = Ascent::new(case, aim, multipliers)?;
-    ascent.begin(case, multipliers, work)?;
-    let rounds = ascent.go_on(case, aim, multipliers, work)?;
+    begin_runs(case.alloc, case.nets, work)?;
+    ascent.begin(case, multipliers, work);
+    let rounds = ascent.go_on(case, aim, multipliers, work);
     Ok(Climbed {
         shares: shares_of(case, &ascent.bundle)?,
         value: ascent.top,

@@ -2,6 +2,7 @@
 
 ghost use Rattle.std.specs.Prelude.{◌≡◌, ◌<◌, IfOk, length};
 ghost use Rattle.vs_instance.specs.Problem.{Problem};
+ghost use Rattle.vs_circ.specs.shipping.Ready.{IsReadyToRun};
 ghost use Rattle.vs_multi.specs.Multipliers.{AreMultipliers};
 ghost use Rattle.vs_multi.specs.Rounds.{IsCase};
 ghost use Rattle.vs_bundle.specs.Climbs.{IsTrialFor};
@@ -40,46 +41,38 @@ impl Trial {
     }
 
     /// Finds a least circulation in every layer. Gives the Lagrangian value.
-    pub fn value(
-        &mut self,
-        case: &Case<'_>,
-        multipliers: &[i64],
-        work: &mut Work,
-    ) -> Result<i64, Memory>
+    pub fn value(&mut self, case: &Case<'_>, multipliers: &[i64], work: &mut Work) -> i64
         requires case { IsCase case.now.instance.now case.now.nets.now case.now.sets.now }
         requires multipliers { AreMultipliers case.now.instance.now multipliers.now }
         requires trial { IsTrialFor case.now.instance.now self.old }
-        ensures { IsTrialFor case.now.instance.now self.new }
+        requires ready { IsReadyToRun case.now.nets.now work.old }
+        ensures trial { IsTrialFor case.now.instance.now self.new }
+        ensures ready { IsReadyToRun case.now.nets.now work.new }
     {
         let mut value = total(multipliers);
         for l in 0..case.instance.layers() {
-            let part = self.find(case, multipliers, LayerNo(l), work)?;
+            let part = self.find(case, multipliers, LayerNo(l), work);
             value = value.saturating_add(part);
         }
-        Ok(value)
+        value
     }
 
     /// Finds a least circulation of layer l. Gives its cost less the multipliers of its trips.
-    fn find(
-        &mut self,
-        case: &Case<'_>,
-        multipliers: &[i64],
-        l: LayerNo,
-        work: &mut Work,
-    ) -> Result<i64, Memory>
+    fn find(&mut self, case: &Case<'_>, multipliers: &[i64], l: LayerNo, work: &mut Work) -> i64
         requires case { IsCase case.now.instance.now case.now.nets.now case.now.sets.now }
         requires multipliers { AreMultipliers case.now.instance.now multipliers.now }
         requires layer { l.0 < length case.now.instance.now.layers }
         requires trial { IsTrialFor case.now.instance.now self.old }
-        ensures { IsTrialFor case.now.instance.now self.new }
+        requires ready { IsReadyToRun case.now.nets.now work.old }
+        ensures trial { IsTrialFor case.now.instance.now self.new }
+        ensures ready { IsReadyToRun case.now.nets.now work.new }
     {
         let offers: &mut [Option<i64>] = &mut self.offers;
         offer(case.instance, case.sets, multipliers, l, offers);
-        let net = &case.nets[l.0 as usize];
-        let cost = runs(case.alloc, net, offers, work, &mut self.marks)?;
+        let cost = runs(case.nets, l, offers, work, &mut self.marks);
         match self.found.get_mut(l.0 as usize) {
-            Some(found) => Ok(found.set(&self.marks, cost, multipliers)),
-            None => Ok(0),
+            Some(found) => found.set(&self.marks, cost, multipliers),
+            None => 0,
         }
     }
 }

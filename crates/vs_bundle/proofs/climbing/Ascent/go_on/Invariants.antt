@@ -1,3 +1,4 @@
+use Rattle.vs_circ.specs.shipping.Ready.{IsReadyToRun}
 use Rattle.vs_multi.specs.Multipliers.{AreMultipliers}
 use Rattle.vs_bundle.specs.Climbs.{IsAscentFor}
 use Rattle.vs_bundle.proofs.climbing.Ascent.go_on.Given as goal
@@ -6,4 +7,5 @@ abbrev pub invariant-loop-r : goal.invariant-loop-r
 invariant-loop-r l = record {
   multipliers : AreMultipliers l.case.instance.now l.multipliers;
   ascent : IsAscentFor l.case.instance.now l.self;
+  ready : IsReadyToRun l.case.nets.now l.work;
 }
