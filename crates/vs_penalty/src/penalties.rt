@@ -3,6 +3,7 @@ ghost use Rattle.std.specs.Prelude.{◌≡◌, ◌<◌, ◌≤ℤ◌, pos, IfOk,
 ghost use Rattle.vs_types.specs.LayerSet.{Has};
 ghost use Rattle.vs_instance.specs.Restriction.{IsRestriction};
 ghost use Rattle.vs_circ.specs.Offers.{AreOffers};
+ghost use Rattle.vs_circ.specs.shipping.Ready.{IsReadyToRun};
 ghost use Rattle.vs_multi.specs.Rounds.{IsCase};
 ghost use Rattle.vs_multi.specs.Multipliers.{AreMultipliers, AreWithin, IsMultiplier};
 ghost use Rattle.vs_penalty.specs.Moves.{AreMoved};
@@ -79,17 +80,18 @@ impl Penalties {
     }
 
     /// Each layer in turn runs the trips that are worth it at what they are offered for; the next one sees which.
-    pub fn pass(&mut self, case: &Case<'_>, work: &mut Work) -> Result<(), Memory>
+    pub fn pass(&mut self, case: &Case<'_>, work: &mut Work)
         requires case { IsCase case.now.instance.now case.now.nets.now case.now.sets.now }
         requires penalties { ArePenalties case.now.instance.now self.old }
+        requires ready { IsReadyToRun case.now.nets.now work.old }
         ensures penalties { ArePenalties case.now.instance.now self.new }
+        ensures ready { IsReadyToRun case.now.nets.now work.new }
     {
         for k in 0..case.instance.layers() {
             let l = self.layer_at(k, case.instance.layers());
-            self.run(case, l, work)?;
+            self.run(case, l, work);
         }
         move_all(&mut self.multipliers, &self.runs, self.rate.now);
-        Ok(())
     }
 
     /// The layer that runs in place k of a pass, counted from 0, where there are so many.
@@ -101,19 +103,19 @@ impl Penalties {
     }
 
     /// A layer runs the trips that are worth it.
-    fn run(&mut self, case: &Case<'_>, l: LayerNo, work: &mut Work) -> Result<(), Memory>
+    fn run(&mut self, case: &Case<'_>, l: LayerNo, work: &mut Work)
         requires case { IsCase case.now.instance.now case.now.nets.now case.now.sets.now }
         requires layer { l.0 < length case.now.instance.now.layers }
         requires penalties { ArePenalties case.now.instance.now self.old }
+        requires ready { IsReadyToRun case.now.nets.now work.old }
         ensures penalties { ArePenalties case.now.instance.now self.new }
+        ensures ready { IsReadyToRun case.now.nets.now work.new }
     {
         let offers: &mut [Option<i64>] = &mut self.offers;
         let rate = self.rate.now;
         offer_all(case, l, &self.multipliers, &self.runs, rate, offers);
-        let net = &case.nets[l.0 as usize];
-        runs(case.alloc, net, offers, work, &mut self.marks)?;
+        let _ = runs(case.nets, l, offers, work, &mut self.marks);
         note(case.instance, l, &self.marks, &mut self.runs);
-        Ok(())
     }
 }
 

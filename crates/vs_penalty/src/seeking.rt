@@ -1,6 +1,7 @@
 //! Plans sought pass by pass.
 
-ghost use Rattle.std.specs.Prelude.{◌≡◌, IfOk};
+ghost use Rattle.std.specs.Prelude.{◌≡◌, IfOk, OnOk};
+ghost use Rattle.vs_circ.specs.shipping.Ready.{IsReadyToRun};
 ghost use Rattle.vs_multi.specs.Multipliers.{AreMultipliers};
 ghost use Rattle.vs_multi.specs.Rounds.{IsCase};
 ghost use Rattle.vs_penalty.specs.Penalties.{ArePenalties};
@@ -12,7 +13,7 @@ use crate::penalties::Penalties;
 use crate::rate::{Pace, Rate};
 use crate::slow_passes::Course;
 use crate::tally::Tally;
-use vs_circ::Work;
+use vs_circ::{Work, begin_runs};
 use vs_instance::{Instance, MAX_TRIPS};
 use vs_multi::{Case, greatest_step};
 use vs_types::Memory;
@@ -59,18 +60,30 @@ impl Seeker {
         ensures { IsSeekerFor case.now.instance.now self.new }
     {
         let mut left = course.agreements;
+        begin_runs(case.alloc, case.nets, work)?;
         for _ in 0..course.passes {
             if left == 0 {
                 break;
             }
-            self.penalties.pass(case, work)?;
+            self.penalties.pass(case, work);
             if self.agree(case.instance) {
                 left -= 1;
                 self.penalties.rate.ease();
-                self.choices.draw(case, &self.penalties.runs, work)?;
+                self.draw(case, work)?;
             }
         }
         Ok(())
+    }
+
+    /// Finds the plan on which the layers nearly agree, and makes passes ready to go on.
+    pub fn draw(&mut self, case: &Case<'_>, work: &mut Work) -> Result<(), Memory>
+        requires case { IsCase case.now.instance.now case.now.nets.now case.now.sets.now }
+        requires seeker { IsSeekerFor case.now.instance.now self.old }
+        ensures seeker { IsSeekerFor case.now.instance.now self.new }
+        ensures ready { OnOk result (IsReadyToRun case.now.nets.now work.new) }
+    {
+        self.choices.draw(case, &self.penalties.runs, work)?;
+        begin_runs(case.alloc, case.nets, work)
     }
 
     /// Whether the layers nearly agree: every trip is run, and few are by several. The rate rises while trips are left
