@@ -1,5 +1,6 @@
 -- Units on their way along the arcs of a net.
 pub mod Prepared
 pub mod Settled
+pub mod Refitted
 pub mod Supplied
 pub mod Values
