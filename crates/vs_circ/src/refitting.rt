@@ -3,19 +3,19 @@
 ghost use Rattle.std.specs.Prelude.{◌≡◌, ◌+◌, ◌<◌, ◌≤◌, ◌+ℤ◌, ◌-ℤ◌, length, set, slice_index};
 ghost use Rattle.vs_types.specs.declared.numbers.LayerNo.{LayerNo};
 ghost use Rattle.vs_layer.specs.Graph.{IsNet, arc_of};
-ghost use Rattle.vs_instance.specs.declared.limits.TheConstants.{MAX_TRIPS};
+ghost use Rattle.vs_instance.specs.declared.limits.TheConstants.{MAX_FLEET, MAX_TRIPS};
 ghost use Rattle.vs_instance.specs.Problem.{Problem};
 ghost use Rattle.vs_instance.specs.Instance.{IsInstance};
 ghost use Rattle.vs_match.specs.LawfulNets.{IsLawful};
 ghost use Rattle.vs_path.specs.declared.residual.TheConstants.{MAX_SEARCH_NODES, MAX_STEP_COST};
 ghost use Rattle.vs_path.specs.Residual.{AllWithin, IsWithin, price_at};
 ghost use Rattle.vs_ship.specs.declared.shipment.TheConstants.{MAX_FIRST_PRICE};
-ghost use Rattle.vs_ship.specs.Leaving.{IsLeftBy};
+ghost use Rattle.vs_ship.specs.Leaving.{IsLeftBy, passed_along};
 ghost use Rattle.vs_ship.specs.Shipments.{CanShip, IsSized};
 ghost use Rattle.vs_ship.specs.Suiting.{DoSuit};
 ghost use Rattle.vs_circ.specs.Offers.{AreOffers};
 ghost use Rattle.vs_circ.specs.shipping.Prepared.{AreOfferedCosts, AreOfferedRooms, AreSmallOffers, HasSmallArcs};
-ghost use Rattle.vs_circ.specs.shipping.Refitted.{AreFewMoved, AreForOffers, AreRefitted, IsMovedOnce, IsRefittedAt, WasSettled};
+ghost use Rattle.vs_circ.specs.shipping.Refitted.{AreFewMoved, AreForOffers, AreRefitted, IsMovedOnce, IsRefittedAt, WasSettled, reversed};
 
 use crate::preparing::{offered_cost, offered_room};
 use vs_layer::{Arc, Net};
@@ -97,7 +97,8 @@ fn units_for(arc: Arc, cost: i64, room: u32, prices: &[i64], units: u32) -> u32
     requires cost { IsWithin MAX_STEP_COST cost }
     requires prices { AllWithin MAX_FIRST_PRICE prices.now }
     requires room { room ≤ arc.room }
-    ensures { DoSuit ((cost +ℤ price_at prices.now arc.from) -ℤ price_at prices.now arc.to) room arc.room result }
+    ensures { DoSuit ((cost +ℤ price_at prices.now arc.from) -ℤ price_at prices.now arc.to)
+        room arc.room result }
 {
     match suiting(loss_on(arc, cost, prices), room, arc.room, units) {
         Some(n) => n,
@@ -125,18 +126,22 @@ fn set_units(net: &Net, k: u32, n: u32, units: &mut [u32], surplus: &mut [i64])
     let arc = net.arc(k);
     units[k as usize] = n;
     pass(surplus, arc, n);
-    pass(surplus, turned(arc), before);
+    pass_back(surplus, arc, before);
 }
 
-/// The arc that leads the other way.
-fn turned(arc: Arc) -> Arc
-    ensures from { result.from ≡ arc.to }
-    ensures to { result.to ≡ arc.from }
+/// Takes units back along an arc, from where it ends to where it begins.
+fn pass_back(surplus: &mut [i64], arc: Arc, n: u32)
+    requires from { arc.from < length surplus.old }
+    requires to { arc.to < length surplus.old }
+    requires few { n ≤ MAX_FLEET }
+    requires within { AllWithin MAX_FIRST_PRICE surplus.old }
+    ensures { surplus.new ≡ passed_along surplus.old (reversed arc) n }
 {
-    Arc {
+    let back = Arc {
         from: arc.to,
         to: arc.from,
         cost: arc.cost,
         room: arc.room,
-    }
+    };
+    pass(surplus, back, n);
 }

@@ -1,5 +1,5 @@
 -- Shipments while they are made ready for other offers, trip by trip.
-use Rattle.std.proofs.Common.{◌≡◌, ◌≢◌, ◌∙◌, ◌<◌, ◌≤◌, ◌+◌, ℕ, ℤ, List, length, get_or, set, sym, subst, ap, arith, inl, inr, Option, pos, ◌+ℤ◌, ◌-ℤ◌, length-set}
+use Rattle.std.proofs.Common.{◌≡◌, ◌≢◌, ◌∙◌, ◌<◌, ◌+◌, ℕ, ℤ, List, length, get_or, sym, subst, ap, arith, inl, inr, Option, pos, ◌+ℤ◌, ◌-ℤ◌, length-set}
 use Rattle.std.proofs.lemmas.Int.{ints}
 use Rattle.std.proofs.lemmas.Bool.{cases_eq, cases_lt}
 use Rattle.std.proofs.lemmas.List.{get_or-set_same, get_or-set_other}

@@ -1,5 +1,6 @@
 -- Shipments that an earlier call settled, made ready for other offers trip by trip.
 use Rattle.std.specs.Prelude.{◌≡◌, ℕ, ◌+◌, ◌*◌, ◌<◌, ◌≤◌, List, length, set, slice_index, Option, ℤ, pos}
+use Rattle.vs_layer.specs.declared.arc.Arc.{Arc}
 use Rattle.vs_layer.specs.Graph.{Graph, arc_of}
 use Rattle.vs_match.specs.LayerGraph.{LayerGraph, IsArcOfTrip, kind_of}
 use Rattle.vs_path.specs.declared.residual.Costs.{Costs}
@@ -36,6 +37,10 @@ pub record IsFitted (n : LayerGraph) (offers : List (Option ℤ)) (s : Shipment)
 -- the arc is no trip's, or that of one of the first so many trips
 abbrev pub IsOfFirst : LayerGraph → ℕ → ℕ → Type 0
 IsOfFirst n count k = (i : ℕ) → IsArcOfTrip n.kinds i k → i < count
+
+-- the arc that leads the other way
+abbrev pub reversed : Arc → Arc
+reversed a = record { from = a.to; to = a.from; cost = a.cost; room = a.room }
 
 -- No surplus is farther from 0 than the first so many trips can have left it, each of which moves a unit at most onto
 -- its arc and one from it.

@@ -1,6 +1,5 @@
-use Rattle.std.proofs.Common.{◌≡◌, ◌∙◌, ◌<◌, ◌≤◌, ℕ, ℤ, List, length, sym, subst, ap, arith}
+use Rattle.std.proofs.Common.{◌∙◌, ◌<◌, ℕ, length, sym, subst, ap, arith}
 use Rattle.std.proofs.lemmas.List.{with_items_is}
-use Rattle.std.specs.Vec.{with_items}
 use Rattle.vs_match.specs.LayerGraph.{IsArcOfTrip}
 use Rattle.vs_ship.specs.Leaving.{AreNone}
 use Rattle.vs_circ.proofs.low.LawfulArcs.{trip_arc}

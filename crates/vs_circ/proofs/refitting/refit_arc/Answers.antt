@@ -1,4 +1,4 @@
-use Rattle.std.proofs.Common.{◌≡◌, ◌∙◌, ◌<◌, ◌+ℤ◌, ◌-ℤ◌, ℕ, ℤ, List, length, get_or, set, sym, subst, ap, arith, rules, w64, of_z, to_z, pos, SFits, length-set}
+use Rattle.std.proofs.Common.{◌≡◌, ◌∙◌, ◌<◌, ◌+ℤ◌, ◌-ℤ◌, ℕ, ℤ, List, length, set, sym, subst, ap, arith, rules, w64, of_z, to_z, pos, length-set}
 use Rattle.std.proofs.lemmas.Int.{to_z-of_z}
 use Rattle.std.proofs.lemmas.List.{get_or-set_same, with_items_is}
 use Rattle.std.specs.Vec.{with_items}
@@ -43,7 +43,7 @@ returns c =
     let here : price_at (with_items s.costs.cost costs).items k ≡ c.args.cost =
     ap (λ (xs : List ℤ). price_at xs k) cost_is ∙ get_or-set_same s.costs.cost.items k c.args.cost (pos 0) inside in
     let Loss : ℤ → Type 0 = λ z. DoSuit ((z +ℤ price_at s.prices.items (arc_of g k).from) -ℤ price_at s.prices.items
-        (arc_of g k).to) c.args.room (arc_of g k).room n in
+    (arc_of g k).to) c.args.room (arc_of g k).room n in
     let Left : List ℤ → Type 0 = IsLeftBy g (with_items s.flow.units c.set_units.new.units).items in
     let LeftBy : List ℕ → Type 0 = λ us. IsLeftBy g us c.set_units.new.surplus in
     let Moved : List ℤ → Type 0 = IsMovedOnce s.surplus.items in

@@ -1,7 +1,7 @@
-use Rattle.std.proofs.Common.{◌∙◌, ℕ, ℤ, List, get_or, set, sym, subst, ap}
+use Rattle.std.proofs.Common.{◌∙◌, ℤ, List, get_or, set, sym, subst, ap}
 use Rattle.vs_layer.specs.declared.arc.Arc.{Arc}
 use Rattle.vs_ship.specs.Leaving.{IsLeftBy, passed_along}
-use Rattle.vs_circ.specs.shipping.Refitted.{IsMovedOnce}
+use Rattle.vs_circ.specs.shipping.Refitted.{IsMovedOnce, reversed}
 use Rattle.vs_circ.proofs.shipping.Changing.{changed-left, changed-moved}
 use Rattle.vs_circ.proofs.refitting.set_units.Goals as goal
 
@@ -14,14 +14,13 @@ returns-clause-left c =
     let before = get_or units k 0 in
     let arc = c.arc-arc.ensures in
     let there =
-    c.pass-2.ensures
-    ∙ ap (λ (xs : List ℤ). passed_along xs c.turned.result before)
+    c.pass_back.ensures
+    ∙ ap (λ (xs : List ℤ). passed_along xs (reversed c.arc-arc.result) before)
     (c.pass.ensures ∙ ap (λ (a : Arc). passed_along c.args.surplus.now a n) arc) in
     let Left : List ℤ → Type 0 = IsLeftBy g (set units k n) in
     subst Left (sym there)
     (changed-left g c.requires.net units c.args.surplus.now k n c.requires.arc c.requires.each_arc c.requires.left
-    c.turned.result (c.turned.ensures.from ∙ ap (λ (a : Arc). a.to) arc)
-    (c.turned.ensures.to ∙ ap (λ (a : Arc). a.from) arc))
+    (reversed c.arc-arc.result) (ap (λ (a : Arc). a.to) arc) (ap (λ (a : Arc). a.from) arc))
 
 pub returns-clause-moved : goal.returns-clause-moved
 returns-clause-moved c =
@@ -32,11 +31,11 @@ returns-clause-moved c =
     let before = get_or units k 0 in
     let arc = c.arc-arc.ensures in
     let there =
-    c.pass-2.ensures
-    ∙ ap (λ (xs : List ℤ). passed_along xs c.turned.result before)
+    c.pass_back.ensures
+    ∙ ap (λ (xs : List ℤ). passed_along xs (reversed c.arc-arc.result) before)
     (c.pass.ensures ∙ ap (λ (a : Arc). passed_along c.args.surplus.now a n) arc) in
     let Moved : List ℤ → Type 0 = IsMovedOnce c.args.surplus.now in
     subst Moved (sym there)
     (changed-moved g c.requires.net units c.args.surplus.now k n c.requires.arc c.requires.each_arc c.requires.left
-    c.turned.result (c.turned.ensures.from ∙ ap (λ (a : Arc). a.to) arc)
-    (c.turned.ensures.to ∙ ap (λ (a : Arc). a.from) arc) c.requires.carries c.requires.one)
+    (reversed c.arc-arc.result) (ap (λ (a : Arc). a.to) arc) (ap (λ (a : Arc). a.from) arc)
+    c.requires.carries c.requires.one)
