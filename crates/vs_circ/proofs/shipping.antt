@@ -3,6 +3,8 @@ pub mod Offering
 pub mod Preparing
 pub mod SmallArcs
 pub mod Settling
+pub mod Changing
+pub mod Refitting
 pub mod Stuck
 pub mod Supplying
 pub mod Covering

@@ -1,7 +1,7 @@
 -- Units on their way along the arcs of a net.
 pub mod Prepared
-pub mod Ready
-pub mod Refitted
 pub mod Settled
+pub mod Refitted
+pub mod Ready
 pub mod Supplied
 pub mod Values

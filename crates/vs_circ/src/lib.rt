@@ -9,6 +9,7 @@ mod leeways;
 mod misfits;
 mod preparing;
 mod price_tables;
+mod refitting;
 mod relaxing;
 mod running;
 mod settling;

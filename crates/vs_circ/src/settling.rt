@@ -1,11 +1,12 @@
 //! What is kept for a net made a least circulation of offered trips.
 
-ghost use Rattle.std.specs.Prelude.{◌≡◌, ◌≤◌};
+ghost use Rattle.std.specs.Prelude.{◌≡◌, ◌≤◌, ◌↔◌, IsTrue};
 ghost use Rattle.vs_types.specs.declared.numbers.LayerNo.{LayerNo};
 ghost use Rattle.vs_instance.specs.Problem.{Problem};
 ghost use Rattle.vs_instance.specs.Instance.{IsInstance};
 ghost use Rattle.vs_match.specs.LawfulNets.{IsLawful};
 ghost use Rattle.vs_path.specs.declared.residual.TheConstants.{MAX_SEARCH_NODES};
+ghost use Rattle.vs_path.specs.Residual.{AllWithin};
 ghost use Rattle.vs_circ.specs.Offers.{AreOffers};
 ghost use Rattle.vs_circ.specs.shipping.Prepared.{AreOfferedCosts, AreOfferedRooms};
 ghost use Rattle.vs_circ.specs.shipping.Ready.{CanRun};
@@ -15,6 +16,7 @@ ghost use Rattle.vs_ship.specs.Shipments.{CanShip};
 ghost use Rattle.vs_ship.specs.Works.{IsReadyFor};
 
 use crate::preparing::prepare;
+use crate::refitting::refit;
 use vs_match::LayerNet;
 use vs_ship::{Kept, bring_near, drain};
 
@@ -69,15 +71,21 @@ fn prepare_again(net: &LayerNet, offers: &[Option<i64>], kept: &mut Kept)
     ensures was_settled { kept.new.was_settled ≡ kept.old.was_settled }
 {
     let shipment = &mut kept.shipment;
-    if kept.is_settled && !are_kept_prices(&shipment.prices) {
-        let space = &mut kept.space;
-        bring_near(&mut shipment.prices, &mut space.turned, &mut space.low);
+    if !kept.is_settled {
+        return prepare(net, offers, shipment);
     }
+    if are_kept_prices(&shipment.prices) {
+        return refit(net, offers, shipment);
+    }
+    let space = &mut kept.space;
+    bring_near(&mut shipment.prices, &mut space.turned, &mut space.low);
     prepare(net, offers, shipment);
 }
 
 /// Whether prices needn't be brought nearer before a call begins with them.
-fn are_kept_prices(prices: &[i64]) -> bool {
+fn are_kept_prices(prices: &[i64]) -> bool
+    ensures { IsTrue result ↔ AllWithin MAX_KEPT_PRICE prices.now }
+{
     for price in prices {
         if *price < -MAX_KEPT_PRICE || MAX_KEPT_PRICE < *price {
             return false;

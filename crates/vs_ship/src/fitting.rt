@@ -28,7 +28,7 @@ pub fn suiting(loss: i64, room: u32, most: u32, units: u32) -> Option<u32>
 }
 
 /// What a unit more on an arc costs by the prices of the nodes.
-fn loss_on(arc: Arc, cost: i64, prices: &[i64]) -> i64
+pub fn loss_on(arc: Arc, cost: i64, prices: &[i64]) -> i64
     requires from { arc.from < length prices.now }
     requires to { arc.to < length prices.now }
     requires cost { IsWithin MAX_STEP_COST cost }

@@ -18,7 +18,7 @@ pub fn clear(numbers: &mut [i64])
 }
 
 /// Takes units from where an arc begins to where it ends.
-pub(crate) fn pass(surplus: &mut [i64], arc: Arc, n: u32)
+pub fn pass(surplus: &mut [i64], arc: Arc, n: u32)
     requires from { arc.from < length surplus.old }
     requires to { arc.to < length surplus.old }
     requires few { n ≤ MAX_FLEET }

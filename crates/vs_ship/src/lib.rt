@@ -15,9 +15,9 @@ mod work;
 
 pub use centring::{MAX_RAISED_PRICE, centre};
 pub use draining::drain;
-pub use fitting::{fit, suiting};
+pub use fitting::{fit, loss_on, suiting};
 pub use gaps::{MAX_NODE_PRICE, bring_near};
-pub use leaving::{clear, leave};
+pub use leaving::{clear, leave, pass};
 pub use shipment::{MAX_FIRST_PRICE, Shipment};
 pub use space::Space;
 pub use start::Start;

@@ -27,7 +27,7 @@ take-other offers i j other =
     ]
 
 module _ (one two : List (Option ℤ)) where
-  cost-as : (kind : ArcKind) (a : Arc)
+  pub cost-as : (kind : ArcKind) (a : Arc)
       → ((i : TripNo) → kind ≡ Trip i → offer_of one i.0 ≡ offer_of two i.0)
       → offered_cost one kind a ≡ offered_cost two kind a
   cost-as (Trip i) a same = ap (λ (m : Option ℤ). a.cost -ℤ paid m) (same i refl)
@@ -40,7 +40,7 @@ module _ (one two : List (Option ℤ)) where
   cost-as RestOut a same = refl
   cost-as Return a same = refl
 
-  room-as : (kind : ArcKind) (a : Arc)
+  pub room-as : (kind : ArcKind) (a : Arc)
       → ((i : TripNo) → kind ≡ Trip i → offer_of one i.0 ≡ offer_of two i.0)
       → offered_room one kind a ≡ offered_room two kind a
   room-as (Trip i) a same = ap room_if (same i refl)
