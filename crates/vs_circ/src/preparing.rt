@@ -1,16 +1,17 @@
 //! Costs, rooms and units of the arcs before units are sent.
 
-ghost use Rattle.std.specs.Prelude.{◌≡◌, ◌+◌, ◌<◌, ◌≤◌, ◌≤ℤ◌, pos, [], length, take};
-ghost use Rattle.vs_instance.specs.declared.limits.TheConstants.{MAX_TRIPS};
+ghost use Rattle.std.specs.Prelude.{◌≡◌, ◌≤◌, ◌≤ℤ◌, pos, length};
 ghost use Rattle.vs_path.specs.declared.residual.TheConstants.{MAX_SEARCH_NODES};
 ghost use Rattle.vs_circ.specs.shipping.Prepared.{AreSmallOffers, AreOfferedCosts, AreOfferedRooms, HasSmallArcs, offered_cost, offered_room};
 ghost use Rattle.vs_ship.specs.Leaving.{IsLeftBy};
 ghost use Rattle.vs_ship.specs.Shipments.{CanShip, IsSized};
 
 use vs_layer::Arc;
-use vs_match::{ArcKind, LayerNet, MAX_ARC_COST, UNLIMITED};
+use vs_match::{ArcKind, LayerNet, MAX_ARC_COST};
 use vs_ship::{Shipment, fit};
-use vs_types::TripNo;
+
+/// The room of an arc that takes as many units as there are.
+pub(crate) const UNLIMITED: u32 = 4_294_967_295;
 
 /// What an arc costs once a trip's multiplier is taken off, in 1/1000 of a cost unit.
 pub(crate) fn offered_cost(offers: &[Option<i64>], kind: ArcKind, arc: Arc) -> i64
@@ -42,66 +43,22 @@ pub(crate) fn offered_room(offers: &[Option<i64>], kind: ArcKind, arc: Arc) -> u
     }
 }
 
-/// Sets what the arcs cost and how many units they take where these trips are offered. Most arcs are no trip's, and
-/// cost and take the same whatever is offered.
+/// Sets what the arcs cost and how many units they take where these trips are offered.
 pub(crate) fn offer_arcs(net: &LayerNet, offers: &[Option<i64>], cost: &mut [i64], room: &mut [u32])
     requires arcs { HasSmallArcs net.now }
-    requires few { length offers.now ≤ MAX_TRIPS }
     requires offers { AreSmallOffers offers.now }
     requires cost_size { length cost.old ≡ length net.now.graph.arcs }
     requires room_size { length room.old ≡ length net.now.graph.arcs }
     ensures cost { AreOfferedCosts net.now offers.now cost.new }
     ensures room { AreOfferedRooms net.now offers.now room.new }
-{
-    cost.copy_from_slice(net.idle_costs());
-    room.copy_from_slice(net.idle_rooms());
-    offer_trips(net, offers, cost, room);
-}
-
-/// Sets what the arcs of trips cost and take where these trips are offered, once all arcs cost and take what they do
-/// where none is.
-fn offer_trips(net: &LayerNet, offers: &[Option<i64>], cost: &mut [i64], room: &mut [u32])
-    requires arcs { HasSmallArcs net.now }
-    requires few { length offers.now ≤ MAX_TRIPS }
-    requires offers { AreSmallOffers offers.now }
-    requires cost_size { length cost.old ≡ length net.now.graph.arcs }
-    requires room_size { length room.old ≡ length net.now.graph.arcs }
-    requires cost { AreOfferedCosts net.now [] cost.old }
-    requires room { AreOfferedRooms net.now [] room.old }
-    ensures cost { AreOfferedCosts net.now offers.now cost.new }
-    ensures room { AreOfferedRooms net.now offers.now room.new }
-{
-    for i in 0..offers.len() {
-        offer_trip(net, offers, TripNo(i as u32), cost, room);
-    }
-}
-
-/// Sets what the arc of a trip costs and takes, once those of the trips before it are set.
-fn offer_trip(
-    net: &LayerNet,
-    offers: &[Option<i64>],
-    trip: TripNo,
-    cost: &mut [i64],
-    room: &mut [u32],
-)
-    requires arcs { HasSmallArcs net.now }
-    requires trip { trip.0 < length offers.now }
-    requires offers { AreSmallOffers offers.now }
-    requires cost_size { length cost.old ≡ length net.now.graph.arcs }
-    requires room_size { length room.old ≡ length net.now.graph.arcs }
-    requires cost { AreOfferedCosts net.now (take trip.0 offers.now) cost.old }
-    requires room { AreOfferedRooms net.now (take trip.0 offers.now) room.old }
-    ensures cost { AreOfferedCosts net.now (take (trip.0 + 1) offers.now) cost.new }
-    ensures room { AreOfferedRooms net.now (take (trip.0 + 1) offers.now) room.new }
 {
     let graph = net.net();
-    let Some(k) = net.trip_arc(trip) else {
-        return;
-    };
-    let kind = ArcKind::Trip(trip);
-    let arc = graph.arc(k);
-    cost[k as usize] = offered_cost(offers, kind, arc);
-    room[k as usize] = offered_room(offers, kind, arc);
+    for k in 0..graph.arcs() {
+        let kind = net.kind(k);
+        let arc = graph.arc(k);
+        cost[k as usize] = offered_cost(offers, kind, arc);
+        room[k as usize] = offered_room(offers, kind, arc);
+    }
 }
 
 /// Makes a shipment ready for offers, whatever units and prices it has: no step gains anything,
@@ -109,7 +66,6 @@ fn offer_trip(
 pub(crate) fn prepare(net: &LayerNet, offers: &[Option<i64>], shipment: &mut Shipment)
     requires arcs { HasSmallArcs net.now }
     requires nodes { net.now.graph.nodes ≤ MAX_SEARCH_NODES }
-    requires few { length offers.now ≤ MAX_TRIPS }
     requires offers { AreSmallOffers offers.now }
     requires sized { IsSized net.now.graph shipment.old }
     ensures can { CanShip net.now.graph shipment.new }

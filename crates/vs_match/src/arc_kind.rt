@@ -2,13 +2,9 @@
 
 ghost use Rattle.std.specs.Prelude.{◌≡◌};
 ghost use Rattle.vs_match.specs.Adds.{arc_in};
-ghost use Rattle.vs_match.specs.TripIndex.{idle_room};
 
 use vs_layer::Arc;
 use vs_types::TripNo;
-
-/// The room of an arc that takes as many units as there are.
-pub const UNLIMITED: u32 = 4_294_967_295;
 
 /// What an arc of a layer's net stands for. Between the same two nodes arcs stand in this order, trips by number.
 #[derive(Clone, Copy, Debug, PartialEq, Eq, PartialOrd, Ord)]
@@ -57,17 +53,6 @@ impl LayerArc {
             to: self.to,
             cost: self.cost,
             room: self.room,
-        }
-    }
-
-    /// How many units it takes where no trip is offered.
-    pub fn idle_room(&self) -> u32
-        ensures { result ≡ idle_room self.now.kind self.now.room }
-    {
-        match self.kind {
-            ArcKind::Trip(_) => 0,
-            ArcKind::Return => self.room,
-            _ => UNLIMITED,
         }
     }
 }

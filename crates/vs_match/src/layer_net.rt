@@ -6,7 +6,7 @@ ghost use Rattle.vs_match.specs.Adds.{arc_in};
 ghost use Rattle.vs_match.specs.Events.{point_at};
 ghost use Rattle.vs_match.specs.Sizes.{line_points};
 ghost use Rattle.vs_match.specs.LayerGraph.{IsLabelled, kind_of, line_of, place_of};
-ghost use Rattle.vs_match.specs.TripIndex.{AreIdleCosts, AreIdleRooms, IsBelow, IsTripAt, IsTripIndex, idle_room};
+ghost use Rattle.vs_match.specs.TripIndex.{IsBelow, IsTripAt, IsTripIndex};
 
 use crate::arc_kind::{ArcKind, LayerArc};
 use crate::event::Point;
@@ -26,10 +26,6 @@ pub struct LayerNet {
     kinds: Vec<ArcKind>,
     points: Vec<Point>,
     trip_arcs: Vec<Option<u32>>,
-    /// What a unit costs on each arc.
-    costs: Vec<i64>,
-    /// How many units each arc takes where no trip is offered.
-    rooms: Vec<u32>,
 }
 
 impl Model for LayerNet {
@@ -42,7 +38,7 @@ impl Model for LayerNet {
 
     ghost invariant = { λ n. IsIndexed
         (record { graph = n.net; kinds = n.kinds.items; points = n.points.items })
-        n.trip_arcs.items n.costs.items n.rooms.items };
+        n.trip_arcs.items };
 }
 
 impl LayerNet {
@@ -66,15 +62,11 @@ impl LayerNet {
         let net = net_of(alloc, points.len() as u32 + 2, arcs)?;
         let kinds = kinds_of(alloc, arcs)?;
         let trip_arcs = trip_index(alloc, trips, &kinds)?;
-        let costs = costs_of(alloc, arcs)?;
-        let rooms = rooms_of(alloc, arcs)?;
         Ok(LayerNet {
             net,
             kinds,
             points,
             trip_arcs,
-            costs,
-            rooms,
         })
     }
 
@@ -103,20 +95,6 @@ impl LayerNet {
             Some(arc) => *arc,
             None => None,
         }
-    }
-
-    /// What a unit costs on each arc, in 1/1000 of a cost unit.
-    pub fn idle_costs(&self) -> &[i64]
-        ensures { AreIdleCosts self.now result.now }
-    {
-        &self.costs
-    }
-
-    /// How many units each arc takes where no trip is offered.
-    pub fn idle_rooms(&self) -> &[u32]
-        ensures { AreIdleRooms self.now result.now }
-    {
-        &self.rooms
     }
 
     /// The stop and the minute of a node. None exactly for the first node, the last node and those of the depot line.
@@ -192,21 +170,6 @@ fn kinds_of(alloc: Global, arcs: &[LayerArc]) -> Result<Vec<ArcKind>, AllocError
     ensures { IfOk result (λ kinds. kinds.items ≡ map (λ arc. arc.kind) arcs.now) }
 {
     arcs.iter().map(|arc| arc.kind).collect(alloc)
-}
-
-/// What a unit costs on each arc.
-fn costs_of(alloc: Global, arcs: &[LayerArc]) -> Result<Vec<i64>, AllocError>
-    ensures { IfOk result (λ costs. costs.items ≡ map (λ arc. arc.cost) arcs.now) }
-{
-    arcs.iter().map(|arc| arc.cost).collect(alloc)
-}
-
-/// How many units each arc takes where no trip is offered.
-fn rooms_of(alloc: Global, arcs: &[LayerArc]) -> Result<Vec<u32>, AllocError>
-    ensures { IfOk result (λ rooms. rooms.items
-        ≡ map (λ arc. idle_room arc.kind arc.room) arcs.now) }
-{
-    arcs.iter().map(|arc| arc.idle_room()).collect(alloc)
 }
 
 /// The arcs of so many trips, by their numbers.

@@ -20,7 +20,7 @@ mod stop_node;
 mod trip_arcs;
 mod waiting;
 
-pub use arc_kind::{ArcKind, UNLIMITED};
+pub use arc_kind::ArcKind;
 pub use laws::{
     blocks_compose, both_nets_alike, circulations_decompose, nets_are_lawful,
     nets_cost_what_blocks_do, nets_have_the_walk_law,

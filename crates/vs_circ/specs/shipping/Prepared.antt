@@ -4,10 +4,10 @@ use Rattle.vs_layer.specs.declared.arc.Arc.{Arc}
 use Rattle.vs_layer.specs.Graph.{arc_of}
 use Rattle.vs_match.specs.declared.arc_kind.ArcKind.{ArcKind}
 use Rattle.vs_match.specs.declared.arc_kind.ArcKind.TheVariants.{Trip, Return}
-use Rattle.vs_match.specs.declared.arc_kind.TheConstants.{UNLIMITED}
 use Rattle.vs_match.specs.declared.layer_net.TheConstants.{MAX_ARC_COST}
 use Rattle.vs_match.specs.LayerGraph.{LayerGraph, IsArcOfTrip, kind_of}
 use Rattle.vs_path.specs.Residual.{price_at}
+use Rattle.vs_circ.specs.declared.preparing.TheConstants.{UNLIMITED}
 use Rattle.vs_instance.specs.declared.limits.TheConstants.{MAX_FLEET, MAX_MULTIPLIER}
 use Rattle.vs_circ.specs.Offers.{offer_of, paid}
 
