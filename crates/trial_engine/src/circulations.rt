@@ -2,6 +2,8 @@
 
 ghost use Rattle.std.specs.Prelude.{◌≡◌, ℕ, ◌<◌, length};
 ghost use Rattle.vs_match.specs.LawfulNets.{IsLawful};
+ghost use Rattle.vs_match.specs.LayerNets.{net_at};
+ghost use Rattle.vs_circ.specs.shipping.Ready.{IsReadyToRun};
 
 mod every_way;
 mod offers;
@@ -12,9 +14,10 @@ use std::alloc::Global;
 use std::test::Fail;
 use trial_fixtures::instance_of;
 use trial_fixtures::texts::{LATE_TRIPS, LAYER, ONE_VEHICLE, STOPS, TRIPS};
-use vs_circ::{Circ, FixedFlow, MAX_MULTIPLIER, Work, fixed, relaxed, runs};
+use vs_circ::{Circ, FixedFlow, MAX_MULTIPLIER, Work, begin_runs, fixed, relaxed, runs};
 use vs_instance::Instance;
 use vs_match::LayerNet;
+use vs_types::LayerNo;
 
 /// A least circulation of the first layer, where each of its trips is offered for its multiplier.
 fn relaxed_at(
@@ -30,19 +33,22 @@ fn relaxed_at(
     Ok(relaxed(alloc, net, &offers, work)?)
 }
 
-/// The trips that `runs` marks at these multipliers.
+/// The trips that `runs` marks in the first net at these multipliers.
 fn run_at(
     alloc: Global,
     instance: &Instance,
-    net: &LayerNet,
+    nets: &[LayerNet],
     multipliers: &[i64],
     work: &mut Work,
 ) -> Result<Vec<bool>, Fail>
-    requires lawful { IsLawful instance.now 0 net.now }
+    requires some { 0 < length nets.now }
+    requires lawful { IsLawful instance.now 0 (net_at nets.now 0) }
+    requires ready { IsReadyToRun nets.now work.old }
+    ensures { IsReadyToRun nets.now work.new }
 {
     let offers = offers_of(alloc, instance, multipliers)?;
     let mut marked = vec![in alloc; true; offers.len()]?;
-    runs(alloc, net, &offers, work, &mut marked)?;
+    let _ = runs(nets, LayerNo(0), &offers, work, &mut marked);
     Ok(marked)
 }
 
@@ -91,21 +97,31 @@ const OFFERED: [([&str; 3], i64, i128, [bool; 2]); 3] = [
     (RESTING, 1_050_000, -1_000_000, [true, true]),
 ];
 
-/// The least value of a net, and the trips that are run.
-fn found_in(
-    alloc: Global,
-    instance: &Instance,
-    net: &LayerNet,
-    offer: i64,
-) -> Result<(i128, Vec<bool>), Fail>
+/// The least value of a net.
+fn value_in(alloc: Global, instance: &Instance, net: &LayerNet, offer: i64) -> Result<i128, Fail>
     requires lawful { IsLawful instance.now 0 net.now }
 {
     let mut work = Work::new(alloc, &[])?;
     let circ = relaxed_at(alloc, instance, net, &[offer; 2], &mut work)?;
-    let marked = run_at(alloc, instance, net, &[offer; 2], &mut work)?;
-    Ok((circ.value, marked))
+    Ok(circ.value)
 }
 
+/// The trips that are run in a net.
+fn marked_in(
+    alloc: Global,
+    instance: &Instance,
+    net: LayerNet,
+    offer: i64,
+) -> Result<Vec<bool>, Fail>
+    requires lawful { IsLawful instance.now 0 net }
+{
+    let nets = [net];
+    let mut work = Work::new(alloc, &[])?;
+    begin_runs(alloc, &nets, &mut work)?;
+    run_at(alloc, instance, &nets, &[offer; 2], &mut work)
+}
+
+/// The least value of a net, and the trips that are run.
 fn found(
     alloc: Global,
     parts: &[&str],
@@ -114,7 +130,8 @@ fn found(
 ) -> Result<(i128, Vec<bool>), Fail> {
     let instance = instance_of(alloc, parts)?;
     let net = net_of(alloc, &instance, latest)?;
-    found_in(alloc, &instance, &net, offer)
+    let value = value_in(alloc, &instance, &net, offer)?;
+    Ok((value, marked_in(alloc, &instance, net, offer)?))
 }
 
 #[test]
@@ -217,24 +234,8 @@ const MULTIPLIERS: [[i64; 4]; 6] = [
     [20_000, 1_200_000, 1_045_001, 1_044_999],
 ];
 
-/// What `relaxed` finds at these multipliers, and what the trips that `runs` marks can be run for less those.
-fn values(
-    alloc: Global,
-    rows: &[Row; 4],
-    instance: &Instance,
-    net: &LayerNet,
-    multipliers: &[i64; 4],
-    work: &mut Work,
-) -> Result<(i128, Option<i64>), Fail>
-    requires lawful { IsLawful instance.now 0 net.now }
-{
-    let circ = relaxed_at(alloc, instance, net, multipliers, work)?;
-    let marked = run_at(alloc, instance, net, multipliers, work)?;
-    Ok((circ.value, value_of_marked(rows, multipliers, &marked)))
-}
-
-/// The first multipliers at which either isn't the least value of every way. They come one after the other, and each
-/// call begins with what those before it left.
+/// The first multipliers at which `relaxed` doesn't find the least value of every way. They come one after the other,
+/// and each call begins with what those before it left.
 fn first_miss_in(
     alloc: Global,
     rows: &[Row; 4],
@@ -245,9 +246,8 @@ fn first_miss_in(
     requires lawful { IsLawful instance.now 0 net.now }
 {
     for multipliers in &MULTIPLIERS {
-        let least = least_value(rows, multipliers);
-        let found = values(alloc, rows, instance, net, multipliers, work)?;
-        if found != (i128::from(least), Some(least)) {
+        let circ = relaxed_at(alloc, instance, net, multipliers, work)?;
+        if circ.value != i128::from(least_value(rows, multipliers)) {
             return Ok(Some(*multipliers));
         }
     }
@@ -260,11 +260,46 @@ fn first_miss(alloc: Global, rows: &[Row; 4], work: &mut Work) -> Result<Option<
     first_miss_in(alloc, rows, &instance, &net, work)
 }
 
+/// The first multipliers at which the trips that `runs` marks can't be run for the least value of every way. All calls
+/// but the first begin with what an earlier one settled.
+fn first_run_miss_in(
+    alloc: Global,
+    rows: &[Row; 4],
+    instance: &Instance,
+    nets: &[LayerNet],
+    work: &mut Work,
+) -> Result<Option<[i64; 4]>, Fail>
+    requires some { 0 < length nets.now }
+    requires lawful { IsLawful instance.now 0 (net_at nets.now 0) }
+    requires ready { IsReadyToRun nets.now work.old }
+{
+    for multipliers in &MULTIPLIERS {
+        let marked = run_at(alloc, instance, nets, multipliers, work)?;
+        let least = least_value(rows, multipliers);
+        if value_of_marked(rows, multipliers, &marked) != Some(least) {
+            return Ok(Some(*multipliers));
+        }
+    }
+    Ok(None)
+}
+
+fn first_run_miss(
+    alloc: Global,
+    rows: &[Row; 4],
+    work: &mut Work,
+) -> Result<Option<[i64; 4]>, Fail> {
+    let instance = rows_instance(alloc, rows)?;
+    let nets = [net_of(alloc, &instance, true)?];
+    begin_runs(alloc, &nets, work)?;
+    first_run_miss_in(alloc, rows, &instance, &nets, work)
+}
+
 #[test]
 fn have_the_least_value_of_every_way(rt: HostRuntime) -> Result<(), Fail> {
     let mut work = Work::new(rt.alloc(), &[])?;
     for rows in &TABLE {
         assert_eq!(rt; first_miss(rt.alloc(), rows, &mut work)?, None);
+        assert_eq!(rt; first_run_miss(rt.alloc(), rows, &mut work)?, None);
     }
     Ok(())
 }

@@ -19,8 +19,8 @@ use vs_match::LayerNet;
 use vs_ship::{Kept, Work};
 use vs_types::{LayerNo, Memory, TripNo};
 
-/// Makes what is kept ready for `runs` in these nets, each by its number. It asks nothing of what is kept, and after it
-/// only `runs` may be called with it.
+/// Makes what is kept ready for `runs` in these nets, which finds it by their numbers. It asks nothing of what is kept;
+/// any other call made with it ends that.
 pub fn begin_runs(alloc: Global, nets: &[LayerNet], work: &mut Work) -> Result<(), Memory>
     ensures { OnOk result (IsReadyToRun nets.now work.new) }
 {
@@ -31,8 +31,8 @@ pub fn begin_runs(alloc: Global, nets: &[LayerNet], work: &mut Work) -> Result<(
 }
 
 /// Marks the trips that a least circulation of offered trips runs in the net of this number, as `relaxed` finds one,
-/// without prices that show that it is. Every entry is set. Gives what that circulation costs, in 1/1000 of a cost unit,
-/// with no multipliers taken off.
+/// without prices that show that it is. Every entry is set. Gives what that circulation costs, in 1/1000 of a cost
+/// unit, with no multipliers taken off.
 pub fn runs(
     nets: &[LayerNet],
     l: LayerNo,
@@ -41,12 +41,13 @@ pub fn runs(
     answer: &mut [bool],
 ) -> i128
     requires layer { l.0 < length nets.now }
-    requires of_layer { (p : Problem) × IsInstance p × IsLawful p l.0 (net_at nets.now l.0) × AreOffers p l.0 offers.now }
+    requires of_layer { (p : Problem) × IsInstance p × IsLawful p l.0 (net_at nets.now l.0)
+        × AreOffers p l.0 offers.now }
     requires ready { IsReadyToRun nets.now work.old }
     requires each_trip { length answer.old ≡ length offers.now }
     ensures ready { IsReadyToRun nets.now work.new }
-    ensures least { (p : Problem) → IsInstance p → IsLawful p l.0 (net_at nets.now l.0) → AreOffers p l.0 offers.now
-        → RunLeast p l (net_at nets.now l.0) offers.now answer.new result }
+    ensures least { (p : Problem) → IsInstance p → IsLawful p l.0 (net_at nets.now l.0)
+        → AreOffers p l.0 offers.now → RunLeast p l (net_at nets.now l.0) offers.now answer.new result }
 {
     let place = l.0 as usize;
     run_from(&nets[place], offers, &mut work.kept[place], answer)

@@ -55,8 +55,8 @@ pub(crate) fn settle_again(net: &LayerNet, offers: &[Option<i64>], kept: &mut Ke
     kept.is_settled = true;
 }
 
-/// Makes the shipment ready for offers: only at the arcs of trips where it is known to be settled and its prices haven't
-/// drifted.
+/// Makes the shipment ready for offers: only at the arcs of trips where it is known to be settled and its prices
+/// haven't drifted.
 fn prepare_again(net: &LayerNet, offers: &[Option<i64>], kept: &mut Kept)
     requires of_layer { (p : Problem) × (l : LayerNo) × IsInstance p × IsLawful p l.0 net.now
         × AreOffers p l.0 offers.now }
@@ -71,14 +71,13 @@ fn prepare_again(net: &LayerNet, offers: &[Option<i64>], kept: &mut Kept)
     ensures was_settled { kept.new.was_settled ≡ kept.old.was_settled }
 {
     let shipment = &mut kept.shipment;
-    if !kept.is_settled {
-        return prepare(net, offers, shipment);
-    }
-    if are_kept_prices(&shipment.prices) {
+    if kept.is_settled && are_kept_prices(&shipment.prices) {
         return refit(net, offers, shipment);
     }
-    let space = &mut kept.space;
-    bring_near(&mut shipment.prices, &mut space.turned, &mut space.low);
+    if kept.is_settled {
+        let space = &mut kept.space;
+        bring_near(&mut shipment.prices, &mut space.turned, &mut space.low);
+    }
     prepare(net, offers, shipment);
 }
 

@@ -86,7 +86,8 @@ ready-set nets old new l kept is inside can ready =
                 sym (get_or-set_at old.kept.items l i kept k same (omega (arith, within, same))) ∙ read in
                 subst Run (sym same) (subst (λ (q : Kept). CanRun (net_at nets l) q) own can)
             | inr apart ↦
-                let at : get_or old.kept.items i k ≡ k = sym (get_or-set_other old.kept.items l i kept k apart) ∙ read in
+                let at : get_or old.kept.items i k ≡ k =
+                sym (get_or-set_other old.kept.items l i kept k apart) ∙ read in
                 ready.each i k below (slice_get-get_or old.kept.items i k within ∙ ap Some at)
           ];
     }

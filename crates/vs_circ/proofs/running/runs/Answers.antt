@@ -20,7 +20,9 @@ run_from-requires-clause-of_layer c =
 pub run_from-requires-clause-kept : goal.run_from-requires-clause-kept
 run_from-requires-clause-kept c =
     let Run : LayerGraph → Type 0 = λ n. CanRun n c.index_mut.result.now in
-    subst Run (sym (same_net c.args.nets.now c.args.l.0 c.index-nets-place.result c.requires.layer c.index-nets-place.is))
+    let net =
+    same_net c.args.nets.now c.args.l.0 c.index-nets-place.result c.requires.layer c.index-nets-place.is in
+    subst Run (sym net)
     (kept-there c.args.nets.now c.args.work.now c.args.l.0 c.index_mut.result.now c.requires.ready c.requires.layer
     c.index_mut.ensures.value)
 

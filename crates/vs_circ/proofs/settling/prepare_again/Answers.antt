@@ -4,7 +4,3 @@ use Rattle.vs_circ.proofs.settling.prepare_again.Goals as goal
 pub prepare-requires-clause-arcs : goal.prepare-requires-clause-arcs
 prepare-requires-clause-arcs c =
     let layer = c.requires.of_layer in small_arcs layer.0 layer.2 layer.1.0 c.args.net.now layer.3
-
-pub prepare-requires-2-clause-arcs : goal.prepare-requires-2-clause-arcs
-prepare-requires-2-clause-arcs c =
-    let layer = c.requires.of_layer in small_arcs layer.0 layer.2 layer.1.0 c.args.net.now layer.3

@@ -16,7 +16,8 @@ returns-clause-kept c =
       room = settled.offered.rooms;
     } in
     let same : new.before ≡ old.before = c.send_all.ensures.before ∙ c.prepare_again.ensures.before in
-    let said : new.was_settled ≡ old.was_settled = c.send_all.ensures.was_settled ∙ c.prepare_again.ensures.was_settled in
+    let said : new.was_settled ≡ old.was_settled =
+    c.send_all.ensures.was_settled ∙ c.prepare_again.ensures.was_settled in
     let Was : Start → Type 0 = λ start. WasSettled n start.units.items start.prices.items in
     record {
       ready = record {
