@@ -5,7 +5,6 @@ use Rattle.trial_engine.proofs.circulations.run_at.Goals as goal
 pub runs-requires-clause-of_layer : goal.runs-requires-clause-of_layer
 runs-requires-clause-of_layer c = (
   c.args.instance.now,
-  record { 0 = 0 },
   c.offers_of.ensures.instance,
   c.requires.lawful,
   subst (λ (os : List (Option ℤ)). AreOffers c.args.instance.now 0 os) (sym c.deref.ensures.value)
