@@ -4,7 +4,7 @@ use Rattle.vs_path.specs.declared.residual.TheConstants.{MAX_STEP_COST, MAX_SEAR
 use Rattle.vs_queue.specs.declared.step.Step.{Step}
 use Rattle.vs_queue.specs.declared.node_table.Settled.{Settled}
 use Rattle.vs_path.specs.declared.labels.Labels.{Labels}
-use Rattle.vs_queue.specs.Keys.{Keys, IsEmpty, key_at}
+use Rattle.vs_queue.specs.Keys.{Keys, IsBelow, IsEmpty, key_at}
 use Rattle.vs_path.specs.Residual.{ResidualNet, IsOpen, IsWithin, AllWithin, from_of, to_of, reduced, price_at}
 
 -- by node: the least distance and the place in the order, where it is settled; the key, where it waits; and the last
@@ -69,7 +69,7 @@ source_of l = slice_index l.order 0
 
 -- where node v waits, it has a greater key
 abbrev pub IsBetter : Lists → ℕ → ℤ → Type 0
-IsBetter l v label = (key : ℤ) → waiting_at l v ≡ Some key → label <ℤ key
+IsBetter l v label = IsBelow label (waiting_at l v)
 
 -- once node v is given this label, along this step
 abbrev pub lowered : Lists → ℕ → ℤ → Step → Lists

@@ -78,12 +78,6 @@ parts-fit r prices l s distance small labels from =
       omega (arith, ints, source.low, source.high, near.low, near.high, less, few, small.nodes, c.low, c.high),
     )
 
--- a better label is taken no later than the one that is there
-pub better-not_after : (known : Option ℤ) (label : ℤ) → ((key : ℤ) → known ≡ Some key → label <ℤ key)
-    → IsNotAfter (Some label) known
-better-not_after None label better = tt
-better-not_after (Some key) label better = let less = better key refl in omega (arith, ints, less)
-
 module _ (r : ResidualNet) (prices surplus : List ℤ) (l : Lists) (labels : AreLabels r prices l)
     (sign : HasSignRule r prices) (step : Step) (distance label : ℤ) (from : IsSettledAt l (from_of r step) distance)
     (farthest : IsFarthest l distance) (is_open : IsOpen r step)
