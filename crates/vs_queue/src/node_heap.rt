@@ -1,7 +1,8 @@
 //! Nodes with keys, of which one with the least key is taken first.
 
-ghost use Rattle.std.specs.Prelude.{◌≡◌, ◌<◌, length, set, replicate, slice_index_or, IfOk, IfSome, MatchOption, Some, None};
+ghost use Rattle.std.specs.Prelude.{◌≡◌, ◌<◌, ◌↔◌, IsTrue, length, set, replicate, slice_index_or, IfOk, IfSome, MatchOption, Some, None};
 ghost use Rattle.vs_queue.specs.Keys.{IsBelow, IsEmpty, IsLeast, key_at};
+ghost use Rattle.vs_queue.specs.NodeLists.{IsFarther};
 
 use crate::node_table::{NodeTable, Settled};
 use crate::queue::Queue;
@@ -64,6 +65,14 @@ impl NodeHeap {
         ensures { result ≡ slice_index_or self.now.settled node None }
     {
         self.table.settled(node)
+    }
+
+    /// Whether a node isn't reached, or is settled or waits at a greater distance than this. It takes one look.
+    pub fn is_farther(&self, node: u32, label: i64) -> bool
+        requires { node < length self.now.waiting }
+        ensures { IsTrue result ↔ IsFarther self.now node label }
+    {
+        self.table.is_farther(node as usize, label)
     }
 
     /// The last step of a path to a node.
