@@ -1,7 +1,7 @@
 //! Least paths in a net of three nodes.
 
 ghost use Rattle.std.specs.Prelude.{◌≡◌, ◌↔◌, length, IfOk, IsTrue, Some};
-ghost use Rattle.vs_queue.specs.Keys.{IsNotAfter};
+ghost use Rattle.vs_queue.specs.Keys.{IsBelow};
 ghost use Rattle.vs_path.specs.Labels.{IsSmall};
 ghost use Rattle.vs_path.specs.Residual.{AllWithin, HasSignRule};
 ghost use Rattle.vs_path.specs.PathTree.{HasNoNegativeCycle};
@@ -334,13 +334,13 @@ fn raise_prices(rt: HostRuntime) -> Result<(), Fail> {
     Ok(())
 }
 
-/// Whether a node with this key may be given another one.
+/// Whether a node that may have a key may be given this one.
 fn may_lower(known: Option<i64>, key: i64) -> bool
-    ensures { IsTrue result ↔ IsNotAfter (Some key) known }
+    ensures { IsTrue result ↔ IsBelow key known }
 {
     match known {
         None => true,
-        Some(known) => key <= known,
+        Some(known) => key < known,
     }
 }
 

@@ -4,7 +4,8 @@ use Rattle.vs_path.specs.declared.residual.TheConstants.{MAX_STEP_COST, MAX_SEAR
 use Rattle.vs_queue.specs.declared.step.Step.{Step}
 use Rattle.vs_queue.specs.declared.node_table.Settled.{Settled}
 use Rattle.vs_path.specs.declared.labels.Labels.{Labels}
-use Rattle.vs_queue.specs.Keys.{Keys, IsEmpty, key_at}
+use Rattle.vs_queue.specs.Keys.{Keys, IsBelow, IsEmpty, key_at}
+use Rattle.vs_queue.specs.NodeLists.{label_of}
 use Rattle.vs_path.specs.Residual.{ResidualNet, IsOpen, IsWithin, AllWithin, from_of, to_of, reduced, price_at}
 
 -- by node: the least distance and the place in the order, where it is settled; the key, where it waits; and the last
@@ -31,10 +32,6 @@ waiting_at l v = key_at l.waiting v
 
 abbrev pub step_at : Lists → ℕ → Option Step
 step_at l v = slice_index_or l.steps v None
-
-abbrev pub label_of : Option Settled → Option ℤ → Option ℤ
-label_of None key = key
-label_of (Some a) key = Some a.distance
 
 -- the least distance to a node that was found so far
 abbrev pub label_at : Lists → ℕ → Option ℤ
@@ -69,7 +66,7 @@ source_of l = slice_index l.order 0
 
 -- where node v waits, it has a greater key
 abbrev pub IsBetter : Lists → ℕ → ℤ → Type 0
-IsBetter l v label = (key : ℤ) → waiting_at l v ≡ Some key → label <ℤ key
+IsBetter l v label = IsBelow label (waiting_at l v)
 
 -- once node v is given this label, along this step
 abbrev pub lowered : Lists → ℕ → ℤ → Step → Lists

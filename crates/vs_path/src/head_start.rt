@@ -1,11 +1,11 @@
 //! A head start for least paths: costs fall along the steps of one node after the other, the cheapest first.
 
-ghost use Rattle.std.specs.Prelude.{◌≡◌, ◌<◌, length, Some};
+ghost use Rattle.std.specs.Prelude.{◌≡◌, ◌<◌, ◌↔◌, IsTrue, length};
 ghost use Rattle.vs_path.specs.Residual.{arc_no};
 ghost use Rattle.vs_path.specs.LeastPaths.{AreLeastPaths, IsSized};
 ghost use Rattle.vs_path.specs.PathTree.{CanCorrect, IsPathTree, paths_of};
 ghost use Rattle.vs_path.specs.Waiting.{CanWait};
-ghost use Rattle.vs_queue.specs.Keys.{IsNotAfter};
+ghost use Rattle.vs_queue.specs.Keys.{IsBelow};
 
 use crate::path_tree::PathTree;
 use crate::residual::{Residual, Way};
@@ -99,22 +99,23 @@ fn less_price(cost: Option<i64>, price: i64) -> i64 {
     }
 }
 
-/// Lets a node wait by this key, or by the one that it has where that is less.
+/// Lets a node wait by this key, unless it waits by one that is no greater.
 fn wait(heap: &mut NodeHeap, node: u32, key: i64, step: Step)
     requires heap { CanWait (length heap.old.waiting) heap.old }
     requires node { node < length heap.old.waiting }
     ensures heap { CanWait (length heap.old.waiting) heap.new }
 {
-    let least = lesser(key, heap.key(node));
-    heap.lower(node, least, step);
+    if is_below(key, heap.key(node)) {
+        heap.lower(node, key, step);
+    }
 }
 
-/// The lesser of two keys.
-fn lesser(key: i64, known: Option<i64>) -> i64
-    ensures { IsNotAfter (Some result) known }
+/// Whether a key is less than one that may be there.
+fn is_below(key: i64, known: Option<i64>) -> bool
+    ensures { IsTrue result ↔ IsBelow key known }
 {
     match known {
-        Some(known) if known < key => known,
-        _ => key,
+        None => true,
+        Some(known) => key < known,
     }
 }

@@ -162,17 +162,6 @@ impl Labels {
         self.relax_back(residual, prices, surplus, node, distance);
     }
 
-    /// Whether a node has no distance yet, or a greater one.
-    fn is_better(&self, node: u32, label: i64) -> bool
-        requires { node < length self.now.nodes.waiting }
-        ensures { IsTrue result ↔ IsBetter (lists_of self.now) node label }
-    {
-        match self.nodes.key(node) {
-            None => true,
-            Some(known) => label < known,
-        }
-    }
-
     /// Whether a node that lacks a unit was found that is no farther than this.
     fn is_past(&self, label: i64) -> bool
         ensures { IsTrue result ↔ IsNotAfter self.now.bound (Some label) }
@@ -184,7 +173,8 @@ impl Labels {
     }
 
     /// The node that a step reaches is given the distance along it, where that is less than what it has, and less than
-    /// the distance of a node that lacks a unit: no node farther than that is settled.
+    /// the distance of a node that lacks a unit: no node farther than that is settled. A settled node has no more than
+    /// the distance along an open step.
     #[inline(always)]
     fn relax(
         &mut self,
@@ -214,13 +204,10 @@ impl Labels {
         if self.is_past(label) {
             return;
         }
-        if self.nodes.settled(node as usize).is_some() {
+        if !self.nodes.is_farther(node, label) {
             return;
         }
-        if !residual.is_open(step) {
-            return;
-        }
-        if self.is_better(node, label) {
+        if residual.is_open(step) {
             self.lower(node, label, step);
             self.note(surplus, node, label);
         }

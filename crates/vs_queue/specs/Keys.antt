@@ -1,5 +1,5 @@
 -- Keys by which nodes are taken, the least first.
-use Rattle.std.specs.Prelude.{◌≡◌, ℕ, List, slice_index_or, ℤ, ◌≤ℤ◌, Option, Some, None}
+use Rattle.std.specs.Prelude.{◌≡◌, ℕ, List, slice_index_or, ℤ, ◌≤ℤ◌, ◌<ℤ◌, Option, Some, None}
 
 -- the key of each node, none where it isn't waiting
 abbrev pub Keys : Type 0
@@ -16,6 +16,10 @@ IsEmpty keys = (v : ℕ) → key_at keys v ≡ None
 pub record IsLeast (keys : Keys) (v : ℕ) (key : ℤ) : Type 0 where
   pub has : key_at keys v ≡ Some key
   pub least : (w : ℕ) (other : ℤ) → key_at keys w ≡ Some other → key ≤ℤ other
+
+-- a key is less than one that may be there
+abbrev pub IsBelow : ℤ → Option ℤ → Type 0
+IsBelow key known = (other : ℤ) → known ≡ Some other → key <ℤ other
 
 -- of two keys the first is taken no later than the second; where there is none, last
 abbrev pub IsNotAfter : Option ℤ → Option ℤ → Type 0

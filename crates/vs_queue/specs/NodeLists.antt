@@ -1,11 +1,11 @@
 -- What a search keeps of each node, as lists by node.
-use Rattle.std.specs.Prelude.{List, map, Option, Some, None, ℤ}
+use Rattle.std.specs.Prelude.{ℕ, List, map, slice_index_or, Option, Some, None, ℤ}
 use Rattle.vs_queue.specs.declared.node_table.Settled.{Settled}
 use Rattle.vs_queue.specs.declared.node_table.Mark.{Mark}
 use Rattle.vs_queue.specs.declared.node_table.Mark.TheVariants.{Unknown, Waits, Placed}
 use Rattle.vs_queue.specs.declared.node_table.NodeRecord.{NodeRecord}
 use Rattle.vs_queue.specs.declared.step.Step.{Step}
-use Rattle.vs_queue.specs.Keys.{Keys}
+use Rattle.vs_queue.specs.Keys.{Keys, IsBelow, key_at}
 
 -- the distance and the place of a node that is marked as settled
 abbrev pub settled_by : Mark → ℤ → Option Settled
@@ -28,6 +28,11 @@ key_of n = key_by n.mark n.distance
 abbrev pub step_of : NodeRecord → Option Step
 step_of n = Some n.step
 
+-- the least distance to a node that was found so far: the one at which it is settled, or else its key
+abbrev pub label_of : Option Settled → Option ℤ → Option ℤ
+label_of None key = key
+label_of (Some a) key = Some a.distance
+
 -- once the node doesn't wait
 abbrev pub without_key : Mark → Mark
 without_key Unknown = Unknown
@@ -49,3 +54,8 @@ pub record NodeLists : Type 0 where
 
 abbrev pub lists_by_node : List NodeRecord → NodeLists
 lists_by_node ns = record { settled = map settled_of ns; waiting = map key_of ns; steps = map step_of ns }
+
+-- the node isn't reached, or at a greater distance than this
+abbrev pub IsFarther : NodeLists → ℕ → ℤ → Type 0
+IsFarther lists v label =
+    IsBelow label (label_of (slice_index_or lists.settled v None) (key_at lists.waiting v))

@@ -1,7 +1,8 @@
 //! Nodes with keys, of which one with the least key is taken first.
 
-ghost use Rattle.std.specs.Prelude.{◌≡◌, ◌<◌, length, set, replicate, slice_index_or, IfOk, IfSome, MatchOption, Some, None};
-ghost use Rattle.vs_queue.specs.Keys.{IsEmpty, IsLeast, IsNotAfter, key_at};
+ghost use Rattle.std.specs.Prelude.{◌≡◌, ◌<◌, ◌↔◌, IsTrue, length, set, replicate, slice_index_or, IfOk, IfSome, MatchOption, Some, None};
+ghost use Rattle.vs_queue.specs.Keys.{IsBelow, IsEmpty, IsLeast, key_at};
+ghost use Rattle.vs_queue.specs.NodeLists.{IsFarther};
 
 use crate::node_table::{NodeTable, Settled};
 use crate::queue::Queue;
@@ -66,6 +67,14 @@ impl NodeHeap {
         self.table.settled(node)
     }
 
+    /// Whether a node isn't reached, or is settled or waits at a greater distance than this. It takes one look.
+    pub fn is_farther(&self, node: u32, label: i64) -> bool
+        requires { node < length self.now.waiting }
+        ensures { IsTrue result ↔ IsFarther self.now node label }
+    {
+        self.table.is_farther(node as usize, label)
+    }
+
     /// The last step of a path to a node.
     pub fn step(&self, node: usize) -> Step
         requires { node < length self.now.steps }
@@ -74,12 +83,12 @@ impl NodeHeap {
         self.table.step(node)
     }
 
-    /// Puts a node in with this key, or gives it this key, which is no greater than the one it has. It is reached by
-    /// this step.
+    /// Puts a node in with this key, or gives it this key, which is less than the one it has. It is reached by this
+    /// step.
     pub fn lower(&mut self, node: u32, key: i64, step: Step)
         requires node { node < length self.old.waiting }
         requires unsettled { slice_index_or self.old.settled node None ≡ None }
-        requires lower { IsNotAfter (Some key) (key_at self.old.waiting node) }
+        requires lower { IsBelow key (key_at self.old.waiting node) }
         ensures settled { self.new.settled ≡ self.old.settled }
         ensures waiting { self.new.waiting ≡ set self.old.waiting node (Some key) }
         ensures steps { self.new.steps ≡ set self.old.steps node (Some step) }

@@ -1,8 +1,8 @@
 //! What a search keeps of each node, side by side in one record.
 
 ghost use Rattle.std.specs.Prelude.{◌≡◌, ◌<◌, ◌↔◌, IsTrue, length, set, replicate, slice_index_or, IfOk, Some, None};
-ghost use Rattle.vs_queue.specs.Keys.{key_at};
-ghost use Rattle.vs_queue.specs.NodeLists.{key_of, settled_of, without_key, without_place};
+ghost use Rattle.vs_queue.specs.Keys.{IsBelow, key_at};
+ghost use Rattle.vs_queue.specs.NodeLists.{IsFarther, key_of, label_of, settled_of, without_key, without_place};
 
 use crate::step::Step;
 use std::alloc::Global;
@@ -61,6 +61,16 @@ impl NodeRecord {
                 distance: self.distance,
                 place,
             }),
+        }
+    }
+
+    /// Whether the node isn't reached, or at a greater distance than this.
+    fn is_farther(self, label: i64) -> bool
+        ensures { IsTrue result ↔ IsBelow label (label_of (settled_of self) (key_of self)) }
+    {
+        match self.mark {
+            Mark::Unknown => true,
+            Mark::Waits | Mark::Placed(_) => label < self.distance,
         }
     }
 }
@@ -126,6 +136,14 @@ impl NodeTable {
         ensures { result ≡ slice_index_or self.now.settled node None }
     {
         self.records[node].settled()
+    }
+
+    /// Whether a node isn't reached, or at a greater distance than this.
+    pub fn is_farther(&self, node: usize, label: i64) -> bool
+        requires { node < length self.now.waiting }
+        ensures { IsTrue result ↔ IsFarther self.now node label }
+    {
+        self.records[node].is_farther(label)
     }
 
     /// The last step of a path to a node.

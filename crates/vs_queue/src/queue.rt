@@ -1,7 +1,7 @@
 //! Nodes in the order of their keys, which are kept elsewhere: a stack of the nearest, and a heap.
 
-ghost use Rattle.std.specs.Prelude.{◌≡◌, ◌≢◌, ℕ, ◌+◌, ◌^◌, ◌<◌, ◌≤ℤ◌, ◌++◌, ◌∷◌, [], All, length, set, replicate, IfOk, IsTrue, ◌↔◌, MatchBool, MatchOption, Some, None, true, false};
-ghost use Rattle.vs_queue.specs.Keys.{IsEmpty, IsLeast, IsNotAfter, key_at};
+ghost use Rattle.std.specs.Prelude.{◌≡◌, ℕ, ◌+◌, ◌^◌, ◌<◌, ◌≤ℤ◌, ◌++◌, ◌∷◌, [], All, length, set, replicate, IfOk, IsTrue, ◌↔◌, MatchBool, MatchOption, Some, None, true, false};
+ghost use Rattle.vs_queue.specs.Keys.{IsBelow, IsEmpty, IsLeast, key_at};
 ghost use Rattle.vs_queue.specs.Queues.{AreForgotten, AreEntriesForgotten, IsLeastUpTo, IsLesser, IsOn, IsPut, IsQueue, IsTaken};
 
 use crate::node_table::NodeTable;
@@ -46,26 +46,12 @@ impl Queue {
         })
     }
 
-    /// Puts in a node, or moves it, before it is given this key, which is no greater than the one it has.
+    /// Puts in a node, or moves it, before it is given this key, which is less than the one that it may have.
     #[inline(always)]
     pub fn lower(&mut self, table: &NodeTable, node: u32, key: i64)
         requires queue { IsQueue table.now.waiting self.old }
         requires node { node < length table.now.waiting }
-        requires lower { IsNotAfter (Some key) (key_at table.now.waiting node) }
-        ensures { IsQueue (set table.now.waiting node (Some key)) self.new }
-    {
-        if table.has_key(node, key) {
-            return;
-        }
-        self.bring_nearer(table, node, key);
-    }
-
-    /// Puts in a node, or moves it, before it is given this lesser key.
-    fn bring_nearer(&mut self, table: &NodeTable, node: u32, key: i64)
-        requires queue { IsQueue table.now.waiting self.old }
-        requires node { node < length table.now.waiting }
-        requires lower { IsNotAfter (Some key) (key_at table.now.waiting node) }
-        requires less { key_at table.now.waiting node ≢ Some key }
+        requires lower { IsBelow key (key_at table.now.waiting node) }
         ensures { IsQueue (set table.now.waiting node (Some key)) self.new }
     {
         self.lower_floor(table, key);

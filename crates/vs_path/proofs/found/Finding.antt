@@ -5,7 +5,8 @@ use Rattle.std.proofs.lemmas.Int.{ints}
 use Rattle.vs_queue.specs.declared.step.Step.{Step}
 use Rattle.vs_queue.specs.declared.node_table.Settled.{Settled}
 use Rattle.vs_path.specs.Residual.{ResidualNet, IsOpen, IsPath, HasSignRule, from_of, to_of, price_at, reduced, step_in}
-use Rattle.vs_path.specs.Labels.{Lists, AreLabels, Covers, Serves, IsOver, IsReached, IsSmall, Lacks, label_of, label_at, settled_at, source_of, waiting_at}
+use Rattle.vs_queue.specs.NodeLists.{label_of}
+use Rattle.vs_path.specs.Labels.{Lists, AreLabels, Covers, Serves, IsOver, IsReached, IsSmall, Lacks, label_at, settled_at, source_of, waiting_at}
 use Rattle.vs_path.specs.Search.{AreMoved, AreTreeSteps, CanMove, IsCut, IsGoal, IsIn, moved, two_paths}
 use Rattle.vs_path.proofs.labelling.Settling.{order-≤}
 use Rattle.vs_path.proofs.found.NotNegative.{not-negative}

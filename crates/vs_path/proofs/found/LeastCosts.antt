@@ -6,7 +6,8 @@ use Rattle.std.proofs.lemmas.List.{get_or-set_same, get_or-set_other}
 use Rattle.vs_queue.specs.declared.step.Step.{Step}
 use Rattle.vs_queue.specs.declared.node_table.Settled.{Settled}
 use Rattle.vs_path.specs.Residual.{ResidualNet, Leads, cost_along, from_of, to_of, price_at, reduced}
-use Rattle.vs_path.specs.Labels.{Lists, AreLabels, IsOver, IsReached, IsSmall, label_of, label_at, settled_at, source_of, step_at, waiting_at}
+use Rattle.vs_queue.specs.NodeLists.{label_of}
+use Rattle.vs_path.specs.Labels.{Lists, AreLabels, IsOver, IsReached, IsSmall, label_at, settled_at, source_of, step_at, waiting_at}
 use Rattle.vs_path.proofs.found.Finding.{over-covers}
 use Rattle.vs_path.proofs.labelling.Settling.{order-≤}
 use Rattle.vs_path.specs.LeastPaths.{LeastPaths, AreCosts, AreLeastPaths, AreSettledSteps, CanCost, CanCostTo, ComesBack, FollowsBack, IsLeastCost, IsSized, cost_to, distance_at, if_settled, last_step}

@@ -1,5 +1,5 @@
 -- What is known of the nodes stays known where a step gives a node a lesser label.
-use Rattle.std.proofs.Common.{◌≡◌, ◌≢◌, ℕ, ◌<◌, ◌≤◌, ◌∙◌, List, length, get_or, refl, sym, ap, subst, arith, inl, inr, Option, Some, None, ℤ, ◌+ℤ◌, ◌≤ℤ◌, ◌<ℤ◌, length-set, FitsSigned, w64, is_some, true, false}
+use Rattle.std.proofs.Common.{◌≡◌, ◌≢◌, ℕ, ◌<◌, ◌≤◌, ◌∙◌, List, length, get_or, refl, sym, ap, subst, arith, inl, inr, Option, Some, None, ℤ, ◌+ℤ◌, ◌≤ℤ◌, ◌<ℤ◌, length-set, FitsSigned, w64}
 use Rattle.std.proofs.lemmas.Bool.{cases_eq, cases_lt}
 use Rattle.std.proofs.lemmas.Int.{ints, by_lt_z}
 use Rattle.std.proofs.lemmas.List.{get_or-set_same, get_or-set_other, get_or_default, get_or_past}
@@ -7,10 +7,11 @@ use Rattle.vs_queue.specs.declared.step.Step.{Step}
 use Rattle.vs_queue.specs.declared.step.Step.TheVariants.{Forward, Back}
 use Rattle.vs_path.specs.declared.residual.TheConstants.{MAX_STEP_COST}
 use Rattle.vs_queue.specs.declared.node_table.Settled.{Settled}
-use Rattle.vs_queue.specs.Keys.{IsNotAfter}
+use Rattle.vs_queue.specs.Keys.{IsBelow, IsNotAfter}
 use Rattle.vs_path.specs.Residual.{ResidualNet, IsOpen, IsWithin, AllWithin, HasSignRule, from_of, to_of, cost_of, price_at, reduced}
 use Rattle.vs_path.proofs.labelling.Settling.{order-≤}
-use Rattle.vs_path.specs.Labels.{Lists, AreLabels, IsArrival, Covers, IsBetter, IsBound, IsFarthest, IsLowered, IsNear, IsRelaxed, IsSettledAt, IsSmall, Relaxes, label_of, label_at, lowered, settled_at, source_of, step_at, waiting_at}
+use Rattle.vs_queue.specs.NodeLists.{label_of}
+use Rattle.vs_path.specs.Labels.{Lists, AreLabels, IsArrival, Covers, IsBetter, IsBound, IsFarthest, IsLowered, IsNear, IsRelaxed, IsSettledAt, IsSmall, Relaxes, label_at, lowered, settled_at, source_of, step_at, waiting_at}
 
 -- where a number isn't less than one that may be there, that one is there, and no greater
 pub not-less : (known : Option ℤ) (label : ℤ) → (((key : ℤ) → known ≡ Some key → label <ℤ key) → ⊥)
@@ -78,12 +79,6 @@ parts-fit r prices l s distance small labels from =
       omega (arith, ints, source.low, source.high, near.low, near.high, less, few, small.nodes, c.low, c.high),
     )
 
--- a better label is taken no later than the one that is there
-pub better-not_after : (known : Option ℤ) (label : ℤ) → ((key : ℤ) → known ≡ Some key → label <ℤ key)
-    → IsNotAfter (Some label) known
-better-not_after None label better = tt
-better-not_after (Some key) label better = let less = better key refl in omega (arith, ints, less)
-
 module _ (r : ResidualNet) (prices surplus : List ℤ) (l : Lists) (labels : AreLabels r prices l)
     (sign : HasSignRule r prices) (step : Step) (distance label : ℤ) (from : IsSettledAt l (from_of r step) distance)
     (farthest : IsFarthest l distance) (is_open : IsOpen r step)
@@ -117,19 +112,28 @@ module _ (r : ResidualNet) (prices surplus : List ℤ) (l : Lists) (labels : Are
       }
 
   -- one that isn't less than what is there changes nothing
-  pub relaxed_worse : settled_at l v ≡ None → (IsBetter l v label → ⊥)
+  pub relaxed_worse : (IsBelow label (label_at l v) → ⊥)
       → IsRelaxed r prices surplus l (from_of r step) distance step
-  relaxed_worse unsettled worse =
-      let known = not-less (waiting_at l v) label worse in
-      relaxed_already known.0 (ap (λ a. label_of a (waiting_at l v)) unsettled ∙ known.1) known.2
+  relaxed_worse worse = let known = not-less (label_at l v) label worse in relaxed_already known.0 known.1 known.2
 
   -- the distance along the step is no less than those of the settled nodes
   above : (w : ℕ) (a : Settled) → settled_at l w ≡ Some a → a.distance ≤ℤ label
   above w a is = omega (arith, ints, sum, sign step is_open, farthest w a is)
 
-  pub settled_already : (a : Settled) → settled_at l v ≡ Some a
-      → IsRelaxed r prices surplus l (from_of r step) distance step
-  settled_already a is = relaxed_already a.distance (ap (λ s. label_of s (waiting_at l v)) is) (above v a is)
+  -- where the node is farther it isn't settled
+  pub farther-unsettled : IsBelow label (label_at l v) → settled_at l v ≡ None
+  farther-unsettled below = go (settled_at l v) refl
+    where
+      go : (known : Option Settled) → settled_at l v ≡ known → settled_at l v ≡ None
+      go None is = is
+      go (Some a) is =
+          let less = below a.distance (ap (λ s. label_of s (waiting_at l v)) is) in
+          absurd (omega (arith, ints, less, above v a is))
+
+  -- and waits by a greater key, if it waits
+  pub farther-better : IsBelow label (label_at l v) → IsBetter l v label
+  farther-better below key has =
+      below key (ap (λ s. label_of s (waiting_at l v)) (farther-unsettled below) ∙ has)
 
   module _ (small : IsSmall r prices) (inside : v < r.graph.nodes) (unsettled : settled_at l v ≡ None)
       (better : IsBetter l v label) where
@@ -311,11 +315,3 @@ some_within xs i x is =
       | inl within ↦ within
       | inr past ↦ let e : None ≡ Some x = sym (get_or_past xs i None past) ∙ is in absurd (cc)
     ]
-
-pub when_some : {X : Type 0} (o : Option X) → is_some o ≡ true → (x : X) × (o ≡ Some x)
-when_some None e = absurd (cc)
-when_some (Some x) e = (x, refl)
-
-pub when_none : {X : Type 0} (o : Option X) → is_some o ≡ false → o ≡ None
-when_none None e = refl
-when_none (Some x) e = absurd (cc)

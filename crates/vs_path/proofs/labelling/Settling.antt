@@ -8,7 +8,8 @@ use Rattle.vs_queue.specs.declared.step.Step.{Step}
 use Rattle.vs_queue.specs.declared.node_table.Settled.{Settled}
 use Rattle.vs_queue.specs.Keys.{IsLeast}
 use Rattle.vs_path.specs.Residual.{ResidualNet, from_of, reduced}
-use Rattle.vs_path.specs.Labels.{Lists, AreLabels, AreListed, Covers, IsArrival, IsBound, IsFarthest, IsNear, IsRelaxed, count_settled, label_of, label_at, settle_in, settled_at, source_of, waiting_at}
+use Rattle.vs_queue.specs.NodeLists.{label_of}
+use Rattle.vs_path.specs.Labels.{Lists, AreLabels, AreListed, Covers, IsArrival, IsBound, IsFarthest, IsNear, IsRelaxed, count_settled, label_at, settle_in, settled_at, source_of, waiting_at}
 
 -- one more is settled
 pub count_settled-set : (settled : List (Option Settled)) (v : ℕ) (a : Settled) → v < length settled

@@ -9,7 +9,7 @@ use Rattle.std.specs.List.{Contains}
 use Rattle.std.specs.List.Sorted.{IsPermutation}
 use Rattle.vs_queue.specs.declared.queue.Entry.{Entry}
 use Rattle.vs_queue.specs.declared.queue.Queue.{Queue}
-use Rattle.vs_queue.specs.Keys.{Keys, IsEmpty, IsLeast, IsNotAfter, key_at}
+use Rattle.vs_queue.specs.Keys.{Keys, IsBelow, IsEmpty, IsLeast, key_at}
 use Rattle.vs_queue.specs.Queues.{AreEntriesForgotten, AreForgotten, ArePut, AreQueued, IsLeastUpTo, IsLesser, IsOn, IsPut, IsQueue, entry, entry_cmp}
 use Rattle.vs_queue.proofs.heap.Entries.{cons-in, first-in, first-least, in-cons}
 use Rattle.vs_queue.proofs.heap.Stacked.{on-left, on-top, on-either, apart-left, apart-top, apart-push}
@@ -261,11 +261,12 @@ module _ (keys : Keys) (v : ℕ) (key : ℤ) (within : v < length keys) where
 
   -- where it goes onto the stack
   pub put-near : (near stack : List ℕ) (floor : ℤ) (far : List Entry) (complete : Bool)
-      → AreQueued keys near floor far complete → key ≡ floor → key_at keys v ≢ Some key → stack ≡ near ++ v ∷ []
+      → AreQueued keys near floor far complete → key ≡ floor → IsBelow key (key_at keys v) → stack ≡ near ++ v ∷ []
       → AreQueued given stack floor far complete
-  put-near near stack floor far complete q least other pushed =
+  put-near near stack floor far complete q least below pushed =
       let floor_key : Some key ≡ Some floor = ap (λ (k : ℤ). Some k) least in
-      let off : IsOn near v → ⊥ = λ on. other (q.near_too v on ∙ sym floor_key) in
+      let off : IsOn near v → ⊥ =
+      λ on. let less = below floor (q.near_too v on) in absurd (omega (arith, ints, least, less)) in
       let P : List ℕ → Type 0 = λ s. AreQueued given s floor far complete in
       subst P (sym pushed)
       (record {
@@ -298,16 +299,11 @@ module _ (keys : Keys) (v : ℕ) (key : ℤ) (within : v < length keys) where
 
   -- where it goes into the heap
   pub put-far : (near : List ℕ) (floor : ℤ) (far new : List Entry) (complete complete' : Bool)
-      → AreQueued keys near floor far complete → floor ≤ℤ key → IsNotAfter (Some key) (key_at keys v)
-      → key_at keys v ≢ Some key → ArePut far new complete complete' v key → AreQueued given near floor new complete'
-  put-far near floor far new complete complete' q low lower other put =
+      → AreQueued keys near floor far complete → floor ≤ℤ key → IsBelow key (key_at keys v)
+      → ArePut far new complete complete' v key → AreQueued given near floor new complete'
+  put-far near floor far new complete complete' q low below put =
       let off : IsOn near v → ⊥ =
-      λ on.
-      let had_floor = q.near_too v on in
-      let P : Option ℤ → Type 0 = IsNotAfter (Some key) in
-      let no_more : key ≤ℤ floor = subst P had_floor lower in
-      let least : floor ≡ key = omega (arith, ints, low, no_more) in
-      other (had_floor ∙ ap (λ (k : ℤ). Some k) least) in
+      λ on. let less = below floor (q.near_too v on) in absurd (omega (arith, ints, low, less)) in
       let nodes = nodes-put (length keys) far new complete complete' v key put within q.nodes in
       record {
         few = omega (arith, given-size, q.few);
@@ -333,26 +329,26 @@ module _ (keys : Keys) (v : ℕ) (key : ℤ) (within : v < length keys) where
       }
 
   -- in either case, in the order in which it comes about
-  pub lowered-near : (a b : Queue) → IsQueue keys a → key_at keys v ≢ Some key → key ≡ a.floor
+  pub lowered-near : (a b : Queue) → IsQueue keys a → IsBelow key (key_at keys v) → key ≡ a.floor
       → b.near.items ≡ a.near.items ++ v ∷ [] → b.floor ≡ a.floor → b.far ≡ a.far → b.complete ≡ a.complete
       → IsQueue given b
-  lowered-near a b q other least near floor far complete =
+  lowered-near a b q below least near floor far complete =
       let P : ℤ → Type 0 = λ z. AreQueued given b.near.items z (heap_items b.far) b.complete in
       let Q : List Entry → Type 0 = λ es. AreQueued given b.near.items a.floor es b.complete in
       let R : Bool → Type 0 = λ all. AreQueued given b.near.items a.floor (heap_items a.far) all in
       subst P (sym floor) (subst Q (sym (ap heap_items far)) (subst R (sym complete)
-      (put-near a.near.items b.near.items a.floor (heap_items a.far) a.complete q least other near)))
+      (put-near a.near.items b.near.items a.floor (heap_items a.far) a.complete q least below near)))
 
-  pub lowered-far : (a b d : Queue) → IsQueue keys a → a.floor ≤ℤ key → IsNotAfter (Some key) (key_at keys v)
-      → key_at keys v ≢ Some key → b.near.items ≡ a.near.items → b.floor ≡ a.floor → b.far ≡ a.far
+  pub lowered-far : (a b d : Queue) → IsQueue keys a → a.floor ≤ℤ key → IsBelow key (key_at keys v)
+      → b.near.items ≡ a.near.items → b.floor ≡ a.floor → b.far ≡ a.far
       → b.complete ≡ a.complete → IsPut b d v key → IsQueue given d
-  lowered-far a b d q low lower other near floor far complete put =
+  lowered-far a b d q low below near floor far complete put =
       let F : List Entry → Type 0 = λ es. ArePut es (heap_items d.far) a.complete d.complete v key in
       let C : Bool → Type 0 = λ all. ArePut (heap_items b.far) (heap_items d.far) all d.complete v key in
       let P : ℤ → Type 0 = λ z. AreQueued given d.near.items z (heap_items d.far) d.complete in
       let Q : List ℕ → Type 0 = λ stack. AreQueued given stack a.floor (heap_items d.far) d.complete in
       subst P (sym (put.floor ∙ floor)) (subst Q (sym (ap (λ stack. stack.items) put.near ∙ near))
-      (put-far a.near.items a.floor (heap_items a.far) (heap_items d.far) a.complete d.complete q low lower other
+      (put-far a.near.items a.floor (heap_items a.far) (heap_items d.far) a.complete d.complete q low below
       (subst F (ap heap_items far) (subst C complete put.far))))
 
 -- the node on top of the stack moves into the heap

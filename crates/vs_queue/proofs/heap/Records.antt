@@ -7,7 +7,7 @@ use Rattle.vs_queue.specs.declared.node_table.Mark.TheVariants.{Unknown, Waits, 
 use Rattle.vs_queue.specs.declared.node_table.NodeRecord.{NodeRecord}
 use Rattle.vs_queue.specs.declared.step.Step.{Step}
 use Rattle.vs_queue.specs.Keys.{Keys, key_at}
-use Rattle.vs_queue.specs.NodeLists.{NodeLists, key_by, key_of, lists_by_node, settled_by, settled_of, step_of, without_key, without_place}
+use Rattle.vs_queue.specs.NodeLists.{NodeLists, key_by, key_of, label_of, lists_by_node, settled_by, settled_of, step_of, without_key, without_place}
 
 -- a list of one value, mapped
 pub map-replicate : {X Y : Type 0} (f : X → Y) (n : ℕ) (x : X) → map f (replicate n x) ≡ replicate n (f x)
@@ -73,6 +73,11 @@ module _ (ns : List NodeRecord) (l : NodeLists) (same : lists_by_node ns ≡ l) 
     read-key =
         ap (λ (k : Keys). key_at k v) (sym same-waiting)
         ∙ get_or-map key_of ns v n None within ∙ ap key_of (sym is)
+
+    pub read-label : label_of (get_or l.settled v None) (key_at l.waiting v) ≡ label_of (settled_of n) (key_of n)
+    read-label =
+        ap (λ (s : Option Settled). label_of s (key_at l.waiting v)) read-settled
+        ∙ ap (λ (k : Option ℤ). label_of (settled_of n) k) read-key
 
     pub read-step : get_or l.steps v None ≡ Some n.step
     read-step =

@@ -1,15 +1,8 @@
 use Rattle.std.proofs.Common.{refl, rules, SFits, w64}
 use Rattle.std.proofs.lemmas.Int.{to_z-of_z}
-use Rattle.vs_queue.specs.Keys.{key_at}
 use Rattle.vs_path.specs.Labels.{Lists, lists_of, lowered}
 use Rattle.vs_path.proofs.labelling.Exploring.{lists-same}
-use Rattle.vs_path.proofs.labelling.Lowering.{better-not_after}
 use Rattle.vs_path.proofs.labels.Labels.lower.Goals as goal
-
-pub lower-requires-clause-lower : goal.lower-requires-clause-lower
-lower-requires-clause-lower c =
-    let fits : SFits w64 c.args.label = search rules in
-    rw to_z-of_z (better-not_after (key_at c.args.self.now.nodes.waiting c.args.node) c.args.label c.requires.better)
 
 pub returns-clause-lists : goal.returns-clause-lists
 returns-clause-lists c =
