@@ -18,12 +18,13 @@ ghost use Rattle.vs_circ.specs.shipping.Prepared.{HasSmallArcs};
 ghost use Rattle.vs_circ.specs.shipping.Settled.{IsSettled};
 
 use vs_layer::Arc;
-use vs_match::LayerNet;
+use vs_match::{LayerNet, MAX_ARC_COST};
+use vs_path::MAX_SEARCH_PRICE;
 use vs_ship::Shipment;
 use vs_types::TripNo;
 
 /// What a unit on an arc pays at most by the prices of a shipment, either way, in 1/1000 of a cost unit.
-const MAX_PAID: i64 = 8_000_020_000_000_000_000;
+const MAX_PAID: i64 = 2 * MAX_SEARCH_PRICE + MAX_ARC_COST;
 
 /// What the circulation of a settled shipment costs, in 1/1000 of a cost unit, with no multipliers taken off. By the
 /// prices the units on empty moves pay nothing, so only the arcs of trips and the way back are looked at.

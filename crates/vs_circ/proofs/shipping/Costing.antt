@@ -9,6 +9,7 @@ use Rattle.vs_match.specs.LawfulNets.{IsLawful}
 use Rattle.vs_match.specs.LayerGraph.{LayerGraph, IsArcOfTrip}
 use Rattle.vs_path.specs.Residual.{IsWithin}
 use Rattle.vs_ship.proofs.CallerLemmas.{total-more}
+use Rattle.vs_circ.specs.declared.costing.TheConstants.{MAX_PAID}
 use Rattle.vs_circ.specs.PricedFlows.{IsPricedFlow, last_arc}
 use Rattle.vs_circ.specs.shipping.Costing.{IsPaidByTrip, units_pay}
 use Rattle.vs_circ.proofs.low.Reindexing.{over_range}
@@ -17,7 +18,7 @@ use Rattle.vs_circ.proofs.low.TripArcs.{arc_or_none, at_trip, at_trip-arc, at_tr
 use Rattle.vs_circ.proofs.low.UnitBlocks.{arcs_inside}
 
 -- what the units of an arc pay is a number of 96 bits
-pub paid-within : (pays : ℤ) (u : ℕ) → IsWithin (pos 8000020000000000000) pays → u < 4294967296
+pub paid-within : (pays : ℤ) (u : ℕ) → IsWithin MAX_PAID pays → u < 4294967296
     → IsWithin (pos (2 ^ 95)) (pays *ℤ pos u)
 paid-within (pos m) u within few =
     let product = mul-le m u 8000020000000000000 4294967296 (omega (arith, ints, within.high)) (omega arith) in
