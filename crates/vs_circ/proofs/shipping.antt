@@ -11,4 +11,5 @@ pub mod Covering
 pub mod Fixing
 pub mod Relaxed
 pub mod Running
+pub mod Costing
 pub mod Readying

@@ -5,3 +5,4 @@ pub mod Refitted
 pub mod Ready
 pub mod Supplied
 pub mod Values
+pub mod Costing

@@ -3,6 +3,7 @@
 #![tactic(auto)]
 
 mod circ;
+mod costing;
 mod fixing;
 mod laws;
 mod leeways;

@@ -11,7 +11,7 @@ ghost use Rattle.vs_circ.specs.Circulations.{RunLeast, RunTrip};
 ghost use Rattle.vs_circ.specs.Offers.{AreOffers};
 ghost use Rattle.vs_circ.specs.shipping.Ready.{CanRun, IsReadyToRun};
 
-use crate::fixing::cost_of;
+use crate::costing::settled_cost;
 use crate::misfits::recall;
 use crate::settling::settle_again;
 use std::alloc::Global;
@@ -68,7 +68,7 @@ fn run_from(net: &LayerNet, offers: &[Option<i64>], kept: &mut Kept, answer: &mu
     recall(net, offers, kept);
     settle_again(net, offers, kept);
     mark(net, &kept.shipment.flow.units, answer);
-    cost_of(net, &kept.shipment.flow)
+    settled_cost(net, offers, &kept.shipment)
 }
 
 /// Marks exactly the trips that units run.

@@ -96,7 +96,7 @@ module _ (p : Problem) (l : LayerNo) (n : LayerGraph) (lawful : IsLawful p l.0 n
       ]
 
   -- the way back pays what all vehicles do, but for the sign
-  return_pays : arc_pays_units n units prices (last_arc n)
+  pub return_pays : arc_pays_units n units prices (last_arc n)
       ≡ pos 0 -ℤ vehicle_price n prices *ℤ pos (layer_of p l.0).fleet
   return_pays =
       let back = return_arc p l n lawful in

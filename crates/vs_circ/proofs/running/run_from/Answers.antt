@@ -9,16 +9,12 @@ pub recall-requires-clause-arcs : goal.recall-requires-clause-arcs
 recall-requires-clause-arcs c =
     let layer = c.requires.of_layer in small_arcs layer.0 layer.2 layer.1.0 c.args.net.now layer.3
 
-pub cost_of-requires-clause-arcs : goal.cost_of-requires-clause-arcs
-cost_of-requires-clause-arcs c =
-    let layer = c.requires.of_layer in small_arcs layer.0 layer.2 layer.1.0 c.args.net.now layer.3
-
 pub returns-clause-least : goal.returns-clause-least
 returns-clause-least c =
-    let cost = c.cost_of.result in
-    let word : to_z w128 (of_z w128 cost) ≡ cost = to_z-of_z w128 cost (search (rules, c.cost_of.type_inv)) in
+    let cost = c.settled_cost.result in
+    let word : to_z w128 (of_z w128 cost) ≡ cost = to_z-of_z w128 cost (search (rules, c.settled_cost.type_inv)) in
     λ p l is lawful are.
     marked-least p is l c.args.net.now lawful c.args.offers.now are c.settle_again.new.kept.shipment
     c.settle_again.ensures.settled c.deref.result.now c.mark.new.answer (to_z w128 (of_z w128 cost))
     c.deref.ensures.value (omega (arith, c.requires.each_trip)) (λ i below. c.mark.ensures i (omega arith))
-    (word ∙ c.cost_of.ensures)
+    (word ∙ c.settled_cost.ensures)
