@@ -21,6 +21,7 @@ PARTS = {
     "search_times::time_agree": "agree",
     "search_times::time_work": "work at the root",
 }
+CIRCULATIONS = ("vs_circ::running::runs", "vs_circ::settling", "vs_circ::preparing", "vs_circ::misfits", "vs_ship::draining")
 PRICES = ("vs_ship::centring::raise", "vs_ship::gaps::bring_near", "vs_ship::space", "vs_circ::price_tables")
 
 
@@ -100,7 +101,7 @@ def kind(chain):
         return "fixed"
     if any(function.startswith(PRICES) for function in chain):
         return "prices"
-    if "vs_circ::settling::settle" in chain:
+    if any(function.startswith(CIRCULATIONS) for function in chain):
         return "circulations"
     return "worth" if "vs_prices::table_worth::worth" in chain else "the rest"
 
