@@ -1,5 +1,5 @@
 -- The two ends of an arc.
-use Rattle.std.specs.Prelude.{ℕ, ◌==◌, List, filter, slice_index_or, pos, length}
+use Rattle.std.specs.Prelude.{ℕ, ◌==◌, List, filter, map, slice_index_or, pos, length}
 use Rattle.std.specs.List.{range_with_len}
 use Rattle.vs_layer.specs.declared.arc.Arc.{Arc}
 use Rattle.vs_layer.specs.declared.arc.End.{End}
@@ -24,3 +24,7 @@ first_at end arcs count v = filter (λ k. end_of end (arc_at arcs k) == v) (rang
 -- the same of all arcs
 abbrev pub arcs_at : End → List Arc → ℕ → List ℕ
 arcs_at end arcs v = first_at end arcs (length arcs) v
+
+-- by arc the node that it reaches
+abbrev pub heads_in : List Arc → List ℕ
+heads_in arcs = map (λ a. a.to) arcs

@@ -3,7 +3,7 @@ use Rattle.std.specs.Prelude.{◌≡◌, ℕ, ◌+◌, ◌<◌, ◌≤◌, List,
 use Rattle.vs_layer.specs.declared.arc.TheConstants.{MAX_ARCS}
 use Rattle.vs_layer.specs.declared.arc.Arc.{Arc}
 use Rattle.vs_layer.specs.declared.arc.End.TheVariants.{From, To}
-use Rattle.vs_layer.specs.Ends.{arc_at, arcs_at}
+use Rattle.vs_layer.specs.Ends.{arc_at, arcs_at, heads_in}
 
 -- so many nodes, counted from 0, and the arcs in the order of their numbers
 pub record Graph : Type 0 where
@@ -12,6 +12,10 @@ pub record Graph : Type 0 where
 
 abbrev pub arc_of : Graph → ℕ → Arc
 arc_of g k = arc_at g.arcs k
+
+-- by arc the node that it reaches
+abbrev pub heads : Graph → List ℕ
+heads g = heads_in g.arcs
 
 -- the numbers of the arcs that leave node v, and of those that reach it, in order
 abbrev pub leaving : Graph → ℕ → List ℕ

@@ -1,7 +1,8 @@
 //! A net, made of arcs that are judged one by one, and a flow over it.
 
 ghost use Rattle.std.specs.Prelude.{◌≡◌, ◌<◌, ◌≤◌, IfOk, IfErr, MatchOption, length};
-ghost use Rattle.vs_layer.specs.Graph.{IsNet, IsRightArc, AllRight, arc_of, leaving, reaching};
+ghost use Rattle.vs_layer.specs.Ends.{heads_in};
+ghost use Rattle.vs_layer.specs.Graph.{IsNet, IsRightArc, AllRight, arc_of, heads, leaving, reaching};
 ghost use Rattle.vs_layer.specs.Faults.{IsFaultOf, IsFirstFault, IfFirstFault};
 
 use crate::arc::{Arc, End, MAX_ARCS};
@@ -9,6 +10,7 @@ use crate::net_error::{NetError, NetFault};
 use crate::star::Star;
 use std::alloc::Global;
 use std::marker::Model;
+use vs_types::Memory;
 
 /// A net of nodes and arcs, both counted from 0. Only the last arc goes back, from the last node to node 0;
 /// the nodes are numbered so that all others go up. The arcs that leave a node, and those that reach it, are
@@ -17,6 +19,9 @@ use std::marker::Model;
 pub struct Net {
     nodes: u32,
     arcs: Vec<Arc>,
+    /// By arc the node that it reaches, once more: who searches looks along many arcs for where they lead, and these
+    /// lie closer together than the arcs.
+    heads: Vec<u32>,
     forward: Star,
     reverse: Star,
 }
@@ -29,14 +34,14 @@ pub struct Flow {
 
 impl Model for Net {
     ghost use Rattle.vs_layer.specs.Graph.{Graph};
-    ghost use Rattle.vs_layer.specs.Stars.{IsStarred};
+    ghost use Rattle.vs_layer.specs.Stars.{IsKeptNet};
 
     ghost Value = { Graph };
 
     ghost view = { λ n. record { nodes = n.nodes; arcs = n.arcs.items } };
 
-    ghost invariant = { λ n. IsStarred (record { nodes = n.nodes; arcs = n.arcs.items })
-        n.forward n.reverse };
+    ghost invariant = { λ n. IsKeptNet (record { nodes = n.nodes; arcs = n.arcs.items })
+        n.heads.items n.forward n.reverse };
 }
 
 impl Net {
@@ -52,11 +57,13 @@ impl Net {
         if let Some(fault) = first_fault(nodes, &arcs) {
             return Err(NetError::Fault(fault));
         }
+        let heads = heads_of(alloc, &arcs)?;
         let forward = Star::new(alloc, nodes, &arcs, End::From)?;
         let reverse = Star::new(alloc, nodes, &arcs, End::To)?;
         Ok(Net {
             nodes,
             arcs,
+            heads,
             forward,
             reverse,
         })
@@ -86,6 +93,14 @@ impl Net {
         self.arcs[k as usize]
     }
 
+    /// By arc the node that it reaches.
+    pub fn heads(&self) -> &[u32]
+        ensures heads { result.now ≡ heads self.now }
+        ensures net { IsNet self.now }
+    {
+        &self.heads
+    }
+
     /// The numbers of the arcs that leave a node, in order.
     pub fn leaving(&self, node: u32) -> &[u32]
         requires { node < self.now.nodes }
@@ -101,6 +116,13 @@ impl Net {
     {
         self.reverse.group(node)
     }
+}
+
+/// By arc the node that it reaches.
+fn heads_of(alloc: Global, arcs: &[Arc]) -> Result<Vec<u32>, Memory>
+    ensures { IfOk result (λ heads. heads.items ≡ heads_in arcs.now) }
+{
+    Ok(arcs.iter().map(|arc| arc.to).collect(alloc)?)
 }
 
 /// The first arc that makes these no net.

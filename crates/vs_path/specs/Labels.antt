@@ -4,6 +4,7 @@ use Rattle.vs_path.specs.declared.residual.TheConstants.{MAX_STEP_COST, MAX_SEAR
 use Rattle.vs_queue.specs.declared.step.Step.{Step}
 use Rattle.vs_queue.specs.declared.node_table.Settled.{Settled}
 use Rattle.vs_path.specs.declared.labels.Labels.{Labels}
+use Rattle.vs_path.specs.declared.labels.TheConstants.{NO_BOUND}
 use Rattle.vs_queue.specs.Keys.{Keys, IsBelow, IsEmpty, key_at}
 use Rattle.vs_queue.specs.NodeLists.{label_of}
 use Rattle.vs_path.specs.Residual.{ResidualNet, IsOpen, IsWithin, AllWithin, from_of, to_of, reduced, price_at}
@@ -147,10 +148,9 @@ pub record Serves (surplus : List ℤ) (l : Lists) (v : ℕ) (bound : ℤ) : Typ
   pub which : (node ≡ v) ⊎ Lacks surplus node
   pub covers : Covers l node bound
 
--- no such bound, or one within which a node that lacks a unit was found
-abbrev pub IsBound : List ℤ → Lists → Option ℤ → Type 0
-IsBound surplus l bound =
-    (b : ℤ) → bound ≡ Some b → (w : ℕ) × Lacks surplus w × Covers l w b
+-- no bound, or one within which a node that lacks a unit was found
+abbrev pub IsBound : List ℤ → Lists → ℤ → Type 0
+IsBound surplus l bound = bound <ℤ NO_BOUND → (w : ℕ) × Lacks surplus w × Covers l w bound
 
 -- what the step reaches is labelled accordingly, from node u at this distance, or a node that lacks a unit is
 abbrev pub IsRelaxed : ResidualNet → List ℤ → List ℤ → Lists → ℕ → ℤ → Step → Type 0

@@ -1,6 +1,6 @@
 -- Steps along the arcs of a net on which units can still be sent or taken back.
 use Rattle.std.specs.Prelude.{◌≡◌, ◌≢◌, ℕ, ◌<◌, ◌≤◌, List, [], ◌∷◌, length, slice_index, slice_index_or, ℤ, pos, neg_ℤ, ◌+ℤ◌, ◌-ℤ◌, ◌≤ℤ◌}
-use Rattle.vs_layer.specs.Graph.{Graph, IsNet, arc_of, leaving, reaching}
+use Rattle.vs_layer.specs.Graph.{Graph, IsNet, arc_of, heads, leaving, reaching}
 use Rattle.vs_queue.specs.declared.step.Step.{Step}
 use Rattle.vs_queue.specs.declared.step.Step.TheVariants.{Forward, Back}
 use Rattle.vs_path.specs.declared.residual.Way.{Way}
@@ -21,6 +21,10 @@ pub record IsResidual (r : ResidualNet) : Type 0 where
   pub cost : length r.cost ≡ length r.graph.arcs
   pub room : length r.room ≡ length r.graph.arcs
   pub arcs : r.arcs ≤ length r.graph.arcs
+
+-- by arc the node that it reaches
+abbrev pub AreHeads : Graph → List ℕ → Type 0
+AreHeads g vs = vs ≡ heads g
 
 -- the step that goes this way along an arc
 abbrev pub step_along : Way → ℕ → Step

@@ -1,17 +1,20 @@
 //! What a search for least paths knows of the nodes, and how it settles one after the other.
 
-ghost use Rattle.std.specs.Prelude.{◌≡◌, ℕ, ℤ, IfSome, ◌<◌, ◌≤◌, ◌↔◌, ◌++◌, ◌∷◌, [], ◌+ℤ◌, length, set, replicate, IsTrue, IfOk, MatchOption, Some, None, vec_capacity, slice_index, slice_index_or};
+ghost use Rattle.std.specs.Prelude.{◌≡◌, ℕ, ℤ, IfSome, ◌<◌, ◌≤◌, ◌↔◌, ◌++◌, ◌∷◌, [], ◌+ℤ◌, ◌≤ℤ◌, length, set, replicate, IsTrue, IfOk, MatchOption, Some, None, vec_capacity, slice_index, slice_index_or};
 ghost use Rattle.vs_path.specs.Residual.{IsResidual, HasSignRule, arc_no, from_of, price_at, reduced};
 ghost use Rattle.vs_queue.specs.declared.node_table.Settled.{Settled};
 ghost use Rattle.vs_queue.specs.declared.step.Step.{Step};
 ghost use Rattle.vs_queue.specs.declared.step.Step.TheVariants.{Forward, Back};
-ghost use Rattle.vs_queue.specs.Keys.{IsEmpty, IsLeast, IsNotAfter};
+ghost use Rattle.vs_queue.specs.Keys.{IsEmpty, IsLeast};
 ghost use Rattle.vs_path.specs.Labels.{AreLabels, AreFresh, AreListed, Covers, IsBetter, IsBound, IsFarthest, IsLowered, IsOver, IsReached, IsRelaxed, IsSettledAt, IsSmall, Lacks, Relaxes, lists_of, lowered, settle_in, settled_at, waiting_at};
 
 use crate::residual::{MAX_SEARCH_NODES, Residual, Way};
 use std::alloc::Global;
 use vs_queue::{NodeHeap, Settled, Step};
 use vs_types::Memory;
+
+/// More than the distance of any node: no node that lacks a unit was found.
+pub const NO_BOUND: i64 = i64::MAX;
 
 /// Where steps leave a settled node: its distance and its price.
 #[derive(Clone, Copy)]
@@ -28,8 +31,8 @@ pub struct Labels {
     pub nodes: NodeHeap,
     /// The settled nodes in order.
     pub order: Vec<u32>,
-    /// The least distance to a node that lacks a unit that was found so far.
-    pub bound: Option<i64>,
+    /// The least distance to a node that lacks a unit that was found so far, `NO_BOUND` where none was.
+    pub bound: i64,
 }
 
 impl Labels {
@@ -42,7 +45,7 @@ impl Labels {
         Ok(Labels {
             nodes: NodeHeap::new(alloc, nodes)?,
             order: Vec::with_capacity(alloc, nodes as usize)?,
-            bound: None,
+            bound: NO_BOUND,
         })
     }
 
@@ -51,12 +54,12 @@ impl Labels {
         requires { AreListed (length self.old.nodes.settled) (lists_of self.old) }
         ensures fresh { AreFresh (length self.old.nodes.settled) (lists_of self.new) }
         ensures space { vec_capacity self.new.order ≡ vec_capacity self.old.order }
-        ensures bound { self.new.bound ≡ None }
+        ensures bound { self.new.bound ≡ NO_BOUND }
     {
         forget(&mut self.nodes, &self.order);
         self.order.clear();
         self.nodes.clear();
-        self.bound = None;
+        self.bound = NO_BOUND;
     }
 
     /// Settles nodes from the source on, the nearest first, up to the first that lacks a unit. None where there is
@@ -75,7 +78,7 @@ impl Labels {
         requires has_enough { ¬ (Lacks surplus.now source) }
         requires fresh { AreFresh residual.now.graph.nodes (lists_of self.old) }
         requires space { residual.now.graph.nodes ≤ vec_capacity self.old.order }
-        requires no_bound { self.old.bound ≡ None }
+        requires no_bound { self.old.bound ≡ NO_BOUND }
         ensures found { MatchOption result
             (IsOver residual.now prices.now surplus.now source (lists_of self.new))
             (IsReached residual.now prices.now surplus.now source (lists_of self.new)) }
@@ -164,12 +167,9 @@ impl Labels {
 
     /// Whether a node that lacks a unit was found that is no farther than this.
     fn is_past(&self, label: i64) -> bool
-        ensures { IsTrue result ↔ IsNotAfter self.now.bound (Some label) }
+        ensures { IsTrue result ↔ self.now.bound ≤ℤ label }
     {
-        match self.bound {
-            None => false,
-            Some(bound) => bound <= label,
-        }
+        self.bound <= label
     }
 
     /// The node that a step reaches is given the distance along it, where that is less than what it has, and less than
@@ -223,11 +223,12 @@ impl Labels {
         ensures order { self.new.order ≡ self.old.order }
     {
         if surplus[node as usize] < 0 {
-            self.bound = Some(label);
+            self.bound = label;
         }
     }
 
     /// Gives a node a lesser distance, along this step.
+    #[inline(always)]
     fn lower(&mut self, node: u32, label: i64, step: Step)
         requires node { node < length self.old.nodes.waiting }
         requires unsettled { settled_at (lists_of self.old) node ≡ None }

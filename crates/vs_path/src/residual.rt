@@ -57,6 +57,8 @@ impl Way {
 #[derive(Drop)]
 pub struct Residual<'a> {
     net: &'a Net,
+    /// By arc the node that it reaches.
+    heads: &'a [u32],
     /// By arc how many units it carries.
     units: &'a [u32],
     /// By arc what a unit costs.
@@ -71,7 +73,7 @@ pub struct Residual<'a> {
 
 impl<'a> Model for Residual<'a> {
     ghost use Rattle.std.specs.Prelude.{IfSome};
-    ghost use Rattle.vs_path.specs.Residual.{ResidualNet, IsResidual};
+    ghost use Rattle.vs_path.specs.Residual.{ResidualNet, AreHeads, IsResidual};
     ghost use Rattle.vs_path.specs.Loads.{AreLoads};
 
     ghost Value = { ResidualNet };
@@ -90,7 +92,8 @@ impl<'a> Model for Residual<'a> {
       cost = r.cost.now;
       room = r.room.now;
       arcs = r.arcs;
-    }) × IfSome r.loads (λ loads. AreLoads r.net.now r.units.now loads.now) };
+    }) × IfSome r.loads (λ loads. AreLoads r.net.now r.units.now loads.now)
+        × AreHeads r.net.now r.heads.now };
 }
 
 impl<'a> Residual<'a> {
@@ -108,10 +111,9 @@ impl<'a> Residual<'a> {
           arcs = arcs;
         } }
     {
-        // for the proof: its contract says that a net is one
-        let _ = net.nodes();
         Residual {
             net,
+            heads: net.heads(),
             units: &flow.units,
             cost: &costs.cost,
             room: &costs.room,
@@ -136,6 +138,7 @@ impl<'a> Residual<'a> {
     {
         Residual {
             net,
+            heads: net.heads(),
             units: &flow.units,
             cost: &costs.cost,
             room: &costs.room,
@@ -171,7 +174,7 @@ impl<'a> Residual<'a> {
         ensures of_net { result < self.now.graph.nodes }
     {
         match step {
-            Step::Forward(k) => self.net.arc(k).to,
+            Step::Forward(k) => self.heads[k as usize],
             Step::Back(k) => self.net.arc(k).from,
         }
     }

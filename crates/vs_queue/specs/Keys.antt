@@ -20,10 +20,3 @@ pub record IsLeast (keys : Keys) (v : ℕ) (key : ℤ) : Type 0 where
 -- a key is less than one that may be there
 abbrev pub IsBelow : ℤ → Option ℤ → Type 0
 IsBelow key known = (other : ℤ) → known ≡ Some other → key <ℤ other
-
--- of two keys the first is taken no later than the second; where there is none, last
-abbrev pub IsNotAfter : Option ℤ → Option ℤ → Type 0
-IsNotAfter None None = Unit {0}
-IsNotAfter (Some a) None = Unit {0}
-IsNotAfter None (Some b) = ⊥
-IsNotAfter (Some a) (Some b) = a ≤ℤ b

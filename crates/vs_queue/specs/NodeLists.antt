@@ -33,18 +33,6 @@ abbrev pub label_of : Option Settled → Option ℤ → Option ℤ
 label_of None key = key
 label_of (Some a) key = Some a.distance
 
--- once the node doesn't wait
-abbrev pub without_key : Mark → Mark
-without_key Unknown = Unknown
-without_key Waits = Unknown
-without_key (Placed place) = Placed place
-
--- once the node isn't settled
-abbrev pub without_place : Mark → Mark
-without_place Unknown = Unknown
-without_place Waits = Waits
-without_place (Placed place) = Unknown
-
 -- by node: the least distance and the place in the order, where it is settled; the key, where it waits; and the last
 -- step of a path that was found
 pub record NodeLists : Type 0 where

@@ -85,6 +85,7 @@ impl NodeHeap {
 
     /// Puts a node in with this key, or gives it this key, which is less than the one it has. It is reached by this
     /// step.
+    #[inline(always)]
     pub fn lower(&mut self, node: u32, key: i64, step: Step)
         requires node { node < length self.old.waiting }
         requires unsettled { slice_index_or self.old.settled node None ≡ None }

@@ -2,12 +2,16 @@
 
 ghost use Rattle.std.specs.Prelude.{◌≡◌, ◌<◌, ◌↔◌, IsTrue, length, set, replicate, slice_index_or, IfOk, Some, None};
 ghost use Rattle.vs_queue.specs.Keys.{IsBelow, key_at};
-ghost use Rattle.vs_queue.specs.NodeLists.{IsFarther, key_of, label_of, settled_of, without_key, without_place};
+ghost use Rattle.vs_queue.specs.NodeLists.{IsFarther, key_of, label_of, settled_of};
 
 use crate::step::Step;
 use std::alloc::Global;
 use std::marker::Model;
 use vs_types::Memory;
+
+/// Past the distance of any node. It stands where a node isn't reached, so that nearly always one look at the distance
+/// tells whether a step leads to a lesser one; that the node isn't reached is what its mark says.
+const UNKNOWN: i64 = i64::MAX;
 
 /// A node whose least distance is known.
 #[derive(Clone, Copy, Debug)]
@@ -68,9 +72,45 @@ impl NodeRecord {
     fn is_farther(self, label: i64) -> bool
         ensures { IsTrue result ↔ IsBelow label (label_of (settled_of self) (key_of self)) }
     {
+        label < self.distance || matches!(self.mark, Mark::Unknown)
+    }
+
+    /// What is left once the node doesn't wait.
+    fn without_key(self) -> NodeRecord
+        ensures key { key_of result ≡ None }
+        ensures settled { settled_of result ≡ settled_of self }
+        ensures step { result.step ≡ self.step }
+    {
         match self.mark {
-            Mark::Unknown => true,
-            Mark::Waits | Mark::Placed(_) => label < self.distance,
+            Mark::Unknown => self,
+            Mark::Waits => self.forgotten(),
+            Mark::Placed(_) => self,
+        }
+    }
+
+    /// What is left once the node isn't settled.
+    fn without_place(self) -> NodeRecord
+        ensures settled { settled_of result ≡ None }
+        ensures key { key_of result ≡ key_of self }
+        ensures step { result.step ≡ self.step }
+    {
+        match self.mark {
+            Mark::Unknown => self,
+            Mark::Waits => self,
+            Mark::Placed(_) => self.forgotten(),
+        }
+    }
+
+    /// The same once the node isn't reached.
+    fn forgotten(self) -> NodeRecord
+        ensures key { key_of result ≡ None }
+        ensures settled { settled_of result ≡ None }
+        ensures step { result.step ≡ self.step }
+    {
+        NodeRecord {
+            distance: UNKNOWN,
+            step: self.step,
+            mark: Mark::Unknown,
         }
     }
 }
@@ -98,7 +138,7 @@ impl NodeTable {
         ensures steps { IfOk result (λ table. length table.steps ≡ count) }
     {
         let unknown = NodeRecord {
-            distance: 0,
+            distance: UNKNOWN,
             step: Step::Forward(0),
             mark: Mark::Unknown,
         };
@@ -193,8 +233,8 @@ impl NodeTable {
         ensures steps { self.new.steps ≡ self.old.steps }
     {
         let known = self.records[node as usize];
-        let mark = without_key(known.mark);
-        self.records[node as usize] = NodeRecord { mark, ..known };
+        let left = known.without_key();
+        self.records[node as usize] = left;
     }
 
     /// Forgets that a node is settled.
@@ -205,29 +245,7 @@ impl NodeTable {
         ensures steps { self.new.steps ≡ self.old.steps }
     {
         let known = self.records[node as usize];
-        let mark = without_place(known.mark);
-        self.records[node as usize] = NodeRecord { mark, ..known };
-    }
-}
-
-/// What is left of a mark once a node doesn't wait.
-fn without_key(mark: Mark) -> Mark
-    ensures { result ≡ without_key mark }
-{
-    match mark {
-        Mark::Unknown => Mark::Unknown,
-        Mark::Waits => Mark::Unknown,
-        Mark::Placed(place) => Mark::Placed(place),
-    }
-}
-
-/// What is left of a mark once a node isn't settled.
-fn without_place(mark: Mark) -> Mark
-    ensures { result ≡ without_place mark }
-{
-    match mark {
-        Mark::Unknown => Mark::Unknown,
-        Mark::Waits => Mark::Waits,
-        Mark::Placed(_) => Mark::Unknown,
+        let left = known.without_place();
+        self.records[node as usize] = left;
     }
 }

@@ -73,6 +73,7 @@ impl Queue {
     }
 
     /// Puts a node into the heap with this key.
+    #[inline(never)]
     fn put(&mut self, node: u32, key: i64)
         ensures put { IsPut self.old self.new node key }
     {
@@ -134,6 +135,8 @@ impl Queue {
     }
 
     /// Takes out a node with the least key where the heap has been short of memory.
+    #[cold]
+    #[inline(never)]
     fn find(&mut self, table: &NodeTable) -> Option<(u32, i64)>
         requires queue { IsQueue table.now.waiting self.old }
         requires none_near { self.old.near.items ≡ [] }
@@ -160,7 +163,9 @@ impl Queue {
         }
     }
 
-    /// Moves the nodes on the stack into the heap.
+    /// Moves the nodes on the stack into the heap. A search never lowers the floor.
+    #[cold]
+    #[inline(never)]
     fn unstack(&mut self, table: &NodeTable)
         requires { IsQueue table.now.waiting self.old }
         ensures queue { IsQueue table.now.waiting self.new }
@@ -242,6 +247,8 @@ fn lesser(least: Option<(u32, i64)>, node: u32, key: Option<i64>) -> Option<(u32
 }
 
 /// Takes the keys of all nodes, one by one.
+#[cold]
+#[inline(never)]
 fn forget_all(table: &mut NodeTable)
     requires { length table.old.waiting < 2 ^ 32 }
     ensures none { (v : ℕ) → key_at table.new.waiting v ≡ None }

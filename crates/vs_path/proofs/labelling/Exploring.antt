@@ -169,7 +169,7 @@ module _ (r : ResidualNet) (prices surplus : List ℤ) (source : ℕ) (l : Lists
   pub next_relaxed : AreRelaxedBut r prices surplus (settle_in l v key) v
   next_relaxed = settled_relaxed r prices l way.labels v key least within surplus way.relaxed
 
-  pub next_bound : (bound : Option ℤ) → IsBound surplus l bound → IsBound surplus (settle_in l v key) bound
+  pub next_bound : (bound : ℤ) → IsBound surplus l bound → IsBound surplus (settle_in l v key) bound
   next_bound = settled_bound r prices l way.labels v key least within surplus
 
   pub next_settled : IsSettledAt (settle_in l v key) v key

@@ -5,9 +5,10 @@ use Rattle.std.proofs.lemmas.Int.{ints, by_lt_z}
 use Rattle.std.proofs.lemmas.List.{get_or-set_same, get_or-set_other, get_or_default, get_or_past}
 use Rattle.vs_queue.specs.declared.step.Step.{Step}
 use Rattle.vs_queue.specs.declared.step.Step.TheVariants.{Forward, Back}
+use Rattle.vs_path.specs.declared.labels.TheConstants.{NO_BOUND}
 use Rattle.vs_path.specs.declared.residual.TheConstants.{MAX_STEP_COST}
 use Rattle.vs_queue.specs.declared.node_table.Settled.{Settled}
-use Rattle.vs_queue.specs.Keys.{IsBelow, IsNotAfter}
+use Rattle.vs_queue.specs.Keys.{IsBelow}
 use Rattle.vs_path.specs.Residual.{ResidualNet, IsOpen, IsWithin, AllWithin, HasSignRule, from_of, to_of, cost_of, price_at, reduced}
 use Rattle.vs_path.proofs.labelling.Settling.{order-≤}
 use Rattle.vs_queue.specs.NodeLists.{label_of}
@@ -62,6 +63,20 @@ along-fits r prices l s distance small labels from =
           (near-step r prices (source_of l) from.0.place (length l.order) s distance small.cost less near),
     )
 
+-- and the distance along a step is less than no bound
+pub along-few : (r : ResidualNet) (prices : List ℤ) (l : Lists) (s : Step) (distance : ℤ) → IsSmall r prices
+    → AreLabels r prices l → IsSettledAt l (from_of r s) distance → (distance +ℤ reduced r prices s) <ℤ NO_BOUND
+along-few r prices l s distance small labels from =
+    let near : IsNear prices (source_of l) from.0.place (from_of r s) distance =
+    subst (λ (d : ℤ). IsNear prices (source_of l) from.0.place (from_of r s) d) from.2
+    (labels.near (from_of r s) from.0 from.1) in
+    let less : from.0.place < length l.order = (labels.are_listed.placed (from_of r s) from.0 from.1).0 in
+    let few = order-≤ r.graph.nodes l labels.are_listed in
+    let then = near-step r prices (source_of l) from.0.place (length l.order) s distance small.cost less near in
+    let p = small.each_price (to_of r s) in
+    let q = small.each_price (source_of l) in
+    omega (arith, ints, p.low, p.high, q.low, q.high, then.low, then.high, few, small.nodes)
+
 -- so do the distance with the price of its node, and both with what the step costs
 pub parts-fit : (r : ResidualNet) (prices : List ℤ) (l : Lists) (s : Step) (distance : ℤ) → IsSmall r prices
     → AreLabels r prices l → IsSettledAt l (from_of r s) distance
@@ -96,11 +111,10 @@ module _ (r : ResidualNet) (prices surplus : List ℤ) (l : Lists) (labels : Are
   }
 
   -- one that is no less than that of a node that lacks a unit is of no use
-  pub relaxed_past : (bound : Option ℤ) → IsBound surplus l bound → IsNotAfter bound (Some label)
+  pub relaxed_past : (bound : ℤ) → IsBound surplus l bound → bound ≤ℤ label → label <ℤ NO_BOUND
       → IsRelaxed r prices surplus l (from_of r step) distance step
-  relaxed_past None is past is_open' from' = absurd past
-  relaxed_past (Some b) is past is_open' from' =
-      let at = is b refl in
+  relaxed_past bound is past few is_open' from' =
+      let at = is (omega (arith, ints, past, few)) in
       record {
         node = at.0;
         which = inr at.1;

@@ -207,8 +207,8 @@ module _ (r : ResidualNet) (prices : List ℤ) (l : Lists) (labels : AreLabels r
       }
 
   -- a bound stays one
-  pub settled_bound : (surplus : List ℤ) (bound : Option ℤ) → IsBound surplus l bound → IsBound surplus new bound
-  settled_bound surplus bound is b e = let at = is b e in (at.0, at.1, settled_covers at.0 b at.2)
+  pub settled_bound : (surplus : List ℤ) (bound : ℤ) → IsBound surplus l bound → IsBound surplus new bound
+  settled_bound surplus bound is less = let at = is less in (at.0, at.1, settled_covers at.0 bound at.2)
 
 count_settled-≤ : (settled : List (Option Settled)) → count_settled settled ≤ length settled
 count_settled-≤ [] = omega arith

@@ -2,38 +2,16 @@
 use Rattle.std.proofs.Common.{◌≡◌, ℕ, zero, suc, ◌<◌, ◌∙◌, List, ◌∷◌, length, get_or, set, map, replicate, refl, sym, ap, arith, Option, Some, None, ℤ}
 use Rattle.std.proofs.lemmas.List.{get_or-map, length-map, map-set, set-get_or}
 use Rattle.vs_queue.specs.declared.node_table.Settled.{Settled}
-use Rattle.vs_queue.specs.declared.node_table.Mark.{Mark}
-use Rattle.vs_queue.specs.declared.node_table.Mark.TheVariants.{Unknown, Waits, Placed}
+use Rattle.vs_queue.specs.declared.node_table.Mark.TheVariants.{Waits, Placed}
 use Rattle.vs_queue.specs.declared.node_table.NodeRecord.{NodeRecord}
 use Rattle.vs_queue.specs.declared.step.Step.{Step}
 use Rattle.vs_queue.specs.Keys.{Keys, key_at}
-use Rattle.vs_queue.specs.NodeLists.{NodeLists, key_by, key_of, label_of, lists_by_node, settled_by, settled_of, step_of, without_key, without_place}
+use Rattle.vs_queue.specs.NodeLists.{NodeLists, key_of, label_of, lists_by_node, settled_of, step_of}
 
 -- a list of one value, mapped
 pub map-replicate : {X Y : Type 0} (f : X → Y) (n : ℕ) (x : X) → map f (replicate n x) ≡ replicate n (f x)
 map-replicate f zero x = refl
 map-replicate f (suc n) x = ap (λ ys. f x ∷ ys) (map-replicate f n x)
-
--- a mark without a key, and without a place
-key-left : (m : Mark) (d : ℤ) → key_by (without_key m) d ≡ None
-key-left Unknown d = refl
-key-left Waits d = refl
-key-left (Placed place) d = refl
-
-settled-kept : (m : Mark) (d : ℤ) → settled_by m d ≡ settled_by (without_key m) d
-settled-kept Unknown d = refl
-settled-kept Waits d = refl
-settled-kept (Placed place) d = refl
-
-settled-left : (m : Mark) (d : ℤ) → settled_by (without_place m) d ≡ None
-settled-left Unknown d = refl
-settled-left Waits d = refl
-settled-left (Placed place) d = refl
-
-key-kept : (m : Mark) (d : ℤ) → key_by m d ≡ key_by (without_place m) d
-key-kept Unknown d = refl
-key-kept Waits d = refl
-key-kept (Placed place) d = refl
 
 -- three lists of which each is the same are the same
 same-by : (a b : NodeLists) → a.settled ≡ b.settled → a.waiting ≡ b.waiting → a.steps ≡ b.steps → a ≡ b
@@ -134,32 +112,23 @@ module _ (ns : List NodeRecord) (l : NodeLists) (same : lists_by_node ns ≡ l) 
         (put-settled v n) (kept-waiting v n taken) (kept-steps v n (read-step v known inside is))
 
     -- the key of a node is taken
-    pub lists-without_key : (m : Mark) → m ≡ without_key known.mark
-        → lists_by_node (set ns v (record { distance = known.distance; step = known.step; mark = m }))
+    pub lists-without_key : (n : NodeRecord) → key_of n ≡ None → settled_of n ≡ settled_of known → n.step ≡ known.step
+        → lists_by_node (set ns v n)
         ≡ record { settled = l.settled; waiting = set l.waiting v None; steps = l.steps }
-    lists-without_key m left =
-        let d = known.distance in
-        let n : NodeRecord = record { distance = d; step = known.step; mark = m } in
+    lists-without_key n key settled step =
         same-by (lists_by_node (set ns v n))
         (record { settled = l.settled; waiting = set l.waiting v None; steps = l.steps })
-        (kept-settled v n
-        (read-settled v known inside is ∙ settled-kept known.mark d ∙ ap (λ (k : Mark). settled_by k d) (sym left)))
-        (put-waiting v n
-        ∙ ap (λ (o : Option ℤ). set l.waiting v o) (ap (λ (k : Mark). key_by k d) left ∙ key-left known.mark d))
-        (kept-steps v n (read-step v known inside is))
+        (kept-settled v n (read-settled v known inside is ∙ sym settled))
+        (put-waiting v n ∙ ap (λ (o : Option ℤ). set l.waiting v o) key)
+        (kept-steps v n (read-step v known inside is ∙ ap Some (sym step)))
 
     -- its place is
-    pub lists-without_place : (m : Mark) → m ≡ without_place known.mark
-        → lists_by_node (set ns v (record { distance = known.distance; step = known.step; mark = m }))
+    pub lists-without_place : (n : NodeRecord) → settled_of n ≡ None → key_of n ≡ key_of known → n.step ≡ known.step
+        → lists_by_node (set ns v n)
         ≡ record { settled = set l.settled v None; waiting = l.waiting; steps = l.steps }
-    lists-without_place m left =
-        let d = known.distance in
-        let n : NodeRecord = record { distance = d; step = known.step; mark = m } in
+    lists-without_place n settled key step =
         same-by (lists_by_node (set ns v n))
         (record { settled = set l.settled v None; waiting = l.waiting; steps = l.steps })
-        (put-settled v n
-        ∙ ap (λ (o : Option Settled). set l.settled v o)
-        (ap (λ (k : Mark). settled_by k d) left ∙ settled-left known.mark d))
-        (kept-waiting v n
-        (read-key v known inside is ∙ key-kept known.mark d ∙ ap (λ (k : Mark). key_by k d) (sym left)))
-        (kept-steps v n (read-step v known inside is))
+        (put-settled v n ∙ ap (λ (o : Option Settled). set l.settled v o) settled)
+        (kept-waiting v n (read-key v known inside is ∙ sym key))
+        (kept-steps v n (read-step v known inside is ∙ ap Some (sym step)))

@@ -1,4 +1,4 @@
-use Rattle.std.proofs.Common.{◌≡◌, ◌<◌, ◌∙◌, Option, Some, None, ℤ, pos, [], ◌∷◌, length, get_or, refl, sym, ap, subst, rules, arith, true, false, ◌<ℤ◌, SFits, w64, length-append}
+use Rattle.std.proofs.Common.{◌≡◌, ◌<◌, ◌∙◌, Option, None, ℤ, pos, [], ◌∷◌, length, get_or, refl, sym, ap, subst, rules, arith, true, false, ◌<ℤ◌, SFits, w64, length-append}
 use Rattle.std.proofs.lemmas.List.{length-replicate}
 use Rattle.std.proofs.lemmas.Int.{ints, to_z-of_z}
 use Rattle.std.specs.Prelude.{vec_capacity}
@@ -58,8 +58,8 @@ expand-requires-clause-farthest c =
     c.requires.fresh.steps)
 
 pub expand-requires-clause-bound : goal.expand-requires-clause-bound
-expand-requires-clause-bound c = λ b is.
-    let e : None ≡ Some b = sym c.requires.no_bound ∙ sym c.settle.ensures.bound ∙ is in absurd (cc)
+expand-requires-clause-bound c = λ less.
+    absurd (omega (arith, ints, less, c.requires.no_bound, c.settle.ensures.bound))
 
 pub expand-requires-in-Some-clause-bound : goal.expand-requires-in-Some-clause-bound
 expand-requires-in-Some-clause-bound c =
@@ -69,13 +69,21 @@ expand-requires-in-Some-clause-bound c =
     let way = c.loop-node.invariant.under_way in
     let within : c.in-Some.node < r.graph.nodes =
     omega (arith, c.in-Some.ensures.node, way.labels.are_listed.waiting) in
-    λ b is.
-    let e : c.loop-node.self.bound ≡ Some b = sym c.in-Some.ensures.bound ∙ is in
+    let b = c.loop-node.self.bound in
+    λ less.
     let at =
     next_bound r c.args.prices.now s c.args.source l way c.in-Some.node c.in-Some.distance
-    c.in-Some.ensures.next within c.loop-node.self.bound c.loop-node.invariant.bound b e in
+    c.in-Some.ensures.next within b c.loop-node.invariant.bound (omega (arith, ints, less, c.in-Some.ensures.bound)) in
     let P : Lists → Type 0 = λ k. Covers k at.0 b in
-    (at.0, at.1, subst P (sym c.in-Some.ensures.lists) at.2)
+    let covers = subst P (sym c.in-Some.ensures.lists) at.2 in (
+      at.0,
+      at.1,
+      record {
+        label = covers.label;
+        has = covers.has;
+        no_more = omega (arith, ints, covers.no_more, c.in-Some.ensures.bound);
+      },
+    )
 
 -- the source is settled and its steps are relaxed
 pub loop-node-init : goal.loop-node-init

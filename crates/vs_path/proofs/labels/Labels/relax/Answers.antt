@@ -1,9 +1,10 @@
-use Rattle.std.proofs.Common.{◌≡◌, ◌<◌, ◌∙◌, refl, ap, sym, subst, arith, rules, ℕ, Some, true, false, SFits, w64}
-use Rattle.std.proofs.lemmas.Int.{to_z-of_z}
+use Rattle.std.proofs.Common.{◌≡◌, ◌<◌, ◌∙◌, refl, ap, sym, subst, arith, rules, ℕ, ℤ, ◌<ℤ◌, true, false, SFits, w64}
+use Rattle.std.proofs.lemmas.Int.{ints, to_z-of_z}
+use Rattle.vs_path.specs.declared.labels.TheConstants.{NO_BOUND}
 use Rattle.vs_path.specs.Residual.{to_of}
 use Rattle.vs_queue.specs.Keys.{IsBelow}
 use Rattle.vs_path.specs.Labels.{Lists, Covers, IsBetter, Relaxes, label_at, lists_of, lowered, settled_at}
-use Rattle.vs_path.proofs.labelling.Lowering.{covers_here, is_lowered, farther-better, farther-unsettled, relaxed_past, relaxed_worse, relaxes_lowered, lowered-same}
+use Rattle.vs_path.proofs.labelling.Lowering.{along-few, covers_here, is_lowered, farther-better, farther-unsettled, relaxed_past, relaxed_worse, relaxes_lowered, lowered-same}
 use Rattle.vs_path.proofs.labels.Labels.relax.Goals as goal
 
 pub is_farther-requires : goal.is_farther-requires
@@ -62,12 +63,14 @@ returns-then-is_past-clause-relaxes c =
     let fits : SFits w64 label = search rules in
     let sum = c.along-label.ensures in
     let past = simp to_z-of_z at (c.if-is_past.ensures.0 refl) in
+    let along = along-few r p l s c.args.departure.distance c.requires.small c.requires.labels c.requires.from in
+    let few : label <ℤ NO_BOUND = omega (arith, ints, sum, along) in
     record {
       labels = c.requires.labels;
       lowered = lowered-same l;
       relaxed = λ is_open from.
           relaxed_past r p c.args.surplus.now l c.requires.labels c.requires.sign_rule s c.args.departure.distance label
-          c.requires.from c.requires.farthest is_open sum c.args.self.now.bound c.requires.bound past is_open from;
+          c.requires.from c.requires.farthest is_open sum c.args.self.now.bound c.requires.bound past few is_open from;
     }
 
 -- the node has the label then
@@ -103,7 +106,7 @@ note-requires-clause-covers c =
     simp to_z-of_z (subst Q (sym lists) (subst P (sym c.to-node.ensures.node) at))
 
 pub note-requires-clause-bound : goal.note-requires-clause-bound
-note-requires-clause-bound c = λ b is.
+note-requires-clause-bound c = λ less.
     let r = c.args.residual.now in
     let p = c.args.prices.now in
     let l = lists_of c.args.self.now in
@@ -129,10 +132,11 @@ note-requires-clause-bound c = λ b is.
     is_lowered r p c.args.surplus.now l c.requires.labels c.requires.sign_rule s c.args.departure.distance label
     c.requires.from c.requires.farthest (c.if-is_open.ensures.0 refl) sum
     c.requires.small inside unsettled better in
-    let e : c.args.self.now.bound ≡ Some b = sym c.lower.ensures.bound ∙ is in
-    let at = c.requires.bound b e in
+    let b = c.args.self.now.bound in
+    let at = c.requires.bound (omega (arith, ints, less, c.lower.ensures.bound)) in
     let P : Lists → Type 0 = λ k. Covers k at.0 b in
-    (at.0, at.1, subst P (sym lists) (low.covers at.0 b at.2))
+    let Q : ℤ → Type 0 = λ z. Covers (lists_of c.lower.new.self) at.0 z in
+    (at.0, at.1, subst Q (sym c.lower.ensures.bound) (subst P (sym lists) (low.covers at.0 b at.2)))
 
 -- the step is open, and the node farther
 pub returns-then-is_open-clause-relaxes : goal.returns-then-is_open-clause-relaxes

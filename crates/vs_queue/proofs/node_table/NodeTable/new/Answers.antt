@@ -1,14 +1,15 @@
-use Rattle.std.proofs.Common.{◌∙◌, ap, map, length, pos}
+use Rattle.std.proofs.Common.{◌∙◌, ap, map, length}
 use Rattle.std.proofs.lemmas.List.{length-map, length-replicate}
 use Rattle.vs_queue.specs.declared.node_table.Mark.TheVariants.{Unknown}
 use Rattle.vs_queue.specs.declared.node_table.NodeRecord.{NodeRecord}
+use Rattle.vs_queue.specs.declared.node_table.TheConstants.{UNKNOWN}
 use Rattle.vs_queue.specs.declared.step.Step.TheVariants.{Forward}
 use Rattle.vs_queue.specs.NodeLists.{key_of, settled_of, step_of}
 use Rattle.vs_queue.proofs.heap.Records.{map-replicate}
 use Rattle.vs_queue.proofs.node_table.NodeTable.new.Goals as goal
 
 abbrev unknown : NodeRecord
-unknown = record { distance = pos 0; step = Forward 0; mark = Unknown }
+unknown = record { distance = UNKNOWN; step = Forward 0; mark = Unknown }
 
 pub returns-clause-settled : goal.returns-clause-settled
 returns-clause-settled c =

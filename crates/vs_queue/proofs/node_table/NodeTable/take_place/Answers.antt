@@ -1,5 +1,4 @@
-use Rattle.std.proofs.Common.{ap, arith, rules, SFits, w64}
-use Rattle.std.proofs.lemmas.Int.{to_z-of_z}
+use Rattle.std.proofs.Common.{ap, arith}
 use Rattle.vs_queue.specs.NodeLists.{NodeLists}
 use Rattle.vs_queue.proofs.heap.Records.{count-waiting, lists-without_place}
 use Rattle.vs_queue.proofs.node_table.NodeTable.take_place.Goals as goal
@@ -14,24 +13,21 @@ index_mut-requires c =
 
 pub returns-clause-settled : goal.returns-clause-settled
 returns-clause-settled c =
-    let fits : SFits w64 c.index-known.result.now.distance = search rules in
-    let is =
-    lists-without_place c.self.inside.records.items c.args.self.now c.self.view_is c.args.node c.index-known.result.now
-    c.requires c.index-known.ensures c.without_place-mark.result c.without_place-mark.ensures in
-    rw to_z-of_z (ap (λ (k : NodeLists). k.settled) is)
+    let left = c.without_place-left in
+    ap (λ (k : NodeLists). k.settled)
+    (lists-without_place c.self.inside.records.items c.args.self.now c.self.view_is c.args.node c.index-known.result.now
+    c.requires c.index-known.ensures left.result left.ensures.settled left.ensures.key left.ensures.step)
 
 pub returns-clause-waiting : goal.returns-clause-waiting
 returns-clause-waiting c =
-    let fits : SFits w64 c.index-known.result.now.distance = search rules in
-    let is =
-    lists-without_place c.self.inside.records.items c.args.self.now c.self.view_is c.args.node c.index-known.result.now
-    c.requires c.index-known.ensures c.without_place-mark.result c.without_place-mark.ensures in
-    rw to_z-of_z (ap (λ (k : NodeLists). k.waiting) is)
+    let left = c.without_place-left in
+    ap (λ (k : NodeLists). k.waiting)
+    (lists-without_place c.self.inside.records.items c.args.self.now c.self.view_is c.args.node c.index-known.result.now
+    c.requires c.index-known.ensures left.result left.ensures.settled left.ensures.key left.ensures.step)
 
 pub returns-clause-steps : goal.returns-clause-steps
 returns-clause-steps c =
-    let fits : SFits w64 c.index-known.result.now.distance = search rules in
-    let is =
-    lists-without_place c.self.inside.records.items c.args.self.now c.self.view_is c.args.node c.index-known.result.now
-    c.requires c.index-known.ensures c.without_place-mark.result c.without_place-mark.ensures in
-    rw to_z-of_z (ap (λ (k : NodeLists). k.steps) is)
+    let left = c.without_place-left in
+    ap (λ (k : NodeLists). k.steps)
+    (lists-without_place c.self.inside.records.items c.args.self.now c.self.view_is c.args.node c.index-known.result.now
+    c.requires c.index-known.ensures left.result left.ensures.settled left.ensures.key left.ensures.step)
