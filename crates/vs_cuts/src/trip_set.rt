@@ -110,7 +110,7 @@ fn word_of(marks: &[bool]) -> u64 {
 }
 
 /// The sum of the numbers of a chunk whose bits are set. So few of them add up within 128 bits. To stop at what fits 64
-/// at the end alone spares a look at each one's sign, which no processor foresees.
+/// at the end alone spares a branch on each one's sign.
 fn sum_in(word: u64, numbers: &[i64]) -> i64 {
     let mut sum: i128 = 0;
     let mut left = word;
