@@ -11,6 +11,7 @@ PROGRAM is the built mdvsp; where it isn't given, bin/mdvsp, or else what the ga
   examples/ and tools/, and the program as bin/mdvsp; `$?` is the status of the line before.
 - A block whose first line names a file behind the language, as in ```rust crates/x/src/main.rt, has to be that file's text.
 - A link to a file of the repository has to lead to one.
+- A source that a page names with its crate, as `vs_x/src/y.rt` or `vs_x/specs/Y.antt`, has to be there.
 
 Blocks in other languages (```sh for what isn't run here) are left alone. With --write the pages get what was printed,
 and the files' texts; read what changed then. Nothing beside Python's own library is needed.
@@ -39,6 +40,7 @@ ALL_SECONDS = 120
 
 FENCE = re.compile(r"( *)```(\S*) *(\S*).*")
 LINK = re.compile(r"\]\(([^)#\s]+)(?:#[^)\s]*)?\)")
+SOURCE = re.compile(r"`(\w+/(?:src|specs|proofs)/[\w/]+\.(?:rt|antt))`")
 
 
 def pages():
@@ -128,7 +130,7 @@ class Page:
         with open(f"{TOP}/{path}", encoding="utf-8") as file:
             self.lines = text_lines(file.read())
         self.faults = []
-        self.counts = {"commands": 0, "files": 0, "links": 0}
+        self.counts = {"commands": 0, "files": 0, "links": 0, "sources": 0}
         # what has to stand between two lines, by the first of them
         self.mended = {}
 
@@ -147,6 +149,14 @@ class Page:
                 self.counts["links"] += 1
                 if not os.path.exists(os.path.join(TOP, os.path.dirname(self.path), path)):
                     self.tell(place, f"there is no {path}")
+
+    def look_at_sources(self):
+        """Looks whether the sources that the page names are there."""
+        for place, line in enumerate(self.lines):
+            for path in SOURCE.findall(line):
+                self.counts["sources"] += 1
+                if not os.path.isfile(f"{TOP}/crates/{path}"):
+                    self.tell(place, f"there is no crates/{path}")
 
     def look_at_file(self, path, first, end, indent):
         """Looks whether a block is the text of the file that it names."""
@@ -184,6 +194,7 @@ class Page:
         """Looks at all that the page says."""
         found = list(blocks(self.lines))
         self.look_at_links(found)
+        self.look_at_sources()
         with tempfile.TemporaryDirectory(prefix="mdvsp-page-") as folder:
             has_commands = any(language == "console" for language, *_ in found)
             room = Room(folder, program) if has_commands else None
@@ -223,7 +234,7 @@ def main():
     faults = [fault for page in all_pages for fault in page.faults]
     for fault in faults:
         print(f"run_pages: {fault}")
-    counts = {what: sum(page.counts[what] for page in all_pages) for what in ("commands", "files", "links")}
+    counts = {what: sum(page.counts[what] for page in all_pages) for what in ("commands", "files", "links", "sources")}
     told = ", ".join(f"{count} {what}" for what, count in counts.items())
     print(f"run_pages: {told} of {len(all_pages)} pages: {len(faults) or 'none'} of them other than the pages say")
     return 1 if faults else 0
