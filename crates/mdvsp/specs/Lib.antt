@@ -1,6 +1,7 @@
 pub mod Budgets
 pub mod SolveAnswer
 pub mod Owed
+pub mod Searching
 pub mod Resuming
 pub mod Laws
 pub mod Outcome

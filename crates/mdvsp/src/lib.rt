@@ -8,6 +8,7 @@ mod laws;
 mod resuming;
 mod running;
 mod saying;
+mod searchable;
 mod solving;
 mod tracing;
 mod trial;

@@ -39,49 +39,60 @@ enum Start {
     Not(Answer),
 }
 
-/// What `resume` answers for the bytes of an instance and a document, with this effort.
-pub fn answer_resume<R: Threads + Wait + Sync, G: Gate + Sync>(
-    rt: &R,
-    alloc: Global,
-    effort: Effort,
-    bytes: &[u8],
-    gate: &G,
-) -> Result<Answer, Memory>
-    requires bytes { length bytes.now ≤ input_limit }
-    requires effort { IsWithinLimits (Command.Resume effort) }
-    ensures { IfOk result (IsOwedFor (Command.Resume effort) bytes.now) }
-{
-    match read_case(alloc, bytes) {
-        Ok(case) => answer_case(rt, alloc, effort, case, gate),
-        Err(CaseError::Refused(answer)) => Ok(answer),
-        Err(CaseError::Memory) => Err(Memory),
-    }
-}
-
-/// The same for the instance and the document that were read.
-fn answer_case<R: Threads + Wait + Sync, G: Gate + Sync>(
-    rt: &R,
-    alloc: Global,
-    effort: Effort,
-    case: Case,
-    gate: &G,
-) -> Result<Answer, Memory>
-    requires effort { IsWithinLimits (Command.Resume effort) }
-    requires read_for { IsReadFor case.input.instance case.document }
-    requires counts { HaveCounts case.input.instance case.input.names }
-    requires text { HasText case.input.instance case.document }
-    ensures { (bytes : List ℕ)
-        → CheckText bytes case.input.instance case.input.names case.document
-        → IfOk result (IsOwedFor (Command.Resume effort) bytes) }
-{
-    match start_of(alloc, effort, &case)? {
-        Start::With(budget) => {
-            let Case { input, document } = case;
-            let workers = effort.workers;
-            let crew = Crew { rt, gate, workers };
-            resumed_by(&crew, alloc, &input, document, budget)
+impl<'a, R: Threads + Wait + Sync, G: Gate + Sync> Crew<'a, R, G> {
+    /// What `resume` answers for the bytes of an instance and a document, with this effort.
+    pub fn resume(&self, alloc: Global, effort: Effort, bytes: &[u8]) -> Result<Answer, Memory>
+        requires bytes { length bytes.now ≤ input_limit }
+        requires effort { IsWithinLimits (Command.Resume effort) }
+        ensures { IfOk result (IsOwedFor (Command.Resume effort) bytes.now) }
+    {
+        match read_case(alloc, bytes) {
+            Ok(case) => self.resume_case(alloc, effort, case),
+            Err(CaseError::Refused(answer)) => Ok(answer),
+            Err(CaseError::Memory) => Err(Memory),
         }
-        Start::Not(answer) => Ok(answer),
+    }
+
+    /// The same for the instance and the document that were read.
+    fn resume_case(&self, alloc: Global, effort: Effort, case: Case) -> Result<Answer, Memory>
+        requires effort { IsWithinLimits (Command.Resume effort) }
+        requires read_for { IsReadFor case.input.instance case.document }
+        requires counts { HaveCounts case.input.instance case.input.names }
+        requires text { HasText case.input.instance case.document }
+        ensures { (bytes : List ℕ)
+            → CheckText bytes case.input.instance case.input.names case.document
+            → IfOk result (IsOwedFor (Command.Resume effort) bytes) }
+    {
+        match start_of(alloc, effort, &case)? {
+            Start::With(budget) => {
+                let Case { input, document } = case;
+                self.carry_on(alloc, &input, document, budget)
+            }
+            Start::Not(answer) => Ok(answer),
+        }
+    }
+
+    /// The answer for an instance and a document that holds, by turns with this budget in which the crew searches.
+    fn carry_on(
+        &self,
+        alloc: Global,
+        input: &Input,
+        document: Document,
+        budget: u32,
+    ) -> Result<Answer, Memory>
+        requires counts { HaveCounts input.now.instance input.now.names }
+        requires text { HasText input.now.instance document }
+        requires holds { HoldingDocument input.now.instance document }
+        requires budget { budget ≤ MAX_BUDGET }
+        requires room { HasRoom input.now.instance document budget }
+        ensures { IfOk result (IsResumed input.now.instance input.now.names budget document) }
+    {
+        let search = |part: Instance, nodes: u32| -> Result<Tree, Memory>
+            requires { nodes ≤ MAX_BUDGET }
+            ensures { IfOk result (IsDeepened part nodes) }
+        { self.search_part(alloc, &part, nodes) };
+        let mut solver = ByCalls { search };
+        resumed(alloc, input, document, budget, &mut solver)
     }
 }
 
@@ -101,29 +112,6 @@ fn start_of(alloc: Global, effort: Effort, case: &Case) -> Result<Start, Memory>
         Verdict::Yes => Ok(Start::With(budget)),
         Verdict::No(flaw) => Ok(Start::Not(Answer::no(alloc, &case.input.names, flaw)?)),
     }
-}
-
-/// The answer for an instance and a document that holds, by turns with this budget in which this crew searches.
-fn resumed_by<R: Threads + Wait + Sync, G: Gate + Sync>(
-    crew: &Crew<'_, R, G>,
-    alloc: Global,
-    input: &Input,
-    document: Document,
-    budget: u32,
-) -> Result<Answer, Memory>
-    requires counts { HaveCounts input.now.instance input.now.names }
-    requires text { HasText input.now.instance document }
-    requires holds { HoldingDocument input.now.instance document }
-    requires budget { budget ≤ MAX_BUDGET }
-    requires room { HasRoom input.now.instance document budget }
-    ensures { IfOk result (IsResumed input.now.instance input.now.names budget document) }
-{
-    let search = |part: Instance, nodes: u32| -> Result<Tree, Memory>
-        requires { nodes ≤ MAX_BUDGET }
-        ensures { IfOk result (IsDeepened part nodes) }
-    { crew.search_part(alloc, &part, nodes) };
-    let mut solver = ByCalls { search };
-    resumed(alloc, input, document, budget, &mut solver)
 }
 
 /// The same, where whoever is lent searches.

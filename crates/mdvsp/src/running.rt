@@ -6,10 +6,8 @@ ghost use Rattle.mdvsp.specs.Outcome.{CouldNotRead, Ends, HasRead, Searches, Sta
 ghost use Rattle.vs_reply.specs.Cases.{input_limit};
 ghost use Rattle.vs_words.specs.Words.{AskFor, AskToRead, IsWithinLimits, Reads, Word, words_of};
 
-use crate::resuming::answer_resume;
+use crate::crew::Crew;
 use crate::saying::say;
-use crate::solving::answer_solve;
-use crate::tracing::answer_trace;
 use crate::trial::answer_trial;
 use std::alloc::Global;
 use std::sync::Wait;
@@ -109,10 +107,19 @@ fn answer_search<R: Threads + Wait + Sync, G: Gate + Sync>(
     ensures { IfOk result (IsOwedFor command bytes.now) }
 {
     match command {
-        Command::Solve(effort) => answer_solve(rt, alloc, effort, bytes, gate),
+        Command::Solve(effort) => {
+            let workers = effort.workers;
+            Crew { rt, gate, workers }.solve(alloc, effort, bytes)
+        }
         Command::Trial(n) => answer_trial(rt, alloc, n, gate),
-        Command::Resume(effort) => answer_resume(rt, alloc, effort, bytes, gate),
-        Command::Trace(effort) => answer_trace(rt, alloc, effort, bytes, gate),
+        Command::Resume(effort) => {
+            let workers = effort.workers;
+            Crew { rt, gate, workers }.resume(alloc, effort, bytes)
+        }
+        Command::Trace(effort) => {
+            let workers = effort.workers;
+            Crew { rt, gate, workers }.trace(alloc, effort, bytes)
+        }
         _ => unreachable!(),
     }
 }

@@ -4,7 +4,7 @@ ghost use Rattle.std.specs.Prelude.{◌≡◌, ◌≤◌, length, IfOk};
 ghost use Rattle.vs_reader.specs.Names.{HaveCounts};
 ghost use Rattle.vs_tree.specs.Search.{state};
 ghost use Rattle.vs_tree.specs.Takes.{IsOver};
-ghost use Rattle.vs_instance.specs.declared.limits.TheConstants.{MAX_BUDGET, MAX_WORKERS};
+ghost use Rattle.vs_instance.specs.declared.limits.TheConstants.{MAX_BUDGET};
 ghost use Rattle.vs_node.specs.WorkedHistory.{AreWorked};
 ghost use Rattle.mdvsp.specs.Answered.{IsOwedFor, IsDocumentOf};
 ghost use Rattle.vs_reply.specs.Cases.{input_limit};
@@ -12,8 +12,8 @@ ghost use Rattle.vs_reply.specs.Status.{status_of};
 ghost use Rattle.mdvsp.specs.SolveAnswer.{BeginsFor};
 ghost use Rattle.vs_words.specs.Words.{IsWithinLimits};
 
-use crate::budget::budget_of;
 use crate::crew::Crew;
+use crate::searchable::{Searchable, read_to_search};
 use std::alloc::Global;
 use std::sync::Wait;
 use std::thread::Threads;
@@ -21,76 +21,58 @@ use vs_cert::write;
 use vs_crew::Gate;
 use vs_instance::Instance;
 use vs_plan::greedy;
-use vs_reader::{Timetable, read_instance};
+use vs_reader::Timetable;
 use vs_reply::{Answer, Status};
 use vs_tree::{Claim, Tree};
 use vs_types::Memory;
 use vs_words::{Command, Effort};
 
-/// What `solve` answers for the bytes of an instance, whatever follows its records, with this effort.
-pub fn answer_solve<R: Threads + Wait + Sync, G: Gate + Sync>(
-    rt: &R,
-    alloc: Global,
-    effort: Effort,
-    bytes: &[u8],
-    gate: &G,
-) -> Result<Answer, Memory>
-    requires bytes { length bytes.now ≤ input_limit }
-    requires effort { IsWithinLimits (Command.Solve effort) }
-    ensures { IfOk result (IsOwedFor (Command.Solve effort) bytes.now) }
-{
-    match read_instance(alloc, bytes) {
-        Ok(timetable) => match budget_of(&timetable.instance, effort.nodes) {
-            Some(budget) => plan_of(rt, alloc, &timetable, budget, effort.workers, gate),
-            None => Answer::too_large(alloc),
-        },
-        Err(error) => Answer::no_instance(alloc, error),
+impl<'a, R: Threads + Wait + Sync, G: Gate + Sync> Crew<'a, R, G> {
+    /// What `solve` answers for the bytes of an instance, whatever follows its records, with this effort.
+    pub fn solve(&self, alloc: Global, effort: Effort, bytes: &[u8]) -> Result<Answer, Memory>
+        requires bytes { length bytes.now ≤ input_limit }
+        requires effort { IsWithinLimits (Command.Solve effort) }
+        requires workers { self.now.workers ≡ effort.workers }
+        ensures { IfOk result (IsOwedFor (Command.Solve effort) bytes.now) }
+    {
+        match read_to_search(alloc, effort, bytes)? {
+            Searchable::With(timetable, budget) => self.plan(alloc, &timetable, budget),
+            Searchable::Not(answer) => Ok(answer),
+        }
     }
-}
 
-/// The answer for an instance that was read, by a search with this budget that so many workers share.
-pub fn plan_of<R: Threads + Wait + Sync, G: Gate + Sync>(
-    rt: &R,
-    alloc: Global,
-    timetable: &Timetable,
-    budget: u32,
-    workers: u32,
-    gate: &G,
-) -> Result<Answer, Memory>
-    requires counts { HaveCounts timetable.now.instance timetable.now.names }
-    requires budget { budget ≤ MAX_BUDGET }
-    requires some_workers { 1 ≤ workers }
-    requires few_workers { workers ≤ MAX_WORKERS }
-    ensures { IfOk result (IsDocumentOf timetable.now.instance timetable.now.names budget workers) }
-{
-    let tree = searched(rt, alloc, &timetable.instance, budget, workers, gate)?;
-    let _instance = tree.instance();
-    let text = write(alloc, &tree, &timetable.names)?;
-    Ok(Answer {
-        status: claim_status(tree.report().claim),
-        text,
-    })
-}
+    /// The answer for an instance that was read, by a search with this budget.
+    pub fn plan(&self, alloc: Global, timetable: &Timetable, budget: u32) -> Result<Answer, Memory>
+        requires counts { HaveCounts timetable.now.instance timetable.now.names }
+        requires budget { budget ≤ MAX_BUDGET }
+        ensures { IfOk result
+            (IsDocumentOf timetable.now.instance timetable.now.names budget self.now.workers) }
+    {
+        let tree = self.search_anew(alloc, &timetable.instance, budget)?;
+        let _instance = tree.instance();
+        let text = write(alloc, &tree, &timetable.names)?;
+        Ok(Answer {
+            status: claim_status(tree.report().claim),
+            text,
+        })
+    }
 
-/// A search of the instance by so many workers that begins with the greedy rule's plan, once it is over.
-pub fn searched<R: Threads + Wait + Sync, G: Gate + Sync>(
-    rt: &R,
-    alloc: Global,
-    instance: &Instance,
-    budget: u32,
-    workers: u32,
-    gate: &G,
-) -> Result<Tree, Memory>
-    requires budget { budget ≤ MAX_BUDGET }
-    requires some_workers { 1 ≤ workers }
-    requires few_workers { workers ≤ MAX_WORKERS }
-    ensures begins { IfOk result (λ tree. BeginsFor instance.now budget workers tree.opening) }
-    ensures worked { IfOk result (λ tree. AreWorked tree.opening tree.steps) }
-    ensures over { IfOk result (λ tree. IsOver tree.opening (state tree)) }
-{
-    let first = greedy(alloc, instance)?;
-    let crew = Crew { rt, gate, workers };
-    crew.search(alloc, instance, budget, first)
+    /// A search of the instance that begins with the greedy rule's plan, once it is over.
+    pub fn search_anew(
+        &self,
+        alloc: Global,
+        instance: &Instance,
+        budget: u32,
+    ) -> Result<Tree, Memory>
+        requires budget { budget ≤ MAX_BUDGET }
+        ensures begins { IfOk result (λ tree.
+            BeginsFor instance.now budget self.now.workers tree.opening) }
+        ensures worked { IfOk result (λ tree. AreWorked tree.opening tree.steps) }
+        ensures over { IfOk result (λ tree. IsOver tree.opening (state tree)) }
+    {
+        let first = greedy(alloc, instance)?;
+        self.search(alloc, instance, budget, first)
+    }
 }
 
 /// The status that goes with a claim.

@@ -9,7 +9,7 @@ ghost use Rattle.mdvsp.specs.Answered.{AreWritten, IsOwedFor, IsReadOf};
 ghost use Rattle.vs_reply.specs.Cases.{CheckText, input_limit};
 ghost use Rattle.mdvsp.specs.Owed.{trial_row};
 
-use crate::solving::plan_of;
+use crate::crew::Crew;
 use std::alloc::Global;
 use std::sync::Wait;
 use std::thread::Threads;
@@ -57,7 +57,9 @@ fn trial_of<R: Threads + Wait + Sync, G: Gate + Sync>(
     ensures { (bytes : List ℕ) → IfOk result (IsOwedFor (Command.Trial n) bytes) }
 {
     let timetable = read_made(alloc, n, made)?;
-    let planned = plan_of(rt, alloc, &timetable, TRIAL_NODES, TRIAL_WORKERS, gate)?;
+    let workers = TRIAL_WORKERS;
+    let crew = Crew { rt, gate, workers };
+    let planned = crew.plan(alloc, &timetable, TRIAL_NODES)?;
     let document = read_back(alloc, made, &planned.text)?;
     let text = summary(alloc, n, &document)?;
     Ok(Answer {

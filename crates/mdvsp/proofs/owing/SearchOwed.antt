@@ -5,14 +5,13 @@ use Rattle.vs_instance.specs.Problem.{Problem}
 use Rattle.vs_cases.specs.declared.claim.Claim.{Claim}
 use Rattle.vs_cases.specs.declared.claim.Claim.TheVariants.{Optimal, Infeasible, StillOpen}
 use Rattle.vs_reader.specs.Names.{NameLists}
-use Rattle.vs_reader.specs.Rows.{Row, lines}
+use Rattle.vs_reader.specs.Rows.{Row}
 use Rattle.vs_rows.specs.DocumentRows.{document_rows}
 use Rattle.vs_check.proofs.CallerLemmas.{prove_their_claims}
 use Rattle.vs_report.specs.RefusalRows.{refusal_row, too_large_row}
 use Rattle.vs_reply.specs.declared.answer.Answer.{Answer}
-use Rattle.vs_reply.specs.declared.status.Status.{Status}
 use Rattle.vs_reply.specs.declared.status.Status.TheVariants as status
-use Rattle.vs_reply.specs.Answered.{IsTextOf, RefusesText}
+use Rattle.vs_reply.specs.Answered.{RefusesText, TellsRow}
 use Rattle.vs_reply.specs.Cases.{SolveText}
 use Rattle.vs_reply.specs.Status.{status_of}
 use Rattle.vs_reply.proofs.CallerLemmas.{owed_so}
@@ -20,30 +19,32 @@ use Rattle.vs_words.specs.declared.command.Effort.{Effort}
 use Rattle.vs_words.specs.declared.command.Command.TheVariants.{Solve}
 use Rattle.mdvsp.specs.Answered.{IsDocumentOf, IsOwedFor}
 use Rattle.mdvsp.specs.Budgets.{budget_of}
-use Rattle.mdvsp.specs.Owed.{OwesDocument, OwesNoSearch, SolveOwes}
+use Rattle.mdvsp.specs.Owed.{OwesDocument, SolveOwes}
+use Rattle.mdvsp.specs.Searching.{IsNoSearch}
 
--- what searches refuse, where that is owed
-module _ (effort : Effort) (bytes : List ℕ) (owes : Status → List Row → Type 0)
-    (refuses : (rows : List Row) → OwesNoSearch effort bytes rows → owes status.BadInput rows) where
-  -- a text that is refused is owed its refusal
-  pub refusal_owed : (r : Result Answer Memory) → IfOk r (RefusesText bytes) → IfOk r (IsTextOf owes)
-  refusal_owed (Ok a) says =
-      owed_so owes a status.BadInput (refusal_row says.refused ∷ [])
-      (refuses (refusal_row says.refused ∷ [])
-      (inl (record { refused = says.refused; is_refused = says.is_refused; rows_are = refl }))) says.status_is
-      says.text_is
-  refusal_owed (Err m) says = tt
+module _ (effort : Effort) (bytes : List ℕ) (a : Answer) where
+  -- a text that is refused gives nothing to search
+  pub refusal_searched : RefusesText bytes a → IsNoSearch effort bytes a
+  refusal_searched says = record {
+    rows = refusal_row says.refused ∷ [];
+    owed = inl (record { refused = says.refused; is_refused = says.is_refused; rows_are = refl });
+    status_is = says.status_is;
+    text_is = says.text_is;
+  }
 
-  -- and so is a search of too many nodes
-  pub too_large_owed : (p : Problem) (names : NameLists) (r : Result Answer Memory) → SolveText bytes p names
-      → budget_of p effort.nodes ≡ None
-      → IfOk r (λ a. (a.status ≡ status.BadInput) × (a.text.items ≡ lines (too_large_row ∷ [])))
-      → IfOk r (IsTextOf owes)
-  too_large_owed p names (Ok a) text none says =
-      owed_so owes a status.BadInput (too_large_row ∷ [])
-      (refuses (too_large_row ∷ [])
-      (inr (record { problem = p; names = names; text = text; too_large = none; rows_are = refl }))) says.0 says.1
-  too_large_owed p names (Err m) text none says = tt
+  -- and neither does an instance for which so many nodes are too many
+  pub too_large_searched : (p : Problem) (names : NameLists) → SolveText bytes p names → budget_of p effort.nodes ≡ None
+      → TellsRow status.BadInput too_large_row a → IsNoSearch effort bytes a
+  too_large_searched p names text none says = record {
+    rows = too_large_row ∷ [];
+    owed = inr (record { problem = p; names = names; text = text; too_large = none; rows_are = refl });
+    status_is = says.0;
+    text_is = says.1;
+  }
+
+  -- what is answered then is owed by `solve`
+  pub no_search_owed : IsNoSearch effort bytes a → IsOwedFor (Solve effort) bytes a
+  no_search_owed denied = owed_so (SolveOwes effort bytes) a status.BadInput denied.rows denied.owed denied.status_is denied.text_is
 
 -- a document with its claim's status is what solve owes
 solve_owes : (effort : Effort) (bytes : List ℕ) (claim : Claim) (rows : List Row)

@@ -7,6 +7,7 @@ use Rattle.vs_cases.specs.declared.claim.Claim.TheVariants.{Optimal, Infeasible,
 use Rattle.vs_reader.specs.Names.{NameLists}
 use Rattle.vs_reader.specs.Rows.{Row}
 use Rattle.vs_reply.specs.declared.answer.Answer.{Answer}
+use Rattle.vs_reply.specs.declared.status.Status.TheVariants.{BadInput}
 use Rattle.vs_reply.specs.Cases.{SolveText}
 use Rattle.vs_reply.specs.Status.{status_of}
 use Rattle.vs_reply.proofs.CallerLemmas.{owed_so}
@@ -16,6 +17,13 @@ use Rattle.vs_words.specs.declared.command.Command.TheVariants.{Trace}
 use Rattle.mdvsp.specs.Answered.{IsOwedFor, IsTraceOf}
 use Rattle.mdvsp.specs.Budgets.{budget_of}
 use Rattle.mdvsp.specs.Owed.{OwesTrace, TraceOwes}
+use Rattle.mdvsp.specs.Searching.{IsNoSearch}
+
+-- what is answered where nothing can be searched is owed
+pub no_trace_owed : (effort : Effort) (bytes : List ℕ) (a : Answer) → IsNoSearch effort bytes a
+    → IsOwedFor (Trace effort) bytes a
+no_trace_owed effort bytes a denied =
+    owed_so (TraceOwes effort bytes) a BadInput denied.rows denied.owed denied.status_is denied.text_is
 
 -- a trace with the status of its report is what trace owes
 trace_owes : (effort : Effort) (bytes : List ℕ) (claim : Claim) (rows : List Row)

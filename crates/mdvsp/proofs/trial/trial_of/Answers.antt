@@ -4,8 +4,8 @@ use Rattle.mdvsp.specs.Answered.{AreWritten, IsReadOf}
 use Rattle.mdvsp.proofs.owing.TrialOwed.{planned_written, trial_owed}
 use Rattle.mdvsp.proofs.trial.trial_of.Goals as goal
 
-pub plan_of-requires-clause-counts : goal.plan_of-requires-clause-counts
-plan_of-requires-clause-counts g c lifetimes outlive =
+pub plan-requires-clause-counts : goal.plan-requires-clause-counts
+plan-requires-clause-counts g c lifetimes outlive =
     let timetable = c.in_ok-timetable.timetable in
     let whole = c.in_ok-timetable.ensures in
     stands_counts c.args.made.now timetable.instance timetable.names whole.before [] whole.stands

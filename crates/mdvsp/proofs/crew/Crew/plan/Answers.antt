@@ -5,7 +5,7 @@ use Rattle.vs_tree.specs.Search.{state}
 use Rattle.vs_rows.specs.DocumentRows.{document_rows}
 use Rattle.vs_reply.specs.Status.{status_of}
 use Rattle.mdvsp.proofs.SearchAnswers.{one_claim, search_answers}
-use Rattle.mdvsp.proofs.solving.plan_of.Goals as goal
+use Rattle.mdvsp.proofs.crew.Crew.plan.Goals as goal
 
 pub returns : goal.returns
 returns g c =
@@ -15,7 +15,7 @@ returns g c =
     let text = c.in_ok-text.ensures in
     record {
       document = text.document;
-      solves = search_answers c.args.timetable.now.instance c.args.budget c.args.workers t.opening t.steps text.document
+      solves = search_answers c.args.timetable.now.instance c.args.budget c.args.self.now.workers t.opening t.steps text.document
           (record {
             begins = made.begins;
             is_opening = known.opening;

@@ -7,7 +7,7 @@ use Rattle.vs_tree.specs.Report.{IsReport}
 use Rattle.vs_tree.specs.Search.{state}
 use Rattle.mdvsp.proofs.SearchAnswers.{search_answers}
 use Rattle.mdvsp.specs.SolveAnswer.{IsSearchOf}
-use Rattle.mdvsp.proofs.tracing.trace_of.Goals as goal
+use Rattle.mdvsp.proofs.crew.Crew.tell.Goals as goal
 
 pub write-requires : goal.write-requires
 write-requires g c =
@@ -21,7 +21,7 @@ returns g c =
     let ensured = c.in_ok-tree.ensures in
     let known = c.instance-instance.ensures in
     let r = c.report.result in
-    let made : IsSearchOf p c.args.budget c.args.workers t.opening t.steps = record {
+    let made : IsSearchOf p c.args.budget c.args.self.now.workers t.opening t.steps = record {
       begins = ensured.begins;
       is_opening = known.opening;
       history = known.history;
@@ -39,7 +39,7 @@ returns g c =
         proves = subst (λ (x : Problem). IsTrueClaim x (state t) r r.claim) ensured.begins.problem
             (c.reports_are_true.ensures t.opening t.steps r known.opening known.history c.report.ensures);
         documents = λ d text of_state.
-            search_answers p c.args.budget c.args.workers t.opening t.steps d made of_state
+            search_answers p c.args.budget c.args.self.now.workers t.opening t.steps d made of_state
             (subst (λ (x : Problem). HasText x d) (sym ensured.begins.problem) text);
       };
       status_is = c.claim_status.ensures;
