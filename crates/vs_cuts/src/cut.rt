@@ -1,7 +1,8 @@
 //! Circulations that a layer found, each as what it costs and which trips it runs.
 
+use crate::trip_list::TripList;
 use crate::trip_set::TripSet;
-use crate::whole::{WHOLE, fitting, part_of};
+use crate::whole::{WHOLE, fitting, part_of, small_part_of};
 use std::alloc::Global;
 use vs_types::Memory;
 
@@ -9,7 +10,7 @@ use vs_types::Memory;
 #[derive(Drop)]
 pub(crate) enum Runs {
     /// The trips of one circulation.
-    Trips(TripSet),
+    Trips(TripList),
     /// By trip: which part several circulations run together, in parts of a whole trip.
     Shares(Vec<i64>),
 }
@@ -26,7 +27,7 @@ impl Cut {
     /// The circulation that runs no trip.
     pub fn new(alloc: Global, trips: usize) -> Result<Cut, Memory> {
         Ok(Cut {
-            runs: Runs::Trips(TripSet::new(alloc, trips)?),
+            runs: Runs::Trips(TripList::new(alloc, trips)?),
             cost: 0,
         })
     }
@@ -86,6 +87,14 @@ impl Cut {
         }
     }
 
+    /// How much is lacking of its trips, where this is lacking of each.
+    pub fn lack(&self, lacks: &[i64]) -> i64 {
+        match &self.runs {
+            Runs::Trips(trips) => trips.sum(lacks),
+            Runs::Shares(shares) => lack_by(shares, lacks),
+        }
+    }
+
     /// Takes so much off the numbers of its trips.
     pub fn lower(&self, amount: i64, numbers: &mut [i64]) {
         match &self.runs {
@@ -114,10 +123,19 @@ fn sum_by(shares: &[i64], numbers: &[i64]) -> i64 {
     sum
 }
 
+/// How much is lacking of all trips, each by its share.
+fn lack_by(shares: &[i64], lacks: &[i64]) -> i64 {
+    let mut lack: i64 = 0;
+    for (share, own) in shares.iter().zip(lacks) {
+        lack = lack.wrapping_add(small_part_of(*own, *share));
+    }
+    lack
+}
+
 /// Takes so much off each number, by its trip's share.
 fn lower_by(shares: &[i64], amount: i64, numbers: &mut [i64]) {
     for (share, number) in shares.iter().zip(numbers.iter_mut()) {
-        *number = number.saturating_sub(part_of(amount, *share));
+        *number = number.wrapping_sub(small_part_of(amount, *share));
     }
 }
 

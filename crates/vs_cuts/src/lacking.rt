@@ -34,10 +34,7 @@ impl Lacking {
 
     /// Takes what is lacking of the free trips.
     pub fn take_free(&mut self) {
-        let free = &self.free;
-        for (i, (lack, own)) in self.of_all.iter().zip(self.of_free.iter_mut()).enumerate() {
-            *own = if free.has(i) { *lack } else { 0 };
-        }
+        self.free.copy_in(&self.of_all, &mut self.of_free);
     }
 
     /// How much is lacking of a trip.

@@ -61,7 +61,7 @@ impl LayerCuts {
     pub fn set_slopes(&mut self, lacks: &[i64]) {
         for (standing, cut) in self.standings.iter_mut().zip(&self.cuts) {
             if standing.held {
-                standing.slope = cut.sum(lacks);
+                standing.slope = cut.lack(lacks);
             }
         }
     }

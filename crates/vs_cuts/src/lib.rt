@@ -10,6 +10,7 @@ mod keeping;
 mod lacking;
 mod layer_cuts;
 mod standing;
+mod trip_list;
 mod trip_set;
 mod weights;
 mod whole;

@@ -1,6 +1,9 @@
 //! How cuts stand.
 
-use crate::whole::part_of;
+use crate::whole::{part_of, small_part_of};
+
+/// A step shorter than this times a slope keeps within 64 bits: at most 2^35 parts are lacking of all trips together.
+const SHORT: i64 = 1 << 26;
 
 /// How a cut stands.
 #[derive(Clone, Copy)]
@@ -58,12 +61,17 @@ impl Standing {
 
     /// How high it stands: its error, less what a step along what is lacking of its trips gains.
     pub fn height(&self, step: i64) -> i64 {
-        self.error.saturating_sub(part_of(step, self.slope))
+        let gain = if step < SHORT {
+            small_part_of(step, self.slope)
+        } else {
+            part_of(step, self.slope)
+        };
+        self.error.wrapping_sub(gain)
     }
 
     /// So much more is lacking of its free trips.
     pub fn tilt(&mut self, more: i64) {
-        self.slope = self.slope.saturating_add(more);
+        self.slope = self.slope.wrapping_add(more);
     }
 
     /// Counts a round, for which it has had no weight or has some.

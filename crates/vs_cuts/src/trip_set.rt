@@ -1,6 +1,5 @@
 //! Sets of trips.
 
-use crate::whole::fitting;
 use std::alloc::Global;
 use vs_types::Memory;
 
@@ -62,33 +61,15 @@ impl TripSet {
         i64::from(count)
     }
 
-    /// The sum of its trips' numbers.
-    pub fn sum(&self, numbers: &[i64]) -> i64 {
-        let mut sum: i64 = 0;
-        for (word, chunk) in self.words.iter().zip(numbers.chunks(BITS)) {
-            sum = sum.saturating_add(sum_in(*word, chunk));
-        }
-        sum
-    }
-
-    /// The sum of the numbers of those of its trips that stand among these.
-    pub fn sum_among(&self, among: &TripSet, numbers: &[i64]) -> i64 {
-        let mut sum: i64 = 0;
-        for ((a, b), chunk) in self
+    /// Copies the numbers of its trips, and 0 for the others.
+    pub fn copy_in(&self, numbers: &[i64], copies: &mut [i64]) {
+        for ((word, numbers), copies) in self
             .words
             .iter()
-            .zip(&among.words)
             .zip(numbers.chunks(BITS))
+            .zip(copies.chunks_mut(BITS))
         {
-            sum = sum.saturating_add(sum_in(*a & *b, chunk));
-        }
-        sum
-    }
-
-    /// Takes so much off the numbers of its trips.
-    pub fn lower(&self, amount: i64, numbers: &mut [i64]) {
-        for (word, chunk) in self.words.iter().zip(numbers.chunks_mut(BITS)) {
-            lower_in(*word, amount, chunk);
+            copy_chunk(*word, numbers, copies);
         }
     }
 }
@@ -109,27 +90,9 @@ fn word_of(marks: &[bool]) -> u64 {
     word
 }
 
-/// The sum of the numbers of a chunk whose bits are set. So few of them add up within 128 bits. To stop at what fits 64
-/// at the end alone spares a branch on each one's sign.
-fn sum_in(word: u64, numbers: &[i64]) -> i64 {
-    let mut sum: i128 = 0;
-    let mut left = word;
-    for _done in 0..word.count_ones() {
-        let b = left.trailing_zeros() as usize;
-        sum += i128::from(numbers.get(b).copied().unwrap_or(0));
-        left &= left.wrapping_sub(1);
-    }
-    fitting(sum)
-}
-
-/// Takes so much off the numbers of a chunk whose bits are set.
-fn lower_in(word: u64, amount: i64, numbers: &mut [i64]) {
-    let mut left = word;
-    for _ in 0..word.count_ones() {
-        let b = left.trailing_zeros() as usize;
-        if let Some(number) = numbers.get_mut(b) {
-            *number = number.saturating_sub(amount);
-        }
-        left &= left.wrapping_sub(1);
+/// Copies the numbers of a chunk whose bits are set, and 0 for the others.
+fn copy_chunk(word: u64, numbers: &[i64], copies: &mut [i64]) {
+    for (b, (number, copy)) in numbers.iter().zip(copies.iter_mut()).enumerate() {
+        *copy = if is_set(word, b) { *number } else { 0 };
     }
 }

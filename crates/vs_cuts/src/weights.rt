@@ -3,7 +3,7 @@
 use crate::bundle::Bundle;
 use crate::layer_cuts::LayerCuts;
 use crate::standing::Standing;
-use crate::whole::{WHOLE, fitting, part_of};
+use crate::whole::{WHOLE, fitting, part_of, small_part_of};
 
 /// How often all layers move weights at most: the last sweeps gain next to nothing.
 const SWEEPS: u32 = 60;
@@ -189,11 +189,17 @@ impl LayerCuts {
 
 /// Changes how much is lacking of the trips of each cut of a layer, where so much weight goes from the cut that has the
 /// first products to the one that has the others. Gives the peaks that are then.
+///
+/// It is the innermost loop of a climb. It has a call of its own, since where it stood among all that calls it its numbers
+/// wouldn't find room in registers.
+#[inline(never)]
 fn tilt(standings: &mut [Standing], left: &[i64], taken: &[i64], amount: i64, step: i64) -> Peaks {
     let mut peaks = Peaks::none();
-    for (place, ((standing, a), b)) in standings.iter_mut().zip(left).zip(taken).enumerate() {
+    let count = standings.len().min(left.len()).min(taken.len());
+    for place in 0..count {
+        let standing = &mut standings[place];
         if standing.held {
-            standing.tilt(part_of(a.saturating_sub(*b), amount));
+            standing.tilt(small_part_of(left[place].wrapping_sub(taken[place]), amount));
             peaks.see(place, standing, step);
         }
     }
