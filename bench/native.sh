@@ -1,7 +1,8 @@
 #!/usr/bin/env bash
 # Times `bin/mdvsp solve --workers 1 --nodes NODES` (1 by default) beside the same search in plain Rust whose paths are found by
 # a program laid out by hand (bench/native). Both plan the same instances by turns, RUNS times each (5 by default), and it prints
-# the middle one of the seconds of the processor and the two divided, in hundredths. Plans and bounds are compared first.
+# the middle one and the least of the seconds of the processor, and the two programs' divided, in hundredths. On a machine whose
+# host lends its processors out the least of many runs is the better measure. Plans and bounds are compared first.
 # Where valgrind is installed it prints the instructions of both for `make 100` and 200 trips in 8 depots, which don't depend on
 # what else the machine does. It asserts nothing of speed. Build bin/mdvsp before. It needs rustc.
 #
@@ -31,10 +32,13 @@ seconds_of() {
   local TIMEFORMAT=%U
   { time "$@" > "$work/answer" 2> /dev/null; } 2>&1
 }
-middle_of() { sort -n | sed -n "$(((runs + 1) / 2))p"; }
+middle_of() { sort -n "$1" | sed -n "$(((runs + 1) / 2))p"; }
+least_of() { sort -n "$1" | head -n 1; }
+# two numbers of seconds, and the hundredths that the first is of the other
+beside() { awk -v a="$1" -v b="$2" 'BEGIN { printf " %s | %s | %d |", a, b, 100 * a / b + 0.5 }'; }
 
-echo "| instance | mdvsp | native | hundredths |"
-echo "|---|---|---|---|"
+echo "| instance | mdvsp, middle | native | hundredths | mdvsp, least | native | hundredths |"
+echo "|---|---|---|---|---|---|---|"
 for instance in "make 100" "make 300" "make 1000" "make 2000" "four layers" "4 depots" "8 depots"; do
   file="$work/$instance"
   ours=$(by_mdvsp "$file" | sed -n 's/^\(cost\|bound\),//p' | tr '\n' ' ')
@@ -46,9 +50,9 @@ for instance in "make 100" "make 300" "make 1000" "make 2000" "four layers" "4 d
     seconds_of by_mdvsp "$file" >> "$work/ours"
     seconds_of by_native "$file" >> "$work/theirs"
   done
-  a=$(middle_of < "$work/ours")
-  b=$(middle_of < "$work/theirs")
-  awk -v i="$instance" -v a="$a" -v b="$b" 'BEGIN { printf "| %s | %s | %s | %d |\n", i, a, b, 100 * a / b + 0.5 }'
+  echo "| $instance |$(beside "$(middle_of "$work/ours")" "$(middle_of "$work/theirs")")$(
+    beside "$(least_of "$work/ours")" "$(least_of "$work/theirs")"
+  )"
 done
 if command -v valgrind > /dev/null; then
   # a copy of much memory counts as one instruction where the C library uses `rep movsb`
