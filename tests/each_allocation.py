@@ -5,7 +5,7 @@ back then.
 
     tests/each_allocation.py [PROGRAM [MEETING]]
 
-PROGRAM is bin/mdvsp, or what the gate built, where it isn't given. MEETING is the program of crates/trial_meeting,
+PROGRAM is bin/mdvsp, or what the gate built, where it isn't given. MEETING is the program of crates/test_meeting,
 which has a crew share a search whose root is split, and prints what the crew made of it; where it isn't given, the one
 that was built, if any. A small C library (tests/refuse_nth.c, built by gcc or another C compiler) is preloaded, which
 refuses the call of a number. Each number is tried twice: that call alone is refused, and it and all later ones are.
@@ -100,7 +100,7 @@ def meeting():
     """The program whose crew is tried: the one that was named, else the one that was built; nothing where none was."""
     if len(sys.argv) > 2:
         return os.path.abspath(sys.argv[2])
-    path = os.path.join(TOP, "crates/trial_meeting/out/trial_meeting")
+    path = os.path.join(TOP, "crates/test_meeting/out/test_meeting")
     return path if os.access(path, os.X_OK) else None
 
 
@@ -327,7 +327,7 @@ def main():
         if of_crew:
             wrong += crews_tried(Trial(of_crew, room, refusing, MEETING_SECONDS))
         else:
-            print("a crew of two workers: crates/trial_meeting isn't built, so none is tried")
+            print("a crew of two workers: crates/test_meeting isn't built, so none is tried")
     return 1 if wrong else 0
 
 
