@@ -15,7 +15,6 @@ macro_rules! vec {
 mod finding;
 mod prelude;
 mod vs_bundle;
-mod vs_cases;
 mod vs_circ;
 mod vs_connect;
 mod vs_cuts;
@@ -27,7 +26,6 @@ mod vs_multi;
 mod vs_node;
 mod vs_path;
 mod vs_penalty;
-mod vs_ray;
 mod vs_plan;
 mod vs_prices;
 mod vs_queue;

@@ -17,8 +17,8 @@ import sys
 
 HERE = os.path.dirname(os.path.abspath(__file__))
 CRATES = os.path.join(HERE, "..", "..", "crates")
-SEARCH = """vs_types vs_instance vs_connect vs_plan vs_prices vs_layer vs_match vs_cases vs_queue vs_path vs_ship
-    vs_circ vs_decomp vs_multi vs_cuts vs_bundle vs_tree vs_node vs_ray vs_penalty""".split()
+SEARCH = """vs_types vs_instance vs_connect vs_plan vs_prices vs_layer vs_match vs_queue vs_path vs_ship
+    vs_circ vs_decomp vs_multi vs_cuts vs_bundle vs_tree vs_node vs_penalty""".split()
 
 CLAUSE = re.compile(r"\b(?:requires|ensures)\b(?: \*)?(?: \w+)?\s*\{")
 GHOST_FIELD = re.compile(r"\bghost \w+: \{")

@@ -13,7 +13,7 @@ use Rattle.vs_prices.specs.declared.table.Table.{Table}
 use Rattle.vs_tree.specs.History.{FullStep, Opening, Took, Split, Closed, Offered, GaveBack, IsHeldBy, IsHistory, MayCome, first_state, plans_of, state_of}
 use Rattle.vs_tree.specs.Prices.{Prices, prices_of, zero_prices}
 use Rattle.vs_tree.specs.StateTree.{IsTreeOf}
-use Rattle.vs_cases.specs.Tree as tree
+use Rattle.vs_prices.specs.Tree as tree
 use Rattle.vs_cert.specs.StateDocument.{IsDocumentOf, first_times, known_blocks, tables_named}
 use Rattle.vs_cert.specs.TreeText.{prices_of_number}
 use Rattle.vs_rows.specs.declared.document.Document.{Document}

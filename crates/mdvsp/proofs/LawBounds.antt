@@ -8,11 +8,11 @@ use Rattle.vs_instance.specs.Problem.{Problem}
 use Rattle.vs_instance.specs.Restriction.{permitted_sets}
 use Rattle.vs_prices.specs.declared.bound.Bound.{Bound}
 use Rattle.vs_prices.specs.declared.bound.Bound.TheVariants.{AtLeast, NoPlan}
-use Rattle.vs_cases.specs.declared.claim.Claim.{Claim}
-use Rattle.vs_cases.specs.declared.claim.Claim.TheVariants.{Optimal, StillOpen}
+use Rattle.vs_prices.specs.declared.claim.Claim.{Claim}
+use Rattle.vs_prices.specs.declared.claim.Claim.TheVariants.{Optimal, StillOpen}
 use Rattle.vs_rows.specs.declared.document.Document.{Document}
 use Rattle.vs_prices.specs.declared.table.Table.{Table}
-use Rattle.vs_cases.specs.Claims.{claim_found}
+use Rattle.vs_prices.specs.Claims.{claim_found}
 use Rattle.vs_prices.specs.Worth.{IsWorth}
 use Rattle.vs_words.specs.declared.command.Effort.{Effort}
 use Rattle.vs_reply.specs.declared.status.Status.{Status}
@@ -21,8 +21,8 @@ use Rattle.mdvsp.specs.Laws.{IsDoneWhereShown}
 use Rattle.vs_reply.specs.Status.{status_of}
 use Rattle.mdvsp.specs.Owed.{OwesDocument}
 use Rattle.vs_reader.specs.Rows.{Row}
-use Rattle.vs_cases.specs.Tree.{Tree, Leaf, Split, LeafPlace, leaves, splits}
-use Rattle.vs_answer.specs.Answers.{AreWorths, IsAnswer, IsBoundOf}
+use Rattle.vs_prices.specs.Tree.{Tree, Leaf, Split, LeafPlace, leaves, splits}
+use Rattle.vs_cert.specs.Answers.{AreWorths, IsAnswer, IsBoundOf}
 use Rattle.mdvsp.specs.Budgets.{budget_of}
 use Rattle.mdvsp.specs.SolveAnswer.{SolveAnswer}
 use Rattle.mdvsp.proofs.once.SearchesAgree.{optimal_from}

@@ -5,9 +5,9 @@ use Rattle.vs_reader.specs.Names.{NameLists}
 use Rattle.vs_reader.specs.Rows.{Row, lines}
 use Rattle.vs_reader.specs.Texts.{EndsInLine, HasRows, StandsFor}
 use Rattle.vs_cert.specs.TreeText.{IsTextOf}
-use Rattle.vs_replays.specs.Owed.{ReplayOwes}
-use Rattle.vs_replays.specs.Room.{HasRoom}
-use Rattle.vs_replays.proofs.CallerLemmas.{written_traces_replay}
+use Rattle.vs_replay.specs.Owed.{ReplayOwes}
+use Rattle.vs_replay.specs.Room.{HasRoom}
+use Rattle.vs_replay.proofs.CallerLemmas.{written_traces_replay}
 use Rattle.vs_reply.specs.declared.status.Status.{Status}
 use Rattle.vs_reply.specs.declared.status.Status.TheVariants.{Done}
 use Rattle.vs_rows.specs.DocumentRows.{document_rows}

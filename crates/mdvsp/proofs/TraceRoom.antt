@@ -6,8 +6,8 @@ use Rattle.std.proofs.lemmas.Nat.{mul-le}
 use Rattle.vs_instance.specs.Instance.{IsInstance}
 use Rattle.vs_instance.specs.Problem.{Problem}
 use Rattle.vs_instance.specs.declared.limits.TheConstants.{MAX_BUDGET}
-use Rattle.vs_replays.specs.Room.{HasRoom}
-use Rattle.vs_replays.specs.declared.room.TheConstants.{MAX_ENTRIES}
+use Rattle.vs_replay.specs.Room.{HasRoom}
+use Rattle.vs_replay.specs.declared.room.TheConstants.{MAX_ENTRIES}
 use Rattle.mdvsp.specs.Budgets.{budget_of, default_budget, entries_of}
 use Rattle.mdvsp.specs.declared.budget.TheConstants.{DEFAULT_NODES}
 

@@ -19,7 +19,7 @@ use Rattle.vs_rows.specs.DocumentRows.{document_rows}
 use Rattle.vs_rows.specs.DocumentText.{HasText}
 use Rattle.vs_check.specs.HoldingDocument.{HoldingDocument}
 use Rattle.vs_document.specs.Alike.{AreAlike}
-use Rattle.vs_made.specs.Made.{IsWholeText}
+use Rattle.vs_make.specs.Made.{IsWholeText}
 use Rattle.vs_reader.specs.Names.{NameLists}
 use Rattle.vs_reader.specs.Rows.{lines}
 use Rattle.vs_resume.specs.Answers.{ResumeAnswer}

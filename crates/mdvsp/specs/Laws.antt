@@ -1,5 +1,5 @@
 -- What the answers of `solve` have to do with each other, and which commands owe one thing.
-use Rattle.std.specs.Prelude.{◌≡◌, ◌≢◌, ◌⊎◌, ℕ, false, List, [], ◌∷◌, MatchOption, IfSome, IsSomeAnd, None, ℤ, ◌≤ℤ◌}
+use Rattle.std.specs.Prelude.{◌≡◌, ◌≢◌, ◌⊎◌, ℕ, false, List, [], ◌∷◌, MatchOption, IfSome, IsSomeAnd, None, Option, ℤ, ◌≤ℤ◌}
 use Rattle.vs_instance.specs.Problem.{Problem}
 use Rattle.vs_instance.specs.Restriction.{permitted_sets}
 use Rattle.vs_plan.specs.Blocks.{blocks_of}
@@ -14,13 +14,17 @@ use Rattle.vs_reader.specs.Rows.{Row, lines}
 use Rattle.vs_rows.specs.DocumentRows.{document_rows}
 use Rattle.vs_cert.specs.StateDocument.{IsDocumentOf}
 use Rattle.vs_tree.specs.History.{FullStep, Opening, state_of}
+use Rattle.vs_tree.specs.declared.calls.Report.{Report}
 use Rattle.mdvsp.specs.SolveAnswer.{SolveAnswer}
 use Rattle.vs_words.specs.declared.command.Command.{Command}
+use Rattle.vs_words.specs.declared.command.Command.TheVariants as commands
 use Rattle.vs_words.specs.declared.command.Effort.{Effort}
-use Rattle.vs_words.specs.declared.command.Command.TheVariants.{Solve, Trial, Peak, Resume, Trace}
+use Rattle.vs_words.specs.declared.command.Search.{Search}
+use Rattle.vs_words.specs.declared.command.Search.TheVariants.{Solve, Trial, Resume, Trace}
+use Rattle.vs_words.specs.declared.command.Plain.TheVariants.{Peak}
 use Rattle.vs_reply.specs.declared.status.Status.{Status}
 use Rattle.vs_reply.specs.declared.status.Status.TheVariants as status
-use Rattle.mdvsp.specs.Owed.{OwesDocument}
+use Rattle.mdvsp.specs.Owed.{OwesDocument, OwesResumed, OwesTrace, OwesTrial}
 
 -- the document's plan is the greedy rule's, and it has none where that rule gets stuck
 abbrev pub HasGreedyPlan : Problem → Document → Type 0
@@ -49,12 +53,9 @@ pub record IsDoneWhereShown (effort : Effort) (bytes : List ℕ) (answer : Statu
 -- what the command owes is one thing; of `solve`, `trial`, `resume` and `trace` the definition leaves open which of
 -- several searches is made, and of `peak` which of several blocks and prices show a peak
 abbrev pub IsDetermined : Command → Type 0
-IsDetermined (Solve effort) = ⊥
-IsDetermined (Trial n) = ⊥
-IsDetermined Peak = ⊥
-IsDetermined (Resume effort) = ⊥
-IsDetermined (Trace effort) = ⊥
-IsDetermined _ = Unit {0}
+IsDetermined (commands.Search search) = ⊥
+IsDetermined (commands.Plain Peak) = ⊥
+IsDetermined (commands.Plain _) = Unit {0}
 
 -- the answer settles what plans there are
 abbrev pub IsSettled : Status → Type 0
@@ -75,9 +76,33 @@ pub record WritesAnswer (p : Problem) (names : NameLists) (budget workers : ℕ)
   pub solves : SolveAnswer p budget workers document
   pub lines_are : lines rows ≡ lines (document_rows p names document)
 
--- the bound of one answer isn't above the cost of the other
-abbrev pub NeverPasses : Document → Document → Type 0
-NeverPasses d e = IfSome d.bound (λ bound. IfSome e.cost (λ cost. bound ≤ℤ cost))
+-- what a search shows of an instance: what its plan costs, where it has one, and what no plan costs less than, where
+-- there is one
+pub record Shown : Type 0 where
+  pub cost : Option ℤ
+  pub bound : Option ℤ
+
+-- what a document prints, and what a search reports whose trace is written
+abbrev pub printed : Document → Shown
+printed d = record { cost = d.cost; bound = d.bound }
+
+abbrev pub reported : Report → Shown
+reported r = record { cost = r.cost; bound = r.bound }
+
+-- what is owed with this answer for these bytes shows so much of this instance
+abbrev pub Shows : Search → List ℕ → Status → List Row → Problem → Shown → Type 0
+Shows (Solve effort) bytes answer rows p shown =
+    (owed : OwesDocument effort bytes answer rows) × (owed.problem ≡ p) × (printed owed.document ≡ shown)
+Shows (Trial n) bytes answer rows p shown =
+    (owed : OwesTrial n answer rows) × (owed.problem ≡ p) × (printed owed.document ≡ shown)
+Shows (Resume effort) bytes answer rows p shown =
+    (owed : OwesResumed effort bytes answer rows) × (owed.problem ≡ p) × (printed owed.document ≡ shown)
+Shows (Trace effort) bytes answer rows p shown =
+    (owed : OwesTrace effort bytes answer rows) × (owed.problem ≡ p) × (reported owed.report ≡ shown)
+
+-- the bound of one search isn't above the cost of the other
+abbrev pub NeverPasses : Shown → Shown → Type 0
+NeverPasses x y = IfSome x.bound (λ bound. IfSome y.cost (λ cost. bound ≤ℤ cost))
 
 -- the second document's bound is no lower than the first one's, and its cost no higher: where the first one has no
 -- bound the second one has none, and where the first one has a cost the second one has one
@@ -87,6 +112,6 @@ pub record NeverFalls (d e : Document) : Type 0 where
 
 -- where one answer shows that its plan is optimal, the other doesn't show that there is none, and a plan that it shows
 -- to be optimal costs the same
-pub record NeverDisagree (a b : Status) (d e : Document) : Type 0 where
+pub record NeverDisagree (a b : Status) (x y : Shown) : Type 0 where
   pub never_both : a ≡ status.Done → b ≢ status.Infeasible
-  pub one_cost : a ≡ status.Done → b ≡ status.Done → d.cost ≡ e.cost
+  pub one_cost : a ≡ status.Done → b ≡ status.Done → x.cost ≡ y.cost

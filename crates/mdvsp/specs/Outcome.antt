@@ -1,7 +1,9 @@
 -- How a run may end: with what was read, and what was written.
 use Rattle.std.specs.Prelude.{◌≡◌, ℕ, ◌<◌, ◌≤◌, List, [], ◌∷◌, length, Option, ◌⊎◌}
 use Rattle.vs_words.specs.declared.command.Command.{Command}
-use Rattle.vs_words.specs.declared.command.Command.TheVariants.{Make, Solve, Trial, Resume, Trace}
+use Rattle.vs_words.specs.declared.command.Command.TheVariants as commands
+use Rattle.vs_words.specs.declared.command.Plain.TheVariants.{Make}
+use Rattle.vs_words.specs.declared.command.Search.TheVariants.{Trial}
 use Rattle.vs_io.specs.Bytes.{Takes, TakesAll, Appends, AppendsPrefix}
 use Rattle.vs_io.specs.Faults.{Rose}
 use Rattle.vs_io.specs.declared.slurping.SlurpError.{SlurpError}
@@ -10,7 +12,7 @@ use Rattle.vs_reply.specs.declared.status.Status.{Status}
 use Rattle.vs_reply.specs.declared.status.Status.TheVariants as status
 use Rattle.vs_reader.specs.Rows.{Row, lines}
 use Rattle.vs_words.specs.Words.{Word, AreBadAt, AskFor, AskToRead, Reads}
-use Rattle.vs_report.specs.RefusalRows.{words_row}
+use Rattle.vs_reply.specs.RefusalRows.{words_row}
 use Rattle.vs_reply.specs.Cases.{input_limit}
 use Rattle.mdvsp.specs.Owed.{Owes}
 
@@ -32,25 +34,9 @@ ReadNone left left_after bytes = (bytes ≡ []) × (left_after ≡ left)
 
 -- a command reads all bytes that are left, of which there may be so many; `make` and `trial` read none
 abbrev pub HasRead : Command → Told → Told → List ℕ → Type 0
-HasRead (Make n) left left_after bytes = ReadNone left left_after bytes
-HasRead (Trial n) left left_after bytes = ReadNone left left_after bytes
+HasRead (commands.Search (Trial n)) left left_after bytes = ReadNone left left_after bytes
+HasRead (commands.Plain (Make n)) left left_after bytes = ReadNone left left_after bytes
 HasRead _ left left_after bytes = TakesAll left left_after bytes × (length bytes ≤ input_limit)
-
--- the command is done without threads
-abbrev pub StartsNoThread : Command → Type 0
-StartsNoThread (Solve effort) = ⊥
-StartsNoThread (Trial n) = ⊥
-StartsNoThread (Resume effort) = ⊥
-StartsNoThread (Trace effort) = ⊥
-StartsNoThread _ = Unit {0}
-
--- the command searches, which threads may share
-abbrev pub Searches : Command → Type 0
-Searches (Solve effort) = Unit {0}
-Searches (Trial n) = Unit {0}
-Searches (Resume effort) = Unit {0}
-Searches (Trace effort) = Unit {0}
-Searches _ = ⊥
 
 -- why it couldn't, with the count of the source's faults before and after it
 abbrev pub CouldNotRead : Command → Told → Told → ℕ → ℕ → SlurpError → Type 0

@@ -10,13 +10,17 @@ use Rattle.vs_reply.specs.declared.status.Status.{Status}
 use Rattle.vs_reply.specs.declared.status.Status.TheVariants as status
 use Rattle.vs_reply.specs.Cases.{CheckText, SolveText}
 use Rattle.vs_reply.specs.Owed.{BlocksOwes, CheckOwes, MakeOwes, NetworkOwes, OwesNo, OwesNoCase, OwesRefusal, PeakCheckOwes}
-use Rattle.vs_peaks.specs.Owed.{PeakOwes}
-use Rattle.vs_replays.specs.Owed.{ReplayOwes}
+use Rattle.vs_peak.specs.Owed.{PeakOwes}
+use Rattle.vs_replay.specs.Owed.{ReplayOwes}
 use Rattle.vs_reply.specs.Status.{status_of}
-use Rattle.vs_report.specs.RefusalRows.{too_large_row}
+use Rattle.vs_reply.specs.RefusalRows.{too_large_row}
 use Rattle.vs_words.specs.declared.command.Command.{Command}
+use Rattle.vs_words.specs.declared.command.Command.TheVariants as commands
 use Rattle.vs_words.specs.declared.command.Effort.{Effort}
-use Rattle.vs_words.specs.declared.command.Command.TheVariants.{Check, Solve, Network, Blocks, Make, Trial, Peak, PeakCheck, Resume, Trace, Replay}
+use Rattle.vs_words.specs.declared.command.Plain.{Plain}
+use Rattle.vs_words.specs.declared.command.Plain.TheVariants.{Check, Network, Blocks, Make, Peak, PeakCheck, Replay}
+use Rattle.vs_words.specs.declared.command.Search.{Search}
+use Rattle.vs_words.specs.declared.command.Search.TheVariants.{Solve, Trial, Resume, Trace}
 use Rattle.vs_make.specs.Generator.{make_rows}
 use Rattle.vs_resume.specs.Answers.{ResumeAnswer}
 use Rattle.vs_trace.specs.TraceRows.{trace_text}
@@ -24,7 +28,6 @@ use Rattle.vs_tree.specs.History.{FullStep, Opening}
 use Rattle.vs_tree.specs.declared.calls.Report.{Report}
 use Rattle.mdvsp.specs.Budgets.{budget_of, resumed_budget}
 use Rattle.mdvsp.specs.SolveAnswer.{SolveAnswer, TraceAnswer}
-use Rattle.mdvsp.specs.declared.trial.TheConstants.{TRIAL_NODES, TRIAL_WORKERS}
 
 -- `solve` is owed a document that a search of the instance answers, made by as many workers as are asked for within the
 -- budget, and that proves what it claims, with the status of its claim
@@ -72,7 +75,7 @@ pub record OwesTrial (n : ℕ) (answer : Status) (rows : List Row) : Type 0 wher
   pub names : NameLists
   pub document : Document
   pub text : SolveText (lines (make_rows n)) problem names
-  pub solves : SolveAnswer problem TRIAL_NODES TRIAL_WORKERS document
+  pub solves : SolveAnswer problem 20 1 document
   pub proves : ProvesItsClaim problem document
   pub status_is : answer ≡ status_of document.claim
   pub rows_are : rows ≡ trial_row n document ∷ []
@@ -152,16 +155,23 @@ TraceOwes effort bytes status.StillOpen rows = OwesTrace effort bytes status.Sti
 TraceOwes effort bytes status.BadInput rows = OwesNoSearch effort bytes rows
 TraceOwes effort bytes _ rows = ⊥
 
--- what a command has to answer for the bytes that it read, and which rows it has to write
+-- what a command that searches has to answer for the bytes that it read, and which rows it has to write
+abbrev pub SearchOwes : Search → List ℕ → Status → List Row → Type 0
+SearchOwes (Solve effort) bytes = SolveOwes effort bytes
+SearchOwes (Trial n) bytes = TrialOwes n
+SearchOwes (Resume effort) bytes = ResumeOwes effort bytes
+SearchOwes (Trace effort) bytes = TraceOwes effort bytes
+
+-- and what another one has to
+abbrev pub PlainOwes : Plain → List ℕ → Status → List Row → Type 0
+PlainOwes Check bytes = CheckOwes bytes
+PlainOwes Network bytes = NetworkOwes bytes
+PlainOwes Blocks bytes = BlocksOwes bytes
+PlainOwes (Make n) bytes = MakeOwes n
+PlainOwes Peak bytes = PeakOwes bytes
+PlainOwes PeakCheck bytes = PeakCheckOwes bytes
+PlainOwes Replay bytes = ReplayOwes bytes
+
 abbrev pub Owes : Command → List ℕ → Status → List Row → Type 0
-Owes Check bytes = CheckOwes bytes
-Owes (Solve effort) bytes = SolveOwes effort bytes
-Owes Network bytes = NetworkOwes bytes
-Owes Blocks bytes = BlocksOwes bytes
-Owes (Make n) bytes = MakeOwes n
-Owes (Trial n) bytes = TrialOwes n
-Owes Peak bytes = PeakOwes bytes
-Owes PeakCheck bytes = PeakCheckOwes bytes
-Owes (Resume effort) bytes = ResumeOwes effort bytes
-Owes (Trace effort) bytes = TraceOwes effort bytes
-Owes Replay bytes = ReplayOwes bytes
+Owes (commands.Search search) bytes = SearchOwes search bytes
+Owes (commands.Plain plain) bytes = PlainOwes plain bytes

@@ -5,8 +5,8 @@ use Rattle.vs_instance.specs.Firsts.{first}
 use Rattle.vs_check.specs.Flaws.{flaws_of}
 use Rattle.vs_check.specs.HoldingDocument.{HoldingDocument}
 use Rattle.vs_check.specs.declared.flaw.Flaw.{Flaw}
-use Rattle.vs_report.specs.FlawRows.{no_row}
-use Rattle.vs_report.specs.RefusalRows.{too_large_row}
+use Rattle.vs_reply.specs.FlawRows.{no_row}
+use Rattle.vs_reply.specs.RefusalRows.{too_large_row}
 use Rattle.vs_reply.specs.Answered.{TellsRow}
 use Rattle.vs_reply.specs.declared.answer.Answer.{Answer}
 use Rattle.vs_reply.specs.declared.case.Case.{Case}

@@ -13,7 +13,7 @@ use Rattle.vs_node.specs.WorkedHistory.{AreWorked}
 use Rattle.vs_rows.specs.DocumentText.{HasText}
 use Rattle.vs_cert.specs.StateDocument.{IsDocumentOf}
 use Rattle.vs_rows.specs.declared.document.Document.{Document}
-use Rattle.vs_answer.specs.Answers.{IsAnswer, ReachesStart}
+use Rattle.vs_cert.specs.Answers.{IsAnswer, ReachesStart}
 
 -- the greedy rule's plan, where it gives one
 abbrev pub IsGreedyPlan : Problem → Option Checked → Type 0

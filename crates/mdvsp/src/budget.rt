@@ -3,14 +3,14 @@
 ghost use Rattle.std.specs.Prelude.{◌≡◌, ◌+◌, ◌*◌, ◌<◌, ◌≤◌, ◌^◌, ◌↔◌, length, max, IfSome, IsTrue};
 ghost use Rattle.vs_types.specs.declared.numbers.TheConstants.{MAX_LAYERS};
 ghost use Rattle.vs_instance.specs.declared.limits.TheConstants.{MAX_BUDGET, MAX_TRIPS};
-ghost use Rattle.vs_replays.specs.declared.room.TheConstants.{MAX_ENTRIES};
+ghost use Rattle.vs_replay.specs.declared.room.TheConstants.{MAX_ENTRIES};
 ghost use Rattle.vs_resume.specs.Answers.{HasRoom, is_leaf};
 ghost use Rattle.vs_resume.specs.declared.resuming.TheConstants.{MAX_RESUMED_ENTRIES};
 ghost use Rattle.mdvsp.specs.Budgets.{budget_of, default_budget, entries_of, leaves_in, resumed_budget, resumed_nodes};
 
 use vs_document::{Document, Shape};
 use vs_instance::{Instance, MAX_LAYERS, MAX_TRIPS};
-use vs_replays::MAX_ENTRIES;
+use vs_replay::MAX_ENTRIES;
 use vs_resume::MAX_RESUMED_ENTRIES;
 
 /// How many leaves a search may work on where no number is given, unless its tables could have too many entries.

@@ -2,17 +2,19 @@
 
 ghost use Rattle.std.specs.Prelude.{◌≡◌, ◌≢◌, ℕ, ◌+◌, ◌*◌, ◌≤◌, List, [], ◌∷◌, ◌++◌, take, Some};
 ghost use Rattle.vs_reader.specs.Texts.{HasRows, EndsInLine};
+ghost use Rattle.vs_instance.specs.Problem.{Problem};
 ghost use Rattle.vs_instance.specs.Restriction.{permitted_sets};
-ghost use Rattle.vs_answer.specs.Answers.{choices};
+ghost use Rattle.vs_cert.specs.Answers.{choices};
 ghost use Rattle.vs_words.specs.declared.command.Command.{Command};
 ghost use Rattle.vs_words.specs.declared.command.Effort.{Effort};
+ghost use Rattle.vs_words.specs.declared.command.Search.{Search};
 ghost use Rattle.vs_reply.specs.declared.status.Status.{Status};
 ghost use Rattle.vs_reply.specs.declared.status.Status.TheVariants as status;
-ghost use Rattle.mdvsp.specs.Laws.{IsDetermined, IsDoneWhereShown, MayBothBe, NeverDisagree, NeverFalls, NeverPasses, WritesAnswer};
+ghost use Rattle.mdvsp.specs.Laws.{IsDetermined, IsDoneWhereShown, MayBothBe, NeverDisagree, NeverFalls, NeverPasses, Shown, Shows, WritesAnswer};
 ghost use Rattle.vs_reply.specs.Owed.{CheckOwes, yes_row};
 ghost use Rattle.mdvsp.specs.Owed.{Owes, OwesDocument, OwesResumed, OwesTrace};
-ghost use Rattle.vs_replays.specs.Owed.{ReplayOwes};
-ghost use Rattle.vs_words.specs.Words.{IsWithinLimits};
+ghost use Rattle.vs_replay.specs.Owed.{ReplayOwes};
+ghost use Rattle.vs_words.specs.Words.{MayBeTaken, Reads};
 ghost use Rattle.vs_document.specs.ReadingBack.{ReadsAs};
 ghost use Rattle.vs_reader.specs.Rows.{Row, lines};
 
@@ -48,7 +50,7 @@ pub fn bounds_never_fall()
 /// else.
 pub fn written_traces_replay()
     ensures { (effort : Effort) (bytes read : List ℕ) (answer replayed : Status) (rows others : List Row)
-        (owed : OwesTrace effort bytes answer rows) → IsWithinLimits (Command.Trace effort)
+        (owed : OwesTrace effort bytes answer rows) → MayBeTaken effort
         → HasRows read (take owed.text.before owed.text.instance.rows) → EndsInLine read
         → ReplayOwes (read ++ lines rows) replayed others
         → (replayed ≡ status.Done) × WritesAnswer owed.problem owed.names owed.budget effort.workers
@@ -70,19 +72,25 @@ pub fn one_status()
         → Owes command bytes a r → Owes command bytes b s → MayBothBe a b }
 {}
 
-/// Of two searches of one instance, with whatever efforts, neither has a bound above what the other's plan costs.
-pub fn bounds_never_pass_costs()
-    ensures { (m n : Effort) (bytes : List ℕ) (a b : Status) (r s : List Row)
-        (owed : OwesDocument m bytes a r) (also : OwesDocument n bytes b s)
-        → NeverPasses owed.document also.document }
+/// Two searches of one input, by whichever of `solve`, `resume` and `trace`, show what they show of one instance.
+pub fn one_input_has_one_instance()
+    ensures { (search other : Search) (bytes : List ℕ) (a b : Status) (r s : List Row) (p q : Problem) (x y : Shown)
+        → Reads (Command.Search search) → Reads (Command.Search other)
+        → Shows search bytes a r p x → Shows other bytes b s q y → p ≡ q }
 {}
 
-/// No search of an instance, with whatever effort, answers that there is no plan where another one answers that its
-/// plan is optimal. Two plans that are optimal cost the same.
+/// Of two searches of one instance, by whichever commands and with whatever efforts, neither has a bound above what the
+/// other's plan costs.
+pub fn bounds_never_pass_costs()
+    ensures { (search other : Search) (bytes others : List ℕ) (a b : Status) (r s : List Row) (p : Problem)
+        (x y : Shown) → Shows search bytes a r p x → Shows other others b s p y → NeverPasses x y }
+{}
+
+/// No search of an instance, by whichever command and with whatever effort, answers that there is no plan where another
+/// one answers that its plan is optimal. Two plans that are optimal cost the same.
 pub fn searches_agree()
-    ensures { (m n : Effort) (bytes : List ℕ) (a b : Status) (r s : List Row)
-        (owed : OwesDocument m bytes a r) (also : OwesDocument n bytes b s)
-        → NeverDisagree a b owed.document also.document }
+    ensures { (search other : Search) (bytes others : List ℕ) (a b : Status) (r s : List Row) (p : Problem)
+        (x y : Shown) → Shows search bytes a r p x → Shows other others b s p y → NeverDisagree a b x y }
 {}
 
 /// Without a node a run is done exactly where there is a greedy plan and it costs no more than the table of zeros is

@@ -5,12 +5,14 @@ ghost use Rattle.vs_check.specs.HoldingDocument.{HoldingDocument};
 ghost use Rattle.vs_document.specs.Form.{IsReadFor};
 ghost use Rattle.vs_instance.specs.declared.limits.TheConstants.{MAX_BUDGET};
 ghost use Rattle.vs_reader.specs.Names.{HaveCounts};
+ghost use Rattle.vs_reply.specs.Answered.{IsTextOf};
 ghost use Rattle.vs_reply.specs.Cases.{CheckText, input_limit};
 ghost use Rattle.vs_resume.specs.Answers.{HasRoom};
 ghost use Rattle.vs_resume.specs.Deepened.{IsDeepened};
 ghost use Rattle.vs_rows.specs.DocumentText.{HasText};
-ghost use Rattle.vs_words.specs.Words.{IsWithinLimits};
-ghost use Rattle.mdvsp.specs.Answered.{IsOwedFor, IsResumed};
+ghost use Rattle.vs_words.specs.Words.{MayBeTaken};
+ghost use Rattle.mdvsp.specs.Answered.{IsResumed};
+ghost use Rattle.mdvsp.specs.Owed.{ResumeOwes};
 ghost use Rattle.mdvsp.specs.Resuming.{IsStart};
 
 use crate::budget::resumed_budget;
@@ -28,7 +30,7 @@ use vs_reply::{Answer, Case, CaseError, read_case};
 use vs_resume::{Deepen, resume};
 use vs_tree::Tree;
 use vs_types::Memory;
-use vs_words::{Command, Effort};
+use vs_words::Effort;
 
 /// Whether a search is carried on from a document.
 #[derive(Drop)]
@@ -43,8 +45,8 @@ impl<'a, R: Threads + Wait + Sync, G: Gate + Sync> Crew<'a, R, G> {
     /// What `resume` answers for the bytes of an instance and a document, with this effort.
     pub fn resume(&self, alloc: Global, effort: Effort, bytes: &[u8]) -> Result<Answer, Memory>
         requires bytes { length bytes.now ≤ input_limit }
-        requires effort { IsWithinLimits (Command.Resume effort) }
-        ensures { IfOk result (IsOwedFor (Command.Resume effort) bytes.now) }
+        requires effort { MayBeTaken effort }
+        ensures { IfOk result (IsTextOf (ResumeOwes effort bytes.now)) }
     {
         match read_case(alloc, bytes) {
             Ok(case) => self.resume_case(alloc, effort, case),
@@ -55,13 +57,13 @@ impl<'a, R: Threads + Wait + Sync, G: Gate + Sync> Crew<'a, R, G> {
 
     /// The same for the instance and the document that were read.
     fn resume_case(&self, alloc: Global, effort: Effort, case: Case) -> Result<Answer, Memory>
-        requires effort { IsWithinLimits (Command.Resume effort) }
+        requires effort { MayBeTaken effort }
         requires read_for { IsReadFor case.input.instance case.document }
         requires counts { HaveCounts case.input.instance case.input.names }
         requires text { HasText case.input.instance case.document }
         ensures { (bytes : List ℕ)
             → CheckText bytes case.input.instance case.input.names case.document
-            → IfOk result (IsOwedFor (Command.Resume effort) bytes) }
+            → IfOk result (IsTextOf (ResumeOwes effort bytes)) }
     {
         match start_of(alloc, effort, &case)? {
             Start::With(budget) => {
@@ -99,7 +101,7 @@ impl<'a, R: Threads + Wait + Sync, G: Gate + Sync> Crew<'a, R, G> {
 /// Whether a search is carried on from the document, where so many nodes are given: leaves and nodes aren't too many,
 /// and it holds.
 fn start_of(alloc: Global, effort: Effort, case: &Case) -> Result<Start, Memory>
-    requires effort { IsWithinLimits (Command.Resume effort) }
+    requires effort { MayBeTaken effort }
     requires read_for { IsReadFor case.now.input.instance case.now.document }
     requires counts { HaveCounts case.now.input.instance case.now.input.names }
     ensures { IfOk result (IsStart effort case.now) }

@@ -6,11 +6,13 @@ ghost use Rattle.vs_tree.specs.Search.{state};
 ghost use Rattle.vs_tree.specs.Takes.{IsOver};
 ghost use Rattle.vs_instance.specs.declared.limits.TheConstants.{MAX_BUDGET};
 ghost use Rattle.vs_node.specs.WorkedHistory.{AreWorked};
-ghost use Rattle.mdvsp.specs.Answered.{IsOwedFor, IsDocumentOf};
+ghost use Rattle.mdvsp.specs.Answered.{IsDocumentOf};
+ghost use Rattle.mdvsp.specs.Owed.{SolveOwes};
+ghost use Rattle.vs_reply.specs.Answered.{IsTextOf};
 ghost use Rattle.vs_reply.specs.Cases.{input_limit};
 ghost use Rattle.vs_reply.specs.Status.{status_of};
 ghost use Rattle.mdvsp.specs.SolveAnswer.{BeginsFor};
-ghost use Rattle.vs_words.specs.Words.{IsWithinLimits};
+ghost use Rattle.vs_words.specs.Words.{MayBeTaken};
 
 use crate::crew::Crew;
 use crate::searchable::{Searchable, read_to_search};
@@ -25,15 +27,15 @@ use vs_reader::Timetable;
 use vs_reply::{Answer, Status};
 use vs_tree::{Claim, Tree};
 use vs_types::Memory;
-use vs_words::{Command, Effort};
+use vs_words::Effort;
 
 impl<'a, R: Threads + Wait + Sync, G: Gate + Sync> Crew<'a, R, G> {
     /// What `solve` answers for the bytes of an instance, whatever follows its records, with this effort.
     pub fn solve(&self, alloc: Global, effort: Effort, bytes: &[u8]) -> Result<Answer, Memory>
         requires bytes { length bytes.now ≤ input_limit }
-        requires effort { IsWithinLimits (Command.Solve effort) }
+        requires effort { MayBeTaken effort }
         requires workers { self.now.workers ≡ effort.workers }
-        ensures { IfOk result (IsOwedFor (Command.Solve effort) bytes.now) }
+        ensures { IfOk result (IsTextOf (SolveOwes effort bytes.now)) }
     {
         match read_to_search(alloc, effort, bytes)? {
             Searchable::With(timetable, budget) => self.plan(alloc, &timetable, budget),

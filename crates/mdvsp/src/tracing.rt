@@ -4,8 +4,10 @@ ghost use Rattle.std.specs.Prelude.{◌≡◌, ◌<◌, ◌≤◌, ◌^◌, leng
 ghost use Rattle.vs_instance.specs.declared.limits.TheConstants.{MAX_BUDGET};
 ghost use Rattle.vs_reader.specs.Names.{HaveCounts};
 ghost use Rattle.vs_reply.specs.Cases.{input_limit};
-ghost use Rattle.vs_words.specs.Words.{IsWithinLimits};
-ghost use Rattle.mdvsp.specs.Answered.{IsOwedFor, IsTraceOf};
+ghost use Rattle.vs_words.specs.Words.{MayBeTaken};
+ghost use Rattle.vs_reply.specs.Answered.{IsTextOf};
+ghost use Rattle.mdvsp.specs.Answered.{IsTraceOf};
+ghost use Rattle.mdvsp.specs.Owed.{TraceOwes};
 
 use crate::crew::Crew;
 use crate::searchable::{Searchable, read_to_search};
@@ -19,15 +21,15 @@ use vs_reply::Answer;
 use vs_trace::write;
 use vs_tree::{Tree, reports_are_true};
 use vs_types::Memory;
-use vs_words::{Command, Effort};
+use vs_words::Effort;
 
 impl<'a, R: Threads + Wait + Sync, G: Gate + Sync> Crew<'a, R, G> {
     /// What `trace` answers for the bytes of an instance, whatever follows its records, with this effort.
     pub fn trace(&self, alloc: Global, effort: Effort, bytes: &[u8]) -> Result<Answer, Memory>
         requires bytes { length bytes.now ≤ input_limit }
-        requires effort { IsWithinLimits (Command.Trace effort) }
+        requires effort { MayBeTaken effort }
         requires workers { self.now.workers ≡ effort.workers }
-        ensures { IfOk result (IsOwedFor (Command.Trace effort) bytes.now) }
+        ensures { IfOk result (IsTextOf (TraceOwes effort bytes.now)) }
     {
         match read_to_search(alloc, effort, bytes)? {
             Searchable::With(timetable, budget) => self.tell(alloc, &timetable, budget),

@@ -1,13 +1,14 @@
 //! `trial`: the program tried on an instance that it makes.
 
-ghost use Rattle.std.specs.Prelude.{◌≡◌, ℕ, List, [], ◌∷◌, ◌++◌, ◌≤◌, length, IfOk, OnOk};
+ghost use Rattle.std.specs.Prelude.{◌≡◌, [], ◌∷◌, ◌++◌, ◌≤◌, length, IfOk, OnOk};
 ghost use Rattle.vs_document.specs.Form.{IsReadFor};
 ghost use Rattle.vs_make.specs.Generator.{make_rows};
-ghost use Rattle.vs_made.specs.Made.{IsWholeText};
+ghost use Rattle.vs_make.specs.Made.{IsWholeText};
 ghost use Rattle.vs_reader.specs.Rows.{lines};
-ghost use Rattle.mdvsp.specs.Answered.{AreWritten, IsOwedFor, IsReadOf};
+ghost use Rattle.mdvsp.specs.Answered.{AreWritten, IsReadOf};
+ghost use Rattle.vs_reply.specs.Answered.{IsTextOf};
 ghost use Rattle.vs_reply.specs.Cases.{CheckText, input_limit};
-ghost use Rattle.mdvsp.specs.Owed.{trial_row};
+ghost use Rattle.mdvsp.specs.Owed.{TrialOwes, trial_row};
 
 use crate::crew::Crew;
 use std::alloc::Global;
@@ -21,7 +22,6 @@ use vs_make::make_text;
 use vs_reader::{MAX_BYTES, ReadError, Timetable, read_instance};
 use vs_reply::{Answer, Case, CaseError, read_case};
 use vs_types::Memory;
-use vs_words::Command;
 
 /// On how many nodes the search of a trial works at most.
 pub const TRIAL_NODES: u32 = 20;
@@ -38,7 +38,7 @@ pub fn answer_trial<R: Threads + Wait + Sync, G: Gate + Sync>(
     gate: &G,
 ) -> Result<Answer, Memory>
     requires { n ≤ MAX_TRIPS }
-    ensures { (bytes : List ℕ) → IfOk result (IsOwedFor (Command.Trial n) bytes) }
+    ensures { IfOk result (IsTextOf (TrialOwes n)) }
 {
     let made = make_text(alloc, n)?;
     trial_of(rt, alloc, n, &made, gate)
@@ -54,7 +54,7 @@ fn trial_of<R: Threads + Wait + Sync, G: Gate + Sync>(
 ) -> Result<Answer, Memory>
     requires trips { n ≤ MAX_TRIPS }
     requires made { made.now ≡ lines (make_rows n) }
-    ensures { (bytes : List ℕ) → IfOk result (IsOwedFor (Command.Trial n) bytes) }
+    ensures { IfOk result (IsTextOf (TrialOwes n)) }
 {
     let timetable = read_made(alloc, n, made)?;
     let workers = TRIAL_WORKERS;

@@ -10,8 +10,7 @@ use std::process::ExitCode;
 use std::rt::Env;
 use std::{env, io};
 use vs_io::{StdSink, StdSource};
-use vs_reason::reason_text;
-use vs_refusal::refusal_text;
+use vs_messages::{reason_text, refusal_text};
 
 mod kept;
 mod progress;

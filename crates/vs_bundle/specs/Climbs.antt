@@ -3,6 +3,7 @@ use Rattle.std.specs.Prelude.{◌≡◌, ℕ, ◌*◌, List, length, ℤ}
 use Rattle.vs_types.specs.declared.layer_set.LayerSet.{LayerSet}
 use Rattle.vs_instance.specs.Problem.{Problem}
 use Rattle.vs_match.specs.LayerGraph.{LayerGraph}
+use Rattle.vs_cuts.specs.Bundles.{AreFound, HasSizes}
 use Rattle.vs_cuts.specs.Shares.{AreParts}
 use Rattle.vs_multi.specs.Multipliers.{AreMultipliers}
 use Rattle.vs_multi.specs.Rounds.{IsCase}
@@ -14,15 +15,17 @@ pub record AreShares (p : Problem) (shares : List ℕ) : Type 0 where
   pub each : length shares ≡ length p.trips * length p.layers
   pub parts : AreParts shares
 
--- space for what a layer is offered, with an entry for each trip
+-- space for what a layer is offered, with an entry for each trip, and for what each layer finds
 pub record IsTrialFor (p : Problem) (trial : Trial) : Type 0 where
   pub offers : length trial.offers.items ≡ length p.trips
   pub marks : length trial.marks.items ≡ length p.trips
+  pub found : AreFound (length p.trips) (length p.layers) trial.found.items
 
--- such space, and multipliers that are tried
+-- such space, multipliers that are tried, and cuts of each layer
 pub record IsAscentFor (p : Problem) (ascent : Ascent) : Type 0 where
   pub trial : IsTrialFor p ascent.trial
   pub candidate : AreMultipliers p ascent.candidate.items
+  pub bundle : HasSizes (length p.trips) (length p.layers) ascent.bundle
 
 -- what a climb goes on with: a case, multipliers that are the best so far, and all that it keeps
 pub record CanClimb (p : Problem) (graphs : List LayerGraph) (sets : List LayerSet) (best : List ℤ)

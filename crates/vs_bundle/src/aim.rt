@@ -1,5 +1,8 @@
 //! What a climb is to come to, and after how much work it ends.
 
+ghost use Rattle.std.specs.Prelude.{◌≤◌};
+ghost use Rattle.vs_cuts.specs.declared.layer_cuts.TheConstants.{MOST_CUTS};
+
 use vs_match::LayerNet;
 use vs_types::SCALE;
 
@@ -25,6 +28,7 @@ pub struct Aim {
     pub trial_rounds: u32,
     /// How many arcs the nets of all circulations have together at most.
     pub arcs: u64,
+    ghost few: { cuts ≤ MOST_CUTS },
 }
 
 impl Aim {

@@ -1,9 +1,10 @@
 //! Multipliers climbed to the greatest Lagrangian value.
 
-ghost use Rattle.std.specs.Prelude.{◌≡◌, ◌⊎◌, IfOk, length};
+ghost use Rattle.std.specs.Prelude.{◌≡◌, ◌*◌, ◌⊎◌, IfOk, length};
 ghost use Rattle.vs_circ.specs.shipping.Ready.{IsReadyToRun};
 ghost use Rattle.vs_multi.specs.Multipliers.{AreMultipliers, AreWithin};
 ghost use Rattle.vs_multi.specs.Rounds.{IsCase};
+ghost use Rattle.vs_cuts.specs.Bundles.{AreFound, HasSizes, layers_of, trips_of_all};
 ghost use Rattle.vs_bundle.specs.Climbs.{AreShares, CanClimb, IsAscentFor};
 
 use crate::aim::Aim;
@@ -112,11 +113,13 @@ impl Ascent {
 
     /// Tries the multipliers a step of this length further.
     fn step(&mut self, step: i64, multipliers: &[i64])
+        requires trips { trips_of_all self.old.bundle ≡ length multipliers.now }
         requires each { length self.old.candidate.items ≡ length multipliers.now }
         requires within { AreWithin self.old.candidate.items }
         ensures each { length self.new.candidate.items ≡ length multipliers.now }
         ensures within { AreWithin self.new.candidate.items }
         ensures trial { self.new.trial ≡ self.old.trial }
+        ensures sizes { HasSizes (trips_of_all self.old.bundle) (layers_of self.old.bundle) self.new.bundle }
     {
         let candidate: &mut [i64] = &mut self.candidate;
         go_further(&self.bundle, step, multipliers, candidate);
@@ -125,9 +128,16 @@ impl Ascent {
 
     /// Keeps what the layers found.
     fn keep(&mut self, multipliers: &[i64])
+        requires trips { trips_of_all self.old.bundle ≡ length multipliers.now }
+        requires found { AreFound (trips_of_all self.old.bundle) (layers_of self.old.bundle)
+            self.old.trial.found.items }
+        requires within { AreWithin multipliers.now }
         ensures offers { self.new.trial.offers ≡ self.old.trial.offers }
         ensures marks { self.new.trial.marks ≡ self.old.trial.marks }
+        ensures found { AreFound (trips_of_all self.old.bundle) (layers_of self.old.bundle)
+            self.new.trial.found.items }
         ensures candidate { self.new.candidate ≡ self.old.candidate }
+        ensures sizes { HasSizes (trips_of_all self.old.bundle) (layers_of self.old.bundle) self.new.bundle }
     {
         self.bundle.keep(&mut self.trial.found, 0, multipliers);
     }
@@ -136,7 +146,8 @@ impl Ascent {
     fn go_on(&mut self, case: &Case<'_>, aim: &Aim, multipliers: &mut [i64], work: &mut Work) -> u32
         requires can { CanClimb case.now.instance.now case.now.nets.now case.now.sets.now multipliers.old self.old }
         requires ready { IsReadyToRun case.now.nets.now work.old }
-        ensures { AreMultipliers case.now.instance.now multipliers.new }
+        ensures multipliers { AreMultipliers case.now.instance.now multipliers.new }
+        ensures ascent { IsAscentFor case.now.instance.now self.new }
     {
         let begin = self.top;
         let most = aim.rounds_along(case.nets);
@@ -156,9 +167,15 @@ impl Ascent {
 
     /// Takes the candidate where its value gains, and changes the stride.
     fn judge(&mut self, forecast: Forecast, value: i64, aim: &Aim, multipliers: &mut [i64])
-        requires { length self.old.candidate.items ≡ length multipliers.old }
+        requires each { length self.old.candidate.items ≡ length multipliers.old }
+        requires trips { trips_of_all self.old.bundle ≡ length multipliers.old }
+        requires found { AreFound (trips_of_all self.old.bundle) (layers_of self.old.bundle)
+            self.old.trial.found.items }
+        requires within { AreWithin multipliers.old }
+        requires within_too { AreWithin self.old.candidate.items }
         ensures trial { self.new.trial ≡ self.old.trial }
         ensures candidate { self.new.candidate ≡ self.old.candidate }
+        ensures sizes { HasSizes (trips_of_all self.old.bundle) (layers_of self.old.bundle) self.new.bundle }
         ensures multipliers { (multipliers.new ≡ multipliers.old)
             ⊎ (multipliers.new ≡ self.old.candidate.items) }
     {
@@ -206,11 +223,12 @@ pub fn climb(
 
 /// How much of each trip each layer runs.
 fn shares_of(case: &Case<'_>, bundle: &Bundle) -> Result<Vec<u32>, Memory>
+    requires { HasSizes (length case.now.instance.now.trips) (length case.now.instance.now.layers) bundle.now }
     ensures { IfOk result (λ shares. AreShares case.now.instance.now shares.items) }
 {
     prove!(case.instance.trips() <= MAX_TRIPS && case.instance.layers() <= MAX_LAYERS);
     let trips = case.instance.trips() as usize;
     let mut shares = vec![in case.alloc; 0; trips * case.instance.layers() as usize]?;
-    bundle.set_shares(trips, &mut shares);
+    bundle.set_shares(&mut shares);
     Ok(shares)
 }

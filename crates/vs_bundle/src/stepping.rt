@@ -1,6 +1,7 @@
 //! Multipliers moved a step along what is lacking of their trips.
 
 ghost use Rattle.std.specs.Prelude.{◌≡◌, length};
+ghost use Rattle.vs_cuts.specs.Bundles.{trips_of_all};
 ghost use Rattle.vs_multi.specs.Multipliers.{AreWithin, IsMultiplier};
 
 use vs_cuts::{Bundle, part_of};
@@ -8,6 +9,7 @@ use vs_instance::MAX_MULTIPLIER;
 
 /// The multipliers a step of this length further.
 pub(crate) fn go_further(bundle: &Bundle, step: i64, multipliers: &[i64], further: &mut [i64])
+    requires trips { trips_of_all bundle.now ≡ length multipliers.now }
     requires each { length further.old ≡ length multipliers.now }
     requires within { AreWithin further.old }
     ensures { AreWithin further.new }

@@ -1,10 +1,11 @@
 //! The Lagrangian value at given multipliers.
 
-ghost use Rattle.std.specs.Prelude.{◌≡◌, ◌<◌, IfOk, length};
+ghost use Rattle.std.specs.Prelude.{◌≡◌, ◌<◌, ◌≤◌, IfOk, length};
 ghost use Rattle.vs_instance.specs.Problem.{Problem};
 ghost use Rattle.vs_circ.specs.shipping.Ready.{IsReadyToRun};
 ghost use Rattle.vs_multi.specs.Multipliers.{AreMultipliers};
 ghost use Rattle.vs_multi.specs.Rounds.{IsCase};
+ghost use Rattle.vs_cuts.specs.declared.whole.TheConstants.{MOST_TRIPS};
 ghost use Rattle.vs_bundle.specs.Climbs.{IsTrialFor};
 
 use std::alloc::Global;
@@ -27,7 +28,9 @@ pub(crate) struct Trial {
 impl Trial {
     /// Nothing found yet.
     pub fn new(alloc: Global, trips: usize, layers: u32) -> Result<Trial, Memory>
-        ensures { IfOk result (λ trial. (p : Problem) → length p.trips ≡ trips → IsTrialFor p trial) }
+        requires { trips ≤ MOST_TRIPS }
+        ensures { IfOk result (λ trial.
+            (p : Problem) → length p.trips ≡ trips → length p.layers ≡ layers → IsTrialFor p trial) }
     {
         let mut found = Vec::with_capacity(alloc, layers as usize)?;
         for _ in 0..layers {
@@ -70,10 +73,7 @@ impl Trial {
         let offers: &mut [Option<i64>] = &mut self.offers;
         offer(case.instance, case.sets, multipliers, l, offers);
         let cost = runs(case.nets, l, offers, work, &mut self.marks);
-        match self.found.get_mut(l.0 as usize) {
-            Some(found) => found.set(&self.marks, cost, multipliers),
-            None => 0,
-        }
+        self.found[l.0 as usize].set(&self.marks, cost, multipliers)
     }
 }
 

@@ -1,3 +1,11 @@
 pub mod states
 pub mod ReadBack
+pub mod StateDocuments
+pub mod NamedTables
+pub mod AnswerBounds
+pub mod AnswerWorths
+pub mod AnswerCounts
+pub mod StateAnswers
+pub mod LeafCounts
+pub mod EnoughBudgets
 pub mod CallerLemmas

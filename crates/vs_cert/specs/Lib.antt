@@ -8,3 +8,5 @@ pub mod TreeRows
 pub mod TreeText
 pub mod Laws
 pub use Rattle.vs_document.specs.ReadingBack
+pub mod Answers
+pub mod AnswerLaws

@@ -7,7 +7,7 @@ use Rattle.vs_tree.specs.History.{Opening, State, incumbent}
 use Rattle.vs_tree.specs.Prices.{no_prices, prices_of}
 use Rattle.vs_tree.specs.Report.{IsReport}
 use Rattle.vs_tree.specs.StateTree.{IsTreeOf}
-use Rattle.vs_cases.specs.Tree.{Tree, Leaf, Split}
+use Rattle.vs_prices.specs.Tree.{Tree, Leaf, Split}
 use Rattle.vs_tree.specs.declared.calls.Report.{Report}
 use Rattle.vs_rows.specs.Shapes.{preorder}
 use Rattle.vs_rows.specs.declared.document.Document.{Document}

@@ -2,7 +2,7 @@
 use Rattle.std.specs.Prelude.{◌≡◌, ℕ, ◌≤◌, List, [], ◌∷◌, ◌++◌, length, slice_get, Some}
 use Rattle.vs_tree.specs.History.{Opening, State}
 use Rattle.vs_tree.specs.StateTree.{IsTreeOf}
-use Rattle.vs_cases.specs.Tree.{Tree}
+use Rattle.vs_prices.specs.Tree.{Tree}
 use Rattle.vs_tree.specs.declared.spot.Spot.{Spot}
 use Rattle.vs_tree.specs.declared.spot.Spot.TheVariants.{Inner, Free, Held, Closed}
 use Rattle.vs_cert.specs.Numbering.{with_number}

@@ -1,11 +1,18 @@
-//! The document of a search, as it is written: the rest of what a document is stands below.
+//! The document of a search, as it is written, and what it proves.
+//!
+//! What a document is, and how it is read, stands in `vs_document`.
 #![tactic(auto)]
 
+mod answer_laws;
 mod laws;
 mod numbering;
 mod tree_document;
 mod tree_rows;
 
+pub use answer_laws::{
+    bounds_reach_the_start, documents_of_states_hold, enough_budgets_leave_nothing_open,
+    finished_searches_answer,
+};
 pub use laws::written_searches_are_read_back;
 pub use numbering::Numbering;
 pub use tree_document::write;

@@ -34,7 +34,7 @@ same_lists {M = M} f g a (suc n) same =
     ∙ ap (λ (xs : List M). g a ++ xs)
     (same_lists f g (a + 1) n (λ k from within. same k (omega arith) (omega arith)))
 
-same_totals : (f g : ℕ → ℤ) (a n : ℕ) → ((k : ℕ) → a ≤ k → k < a + n → f k ≡ g k)
+pub same_totals : (f g : ℕ → ℤ) (a n : ℕ) → ((k : ℕ) → a ≤ k → k < a + n → f k ≡ g k)
     → total (map f (range_with_len a n)) ≡ total (map g (range_with_len a n))
 same_totals f g a zero same = refl
 same_totals f g a (suc n) same =
@@ -42,7 +42,7 @@ same_totals f g a (suc n) same =
     ∙ ap (λ (x : ℤ). g a +ℤ x)
     (same_totals f g (a + 1) n (λ k from within. same k (omega arith) (omega arith)))
 
-same_map : (f g : ℕ → ℤ) (ks : List ℕ) → All (λ k. f k ≡ g k) ks → map f ks ≡ map g ks
+pub same_map : (f g : ℕ → ℤ) (ks : List ℕ) → All (λ k. f k ≡ g k) ks → map f ks ≡ map g ks
 same_map f g [] same = refl
 same_map f g (k ∷ ks) same =
     ap (λ (x : ℤ). x ∷ map f ks) (All-head (λ (j : ℕ). f j ≡ g j) k ks same)
@@ -55,7 +55,7 @@ same_excess x y a b r s piece price other ray =
     ∙ ap (λ (z : Bool). exceeds y b z piece) ray
 
 module _ (p : Problem) (t u : Table) (agree : Agree p t u) where
-  same_vehicle : (l : ℕ) → vehicle_price t l ≡ vehicle_price u l
+  pub same_vehicle : (l : ℕ) → vehicle_price t l ≡ vehicle_price u l
   same_vehicle l = ap (λ (prices : List ℤ). price_of prices l) agree.fleet
 
   module _ (l : ℕ) (layer : l < length p.layers) where
@@ -134,7 +134,7 @@ module _ (p : Problem) (t u : Table) (agree : Agree p t u) where
         (λ (l : ℕ). trip_price p t i l ≡ trip_price p u i l)
         (λ l is. same_price i l inside (eqb-true (bit_at (set_of sets i).0 l) 1 is)) (members (set_of sets i)) among))
 
-    same_value : table_value p sets t ≡ table_value p sets u
+    pub same_value : table_value p sets t ≡ table_value p sets u
     same_value =
         ap (λ (x : ℤ). x -ℤ total (map (fleet_price p t) (range_with_len 0 (length p.layers))))
         (same_totals (least_price p sets t) (least_price p sets u) 0 (length p.trips)

@@ -14,10 +14,10 @@ use Rattle.vs_plan.specs.Blocks.{blocks_of}
 use Rattle.vs_prices.specs.declared.bound.Bound.{Bound}
 use Rattle.vs_prices.specs.declared.broken_at.BrokenAt.{BrokenAt}
 use Rattle.vs_prices.specs.declared.table.Table.{Table}
-use Rattle.vs_cases.specs.Claims.{claim_found}
-use Rattle.vs_cases.specs.Tree.{Tree, Leaf, Split, right_of, with_set}
-use Rattle.vs_cases.specs.declared.claim.Claim.{Claim}
-use Rattle.vs_cases.proofs.CallerLemmas.{left-restricts, right-restricts}
+use Rattle.vs_prices.specs.Claims.{claim_found}
+use Rattle.vs_prices.specs.Tree.{Tree, Leaf, Split, right_of, with_set}
+use Rattle.vs_prices.specs.declared.claim.Claim.{Claim}
+use Rattle.vs_prices.proofs.CallerLemmas.{left-restricts, right-restricts}
 use Rattle.vs_document.specs.Alike.{AreAlike}
 use Rattle.vs_document.specs.Form.{Suits}
 use Rattle.vs_rows.specs.DocumentText.{Agree}
@@ -25,6 +25,7 @@ use Rattle.vs_rows.specs.Shapes.{IsShapeOf, preorder}
 use Rattle.vs_rows.specs.declared.document.Document.{Document}
 use Rattle.vs_rows.specs.declared.document.Shape.{Shape}
 use Rattle.vs_rows.specs.declared.document.Shape.TheVariants as shape
+use Rattle.vs_rows.proofs.CallerLemmas.{All-both}
 use Rattle.vs_check.specs.Flaws.{broken_flaws, claim_flaws, flaws_of, leaf_flaws, named_flaws, plan_flaws, shape_flaws, table_flaws, tables_flaws, tree_flaws}
 use Rattle.vs_types.specs.Parts.{is_proper_part}
 use Rattle.vs_check.specs.Laws.{AlikeDocumentsAreJudgedAlike}
@@ -33,7 +34,7 @@ use Rattle.vs_check.specs.declared.flaw.Flaw.TheVariants.{BadSplit}
 use Rattle.vs_check.proofs.AgreeingTables.{same_breaks, same_worth}
 use Rattle.vs_check.proofs.Flawless.{holds_from_none, none_from_holds}
 use Rattle.vs_types.proofs.CallerLemmas.{proper_from_test}
-use Rattle.vs_check.proofs.TreeRows.{All-both, flaws_of_tree}
+use Rattle.vs_check.proofs.TreeRows.{flaws_of_tree}
 
 module _ (p : Problem) where
   same_tables : (n : ℕ) (ts us : List Table) → AllZip (Agree p) ts us

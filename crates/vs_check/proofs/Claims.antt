@@ -17,13 +17,12 @@ use Rattle.vs_prices.specs.Worth.{IsBoundOn, Reaches}
 use Rattle.vs_prices.specs.declared.bound.Bound.{Bound}
 use Rattle.vs_prices.specs.declared.bound.Bound.TheVariants.{AtLeast, NoPlan}
 use Rattle.vs_prices.specs.declared.table.Table.{Table}
-use Rattle.vs_prices.proofs.CallerLemmas.{bounds_plans}
-use Rattle.vs_cases.proofs.CallerLemmas.{leaves_restrict, lies_in_one}
-use Rattle.vs_cases.specs.Tree.{LeafPlace, leaves}
-use Rattle.vs_cases.specs.declared.claim.Claim.TheVariants.{Optimal, Infeasible, StillOpen}
+use Rattle.vs_prices.proofs.CallerLemmas.{bounds_plans, leaves_restrict, lies_in_one}
+use Rattle.vs_prices.specs.Tree.{LeafPlace, leaves}
+use Rattle.vs_prices.specs.declared.claim.Claim.TheVariants.{Optimal, Infeasible, StillOpen}
 use Rattle.vs_rows.specs.declared.document.Document.{Document}
 use Rattle.vs_check.specs.HoldingDocument.{HoldingDocument, IsStrongLeaf}
-use Rattle.vs_cases.specs.Claims.{claim_found}
+use Rattle.vs_prices.specs.Claims.{claim_found}
 use Rattle.vs_check.specs.Laws.{HoldingDocumentsProveTheirClaims}
 
 -- what a printed bound says of a plan's cost

@@ -23,7 +23,7 @@ use Rattle.vs_check.specs.Flaws.{broken_flaws, cost_flaws, flaws_of, plan_flaws,
 use Rattle.vs_document.specs.Form.{Suits}
 use Rattle.vs_rows.specs.Shapes.{IsShapeOf}
 use Rattle.vs_check.specs.HoldingDocument.{HasTree, HoldingDocument}
-use Rattle.vs_cases.specs.Claims.{claim_found}
+use Rattle.vs_prices.specs.Claims.{claim_found}
 use Rattle.vs_check.proofs.PlanFlaws.{claims_same, right_cost, same_claims}
 use Rattle.vs_check.proofs.StrongTrees.{none_from_strong, strong_from_none}
 use Rattle.vs_check.proofs.TreeRows.{flaws_of_tree}

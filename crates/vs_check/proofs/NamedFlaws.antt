@@ -31,11 +31,13 @@ use Rattle.vs_rows.specs.declared.document.Document.{Document}
 use Rattle.vs_check.specs.declared.flaw.Flaw.{Flaw}
 use Rattle.vs_check.specs.declared.flaw.Flaw.TheVariants.{Plan, CostDiffers, TableBroken, BadSplit, LeafTooWeak, ClaimDiffers}
 use Rattle.vs_rows.specs.Shapes.{preorder}
-use Rattle.vs_cases.specs.Tree.{Tree, Leaf, Split, right_of, with_set}
-use Rattle.vs_cases.specs.Claims.{claim_found}
+use Rattle.vs_prices.specs.Tree.{Tree, Leaf, Split, right_of, with_set}
+use Rattle.vs_prices.specs.Claims.{claim_found}
 use Rattle.vs_check.specs.Flaws.{IsBreakWithin, IsFaultWithin, IsFlawWithin, IsVerdictWithin, broken_flaws, cost_flaws, flaws_of, leaf_flaws, named_flaws, plan_flaws, same_claim, table_flaws, tree_flaws, verdict_of}
 use Rattle.vs_types.specs.Parts.{is_proper_part}
 use Rattle.vs_check.specs.Trees.{trees_of}
+use Rattle.vs_check.specs.declared.verdict.Verdict.{Verdict}
+use Rattle.vs_check.specs.declared.verdict.Verdict.TheVariants.{No}
 
 pub break_of : (p : Problem) (table : Table) (at : BrokenAt) → IsBroken p table at
     → IsBreakWithin (length p.layers) (length p.trips) at
@@ -159,3 +161,9 @@ module _ (p : Problem) where
       → IsVerdictWithin (length p.layers) (length p.trips) (verdict_of flaw)
   verdict_named d None is = tt
   verdict_named d (Some flaw) is = first_holds OfFlaw (flaws_of p d) flaw (all_named d) (sym is)
+
+-- the flaw of a verdict is the first
+pub first_of_verdict : (found : Option Flaw) (verdict : Verdict) (flaw : Flaw) → verdict ≡ verdict_of found
+    → verdict ≡ No flaw → found ≡ Some flaw
+first_of_verdict None verdict flaw is refused = cc
+first_of_verdict (Some other) verdict flaw is refused = cc

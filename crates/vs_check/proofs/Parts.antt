@@ -11,8 +11,8 @@ use Rattle.vs_instance.specs.Instance.{IsInstance}
 use Rattle.vs_instance.specs.Problem.{Problem}
 use Rattle.vs_instance.specs.Restriction.{IsRestriction, permitted_sets, set_of}
 use Rattle.vs_instance.proofs.CallerLemmas.{first-skip, first-stop, permitted_sets-IsRestriction}
-use Rattle.vs_cases.specs.Tree.{Tree, Leaf, Split, right_of, with_set}
-use Rattle.vs_cases.proofs.CallerLemmas.{left-restricts, right-restricts}
+use Rattle.vs_prices.specs.Tree.{Tree, Leaf, Split, right_of, with_set}
+use Rattle.vs_prices.proofs.CallerLemmas.{left-restricts, right-restricts}
 use Rattle.vs_rows.specs.Shapes.{IsShapeOf, preorder}
 use Rattle.vs_rows.specs.declared.document.Document.{Document}
 use Rattle.vs_rows.specs.declared.document.Shape.{Shape}

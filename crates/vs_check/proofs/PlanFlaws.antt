@@ -9,8 +9,8 @@ use Rattle.vs_instance.specs.Plan.{IsPlan, LayerBlock, plan_cost}
 use Rattle.vs_plan.specs.PlanFaults.{faults_of}
 use Rattle.vs_plan.specs.declared.plan_fault.PlanFault.{PlanFault}
 use Rattle.vs_plan.proofs.CallerLemmas.{refuses}
-use Rattle.vs_cases.specs.declared.claim.Claim.{Claim}
-use Rattle.vs_cases.specs.declared.claim.Claim.TheVariants.{Optimal, Infeasible, StillOpen}
+use Rattle.vs_prices.specs.declared.claim.Claim.{Claim}
+use Rattle.vs_prices.specs.declared.claim.Claim.TheVariants.{Optimal, Infeasible, StillOpen}
 use Rattle.vs_check.specs.declared.flaw.Flaw.TheVariants.{CostDiffers}
 use Rattle.vs_check.specs.Flaws.{cost_flaws, plan_flaws, same_claim}
 

@@ -12,12 +12,12 @@ use Rattle.vs_instance.proofs.CallerLemmas.{None, both_none, none-append}
 use Rattle.vs_prices.specs.Worth.{Reaches, worth_of}
 use Rattle.vs_prices.specs.declared.bound.Bound.{Bound}
 use Rattle.vs_prices.specs.declared.table.Table.{Table}
-use Rattle.vs_prices.proofs.CallerLemmas.{worth_is, worth_of-IsWorth}
-use Rattle.vs_cases.specs.Tree.{Tree, Leaf, Split, LeafPlace, leaves, right_of, with_set}
-use Rattle.vs_cases.proofs.CallerLemmas.{left-restricts, restriction-layers, right-restricts}
+use Rattle.vs_prices.proofs.CallerLemmas.{worth_is, worth_of-IsWorth, left-restricts, restriction-layers, right-restricts}
+use Rattle.vs_prices.specs.Tree.{Tree, Leaf, Split, LeafPlace, leaves, right_of, with_set}
 use Rattle.vs_rows.specs.Shapes.{IsShapeOf, preorder}
 use Rattle.vs_rows.specs.declared.document.Shape.{Shape}
 use Rattle.vs_rows.specs.declared.document.Shape.TheVariants as shape
+use Rattle.vs_rows.proofs.CallerLemmas.{All-both}
 use Rattle.vs_check.specs.Flaws.{named_flaws, tree_flaws}
 use Rattle.vs_types.specs.Parts.{is_proper_part}
 use Rattle.vs_check.specs.HoldingDocument.{IsStrongLeaf, IsStrongTree}
@@ -25,7 +25,6 @@ use Rattle.vs_check.specs.declared.flaw.Flaw.{Flaw}
 use Rattle.vs_check.specs.declared.flaw.Flaw.TheVariants.{BadSplit}
 use Rattle.vs_check.proofs.LeafFlaws.{none_from_reaches, reaches_from_none}
 use Rattle.vs_types.proofs.CallerLemmas.{proper_from_test, test_from_proper}
-use Rattle.vs_check.proofs.TreeRows.{All-both}
 
 module _ (p : Problem) (tables : List Table) (bound : Option ℤ) where
   abbrev IsStrong : LeafPlace → Type 0

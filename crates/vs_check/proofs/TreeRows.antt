@@ -1,23 +1,15 @@
 -- A tree is found again in its rows.
 use Rattle.std.proofs.Common.{◌≡◌, List, [], ◌∷◌, ◌++◌, refl, sym, ap, ◌∙◌, append_assoc}
-use Rattle.std.specs.List.{All, flat_map}
+use Rattle.std.specs.List.{flat_map}
 use Rattle.std.proofs.lemmas.List.{append-nil}
-use Rattle.std.proofs.lemmas.List.Elements.{All-cons, All-head, All-nil, All-tail}
 use Rattle.vs_instance.specs.Problem.{Problem}
 use Rattle.vs_instance.specs.Restriction.{permitted_sets}
-use Rattle.vs_cases.specs.Tree.{Tree, Leaf, Split}
+use Rattle.vs_prices.specs.Tree.{Tree, Leaf, Split}
 use Rattle.vs_rows.specs.Shapes.{preorder}
 use Rattle.vs_rows.specs.declared.document.Document.{Document}
 use Rattle.vs_rows.specs.declared.document.Shape.{Shape}
 use Rattle.vs_check.specs.Flaws.{shape_flaws, tree_flaws}
 use Rattle.vs_check.specs.Trees.{joined, trees_of}
-
--- what holds of each element of two lists in a row holds of each element of both
-pub All-both : {X : Type 0} (P : X → Type 0) (xs ys : List X) → All P (xs ++ ys) → All P xs × All P ys
-All-both P [] ys each = (All-nil P, each)
-All-both P (x ∷ xs) ys each =
-    let rest = All-both P xs ys (All-tail P x (xs ++ ys) each) in
-    (All-cons P x xs (All-head P x (xs ++ ys) each) rest.0, rest.1)
 
 trees_of-preorder : (tree : Tree) (rows : List Shape) → trees_of (preorder tree ++ rows) ≡ tree ∷ trees_of rows
 trees_of-preorder (Leaf table) rows = refl

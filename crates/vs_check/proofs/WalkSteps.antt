@@ -3,7 +3,7 @@ use Rattle.std.proofs.Common.{◌≡◌, List, [], ◌∷◌, ◌++◌, get_or, 
 use Rattle.std.proofs.lemmas.List.{reverse-append, set-get_or, set-set}
 use Rattle.vs_types.specs.declared.layer_set.LayerSet.{LayerSet}
 use Rattle.vs_types.specs.declared.numbers.TripNo.{TripNo}
-use Rattle.vs_cases.specs.Tree.{with_set}
+use Rattle.vs_prices.specs.Tree.{with_set}
 use Rattle.vs_check.specs.declared.walk.Change.{Change}
 use Rattle.vs_check.specs.Walk.{end_of, right_part, sets_along}
 

@@ -18,8 +18,8 @@ use Rattle.vs_prices.specs.declared.bound.Bound.TheVariants.{AtLeast, NoPlan}
 use Rattle.vs_prices.specs.declared.broken_at.BrokenAt.{BrokenAt}
 use Rattle.vs_prices.specs.declared.broken_at.BrokenAt.TheVariants as broken
 use Rattle.vs_prices.specs.declared.table.Table.{Table}
-use Rattle.vs_cases.specs.declared.claim.Claim.{Claim}
-use Rattle.vs_cases.specs.declared.claim.Claim.TheVariants.{Optimal, Infeasible, StillOpen}
+use Rattle.vs_prices.specs.declared.claim.Claim.{Claim}
+use Rattle.vs_prices.specs.declared.claim.Claim.TheVariants.{Optimal, Infeasible, StillOpen}
 use Rattle.vs_rows.specs.declared.document.Document.{Document}
 use Rattle.vs_check.specs.declared.flaw.Flaw.{Flaw}
 use Rattle.vs_check.specs.declared.flaw.Flaw.TheVariants.{Plan, CostDiffers, TableBroken, BadSplit, LeafTooWeak, ClaimDiffers}
@@ -27,8 +27,8 @@ use Rattle.vs_rows.specs.Shapes.{preorder}
 use Rattle.vs_check.specs.declared.verdict.Verdict.{Verdict}
 use Rattle.vs_check.specs.declared.verdict.Verdict.TheVariants.{Yes, No}
 use Rattle.vs_types.specs.Parts.{is_proper_part}
-use Rattle.vs_cases.specs.Claims.{claim_found}
-use Rattle.vs_cases.specs.Tree.{Tree, Leaf, Split, right_of, with_set}
+use Rattle.vs_prices.specs.Claims.{claim_found}
+use Rattle.vs_prices.specs.Tree.{Tree, Leaf, Split, right_of, with_set}
 use Rattle.vs_check.specs.Trees.{trees_of}
 
 -- beside a printed cost: the first fault of the blocks, and where they have none, a cost that isn't theirs

@@ -9,9 +9,9 @@ use Rattle.vs_prices.specs.declared.bound.Bound.{Bound}
 use Rattle.vs_prices.specs.declared.table.Table.{Table}
 use Rattle.vs_prices.specs.Table.{Fits, HoldingTable}
 use Rattle.vs_prices.specs.Worth.{IsWorth, Reaches}
-use Rattle.vs_cases.specs.Claims.{claim_found}
-use Rattle.vs_cases.specs.declared.claim.Claim.TheVariants.{Optimal, Infeasible}
-use Rattle.vs_cases.specs.Tree.{Tree, IsGoodTree, LeafPlace, leaves}
+use Rattle.vs_prices.specs.Claims.{claim_found}
+use Rattle.vs_prices.specs.declared.claim.Claim.TheVariants.{Optimal, Infeasible}
+use Rattle.vs_prices.specs.Tree.{Tree, IsGoodTree, LeafPlace, leaves}
 use Rattle.vs_rows.specs.Shapes.{preorder}
 use Rattle.vs_rows.specs.declared.document.Document.{Document}
 

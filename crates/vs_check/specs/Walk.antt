@@ -5,7 +5,7 @@ use Rattle.vs_types.specs.declared.numbers.TripNo.{TripNo}
 use Rattle.vs_instance.specs.Firsts.{first, when}
 use Rattle.vs_instance.specs.Problem.{Problem}
 use Rattle.vs_instance.specs.Restriction.{set_of}
-use Rattle.vs_cases.specs.Tree.{right_of, with_set}
+use Rattle.vs_prices.specs.Tree.{right_of, with_set}
 use Rattle.vs_rows.specs.declared.document.Document.{Document}
 use Rattle.vs_rows.specs.declared.document.Shape.{Shape}
 use Rattle.vs_rows.specs.declared.document.Shape.TheVariants.{Split, Leaf}

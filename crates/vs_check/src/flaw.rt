@@ -1,8 +1,7 @@
 //! What can be wrong with a document.
 
-use vs_cases::Claim;
 use vs_plan::PlanFault;
-use vs_prices::BrokenAt;
+use vs_prices::{BrokenAt, Claim};
 
 /// Why a document doesn't hold. Tables and positions in the shape count from 0.
 #[derive(Clone, Copy, Debug, PartialEq, Eq)]

@@ -1,15 +1,13 @@
 //! The verdict on a document: its flaws one after the other, the first of which is told.
 
 ghost use Rattle.std.specs.Prelude.{◌≡◌, ◌<◌, ◌^◌, ◌↔◌, length, slice_get, All, IfOk};
-ghost use Rattle.vs_check.specs.Flaws.{claim_flaws, leaf_flaws, named_flaws};
+ghost use Rattle.vs_check.specs.Flaws.{claim_flaws, leaf_flaws, named_flaws, plan_flaws, shape_flaws, IsVerdictWithin, flaws_of, tables_flaws, verdict_of};
 ghost use Rattle.vs_types.specs.Parts.{is_proper_part};
-ghost use Rattle.vs_check.specs.Flaws.{plan_flaws, shape_flaws};
-ghost use Rattle.vs_check.specs.Flaws.{IsVerdictWithin, flaws_of, tables_flaws, verdict_of};
 ghost use Rattle.vs_check.specs.Walk.{GoesOver};
 ghost use Rattle.vs_document.specs.Form.{IsReadFor};
 ghost use Rattle.vs_rows.specs.Shapes.{IsShapeOf};
 ghost use Rattle.vs_check.specs.HoldingDocument.{HoldingDocument, ProvesItsClaim};
-ghost use Rattle.vs_cases.specs.Claims.{claim_found};
+ghost use Rattle.vs_prices.specs.Claims.{claim_found};
 ghost use Rattle.vs_instance.specs.Firsts.{first};
 ghost use Rattle.vs_instance.specs.Instance.{IsInstance};
 ghost use Rattle.vs_instance.specs.Restriction.{IsRestriction};
@@ -21,13 +19,12 @@ ghost use Rattle.vs_need.specs.Room.{HasRoom};
 use crate::flaw::Flaw;
 use crate::walk::Walk;
 use std::alloc::Global;
-use vs_cases::claim_found;
 use vs_document::{Document, Shape};
 use vs_instance::{Instance, MAX_TRIPS};
 use vs_match::layer_nets;
 use vs_need::{Counted, Scratch, broken_for};
 use vs_plan::{PlanError, judge};
-use vs_prices::{Bound, Table, worth};
+use vs_prices::{Bound, Table, claim_found, worth};
 use vs_types::{LayerSet, Memory};
 
 /// Whether a document holds, and else its first flaw.

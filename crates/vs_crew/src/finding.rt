@@ -11,9 +11,8 @@ use vs_connect::lesser;
 use vs_instance::Instance;
 use vs_match::LayerNet;
 use vs_node::{Outcome, Task, work};
-use vs_penalty::{agree, seek_plan};
+use vs_penalty::{agree, seek_plan, seek_ray};
 use vs_plan::{cheaper, cost_of};
-use vs_ray::seek_ray;
 use vs_tree::{Finish, Next};
 use vs_types::Memory;
 

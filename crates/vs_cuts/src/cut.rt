@@ -1,8 +1,15 @@
 //! Circulations that a layer found, each as what it costs and which trips it runs.
 
+ghost use Rattle.std.specs.Prelude.{◌≡◌, ◌*◌, ◌<◌, ◌≤◌, IfOk, length, vec_len};
+ghost use Rattle.vs_cuts.specs.Cuts.{trips_of};
+ghost use Rattle.vs_cuts.specs.Numbers.{AreNear, IsError, IsNear, IsPart};
+ghost use Rattle.vs_cuts.specs.declared.whole.TheConstants.{MOST_LACK, MOST_NUMBER, MOST_TRIPS};
+
+use crate::share_list::ShareList;
+use crate::standing::MOST_ERROR;
 use crate::trip_list::TripList;
 use crate::trip_set::TripSet;
-use crate::whole::{WHOLE, fitting, part_of, small_part_of};
+use crate::whole::{WHOLE, fitting, part_of};
 use std::alloc::Global;
 use vs_types::Memory;
 
@@ -11,8 +18,8 @@ use vs_types::Memory;
 pub(crate) enum Runs {
     /// The trips of one circulation.
     Trips(TripList),
-    /// By trip: which part several circulations run together, in parts of a whole trip.
-    Shares(Vec<i64>),
+    /// What several circulations run together.
+    Shares(ShareList),
 }
 
 /// A circulation of a layer, or several mixed.
@@ -24,8 +31,11 @@ pub(crate) struct Cut {
 }
 
 impl Cut {
-    /// The circulation that runs no trip.
-    pub fn new(alloc: Global, trips: usize) -> Result<Cut, Memory> {
+    /// The circulation that runs none of so many trips.
+    pub fn new(alloc: Global, trips: usize) -> Result<Cut, Memory>
+        requires { trips ≤ MOST_TRIPS }
+        ensures { IfOk result (λ cut. trips_of cut ≡ trips) }
+    {
         Ok(Cut {
             runs: Runs::Trips(TripList::new(alloc, trips)?),
             cost: 0,
@@ -33,15 +43,21 @@ impl Cut {
     }
 
     /// No circulations, to mix others into.
-    pub fn mixed(alloc: Global, trips: usize) -> Result<Cut, Memory> {
+    pub fn mixed(alloc: Global, trips: usize) -> Result<Cut, Memory>
+        requires { trips ≤ MOST_TRIPS }
+        ensures { IfOk result (λ cut. trips_of cut ≡ trips) }
+    {
         Ok(Cut {
-            runs: Runs::Shares(vec![in alloc; 0; trips]?),
+            runs: Runs::Shares(ShareList::new(alloc, trips)?),
             cost: 0,
         })
     }
 
     /// Becomes the circulation of this cost that runs the trips marked true.
-    pub fn set(&mut self, marks: &[bool], cost: i128) {
+    pub fn set(&mut self, marks: &[bool], cost: i128)
+        requires { length marks.now ≡ trips_of self.old }
+        ensures { trips_of self.new ≡ trips_of self.old }
+    {
         self.cost = fitting(cost);
         if let Runs::Trips(trips) = &mut self.runs {
             trips.mark(marks);
@@ -49,103 +65,107 @@ impl Cut {
     }
 
     /// Mixes another cut in, of which both together have so many parts of a whole.
-    pub fn mix_in(&mut self, other: &Cut, parts: i64) {
-        let rest = WHOLE.saturating_sub(parts);
+    pub fn mix_in(&mut self, other: &Cut, parts: i64)
+        requires trips { trips_of other.now ≡ trips_of self.old }
+        requires parts { IsPart parts }
+        ensures { trips_of self.new ≡ trips_of self.old }
+    {
+        let rest = WHOLE - parts;
         self.cost = part_of(self.cost, rest).saturating_add(part_of(other.cost, parts));
         if let Runs::Shares(shares) = &mut self.runs {
-            for (i, share) in shares.iter_mut().enumerate() {
-                let more = part_of(other.share(i), parts);
-                *share = part_of(*share, rest).saturating_add(more);
-            }
+            mix(shares, other, parts);
         }
     }
 
     /// How much of a trip it runs, in parts of a whole trip.
-    pub fn share(&self, i: usize) -> i64 {
+    pub fn share(&self, i: usize) -> i64
+        requires { i < trips_of self.now }
+        ensures { IsPart result }
+    {
         match &self.runs {
             Runs::Trips(trips) if trips.has(i) => WHOLE,
             Runs::Trips(_) => 0,
-            Runs::Shares(shares) => shares.get(i).copied().unwrap_or(0),
+            Runs::Shares(shares) => shares.of(i),
         }
     }
 
     /// Its cost less the multipliers of its trips.
-    pub fn value(&self, multipliers: &[i64]) -> i64 {
+    pub fn value(&self, multipliers: &[i64]) -> i64
+        requires each { length multipliers.now ≡ trips_of self.now }
+        requires near { AreNear MOST_NUMBER multipliers.now }
+    {
         self.cost.saturating_sub(self.sum(multipliers))
     }
 
     /// By how much its value is above its layer's part.
-    pub fn error(&self, part: i64, multipliers: &[i64]) -> i64 {
-        self.value(multipliers).saturating_sub(part).max(0)
+    pub fn error(&self, part: i64, multipliers: &[i64]) -> i64
+        requires each { length multipliers.now ≡ trips_of self.now }
+        requires near { AreNear MOST_NUMBER multipliers.now }
+        ensures { IsError result }
+    {
+        let error = self.value(multipliers).saturating_sub(part);
+        error.max(0).min(MOST_ERROR)
     }
 
     /// The sum of the numbers of its trips.
-    pub fn sum(&self, numbers: &[i64]) -> i64 {
+    fn sum(&self, numbers: &[i64]) -> i64
+        requires each { length numbers.now ≡ trips_of self.now }
+        requires near { AreNear MOST_NUMBER numbers.now }
+    {
         match &self.runs {
             Runs::Trips(trips) => trips.sum(numbers),
-            Runs::Shares(shares) => sum_by(shares, numbers),
+            Runs::Shares(shares) => shares.sum(numbers),
         }
     }
 
     /// How much is lacking of its trips, where this is lacking of each.
-    pub fn lack(&self, lacks: &[i64]) -> i64 {
+    pub fn lack(&self, lacks: &[i64]) -> i64
+        requires each { length lacks.now ≡ trips_of self.now }
+        requires near { AreNear MOST_LACK lacks.now }
+        ensures { IsNear (length lacks.now * MOST_LACK) result }
+    {
         match &self.runs {
             Runs::Trips(trips) => trips.sum(lacks),
-            Runs::Shares(shares) => lack_by(shares, lacks),
+            Runs::Shares(shares) => shares.lack(lacks),
         }
     }
 
-    /// Takes so much off the numbers of its trips.
-    pub fn lower(&self, amount: i64, numbers: &mut [i64]) {
+    /// Takes so much off what is lacking of its trips.
+    pub fn lower(&self, amount: i64, lacks: &mut [i64])
+        requires each { length lacks.old ≡ trips_of self.now }
+        requires near { AreNear MOST_LACK lacks.old }
+        requires amount { IsNear MOST_LACK amount }
+        ensures { AreNear MOST_LACK lacks.new }
+    {
         match &self.runs {
-            Runs::Trips(trips) => trips.lower(amount, numbers),
-            Runs::Shares(shares) => lower_by(shares, amount, numbers),
+            Runs::Trips(trips) => trips.lower(amount, lacks),
+            Runs::Shares(shares) => shares.lower(amount, lacks),
         }
     }
 
     /// How many of these trips it and another one run both, in parts of a whole trip.
-    pub fn common(&self, other: &Cut, among: &TripSet) -> i64 {
+    pub fn common(&self, other: &Cut, among: &TripSet) -> i64
+        requires other { trips_of other.now ≡ trips_of self.now }
+        requires among { among.now.trips ≡ trips_of self.now }
+    {
         match (&self.runs, &other.runs) {
             (Runs::Trips(a), Runs::Trips(b)) => WHOLE.saturating_mul(a.common(b, among)),
-            (Runs::Trips(trips), Runs::Shares(shares)) => trips.sum_among(among, shares),
-            (Runs::Shares(shares), Runs::Trips(trips)) => trips.sum_among(among, shares),
-            (Runs::Shares(a), Runs::Shares(b)) => common_of(a, b, among),
+            (Runs::Trips(trips), Runs::Shares(shares)) => trips.sum_among(among, &shares.each),
+            (Runs::Shares(shares), Runs::Trips(trips)) => trips.sum_among(among, &shares.each),
+            (Runs::Shares(a), Runs::Shares(b)) => a.common(b, among),
         }
     }
 }
 
-/// The sum of numbers, each by its trip's share.
-fn sum_by(shares: &[i64], numbers: &[i64]) -> i64 {
-    let mut sum: i64 = 0;
-    for (share, number) in shares.iter().zip(numbers) {
-        sum = sum.saturating_add(part_of(*number, *share));
+/// Mixes another cut into shares, of which both together have so many parts of a whole.
+fn mix(shares: &mut ShareList, other: &Cut, parts: i64)
+    requires trips { vec_len shares.old.each ≡ trips_of other.now }
+    requires parts { IsPart parts }
+    ensures { vec_len shares.new.each ≡ vec_len shares.old.each }
+{
+    let rest = WHOLE - parts;
+    for i in 0..shares.each.len() {
+        let more = part_of(other.share(i), parts);
+        shares.set(i, part_of(shares.of(i), rest).saturating_add(more));
     }
-    sum
-}
-
-/// How much is lacking of all trips, each by its share.
-fn lack_by(shares: &[i64], lacks: &[i64]) -> i64 {
-    let mut lack: i64 = 0;
-    for (share, own) in shares.iter().zip(lacks) {
-        lack = lack.wrapping_add(small_part_of(*own, *share));
-    }
-    lack
-}
-
-/// Takes so much off each number, by its trip's share.
-fn lower_by(shares: &[i64], amount: i64, numbers: &mut [i64]) {
-    for (share, number) in shares.iter().zip(numbers.iter_mut()) {
-        *number = number.wrapping_sub(small_part_of(amount, *share));
-    }
-}
-
-/// How much of these trips both shares run.
-fn common_of(a: &[i64], b: &[i64], among: &TripSet) -> i64 {
-    let mut sum: i64 = 0;
-    for (i, (own, other)) in a.iter().zip(b).enumerate() {
-        if among.has(i) {
-            sum = sum.saturating_add(part_of(*own, *other));
-        }
-    }
-    sum
 }

@@ -1,5 +1,9 @@
 //! What is lacking of each trip.
 
+ghost use Rattle.std.specs.Prelude.{◌≡◌, ◌<◌, ◌≤◌, IfOk, length, vec_len};
+ghost use Rattle.vs_cuts.specs.Numbers.{AreNear, IsNear};
+ghost use Rattle.vs_cuts.specs.declared.whole.TheConstants.{MOST_LACK, MOST_TRIPS};
+
 use crate::cut::Cut;
 use crate::trip_set::TripSet;
 use crate::whole::WHOLE;
@@ -15,11 +19,20 @@ pub(crate) struct Lacking {
     of_all: Vec<i64>,
     /// The same of the free trips, and 0 of the others, as it was when it was taken last.
     pub of_free: Vec<i64>,
+    ghost each: { vec_len of_all ≡ free.trips },
+    ghost each_free: { vec_len of_free ≡ free.trips },
+    ghost near: { AreNear MOST_LACK of_all.items },
+    ghost near_free: { AreNear MOST_LACK of_free.items },
 }
 
 impl Lacking {
+    ghost use Rattle.vs_cuts.specs.Cuts.{trips_of};
+
     /// Where all of so many trips are free, and none is run.
-    pub fn new(alloc: Global, trips: usize) -> Result<Lacking, Memory> {
+    pub fn new(alloc: Global, trips: usize) -> Result<Lacking, Memory>
+        requires { trips ≤ MOST_TRIPS }
+        ensures { IfOk result (λ lacking. lacking.free.trips ≡ trips) }
+    {
         Ok(Lacking {
             free: TripSet::all(alloc, trips)?,
             of_all: vec![in alloc; WHOLE; trips]?,
@@ -28,26 +41,37 @@ impl Lacking {
     }
 
     /// A cut has so much more weight now.
-    pub fn lower(&mut self, cut: &Cut, weight: i64) {
+    pub fn lower(&mut self, cut: &Cut, weight: i64)
+        requires trips { trips_of cut.now ≡ self.old.free.trips }
+        requires weight { IsNear MOST_LACK weight }
+        ensures { self.new.free.trips ≡ self.old.free.trips }
+    {
         cut.lower(weight, &mut self.of_all);
     }
 
     /// Takes what is lacking of the free trips.
-    pub fn take_free(&mut self) {
+    pub fn take_free(&mut self)
+        ensures { self.new.free.trips ≡ self.old.free.trips }
+    {
         self.free.copy_in(&self.of_all, &mut self.of_free);
     }
 
     /// How much is lacking of a trip.
-    pub fn of(&self, i: usize) -> i64 {
-        self.of_all.get(i).copied().unwrap_or(0)
+    pub fn of(&self, i: usize) -> i64
+        requires { i < self.now.free.trips }
+    {
+        self.of_all[i]
     }
 
     /// Holds multipliers of 0 there where they would fall, and frees all others. Gives whether that changes something.
-    pub fn hold(&mut self, multipliers: &[i64]) -> bool {
+    pub fn hold(&mut self, multipliers: &[i64]) -> bool
+        requires { length multipliers.now ≡ self.old.free.trips }
+        ensures { self.new.free.trips ≡ self.old.free.trips }
+    {
         let mut changed = false;
-        for (i, multiplier) in multipliers.iter().enumerate() {
+        for i in 0..multipliers.len() {
             let free = self.free.has(i);
-            let to_be_free = is_free(*multiplier, self.of(i), free);
+            let to_be_free = is_free(multipliers[i], self.of(i), free);
             if to_be_free != free {
                 self.free.put(i, to_be_free);
                 changed = true;

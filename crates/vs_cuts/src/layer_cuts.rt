@@ -1,12 +1,22 @@
 //! The cuts of a layer.
 
+ghost use Rattle.std.specs.Prelude.{◌≡◌, ◌+◌, ◌*◌, ◌<◌, ◌≤◌, All, IfOk, length, vec_len};
+ghost use Rattle.vs_cuts.specs.Cuts.{trips_of};
+ghost use Rattle.vs_cuts.specs.Numbers.{AreNear};
+ghost use Rattle.vs_cuts.specs.declared.layer_cuts.TheConstants.{MOST_CUTS};
+ghost use Rattle.vs_cuts.specs.declared.whole.TheConstants.{MOST_LACK, MOST_NUMBER, MOST_TRIPS};
+
 use crate::cut::Cut;
 use crate::lacking::Lacking;
+use crate::products::Products;
 use crate::standing::Standing;
 use crate::trip_set::TripSet;
-use crate::whole::part_of;
+use crate::whole::{WHOLE, part_of};
 use std::alloc::Global;
 use vs_types::Memory;
+
+/// How many cuts a layer may keep, beside the mixed one.
+pub const MOST_CUTS: u32 = 1_000;
 
 /// The cuts of a layer, or places for them. The mixed one stands at the last place.
 #[derive(Drop)]
@@ -15,64 +25,92 @@ pub(crate) struct LayerCuts {
     pub cuts: Vec<Cut>,
     /// By place: how the cut there stands.
     pub standings: Vec<Standing>,
-    /// For each two places: how many free trips the cuts there run both, in parts of a whole trip.
-    pub products: Vec<Vec<i64>>,
+    /// Of the cuts at each two places.
+    pub products: Products,
     /// The layer's part of the Lagrangian value at the best multipliers.
     pub part: i64,
+    /// How many trips there are.
+    pub trips: usize,
+    ghost few_trips: { trips ≤ MOST_TRIPS },
+    ghost some: { 0 < vec_len cuts },
+    ghost few: { vec_len cuts ≤ MOST_CUTS + 1 },
+    ghost each: { All (λ cut. trips_of cut ≡ trips) cuts.items },
+    ghost each_standing: { vec_len standings ≡ vec_len cuts },
+    ghost each_place: { products.places ≡ vec_len cuts },
 }
 
 impl LayerCuts {
-    /// Room for so many cuts and a mixed one.
-    pub fn new(alloc: Global, trips: usize, most: u32) -> Result<LayerCuts, Memory> {
+    ghost use Rattle.vs_cuts.specs.Layers.{IsLike};
+    ghost use Rattle.vs_cuts.specs.Steps.{AreSlopes};
+
+    /// Room for so many cuts of so many trips and a mixed one.
+    pub fn new(alloc: Global, trips: usize, most: u32) -> Result<LayerCuts, Memory>
+        requires trips { trips ≤ MOST_TRIPS }
+        requires most { most ≤ MOST_CUTS }
+        ensures { IfOk result (λ layer. layer.trips ≡ trips) }
+    {
         let places = most as usize + 1;
         Ok(LayerCuts {
             cuts: cuts_for(alloc, trips, most)?,
             standings: vec![in alloc; Standing::none(); places]?,
-            products: products_for(alloc, places)?,
+            products: Products::new(alloc, places, trips as u64 * WHOLE as u64)?,
             part: 0,
+            trips,
         })
     }
 
-    /// How the cut at a place stands.
-    pub fn standing(&self, place: usize) -> Standing {
-        match self.standings.get(place) {
-            Some(standing) => *standing,
-            None => Standing::none(),
-        }
-    }
-
     /// Reckons how the cuts stand to the best multipliers.
-    pub fn set_errors(&mut self, multipliers: &[i64]) {
-        for (standing, cut) in self.standings.iter_mut().zip(&self.cuts) {
-            if standing.held {
-                standing.error = cut.error(self.part, multipliers);
+    pub fn set_errors(&mut self, multipliers: &[i64])
+        requires each { length multipliers.now ≡ self.old.trips }
+        requires near { AreNear MOST_NUMBER multipliers.now }
+        ensures { IsLike self.old self.new }
+    {
+        for place in 0..self.cuts.len() {
+            if self.standings[place].held {
+                self.set_error(place, multipliers);
             }
         }
     }
 
     /// Reckons how the cut at a place stands to the best multipliers.
-    pub fn set_error(&mut self, place: usize, multipliers: &[i64]) {
-        if let (Some(standing), Some(cut)) = (self.standings.get_mut(place), self.cuts.get(place)) {
-            standing.error = cut.error(self.part, multipliers);
-        }
+    pub fn set_error(&mut self, place: usize, multipliers: &[i64])
+        requires place { place < vec_len self.old.cuts }
+        requires each { length multipliers.now ≡ self.old.trips }
+        requires near { AreNear MOST_NUMBER multipliers.now }
+        ensures { IsLike self.old self.new }
+    {
+        let error = self.cuts[place].error(self.part, multipliers);
+        self.standings[place].error = error;
     }
 
     /// Reckons how much is lacking of the trips of each cut.
-    pub fn set_slopes(&mut self, lacks: &[i64]) {
-        for (standing, cut) in self.standings.iter_mut().zip(&self.cuts) {
-            if standing.held {
-                standing.slope = cut.lack(lacks);
-            }
+    pub fn set_slopes(&mut self, lacks: &[i64])
+        requires each { length lacks.now ≡ self.old.trips }
+        requires near { AreNear MOST_LACK lacks.now }
+        ensures like { IsLike self.old self.new }
+        ensures slopes { AreSlopes (self.old.trips * MOST_LACK) self.new.standings.items }
+    {
+        for place in 0..self.cuts.len() {
+            self.standings[place].slope = if self.standings[place].held {
+                self.cuts[place].lack(lacks)
+            } else {
+                0
+            };
         }
     }
 
     /// Reckons what is lacking of each trip by the weights as they are now, from what was by those that counted.
-    pub fn settle(&mut self, lacking: &mut Lacking) {
-        for (standing, cut) in self.standings.iter_mut().zip(&self.cuts) {
-            let more = standing.weight.saturating_sub(standing.counted);
+    pub fn settle(&mut self, lacking: &mut Lacking)
+        requires { lacking.old.free.trips ≡ self.old.trips }
+        ensures like { IsLike self.old self.new }
+        ensures trips { lacking.new.free.trips ≡ lacking.old.free.trips }
+    {
+        for place in 0..self.cuts.len() {
+            let standing = &mut self.standings[place];
+            let more = standing.weight - standing.counted;
             if more != 0 {
-                lacking.lower(cut, more);
                 standing.counted = standing.weight;
+                lacking.lower(&self.cuts[place], more);
             }
         }
     }
@@ -87,71 +125,63 @@ impl LayerCuts {
     }
 
     /// How much of a trip the layer runs, in parts of a whole trip.
-    pub fn share(&self, i: usize) -> i64 {
+    pub fn share(&self, i: usize) -> i64
+        requires { i < self.now.trips }
+    {
         let mut share: i64 = 0;
-        for (standing, cut) in self.standings.iter().zip(&self.cuts) {
-            if standing.weight > 0 {
-                share = share.saturating_add(part_of(standing.weight, cut.share(i)));
+        for place in 0..self.cuts.len() {
+            let weight = self.standings[place].weight;
+            if weight > 0 {
+                share = share.saturating_add(part_of(weight, self.cuts[place].share(i)));
             }
         }
         share
     }
 
-    /// How many free trips the cuts at two places run both, in parts of a whole trip.
-    fn common(&self, one: usize, other: usize, free: &TripSet) -> i64 {
-        match (self.cuts.get(one), self.cuts.get(other)) {
-            (Some(one), Some(other)) => one.common(other, free),
-            _ => 0,
-        }
-    }
-
-    /// Sets the product of two places.
-    fn set_product(&mut self, one: usize, other: usize, product: i64) {
-        if let Some(row) = self.products.get_mut(one) {
-            if let Some(entry) = row.get_mut(other) {
-                *entry = product;
-            }
-        }
-    }
-
     /// Reckons the products of a place with the first so many.
-    fn set_products(&mut self, place: usize, others: usize, free: &TripSet) {
+    fn set_products(&mut self, place: usize, others: usize, free: &TripSet)
+        requires place { place < vec_len self.old.cuts }
+        requires others { others ≤ vec_len self.old.cuts }
+        requires trips { free.now.trips ≡ self.old.trips }
+        ensures { IsLike self.old self.new }
+    {
         for other in 0..others {
-            let product = self.common(place, other, free);
-            self.set_product(place, other, product);
-            self.set_product(other, place, product);
+            let product = self.cuts[place].common(&self.cuts[other], free);
+            self.products.set(place, other, product);
         }
     }
 
     /// Reckons the products of a place.
-    pub fn renew(&mut self, place: usize, free: &TripSet) {
+    pub fn renew(&mut self, place: usize, free: &TripSet)
+        requires place { place < vec_len self.old.cuts }
+        requires trips { free.now.trips ≡ self.old.trips }
+        ensures { IsLike self.old self.new }
+    {
         let all = self.cuts.len();
         self.set_products(place, all, free);
     }
 
     /// Reckons all products.
-    pub fn renew_all(&mut self, free: &TripSet) {
+    pub fn renew_all(&mut self, free: &TripSet)
+        requires { free.now.trips ≡ self.old.trips }
+        ensures { IsLike self.old self.new }
+    {
         for place in 0..self.cuts.len() {
-            self.set_products(place, place.saturating_add(1), free);
+            self.set_products(place, place + 1, free);
         }
     }
 }
 
-/// Room for so many cuts and a mixed one.
-fn cuts_for(alloc: Global, trips: usize, most: u32) -> Result<Vec<Cut>, Memory> {
+/// Room for so many cuts of so many trips and a mixed one.
+fn cuts_for(alloc: Global, trips: usize, most: u32) -> Result<Vec<Cut>, Memory>
+    requires { trips ≤ MOST_TRIPS }
+    ensures places { IfOk result (λ cuts. vec_len cuts ≡ most + 1) }
+    ensures trips { IfOk result (λ cuts. All (λ cut. trips_of cut ≡ trips) cuts.items) }
+{
     let mut cuts = Vec::with_capacity(alloc, most as usize)?;
     for _ in 0..most {
         cuts.push(Cut::new(alloc, trips)?)?;
     }
     cuts.push(Cut::mixed(alloc, trips)?)?;
     Ok(cuts)
-}
-
-/// An entry for each two of so many places.
-fn products_for(alloc: Global, places: usize) -> Result<Vec<Vec<i64>>, Memory> {
-    let mut products = Vec::with_capacity(alloc, places)?;
-    for _ in 0..places {
-        products.push(vec![in alloc; 0; places]?)?;
-    }
-    Ok(products)
 }

@@ -9,7 +9,10 @@ mod found;
 mod keeping;
 mod lacking;
 mod layer_cuts;
+mod products;
+mod share_list;
 mod standing;
+mod step;
 mod trip_list;
 mod trip_set;
 mod weights;
@@ -17,5 +20,6 @@ mod whole;
 
 pub use bundle::Bundle;
 pub use found::Found;
+pub use layer_cuts::MOST_CUTS;
 pub use weights::Forecast;
-pub use whole::{WHOLE, part_of};
+pub use whole::{MOST_NUMBER, MOST_TRIPS, WHOLE, part_of};

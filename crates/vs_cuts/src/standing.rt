@@ -1,9 +1,14 @@
 //! How cuts stand.
 
-use crate::whole::{part_of, small_part_of};
+ghost use Rattle.std.specs.Prelude.{◌+◌, ◌*◌, ◌^◌, ◌<◌, ◌≤◌, IsTrue};
+ghost use Rattle.std.specs.Int.RustNames.{unsigned_abs};
+ghost use Rattle.vs_cuts.specs.Numbers.{IsError, IsPart};
 
-/// A step shorter than this times a slope keeps within 64 bits: at most 2^35 parts are lacking of all trips together.
-const SHORT: i64 = 1 << 26;
+use crate::step::Step;
+use crate::whole::{part_of, short_part_of};
+
+/// By how much a cut may be above the least, in 1/1000 of a cost unit.
+pub(crate) const MOST_ERROR: i64 = 1 << 62;
 
 /// How a cut stands.
 #[derive(Clone, Copy)]
@@ -20,9 +25,14 @@ pub(crate) struct Standing {
     pub idle: u32,
     /// Whether there is a cut at all.
     pub held: bool,
+    ghost weighs: { IsPart weight },
+    ghost counts: { IsPart counted },
+    ghost errs: { IsError error },
 }
 
 impl Standing {
+    ghost use Rattle.vs_cuts.specs.Steps.{IsShortFor};
+
     /// That of no cut.
     pub fn none() -> Standing {
         Standing {
@@ -36,7 +46,9 @@ impl Standing {
     }
 
     /// That of a further cut, which doesn't count yet.
-    pub fn new(weight: i64) -> Standing {
+    pub fn new(weight: i64) -> Standing
+        requires { IsPart weight }
+    {
         Standing {
             weight,
             counted: 0,
@@ -48,7 +60,9 @@ impl Standing {
     }
 
     /// That of a mixed cut, all of which counted before.
-    pub fn mixed(weight: i64) -> Standing {
+    pub fn mixed(weight: i64) -> Standing
+        requires { IsPart weight }
+    {
         Standing {
             weight,
             counted: weight,
@@ -60,18 +74,22 @@ impl Standing {
     }
 
     /// How high it stands: its error, less what a step along what is lacking of its trips gains.
-    pub fn height(&self, step: i64) -> i64 {
-        let gain = if step < SHORT {
-            small_part_of(step, self.slope)
+    pub fn height(&self, step: Step) -> i64
+        requires { IsShortFor (unsigned_abs self.now.slope) step }
+    {
+        if step.is_short {
+            self.error - short_part_of(step.length, self.slope)
         } else {
-            part_of(step, self.slope)
-        };
-        self.error.wrapping_sub(gain)
+            self.error.saturating_sub(part_of(step.length, self.slope))
+        }
     }
 
     /// So much more is lacking of its free trips.
-    pub fn tilt(&mut self, more: i64) {
-        self.slope = self.slope.wrapping_add(more);
+    pub fn tilt(&mut self, more: i64)
+        requires { unsigned_abs self.old.slope + unsigned_abs more < 2 ^ 63 }
+        ensures { unsigned_abs self.new.slope ≤ unsigned_abs self.old.slope + unsigned_abs more }
+    {
+        self.slope += more;
     }
 
     /// Counts a round, for which it has had no weight or has some.

@@ -1,9 +1,19 @@
 //! The weights of the cuts: moved from cut to cut of a layer until what is forecast can't be brought much nearer.
 
+ghost use Rattle.std.specs.Prelude.{◌≡◌, ℕ, ◌+◌, ◌*◌, ◌<◌, length, vec_len};
+ghost use Rattle.std.specs.Int.RustNames.{unsigned_abs};
+ghost use Rattle.vs_cuts.specs.Bundles.{HasSizes, layers_of, trips_of_all};
+ghost use Rattle.vs_cuts.specs.Layers.{IsLike};
+ghost use Rattle.vs_cuts.specs.Numbers.{AreProducts, IsNear, IsPart, IsProduct};
+ghost use Rattle.vs_cuts.specs.Steps.{ArePeaksOf, AreSlopes, IsShortFor};
+ghost use Rattle.vs_cuts.specs.declared.products.TheConstants.{MOST_PRODUCT};
+ghost use Rattle.vs_cuts.specs.declared.whole.TheConstants.{MOST_LACK};
+
 use crate::bundle::Bundle;
 use crate::layer_cuts::LayerCuts;
 use crate::standing::Standing;
-use crate::whole::{WHOLE, fitting, part_of, small_part_of};
+use crate::step::{Reach, Step};
+use crate::whole::{MOST_LACK, WHOLE, as_part, fitting, part_of, small_part_of};
 
 /// How often all layers move weights at most: the last sweeps gain next to nothing.
 const SWEEPS: u32 = 60;
@@ -22,7 +32,10 @@ struct Peaks {
 
 impl Peaks {
     /// Those of no cuts.
-    fn none() -> Peaks {
+    fn none() -> Peaks
+        ensures high { result.high ≡ 0 }
+        ensures low { result.low ≡ 0 }
+    {
         Peaks {
             high: 0,
             highest: i64::MIN,
@@ -37,7 +50,10 @@ impl Peaks {
     }
 
     /// Takes the cut at a place into account.
-    fn see(&mut self, place: usize, standing: &Standing, step: i64) {
+    fn see(&mut self, place: usize, standing: &Standing, step: Step)
+        requires { IsShortFor (unsigned_abs standing.now.slope) step }
+        ensures { (places : ℕ) → place < places → ArePeaksOf places self.old → ArePeaksOf places self.new }
+    {
         let height = standing.height(step);
         if standing.weight > 0 && height > self.highest {
             self.high = place;
@@ -69,7 +85,9 @@ impl Forecast {
 impl Bundle {
     /// Makes the weights such as are best for a step of this length, to within a tolerance. Gives what the step is
     /// forecast to gain.
-    pub fn weigh(&mut self, step: i64, tolerance: i64) -> Forecast {
+    pub fn weigh(&mut self, step: i64, tolerance: i64) -> Forecast
+        ensures { HasSizes (trips_of_all self.old) (layers_of self.old) self.new }
+    {
         self.lacking.take_free();
         self.balance_all(step, tolerance);
         Forecast {
@@ -79,9 +97,12 @@ impl Bundle {
     }
 
     /// Counts a round. Gives what the errors of the cuts come to, each by its weight.
-    fn end_round(&mut self) -> i64 {
+    fn end_round(&mut self) -> i64
+        ensures { HasSizes (trips_of_all self.old) (layers_of self.old) self.new }
+    {
         let mut errors: i64 = 0;
-        for layer in self.layers.iter_mut() {
+        for l in 0..self.layers.len() {
+            let layer = &mut self.layers[l];
             layer.age();
             errors = errors.saturating_add(layer.errors());
         }
@@ -89,7 +110,9 @@ impl Bundle {
     }
 
     /// Moves weights in all layers until a sweep over them gains less than the tolerance.
-    fn balance_all(&mut self, step: i64, tolerance: i64) {
+    fn balance_all(&mut self, step: i64, tolerance: i64)
+        ensures { HasSizes (trips_of_all self.old) (layers_of self.old) self.new }
+    {
         let layers = i64::try_from(self.layers.len()).unwrap_or(i64::MAX);
         let fine = tolerance / FINE / layers.max(1);
         for _ in 0..SWEEPS {
@@ -100,9 +123,12 @@ impl Bundle {
     }
 
     /// Moves weights in each layer in turn. Gives what that gained.
-    fn sweep(&mut self, step: i64, fine: i64) -> i64 {
+    fn sweep(&mut self, step: i64, fine: i64) -> i64
+        ensures { HasSizes (trips_of_all self.old) (layers_of self.old) self.new }
+    {
         let mut gained: i64 = 0;
-        for layer in self.layers.iter_mut() {
+        for l in 0..self.layers.len() {
+            let layer = &mut self.layers[l];
             layer.set_slopes(&self.lacking.of_free);
             gained = gained.saturating_add(layer.balance(step, fine));
             layer.settle(&mut self.lacking);
@@ -114,14 +140,21 @@ impl Bundle {
 
 impl LayerCuts {
     /// Moves weights, at most as often as there are places. Gives what that gained.
-    fn balance(&mut self, step: i64, fine: i64) -> i64 {
+    fn balance(&mut self, step: i64, fine: i64) -> i64
+        requires { AreSlopes (self.old.trips * MOST_LACK) self.old.standings.items }
+        ensures { IsLike self.old self.new }
+    {
         let mut gained: i64 = 0;
-        let mut peaks = self.peaks(step);
+        let products = self.products.most;
+        let mut slopes = self.trips as u64 * MOST_LACK;
+        let mut peaks = self.peaks(step, slopes);
         for _ in 0..self.standings.len() {
-            let gain = self.shift(step, fine, &mut peaks);
+            let reach = Reach { slopes, products };
+            let gain = self.shift(step, fine, reach, &mut peaks);
             if gain == 0 {
                 break;
             }
+            slopes += products;
             gained = gained.saturating_add(gain);
         }
         gained
@@ -129,20 +162,32 @@ impl LayerCuts {
 
     /// Moves weight from the highest cut that has some to the lowest one, where they lie further apart than is fine.
     /// Gives what that gained, and lets the peaks be those that are then.
-    fn shift(&mut self, step: i64, fine: i64, peaks: &mut Peaks) -> i64 {
+    fn shift(&mut self, step: i64, fine: i64, reach: Reach, peaks: &mut Peaks) -> i64
+        requires slopes { AreSlopes reach.slopes self.old.standings.items }
+        requires products { reach.products ≡ self.old.products.most }
+        requires peaks { ArePeaksOf (vec_len self.old.cuts) peaks.old }
+        ensures like { IsLike self.old self.new }
+        ensures products { self.new.products.most ≡ self.old.products.most }
+        ensures slopes { AreSlopes (reach.slopes + reach.products) self.new.standings.items }
+        ensures peaks { ArePeaksOf (vec_len self.old.cuts) peaks.new }
+    {
         let gap = peaks.gap();
         if gap <= fine {
             return 0;
         }
         let (high, low) = (peaks.high, peaks.low);
         let apart = self.apart(high, low);
-        let amount = best_move(gap, step, apart).min(self.standing(high).weight);
-        *peaks = self.carry(high, low, amount, step);
+        let amount = as_part(best_move(gap, step, apart).min(self.standings[high].weight));
+        *peaks = self.carry(high, low, amount, step, reach);
         part_of(gap, amount)
     }
 
-    /// The highest cut that has weight and the lowest one.
-    fn peaks(&self, step: i64) -> Peaks {
+    /// The highest cut that has weight and the lowest one, where no slope is further from 0 than this.
+    fn peaks(&self, step: i64, most: u64) -> Peaks
+        requires { AreSlopes most self.now.standings.items }
+        ensures { ArePeaksOf (vec_len self.now.cuts) result }
+    {
+        let step = Step::along(step, most);
         let mut peaks = Peaks::none();
         for (place, standing) in self.standings.iter().enumerate() {
             if standing.held {
@@ -152,39 +197,47 @@ impl LayerCuts {
         peaks
     }
 
-    /// The product of two places.
-    fn product(&self, one: usize, other: usize) -> i64 {
-        match self.products.get(one) {
-            Some(row) => row.get(other).copied().unwrap_or(0),
-            None => 0,
-        }
-    }
-
     /// How many free trips one of two cuts runs and the other one doesn't, in parts of a whole trip.
-    fn apart(&self, one: usize, other: usize) -> i64 {
+    fn apart(&self, one: usize, other: usize) -> i64
+        requires one { one < vec_len self.now.cuts }
+        requires other { other < vec_len self.now.cuts }
+    {
         let own = self
-            .product(one, one)
-            .saturating_add(self.product(other, other));
-        let both = self.product(one, other);
+            .products
+            .of(one, one)
+            .saturating_add(self.products.of(other, other));
+        let both = self.products.of(one, other);
         own.saturating_sub(both).saturating_sub(both).max(0)
     }
 
-    /// Adds to the weight of the cut at a place.
-    fn add_weight(&mut self, place: usize, amount: i64) {
-        if let Some(standing) = self.standings.get_mut(place) {
-            standing.weight = standing.weight.saturating_add(amount);
-        }
-    }
-
     /// Moves so much weight from one cut to another one. Gives the peaks that are then.
-    fn carry(&mut self, from: usize, to: usize, amount: i64, step: i64) -> Peaks {
-        self.add_weight(from, amount.saturating_neg());
-        self.add_weight(to, amount);
-        match (self.products.get(from), self.products.get(to)) {
-            (Some(left), Some(taken)) => tilt(&mut self.standings, left, taken, amount, step),
-            _ => self.peaks(step),
-        }
+    fn carry(&mut self, from: usize, to: usize, amount: i64, step: i64, reach: Reach) -> Peaks
+        requires from { from < vec_len self.old.cuts }
+        requires to { to < vec_len self.old.cuts }
+        requires amount { IsPart amount }
+        requires slopes { AreSlopes reach.slopes self.old.standings.items }
+        requires products { reach.products ≡ self.old.products.most }
+        ensures like { IsLike self.old self.new }
+        ensures products { self.new.products.most ≡ self.old.products.most }
+        ensures slopes { AreSlopes (reach.slopes + reach.products) self.new.standings.items }
+        ensures peaks { ArePeaksOf (vec_len self.old.cuts) result }
+    {
+        let standings: &mut [Standing] = &mut self.standings;
+        add_weight(standings, from, -amount);
+        add_weight(standings, to, amount);
+        let (left, taken) = (self.products.row(from), self.products.row(to));
+        tilt(standings, left, taken, amount, step, reach)
     }
+}
+
+/// Adds to the weight of the cut at a place.
+fn add_weight(standings: &mut [Standing], place: usize, amount: i64)
+    requires place { place < length standings.old }
+    requires amount { IsNear 1048576 amount }
+    ensures { (most : ℕ) → AreSlopes most standings.old → AreSlopes most standings.new }
+{
+    let standing = &mut standings[place];
+    standing.weight = as_part(standing.weight + amount);
 }
 
 /// Changes how much is lacking of the trips of each cut of a layer, where so much weight goes from the cut that has the
@@ -193,17 +246,47 @@ impl LayerCuts {
 /// It is the innermost loop of a climb. It has a call of its own, since where it stood among all that calls it its numbers
 /// wouldn't find room in registers.
 #[inline(never)]
-fn tilt(standings: &mut [Standing], left: &[i64], taken: &[i64], amount: i64, step: i64) -> Peaks {
+fn tilt(
+    standings: &mut [Standing],
+    left: &[i64],
+    taken: &[i64],
+    amount: i64,
+    step: i64,
+    reach: Reach,
+) -> Peaks
+    requires some { 0 < length standings.old }
+    requires each_left { length left.now ≡ length standings.old }
+    requires each_taken { length taken.now ≡ length standings.old }
+    requires left { AreProducts reach.products left.now }
+    requires taken { AreProducts reach.products taken.now }
+    requires amount { IsPart amount }
+    requires slopes { AreSlopes reach.slopes standings.old }
+    ensures slopes { AreSlopes (reach.slopes + reach.products) standings.new }
+    ensures peaks { ArePeaksOf (length standings.old) result }
+{
+    let step = Step::along(step, reach.slopes + reach.products);
     let mut peaks = Peaks::none();
-    let count = standings.len().min(left.len()).min(taken.len());
+    let count = standings.len();
+    let (left, taken) = (&left[..count], &taken[..count]);
     for place in 0..count {
         let standing = &mut standings[place];
         if standing.held {
-            standing.tilt(small_part_of(left[place].wrapping_sub(taken[place]), amount));
+            standing.tilt(more_lacking(left[place], taken[place], amount));
             peaks.see(place, standing, step);
         }
     }
     peaks
+}
+
+/// How much more is lacking of the trips of a cut, where so much weight goes from a cut with which it has the first product
+/// to one with which it has the other.
+fn more_lacking(left: i64, taken: i64, amount: i64) -> i64
+    requires left { IsProduct MOST_PRODUCT left }
+    requires taken { IsProduct MOST_PRODUCT taken }
+    requires amount { IsPart amount }
+    ensures { (most : ℕ) → IsProduct most left → IsProduct most taken → IsNear most result }
+{
+    small_part_of(left - taken, amount)
 }
 
 /// How much weight is best moved between two cuts that lie this far apart in height and in trips.

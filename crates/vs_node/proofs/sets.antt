@@ -1,5 +1,4 @@
 -- Sets of layers, and which layer of one is the cheapest.
 pub mod SetMembers
 pub mod OneLayer
-pub mod NarrowerSets
 pub mod Cheapest

@@ -17,10 +17,10 @@ use Rattle.vs_prices.specs.declared.bound.Bound.TheVariants.{AtLeast, NoPlan}
 use Rattle.vs_prices.specs.declared.table.Table.{Table}
 use Rattle.vs_prices.specs.Table.{IsPrice}
 use Rattle.vs_prices.specs.Worth.{Reaches}
-use Rattle.vs_counting.specs.Counting.{counting}
-use Rattle.vs_counting.specs.Laws.{CountsVehicles}
-use Rattle.vs_counting.specs.Peak.{HasNoPeak, IsPeak}
-use Rattle.vs_counting.proofs.CallerLemmas.{blocks_le}
+use Rattle.vs_peakcheck.specs.Counting.{counting}
+use Rattle.vs_peakcheck.specs.CountingLaws.{CountsVehicles}
+use Rattle.vs_peakcheck.specs.Peak.{HasNoPeak, IsPeak}
+use Rattle.vs_peakcheck.proofs.CallerLemmas.{blocks_le}
 use Rattle.vs_peakcheck.specs.Claims.{CanBeChecked, IsClaimed, IsShort}
 use Rattle.vs_peakcheck.specs.HoldingClaims.{HoldingClaim, HoldingClaims, ProvePeaks}
 use Rattle.vs_peakcheck.specs.PeakRows.{IsCount}

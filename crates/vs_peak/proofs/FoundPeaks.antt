@@ -18,9 +18,9 @@ use Rattle.vs_prices.specs.declared.table.Table.{Table}
 use Rattle.vs_prices.specs.Table.{AreZeros, Fits, HoldingTable, vehicle_price}
 use Rattle.vs_prices.specs.Worth.{IsRoundedUp, IsWorth, fleet_price, least_price, table_value}
 use Rattle.vs_prices.proofs.CallerLemmas.{bounds_plans, rounded_up-IsRoundedUp}
-use Rattle.vs_counting.specs.Counting.{counting, own_blocks, own_trips}
-use Rattle.vs_counting.specs.Laws.{CountsVehicles}
-use Rattle.vs_counting.specs.Peak.{RunAll}
+use Rattle.vs_peakcheck.specs.Counting.{counting, own_blocks, own_trips}
+use Rattle.vs_peakcheck.specs.CountingLaws.{CountsVehicles}
+use Rattle.vs_peakcheck.specs.Peak.{RunAll}
 use Rattle.vs_node.specs.ChosenLayers.{AreSingle}
 use Rattle.vs_node.specs.LeastPlans.{IsPlanWithin}
 use Rattle.vs_peak.specs.Peaks.{IsLeast, IsShown, ShowsNone}

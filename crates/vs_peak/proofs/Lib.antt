@@ -4,4 +4,5 @@ pub mod WrittenPeaks
 pub mod WrittenSays
 pub mod PlainRows
 pub mod ReadBack
+pub mod PeaksOwed
 pub mod CallerLemmas

@@ -17,9 +17,8 @@ use Rattle.vs_instance.specs.HoldingTable.{price_of}
 use Rattle.vs_rows.specs.DocumentRows.{BlockRow, EndRow, FleetRow, PriceRow}
 use Rattle.vs_peakcheck.specs.declared.claimed.Claimed.{Claimed}
 use Rattle.vs_peakcheck.specs.Claims.{IsClaimed}
-use Rattle.vs_peakcheck.proofs.CallerLemmas.{layers_more, rows_more}
-use Rattle.vs_counting.proofs.CallerLemmas.{all_within, count_is}
-use Rattle.vs_counting.specs.Counting.{counting, numbered, own_blocks, own_trips, permitted_trips}
+use Rattle.vs_peakcheck.proofs.CallerLemmas.{layers_more, rows_more, all_within, count_is}
+use Rattle.vs_peakcheck.specs.Counting.{counting, numbered, own_blocks, own_trips, permitted_trips}
 use Rattle.vs_peakcheck.specs.PeakRows.{CountRow, PartRow, PeakRow, block_rows, head_row, layer_rows, layers_rows, peak_rows, peak_text, price_rows, written_peak}
 use Rattle.vs_peak.specs.Writing.{AddsPeakRow, AddsPeakRows, AreTripsOf, own_row, own_rows}
 

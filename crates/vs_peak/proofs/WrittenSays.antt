@@ -1,7 +1,6 @@
 -- What is written stands for what is claimed.
 use Rattle.std.proofs.Common.{◌≡◌, ℕ, suc, ◌+◌, ◌<◌, ◌≤◌, List, [], ◌∷◌, ◌++◌, length, get_or, map, refl, sym, subst, arith, ℤ, pos}
 use Rattle.std.specs.List.{All}
-use Rattle.std.proofs.lemmas.Int.{ints}
 use Rattle.std.proofs.lemmas.List.{get_or-map, length-map}
 use Rattle.std.proofs.lemmas.List.Elements.{All-append, All-cons, All-head, All-nil, All-tail}
 use Rattle.vs_types.specs.declared.numbers.TripNo.{TripNo}
@@ -12,17 +11,13 @@ use Rattle.vs_instance.specs.Problem.{Problem}
 use Rattle.vs_plan.specs.Blocks.{IsOfInstance, pairs_of}
 use Rattle.vs_prices.specs.Table.{IsPrice}
 use Rattle.vs_reader.specs.Names.{HaveCounts, NameLists}
-use Rattle.vs_rows.specs.declared.limits.TheConstants.{MAX_PRINTED_PRICE}
-use Rattle.vs_rows.specs.DocumentRows.{BlockRow, EndRow, FleetRow, HasForm, IsNamedBlock, IsWithin, PriceRow}
-use Rattle.vs_counting.specs.Counting.{counting, numbered, own_blocks, own_number, own_trips, permitted_trips}
-use Rattle.vs_counting.proofs.CallerLemmas.{all_within, count_is}
+use Rattle.vs_rows.specs.DocumentRows.{BlockRow, EndRow, FleetRow, HasForm, IsNamedBlock, PriceRow}
+use Rattle.vs_rows.proofs.CallerLemmas.{printed}
+use Rattle.vs_peakcheck.specs.Counting.{counting, numbered, own_blocks, own_number, own_trips, permitted_trips}
+use Rattle.vs_peakcheck.proofs.CallerLemmas.{all_within, count_is}
 use Rattle.vs_peakcheck.specs.declared.claimed.Claimed.{Claimed}
 use Rattle.vs_peakcheck.specs.Claims.{AreClaimed, IsClaimed, PeakText}
 use Rattle.vs_peakcheck.specs.PeakRows.{CountRow, IsCount, IsPart, PartRow, PeakRow, SayAllSo, SaysSo, block_rows, layer_rows, layers_rows, peak_rows, peak_text, price_rows, written_peak}
-
--- a price is written with at most 19 digits
-printed : (x : ℤ) → IsPrice x → IsWithin MAX_PRINTED_PRICE x
-printed x is = (omega (arith, ints, is.0), omega (arith, ints, is.1))
 
 module _ (names : NameLists) where
   -- what a row says has the form of a row

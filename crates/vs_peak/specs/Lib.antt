@@ -1,3 +1,5 @@
 pub mod Peaks
 pub mod Writing
 pub mod Laws
+pub mod Owed
+pub mod Answered

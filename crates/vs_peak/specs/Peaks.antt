@@ -8,8 +8,8 @@ use Rattle.vs_prices.specs.declared.bound.Bound.TheVariants.{AtLeast, NoPlan}
 use Rattle.vs_prices.specs.declared.table.Table.{Table}
 use Rattle.vs_prices.specs.Table.{AreZeros, Fits, HoldingTable}
 use Rattle.vs_prices.specs.Worth.{IsWorth}
-use Rattle.vs_counting.specs.Counting.{counting}
-use Rattle.vs_counting.specs.Peak.{HasNoPeak, IsPeak}
+use Rattle.vs_peakcheck.specs.Counting.{counting}
+use Rattle.vs_peakcheck.specs.Peak.{HasNoPeak, IsPeak}
 use Rattle.vs_peakcheck.specs.declared.claimed.Claimed.{Claimed}
 use Rattle.vs_peakcheck.specs.Claims.{IsClaimed, IsShort}
 use Rattle.vs_peakcheck.specs.HoldingClaims.{HoldingClaim}

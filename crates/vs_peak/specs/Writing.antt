@@ -7,7 +7,7 @@ use Rattle.vs_plan.specs.declared.block.Block.{Block}
 use Rattle.vs_reader.specs.Rows.{line, lines}
 use Rattle.vs_reader.specs.Names.{NameLists}
 use Rattle.vs_rows.specs.DocumentRows.{BlockRow}
-use Rattle.vs_counting.specs.Counting.{numbered, permitted_trips}
+use Rattle.vs_peakcheck.specs.Counting.{numbered, permitted_trips}
 use Rattle.vs_peakcheck.specs.PeakRows.{PartRow, PeakRow, written_peak}
 
 -- a row, and some rows

@@ -1,16 +1,16 @@
 //! How few vehicles a layer needs, with blocks that run all that it may run and prices that show that fewer can't.
 
 ghost use Rattle.std.specs.Prelude.{◌<◌, length, IfOk};
-ghost use Rattle.vs_counting.specs.Counting.{counting};
+ghost use Rattle.vs_peakcheck.specs.Counting.{counting};
 ghost use Rattle.vs_prices.specs.Table.{Fits, HoldingTable};
 ghost use Rattle.vs_peak.specs.Peaks.{IsPeakOf, IsShown};
 
 use std::alloc::Global;
 use vs_circ::Work;
-use vs_counting::counting;
 use vs_instance::Instance;
 use vs_match::layer_nets;
 use vs_node::{Settled, settle};
+use vs_peakcheck::counting;
 use vs_plan::CheckedPlan;
 use vs_prices::{Table, permitted_sets};
 use vs_types::{LayerNo, Memory};

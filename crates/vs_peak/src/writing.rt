@@ -1,7 +1,7 @@
 //! The text that claims peaks.
 
 ghost use Rattle.std.specs.Prelude.{◌≡◌, ◌<◌, length, map, All, IfOk, OnOk};
-ghost use Rattle.vs_counting.specs.Counting.{counting};
+ghost use Rattle.vs_peakcheck.specs.Counting.{counting};
 ghost use Rattle.vs_peakcheck.specs.Claims.{AreClaimed, IsClaimed};
 ghost use Rattle.vs_peakcheck.specs.PeakRows.{CountRow, layer_rows, layers_rows, peak_text, price_rows};
 ghost use Rattle.vs_plan.specs.Blocks.{pairs_of};
@@ -11,9 +11,8 @@ ghost use Rattle.vs_reader.specs.Rows.{lines};
 ghost use Rattle.vs_peak.specs.Writing.{AddsPeakRow, AddsPeakRows, AreTripsOf, own_row, own_rows};
 
 use std::alloc::Global;
-use vs_counting::trips_of;
 use vs_instance::Instance;
-use vs_peakcheck::Claimed;
+use vs_peakcheck::{Claimed, trips_of};
 use vs_plan::Block;
 use vs_prices::Table;
 use vs_reader::Names;

@@ -22,8 +22,8 @@ use Rattle.vs_prices.specs.declared.bound.Bound.{Bound}
 use Rattle.vs_prices.specs.declared.bound.Bound.TheVariants.{AtLeast, NoPlan}
 use Rattle.vs_prices.specs.declared.broken_at.BrokenAt.{BrokenAt}
 use Rattle.vs_prices.proofs.CallerLemmas.{holds_nowhere_broken, nowhere_broken, worth_is, worth_of-IsWorth}
-use Rattle.vs_counting.specs.Counting.{counting}
-use Rattle.vs_counting.proofs.CallerLemmas.{blocks_le}
+use Rattle.vs_peakcheck.specs.Counting.{counting}
+use Rattle.vs_peakcheck.proofs.CountedLists.{blocks_le}
 use Rattle.vs_peakcheck.specs.Claims.{AreClaimed, IsClaimed}
 use Rattle.vs_peakcheck.specs.Flaws.{blocks_flaws, broken_flaws, count_flaws, difference, flaws_in, flaws_of, layer_flaws, weakness}
 use Rattle.vs_peakcheck.specs.HoldingClaims.{HoldingClaim, HoldingClaims}

@@ -10,4 +10,13 @@ pub mod alike
 pub mod OtherKinds
 pub mod RowParts
 pub mod PriceKinds
+pub mod PermittedTrips
+pub mod CountedTrips
+pub mod CountedBlocks
+pub mod CountedLists
+pub mod CountedInstance
+pub mod Gathering
+pub mod CountedParts
+pub mod PairOrder
+pub mod ListedDeadheads
 pub mod CallerLemmas

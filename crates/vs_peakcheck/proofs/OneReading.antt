@@ -19,8 +19,8 @@ use Rattle.vs_reader.specs.NameRules.{AreNames}
 use Rattle.vs_rows.specs.DocumentRows.{BlockRow, ClaimRow, CostRow, BoundRow, NodesRow, TableRow, SplitRow, LeafRow, DocumentRow, EndRow, FleetRow, IsWithin, PriceRow, Says, written_row}
 use Rattle.vs_rows.specs.declared.limits.TheConstants.{MAX_PRINTED_PRICE}
 use Rattle.vs_rows.proofs.CallerLemmas.{first_word, says_once, word_of}
-use Rattle.vs_counting.specs.Counting.{counting, own_blocks, own_trips, permitted_trips}
-use Rattle.vs_counting.proofs.CallerLemmas.{count_is}
+use Rattle.vs_peakcheck.specs.Counting.{counting, own_blocks, own_trips, permitted_trips}
+use Rattle.vs_peakcheck.proofs.CountedTrips.{count_is}
 use Rattle.vs_peakcheck.specs.declared.claimed.Claimed.{Claimed}
 use Rattle.vs_peakcheck.specs.declared.refused.PeakWhy.{PeakWhy}
 use Rattle.vs_peakcheck.specs.declared.refused.PeakError.{PeakError}

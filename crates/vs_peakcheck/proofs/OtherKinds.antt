@@ -12,7 +12,7 @@ use Rattle.vs_rows.specs.PriceOrder.{Trip, Vehicle}
 use Rattle.vs_rows.specs.RowForms.{IsInput}
 use Rattle.vs_rows.specs.Standing.{IsNoBlock}
 use Rattle.vs_rows.specs.TableReading.{IsWrong}
-use Rattle.vs_counting.specs.Counting.{permitted_trips}
+use Rattle.vs_peakcheck.specs.Counting.{permitted_trips}
 use Rattle.vs_peakcheck.specs.declared.reading.said.Said.{Said}
 use Rattle.vs_peakcheck.specs.declared.reading.said.Said.TheVariants as said
 use Rattle.vs_peakcheck.specs.PeakRows.{CountRow, PartRow, PeakRow, SaysPeak}

@@ -12,7 +12,7 @@ use Rattle.vs_rows.specs.declared.wrong.PriceWhy.TheVariants.{Range}
 use Rattle.vs_rows.specs.DocumentRows.{DocumentRow, FleetRow, PriceRow}
 use Rattle.vs_rows.specs.PriceOrder.{HasPrices, Trip, Vehicle}
 use Rattle.vs_rows.specs.TableReading.{IsThere, IsWrong, ReadsFleet, ReadsPrice}
-use Rattle.vs_counting.specs.Counting.{numbered, permitted_trips}
+use Rattle.vs_peakcheck.specs.Counting.{numbered, permitted_trips}
 use Rattle.vs_peakcheck.specs.declared.refused.PeakWhy.TheVariants.{PriceRange}
 use Rattle.vs_peakcheck.specs.declared.refused.PeakError.{PeakError}
 use Rattle.vs_peakcheck.specs.declared.refused.PeakError.TheVariants as error

@@ -15,10 +15,10 @@ use Rattle.vs_prices.specs.Worth.{IsBoundOn, Reaches}
 use Rattle.vs_prices.specs.declared.bound.Bound.{Bound}
 use Rattle.vs_prices.specs.declared.bound.Bound.TheVariants.{AtLeast, NoPlan}
 use Rattle.vs_prices.proofs.CallerLemmas.{bounds_plans}
-use Rattle.vs_counting.specs.Counting.{counting, own_blocks, own_trips}
-use Rattle.vs_counting.specs.Laws.{CountsVehicles}
-use Rattle.vs_counting.specs.Peak.{HasNoPeak, IsPeak, RunAll}
-use Rattle.vs_counting.proofs.CallerLemmas.{counts_vehicles}
+use Rattle.vs_peakcheck.specs.Counting.{counting, own_blocks, own_trips}
+use Rattle.vs_peakcheck.specs.CountingLaws.{CountsVehicles}
+use Rattle.vs_peakcheck.specs.Peak.{HasNoPeak, IsPeak, RunAll}
+use Rattle.vs_peakcheck.proofs.CountedLists.{counts_vehicles}
 use Rattle.vs_peakcheck.specs.Claims.{AreClaimed}
 use Rattle.vs_peakcheck.specs.HoldingClaims.{HoldingClaim, HoldingClaims, ProvePeaks}
 use Rattle.vs_peakcheck.specs.declared.claimed.Claimed.{Claimed}

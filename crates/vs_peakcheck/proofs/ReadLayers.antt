@@ -17,8 +17,8 @@ use Rattle.vs_reader.specs.declared.input.Input.{Input}
 use Rattle.vs_rows.specs.DocumentRows.{EndRow, FleetRow}
 use Rattle.vs_rows.specs.RowForms.{IsInput}
 use Rattle.vs_rows.specs.TableReading.{ReadsFleet}
-use Rattle.vs_counting.specs.Counting.{counting, own_blocks, permitted_trips}
-use Rattle.vs_counting.proofs.CallerLemmas.{count_is}
+use Rattle.vs_peakcheck.specs.Counting.{counting, own_blocks, permitted_trips}
+use Rattle.vs_peakcheck.proofs.CountedTrips.{count_is}
 use Rattle.vs_peakcheck.specs.declared.claimed.Claimed.{Claimed}
 use Rattle.vs_peakcheck.specs.declared.reading.prices.Prices.{Prices}
 use Rattle.vs_peakcheck.specs.declared.refused.PeakError.{PeakError}

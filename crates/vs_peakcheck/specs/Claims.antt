@@ -6,7 +6,7 @@ use Rattle.vs_plan.specs.Blocks.{IsOfInstance, pairs_of}
 use Rattle.vs_prices.specs.Table.{Fits}
 use Rattle.vs_reader.specs.Rows.{Row}
 use Rattle.vs_reader.specs.Names.{NameLists}
-use Rattle.vs_counting.specs.Counting.{counting}
+use Rattle.vs_peakcheck.specs.Counting.{counting}
 use Rattle.vs_peakcheck.specs.declared.claimed.Claimed.{Claimed}
 use Rattle.vs_peakcheck.specs.PeakRows.{IsCount, SayAllSo, head_row, peak_rows}
 

@@ -15,7 +15,7 @@ use Rattle.vs_prices.specs.declared.bound.Bound.{Bound}
 use Rattle.vs_prices.specs.declared.bound.Bound.TheVariants.{AtLeast, NoPlan}
 use Rattle.vs_prices.specs.declared.broken_at.BrokenAt.{BrokenAt}
 use Rattle.vs_prices.specs.declared.table.Table.{Table}
-use Rattle.vs_counting.specs.Counting.{counting}
+use Rattle.vs_peakcheck.specs.Counting.{counting}
 use Rattle.vs_peakcheck.specs.declared.claimed.Claimed.{Claimed}
 use Rattle.vs_peakcheck.specs.declared.flaw.PeakFlaw.{PeakFlaw}
 use Rattle.vs_peakcheck.specs.declared.flaw.PeakFlaw.TheVariants.{Blocks, CountDiffers, TableBroken, TooWeak}

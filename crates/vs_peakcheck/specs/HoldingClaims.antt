@@ -7,8 +7,8 @@ use Rattle.vs_plan.specs.Blocks.{pairs_of}
 use Rattle.vs_prices.specs.declared.bound.Bound.{Bound}
 use Rattle.vs_prices.specs.Table.{HoldingTable}
 use Rattle.vs_prices.specs.Worth.{IsWorth, Reaches}
-use Rattle.vs_counting.specs.Counting.{counting}
-use Rattle.vs_counting.specs.Peak.{HasNoPeak, IsPeak}
+use Rattle.vs_peakcheck.specs.Counting.{counting}
+use Rattle.vs_peakcheck.specs.Peak.{HasNoPeak, IsPeak}
 use Rattle.vs_peakcheck.specs.declared.claimed.Claimed.{Claimed}
 
 -- Of a problem that counts vehicles: a count comes with blocks that are a plan and are so many; the table holds, and is

@@ -7,3 +7,8 @@ pub mod HoldingClaims
 pub mod Flaws
 pub mod Reading
 pub mod Laws
+pub mod Peak
+pub mod Counting
+pub mod Listed
+pub mod Parts
+pub mod CountingLaws

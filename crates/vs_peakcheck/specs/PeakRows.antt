@@ -9,7 +9,7 @@ use Rattle.vs_reader.specs.Rows.{Field, Row, row_of}
 use Rattle.vs_reader.specs.Names.{NameLists, name_of}
 use Rattle.vs_reader.specs.declared.input.Input.{Input}
 use Rattle.vs_rows.specs.DocumentRows.{DocumentRow, BlockRow, EndRow, FleetRow, PriceRow, Says, written_row}
-use Rattle.vs_counting.specs.Counting.{own_blocks, permitted_trips}
+use Rattle.vs_peakcheck.specs.Counting.{own_blocks, permitted_trips}
 use Rattle.vs_peakcheck.specs.declared.claimed.Claimed.{Claimed}
 use Rattle.vs_peakcheck.specs.declared.claimed.TheConstants.{MAX_COUNT}
 

@@ -7,7 +7,7 @@ use Rattle.vs_instance.specs.Plan.{LayerBlock}
 use Rattle.vs_instance.specs.Ways.{trip_of}
 use Rattle.vs_prices.specs.Table.{IsPrice}
 use Rattle.vs_rows.specs.DocumentRows.{BlockRow, EndRow, FleetRow, PriceRow}
-use Rattle.vs_counting.specs.Counting.{permitted_trips}
+use Rattle.vs_peakcheck.specs.Counting.{permitted_trips}
 use Rattle.vs_peakcheck.specs.PeakRows.{PeakRow, CountRow, PartRow}
 
 -- a place between two rows

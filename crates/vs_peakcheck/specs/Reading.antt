@@ -10,7 +10,7 @@ use Rattle.vs_reader.specs.Rows.{all_fields}
 use Rattle.vs_rows.specs.DocumentRows.{BlockRow, EndRow}
 use Rattle.vs_rows.specs.PriceOrder.{priced_row}
 use Rattle.vs_rows.specs.Standing.{IsNoBlock}
-use Rattle.vs_counting.specs.Counting.{counting, own_blocks, own_trips, permitted_trips}
+use Rattle.vs_peakcheck.specs.Counting.{counting, own_blocks, own_trips, permitted_trips}
 use Rattle.vs_peakcheck.specs.declared.claimed.Claimed.{Claimed}
 use Rattle.vs_peakcheck.specs.declared.reading.prices.Prices.{Prices}
 use Rattle.vs_peakcheck.specs.declared.reading.said.Said.{Said}

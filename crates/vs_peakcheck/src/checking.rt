@@ -1,7 +1,7 @@
 //! What is claimed of layers, judged.
 
 ghost use Rattle.std.specs.Prelude.{◌≡◌, ◌<◌, ◌↔◌, length, IfOk};
-ghost use Rattle.vs_counting.specs.Counting.{counting};
+ghost use Rattle.vs_peakcheck.specs.Counting.{counting};
 ghost use Rattle.vs_instance.specs.Firsts.{first};
 ghost use Rattle.vs_plan.specs.Blocks.{CanBeJudged, blocks_of, pairs_of};
 ghost use Rattle.vs_prices.specs.Table.{Fits};
@@ -11,9 +11,9 @@ ghost use Rattle.vs_peakcheck.specs.HoldingClaims.{HoldingClaims, ProvePeaks};
 ghost use Rattle.vs_peakcheck.specs.declared.flaw.PeakVerdict.TheVariants.{Yes};
 
 use crate::claimed::Claimed;
+use crate::counted::counting;
 use crate::flaw::{PeakFlaw, PeakVerdict};
 use std::alloc::Global;
-use vs_counting::counting;
 use vs_instance::Instance;
 use vs_plan::{Block, Plan, PlanError, judge};
 use vs_prices::{Bound, Table, broken, permitted_sets, worth};

@@ -1,7 +1,6 @@
 //! What holds of all claims of peaks, whoever makes them.
 
-ghost use Rattle.vs_peakcheck.specs.Laws.{AlikeClaimsAreJudgedAlike, ClaimsOfRowsAreAlike, ClaimsOfRowsAreJudgedAlike};
-ghost use Rattle.vs_peakcheck.specs.Laws.{ClaimsAreNotRefused, HoldingClaimsProvePeaks, RowsAreRefusedOnce};
+ghost use Rattle.vs_peakcheck.specs.Laws.{AlikeClaimsAreJudgedAlike, ClaimsOfRowsAreAlike, ClaimsOfRowsAreJudgedAlike, ClaimsAreNotRefused, HoldingClaimsProvePeaks, RowsAreRefusedOnce};
 
 /// Claims that the same rows stand for say the same: layer by layer the same count, the same blocks and the same
 /// prices.

@@ -1,2 +1,5 @@
 pub mod FewLayers
 pub mod GivenLayers
+pub mod EvenMultipliers
+pub mod ShownRays
+pub mod CallerLemmas

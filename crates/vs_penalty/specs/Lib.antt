@@ -4,3 +4,4 @@ pub mod Penalties
 pub mod Rates
 pub mod Seekers
 pub mod Tallies
+pub mod Rays

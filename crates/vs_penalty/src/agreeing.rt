@@ -8,6 +8,7 @@ ghost use Rattle.vs_prices.specs.Bounds.{IsWorthNoLess};
 ghost use Rattle.vs_prices.specs.Table.{Fits, HoldingTable};
 ghost use Rattle.vs_penalty.specs.Penalties.{IsPlanOf};
 
+use crate::ray::seek_ray;
 use crate::seeking::Seeker;
 use std::alloc::Global;
 use std::mem::swap;
@@ -18,7 +19,6 @@ use vs_match::LayerNet;
 use vs_multi::{Case, few_rounds, keep_better, multipliers_of, raise};
 use vs_plan::CheckedPlan;
 use vs_prices::{Table, permitted_sets, worth};
-use vs_ray::seek_ray;
 use vs_types::{Memory, TripNo};
 
 /// One round shows what the multipliers are worth; they are the best already.

@@ -1,5 +1,8 @@
-//! Plans on which the layers agree: each layer is paid a little more for a trip that no other one runs and a little
-//! less for one that another does, until every trip is run by one.
+//! Plans on which the layers agree.
+//!
+//! Each layer is paid a little more for a trip that no other one runs and a little less for one that another does,
+//! until every trip is run by one. Where there is no plan, a Farkas ray shows it, which is sought as prices are where
+//! nothing costs anything.
 #![tactic(auto)]
 
 mod agreeing;
@@ -7,9 +10,13 @@ mod choices;
 mod choosing;
 mod effort;
 mod leaf;
+mod minutes;
+mod paying;
 mod penalties;
 mod pool;
 mod rate;
+mod ray;
+mod reasons;
 mod root;
 mod seeking;
 mod slow_passes;
@@ -18,3 +25,4 @@ mod turns;
 
 pub use agreeing::agree;
 pub use leaf::seek_plan;
+pub use ray::seek_ray;

@@ -9,3 +9,6 @@ pub use Rattle.vs_prices.proofs.Rounding.{rounded_up-IsRoundedUp}
 pub use Rattle.vs_prices.proofs.RunningTotals.{product_within, total-map_more}
 pub use Rattle.vs_prices.proofs.Worths.{worth_is, worth_of-IsWorth, worth_once}
 pub use Rattle.vs_prices.proofs.UnratedTables.{is_also_ray}
+pub use Rattle.vs_prices.proofs.RunIn.{IsRunIn, narrower, run_once, runs_in, set_of-other, set_of-same, wider}
+pub use Rattle.vs_prices.proofs.Restrictions.{left-restricts, leaves_restrict, restriction-layers, right-restricts}
+pub use Rattle.vs_prices.proofs.Sharing.{lies_in_one}

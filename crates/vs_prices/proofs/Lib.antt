@@ -10,4 +10,7 @@ pub mod FirstBreaks
 pub mod Worths
 pub mod RealBreaks
 pub mod UnratedTables
+pub mod RunIn
+pub mod Restrictions
+pub mod Sharing
 pub mod CallerLemmas

@@ -4,3 +4,6 @@ pub mod Worth
 pub mod Laws
 pub mod Bounds
 pub mod Rays
+pub mod Tree
+pub mod CaseLaws
+pub mod Claims

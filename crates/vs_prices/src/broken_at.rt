@@ -1,12 +1,9 @@
 //! Where prices break first: the judge of tables, over all pairs of trips.
 
-ghost use Rattle.std.specs.Prelude.{◌≡◌, ℕ, ◌<◌, ◌↔◌, Option, length, option_map, pos};
-ghost use Rattle.std.specs.Prelude.{IfSome, IsNone};
+ghost use Rattle.std.specs.Prelude.{◌≡◌, ℕ, ◌<◌, ◌↔◌, Option, length, option_map, pos, IfSome, IsNone};
 ghost use Rattle.vs_connect.specs.Cost.{IsCost};
 ghost use Rattle.vs_instance.specs.Firsts.{first};
-ghost use Rattle.vs_prices.specs.Breaks.{IsBroken, breaks_of, layer_breaks, trip_breaks};
-ghost use Rattle.vs_prices.specs.Breaks.{exceeds, is_link_broken, links_breaks};
-ghost use Rattle.vs_prices.specs.Breaks.{is_pull_in_broken, is_pull_out_broken};
+ghost use Rattle.vs_prices.specs.Breaks.{IsBroken, breaks_of, layer_breaks, trip_breaks, exceeds, is_link_broken, links_breaks, is_pull_in_broken, is_pull_out_broken};
 ghost use Rattle.vs_prices.specs.Table.{Fits, HoldingTable, IsPrice};
 
 use crate::table::Table;

@@ -6,8 +6,7 @@ ghost use Rattle.vs_instance.specs.Restriction.{IsRestriction, permitted_sets};
 ghost use Rattle.vs_types.specs.LayerSet.{Has, members};
 ghost use Rattle.vs_prices.specs.Laws.{PricesBoundPlans, UnratedTablesAreRays};
 ghost use Rattle.vs_prices.specs.Table.{Fits, HoldingTable};
-ghost use Rattle.vs_prices.specs.Worth.{BoundsPlans, IsRoundedUp, IsWorth};
-ghost use Rattle.vs_prices.specs.Worth.{least, trip_price, trips_pay, vehicles_pay};
+ghost use Rattle.vs_prices.specs.Worth.{BoundsPlans, IsRoundedUp, IsWorth, least, trip_price, trips_pay, vehicles_pay};
 
 use crate::bound::Bound;
 use crate::table::Table;

@@ -4,6 +4,7 @@ pub mod RowBuilding
 pub mod Numbers
 pub mod Names
 pub mod NameRules
+pub mod Salts
 pub mod NameCodes
 pub mod Kinds
 pub mod Versions
@@ -19,3 +20,5 @@ pub mod ReadErrors
 pub mod Declarations
 pub mod Heads
 pub mod Ends
+pub mod Calls
+pub mod Laws

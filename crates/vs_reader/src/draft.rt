@@ -16,6 +16,7 @@ use crate::record::{RecordError, field};
 use crate::record_numbers::RecordNumbers;
 use crate::records::{self, Ends};
 use crate::refused::Why;
+use crate::salted::Salted;
 use crate::version::Version;
 use csv::ByteRecord;
 use std::alloc::Global;
@@ -32,13 +33,13 @@ pub struct Draft {
 }
 
 impl Draft {
-    /// Nothing yet.
-    pub fn new(alloc: Global) -> Draft
+    /// Nothing yet. This hasher will find the names.
+    pub fn new(alloc: Global, hasher: Salted) -> Draft
         ensures declared { declared_of result ≡ nothing_yet }
         ensures numbers { HasNumbers result.numbers [] }
     {
         Draft {
-            names: Names::new(alloc),
+            names: Names::new(alloc, hasher),
             deadheads: Vec::new(alloc),
             layers: Vec::new(alloc),
             trips: Vec::new(alloc),

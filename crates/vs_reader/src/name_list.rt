@@ -1,46 +1,42 @@
-//! Names of one kind, numbered in order and found by an ordered map.
+//! Names of one kind, numbered in order and found by a salted hash.
 
-ghost use Rattle.std.specs.Prelude.{◌≡◌, ℕ, ◌<◌, ◌+◌, ◌^◌, [], ◌∷◌, ◌++◌, length, Contains, MatchOption, IfSome, IfOk, OnOk, slice_index_or};
+ghost use Rattle.std.specs.Prelude.{◌≡◌, ℕ, ◌<◌, ◌+◌, ◌^◌, [], ◌∷◌, ◌++◌, length, map, Contains, MatchOption, IfSome, IfOk, OnOk, is_ok, if◌then◌else◌, slice_index_or};
 ghost use Rattle.std.specs.String.{string_bytes};
 ghost use Rattle.vs_reader.specs.Names.{IsName, Names as Numbered};
 ghost use Rattle.vs_reader.specs.NameRules.{AreNames};
 
+use crate::salted::Salted;
+use indexmap::IndexSet;
 use std::alloc::Global;
-use std::collections::BTreeMap;
 use std::marker::Model;
 use vs_types::Memory;
 
-/// Names, no two of which are the same, numbered from 0 in the order in which they were added. An ordered map
-/// from names to numbers stands beside them, by which they are found: strangers choose the names, and could
-/// choose such as a hash takes for one another, but none that are slow to find in order.
+/// Names, no two of which are the same, numbered from 0 in the order in which they were added.
 #[derive(Drop)]
 pub struct NameList {
-    names: Vec<String>,
-    numbers: BTreeMap<String, u32>,
+    names: IndexSet<String, Salted>,
 }
 
 impl Model for NameList {
     ghost use Rattle.std.specs.Prelude.{List, map};
     ghost use Rattle.std.specs.String.{string_bytes};
     ghost use Rattle.vs_reader.specs.Rows.{Field};
-    ghost use Rattle.vs_reader.specs.NameRules.{AreNames, AreNumbers};
+    ghost use Rattle.vs_reader.specs.NameRules.{AreNames};
 
     ghost Value = { List Field };
 
-    ghost view = { λ a. map string_bytes a.names.items };
+    ghost view = { λ a. map string_bytes a.names.keys };
 
-    ghost invariant = { λ a. AreNames (map string_bytes a.names.items)
-        × AreNumbers (map string_bytes a.names.items) a.numbers };
+    ghost invariant = { λ a. AreNames (map string_bytes a.names.keys) };
 }
 
 impl NameList {
-    /// No names.
-    pub fn new(alloc: Global) -> NameList
+    /// No names, which this hasher will find.
+    pub fn new(alloc: Global, hasher: Salted) -> NameList
         ensures { result ≡ [] }
     {
         NameList {
-            names: Vec::new(alloc),
-            numbers: BTreeMap::new(alloc),
+            names: IndexSet::with_hasher(alloc, hasher),
         }
     }
 
@@ -69,7 +65,8 @@ impl NameList {
         ensures within { IfSome result (λ k. k < length self.now) }
         ensures only { IfSome result (λ k. (j : ℕ) → Numbered self.now name.now j → j ≡ k) }
     {
-        self.numbers.get(name).copied()
+        let number = self.names.get_index_of(name)?;
+        Some(number as u32)
     }
 
     /// The number of a name, which is compared with the one of this number before all are searched. None where
@@ -94,19 +91,19 @@ impl NameList {
         requires room { length self.old + 1 < 2 ^ 32 }
         ensures { OnOk result (self.new ≡ self.old ++ name.now ∷ []) }
     {
-        let alloc = *self.names.allocator();
-        let number = self.names.len() as u32;
-        let added = text(alloc, name)?;
-        let key = text(alloc, name)?;
-        self.names.reserve(1)?;
-        match self.numbers.insert(key, number) {
-            Ok(_) => {
-                self.names.push(added)?;
-                Ok(())
-            }
-            Err(_) => Err(Memory),
-        }
+        let added = text(*self.names.allocator(), name)?;
+        insert_new(&mut self.names, added)
     }
+}
+
+/// Inserts a name that is none of these as the last one.
+fn insert_new(names: &mut IndexSet<String, Salted>, name: String) -> Result<(), Memory>
+    requires { ¬ (Contains (map string_bytes names.old.keys) (string_bytes name)) }
+    ensures { map string_bytes names.new.keys ≡ (let old = map string_bytes names.old.keys in
+        if is_ok result then old ++ string_bytes name ∷ [] else old) }
+{
+    names.insert(name)?;
+    Ok(())
 }
 
 /// A name as a text.

@@ -7,6 +7,7 @@ ghost use Rattle.vs_reader.specs.Names.{IsName, Names as Numbered, name_of};
 ghost use Rattle.vs_reader.specs.NameRules.{AreNames};
 
 use crate::name_list::NameList;
+use crate::salted::Salted;
 use std::alloc::Global;
 use std::marker::Model;
 use vs_types::{LayerNo, Memory, StopNo, TripNo};
@@ -31,14 +32,14 @@ impl Model for Names {
 }
 
 impl Names {
-    /// No names.
-    pub fn new(alloc: Global) -> Names
+    /// No names, which this hasher will find.
+    pub(crate) fn new(alloc: Global, hasher: Salted) -> Names
         ensures { result ≡ record { stops = []; layers = []; trips = [] } }
     {
         Names {
-            stops: NameList::new(alloc),
-            layers: NameList::new(alloc),
-            trips: NameList::new(alloc),
+            stops: NameList::new(alloc, hasher),
+            layers: NameList::new(alloc, hasher),
+            trips: NameList::new(alloc, hasher),
         }
     }
 

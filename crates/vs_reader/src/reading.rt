@@ -23,6 +23,7 @@ use crate::names::Names;
 use crate::record::{RecordError, is_result};
 use crate::refused::{ReadError, Refused, Why};
 use crate::rows::{RowBuilder, Rows};
+use crate::salted::Salted;
 use crate::text_records::TextRecords;
 use crate::version::Version;
 use std::alloc::Global;
@@ -66,7 +67,7 @@ pub fn read(alloc: Global, bytes: &[u8]) -> Result<Input, ReadError>
     ensures counted { IfOk result (λ input. AreCounted input.before input.rest) }
 {
     let mut records = TextRecords::new(alloc, bytes);
-    let head = read_head(alloc, &mut records)?;
+    let head = read_head(alloc, Salted::of_text(bytes), &mut records)?;
     let rest = read_rest(alloc, &mut records, head.in_rest)?;
     let before = u64::from(head.before);
     Ok(Input {
@@ -93,15 +94,15 @@ pub fn read_instance(alloc: Global, bytes: &[u8]) -> Result<Timetable, ReadError
         → ¬ (StandsFor bytes.now p names before rest)) }
 {
     let mut records = TextRecords::new(alloc, bytes);
-    let head = read_head(alloc, &mut records)?;
+    let head = read_head(alloc, Salted::of_text(bytes), &mut records)?;
     Ok(Timetable {
         instance: head.instance,
         names: head.names,
     })
 }
 
-/// What the records up to the first `result` record give, that one read as well.
-fn read_head(alloc: Global, records: &mut TextRecords) -> Result<Head, ReadError>
+/// What the records up to the first `result` record give, that one read as well. This hasher finds the names.
+fn read_head(alloc: Global, hasher: Salted, records: &mut TextRecords) -> Result<Head, ReadError>
     requires { IsOpen records.old }
     ensures read { (rows : List Row) → AreLeft records.old rows → HeadOrRefuse rows records.new result }
     ensures goes_on { IfOk result (λ head. IsTrue head.in_rest → IsOpen records.new) }
@@ -112,7 +113,7 @@ fn read_head(alloc: Global, records: &mut TextRecords) -> Result<Head, ReadError
             why: Why::NoHeader,
         }));
     };
-    let declarations = read_declarations(alloc, version, records)?;
+    let declarations = read_declarations(alloc, hasher, version, records)?;
     let (instance, names) = made(alloc, declarations.draft)?;
     Ok(Head {
         instance,
@@ -135,9 +136,10 @@ fn read_header(records: &mut TextRecords) -> Result<Option<Version>, Memory>
 }
 
 /// Reads the records of the instance that come next, by the rules of this version, and the first `result` record behind
-/// them.
+/// them. This hasher finds the names.
 fn read_declarations(
     alloc: Global,
+    hasher: Salted,
     version: Version,
     records: &mut TextRecords,
 ) -> Result<Declarations, ReadError>
@@ -145,7 +147,7 @@ fn read_declarations(
     ensures { (rows : List Row) → AreLeft records.old rows
         → DeclareOrRefuse version rows records.new result }
 {
-    let mut draft = Draft::new(alloc);
+    let mut draft = Draft::new(alloc, hasher);
     for number in 2..u32::MAX {
         let found = records.next()?;
         if !found || is_result(&records.current) {

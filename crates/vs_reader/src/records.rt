@@ -10,6 +10,7 @@ ghost use Rattle.vs_reader.specs.InstanceText.{DeadheadRow, LayerRow, StayOf, Tr
 ghost use Rattle.vs_reader.specs.Rules.{WritesName, WritesNumber, WritesTime, new_name, known_name, layer_names, stop_rules, deadhead_rules, layer_rules, stay_rules, trip_rules};
 ghost use Rattle.vs_reader.specs.Judged.{Judged};
 ghost use Rattle.vs_reader.specs.Ends.{ends_rules, NamesEnds};
+ghost use Rattle.vs_reader.specs.Calls.{call_rules, trip_name_rules, IsCall};
 
 use crate::fields::{name, number, time};
 use crate::names::Names;
@@ -41,6 +42,14 @@ impl Ends {
             },
         }
     }
+}
+
+/// Where and when a trip starts or ends.
+#[derive(Clone, Copy)]
+pub struct Call {
+    pub stop: StopNo,
+    /// The minute, from 0:00 of the first day.
+    pub minute: u32,
 }
 
 /// The name of a stop that a record declares.
@@ -132,6 +141,28 @@ pub fn trip(names: &Names, row: &ByteRecord) -> Result<Trip, Why>
     ensures { Judged (trip_rules names.now (fields_of row.now))
         (TripRow names.now (fields_of row.now) (field_of (fields_of row.now) 1)) result }
 {
+    named_trip(names, row)?;
+    let first = written_call(names, row, 2)?;
+    let last = written_call(names, row, 4)?;
+    let metres = written_number(row, 6)?;
+    let layers = named_layers(names, row)?;
+    if names.trips() >= MAX_TRIPS as usize {
+        return Err(Why::TooMany);
+    }
+    Ok(Trip {
+        from: first.stop,
+        start: first.minute,
+        to: last.stop,
+        end: last.minute,
+        metres,
+        layers,
+    })
+}
+
+/// Whether a record has the fields of a trip and a name that no trip has.
+fn named_trip(names: &Names, row: &ByteRecord) -> Result<(), Why>
+    ensures { Judged (trip_name_rules names.now (fields_of row.now)) (λ _. Unit {0}) result }
+{
     if row.len() < 8 {
         return Err(Why::FieldCount);
     }
@@ -139,23 +170,18 @@ pub fn trip(names: &Names, row: &ByteRecord) -> Result<Trip, Why>
     if names.trip_of(name).is_some() {
         return Err(Why::NameTwice);
     }
-    let from = known_stop(names, row, 2)?;
-    let start = written_time(row, 3)?;
-    let to = known_stop(names, row, 4)?;
-    let end = written_time(row, 5)?;
-    let metres = written_number(row, 6)?;
-    let layers = named_layers(names, row)?;
-    if names.trips() >= MAX_TRIPS as usize {
-        return Err(Why::TooMany);
-    }
-    Ok(Trip {
-        from,
-        start,
-        to,
-        end,
-        metres,
-        layers,
-    })
+    Ok(())
+}
+
+/// The stop that field k of a record names, and the minute that the next one writes.
+fn written_call(names: &Names, row: &ByteRecord, k: usize) -> Result<Call, Why>
+    requires { k < 8 }
+    ensures { Judged (call_rules names.now (fields_of row.now) k)
+        (IsCall names.now (fields_of row.now) k) result }
+{
+    let stop = known_stop(names, row, k)?;
+    let minute = written_time(row, k + 1)?;
+    Ok(Call { stop, minute })
 }
 
 /// The layers that the fields of a record name from the eighth on.

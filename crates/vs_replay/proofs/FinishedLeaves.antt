@@ -16,8 +16,8 @@ use Rattle.vs_tree.specs.Prices.{AreWorth, prices_of}
 use Rattle.vs_tree.specs.Sound.{IsOpening}
 use Rattle.vs_tree.specs.declared.calls.Next.{Next}
 use Rattle.vs_tree.specs.declared.calls.Next.TheVariants.{Close, Split}
-use Rattle.vs_tree.proofs.CallerLemmas.{histories_are_sound, leaf_within, one_worth}
-use Rattle.vs_replay.proofs.MadeSteps.{is_lawful, lawful_holds}
+use Rattle.vs_tree.proofs.CallerLemmas.{histories_are_sound, leaf_within, one_worth, lawful_holds}
+use Rattle.vs_replay.proofs.MadeSteps.{is_lawful}
 
 -- the sets of a leaf of a history, for a problem that is its own
 pub leaf_restriction : (o : Opening) → IsOpening o → (steps : List FullStep) → MayFollow o (first_state o) steps

@@ -4,4 +4,12 @@ pub mod StepByStep
 pub mod WholeTrace
 pub mod AgreeingPrices
 pub mod ToldSteps
+pub mod OneTrace
+pub mod ComeBack
+pub mod OneDocument
+pub mod OneStep
+pub mod PlainRows
+pub mod ReplayOwed
+pub mod OneReplay
+pub mod WrittenBack
 pub mod CallerLemmas

@@ -3,9 +3,8 @@ use Rattle.std.proofs.Common.{◌≡◌, ℕ, ◌<◌, ◌↔◌, Bool, true, fa
 use Rattle.std.specs.Prelude.{IsTrue}
 use Rattle.std.proofs.lemmas.Bool.{eq-eqb, eqb-true, false≢true}
 use Rattle.vs_instance.specs.Problem.{Problem}
-use Rattle.vs_prices.specs.Table.{Fits, HoldingTable, prices_in}
+use Rattle.vs_prices.specs.Table.{Fits, HoldingTable}
 use Rattle.vs_prices.specs.declared.table.Table.{Table}
-use Rattle.vs_instance.specs.HoldingTable.{HoldsInLayer, price_of}
 use Rattle.vs_tree.specs.Calls.{offering, with_step}
 use Rattle.vs_plan.specs.CheckedPlan.{Checked}
 use Rattle.vs_tree.specs.History.{FullStep, Opening, State, Offered, Took, IsAmong, IsCheaper, IsFree, IsHeldBy, IsNextLeaf, MayCome, MayOffer, MayTake, is_inner, known, prices_at, spot_at, table_of}
@@ -36,13 +35,6 @@ one_next p s a b x y =
     let back = y.first a x.worth x.free x.is_worth (x.least b y.worth y.free y.is_worth) in
     omega (arith, to, back)
 
--- a worker that may take a leaf has nothing in hand
-pub idle_hand : (s : State) (w : ℕ) (hand : Hand) → IsHandOf s w hand → ((k : ℕ) → ¬ (IsHeldBy s w k))
-    → ¬ (IsAmong w s.gone) → hand ≡ Idle
-idle_hand s w Idle is idle stays = refl
-idle_hand s w (Has leaf offered) is idle stays = absurd (idle leaf is.0)
-idle_hand s w Gone is idle stays = absurd (stays is)
-
 -- a table of a leaf's prices has their size
 pub sized_at : (o : Opening) (s : State) → IsSound o s → (leaf : ℕ) → IsFree s leaf → (table : Table)
     → prices_of table ≡ prices_at s leaf → IsSized o.problem table
@@ -50,15 +42,6 @@ sized_at o s sound leaf free table same =
     let lawful = sound.tables (table_of (spot_at s leaf)) no_prices (sound.numbers leaf (ap is_inner free.1)) in
     let fits = lawful_fits o.problem table (subst (λ (x : Prices). AreLawful o.problem x) (sym same) lawful) in
     record { into = fits.into_size; from = fits.from_size; fleet = fits.fleet_size }
-
--- prices hold in every layer
-abbrev Hold : Problem → Prices → Type 0
-Hold p x = (l : ℕ) → l < length p.layers
-    → HoldsInLayer p l x.ray (prices_in p l x.into) (prices_in p l x.from) (price_of x.fleet l)
-
--- a table of lawful prices holds
-pub lawful_holds : (p : Problem) (table : Table) → AreLawful p (prices_of table) → HoldingTable p table
-lawful_holds p table lawful = subst (Hold p) lawful.listed lawful.holds
 
 -- a table that fits and holds has lawful prices
 pub is_lawful : (p : Problem) (table : Table) → Fits p table → HoldingTable p table → AreLawful p (prices_of table)

@@ -5,7 +5,7 @@ use Rattle.vs_instance.specs.Problem.{Problem}
 use Rattle.vs_tree.specs.Calls.{with_step}
 use Rattle.vs_tree.specs.History.{FullStep, Opening, State, MayCome, MayFollow, after, first_state, state_after, state_of}
 use Rattle.vs_tree.specs.Search.{Search, state}
-use Rattle.vs_tree.proofs.CallerLemmas.{state-last}
+use Rattle.vs_tree.proofs.CallerLemmas.{state-last, state-append, history-last}
 use Rattle.vs_trace.specs.Traces.{plans_behind, steps_from, tables_behind, told_step}
 use Rattle.vs_trace.specs.declared.trace.Full.{Full}
 use Rattle.vs_trace.specs.declared.trace.Full.TheVariants.{Took, Split, Closed, Offered, GaveBack}
@@ -36,18 +36,6 @@ pub count_steps : (p : Problem) (tables plans : ℕ) (steps : List Full)
 count_steps p tables plans [] = refl
 count_steps p tables plans (step ∷ steps) =
     ap suc (count_steps p (tables_behind tables step) (plans_behind plans step) steps)
-
--- the state behind some steps and others
-pub state-append : (s : State) (first more : List FullStep)
-    → state_after s (first ++ more) ≡ state_after (state_after s first) more
-state-append s [] more = refl
-state-append s (x ∷ first) more = state-append (after s x) first more
-
--- a step that may come makes a longer history
-follow-last : (o : Opening) (s : State) (steps : List FullStep) (step : FullStep) → MayFollow o s steps
-    → MayCome o (state_after s steps) step → MayFollow o s (steps ++ step ∷ [])
-follow-last o s [] step may comes = (comes, tt)
-follow-last o s (x ∷ steps) step may comes = (may.0, follow-last o (after s x) steps step may.1 comes)
 
 -- some steps are made
 pub record MadeSoFar (old now : Search) (steps : List Full) (i : ℕ) : Type 0 where
@@ -144,7 +132,7 @@ module _ (old now : Search) (steps : List Full) (i : ℕ) (s : MadeSoFar old now
               ∙ append_assoc old.steps (take i told) (y ∷ [])
               ∙ ap (λ (xs : List FullStep). old.steps ++ xs) (sym more);
           history = subst (λ (xs : List FullStep). MayFollow old.opening (state old) xs) (sym more)
-              (follow-last old.opening (state old) (take i told) y s.history here);
+              (history-last old.opening (state old) (take i told) y s.history here);
           rest = tail
               ∙ ap (λ (n : ℕ). steps_from p n (plans_behind (length (state now).accepted) step) (drop (i + 1) steps))
               (sym tables)

@@ -1,6 +1,6 @@
 -- The steps that a trace tells of a search may come as the search's own, and lead to the same state but for prices that
 -- aren't told and for offers that weren't accepted.
-use Rattle.std.proofs.Common.{◌≡◌, ℕ, zero, suc, ◌==◌, Bool, true, false, cond, not, List, [], ◌∷◌, ◌++◌, length, refl, sym, ap, ◌∙◌, subst, append-nil, Option, Some, None, ℤ}
+use Rattle.std.proofs.Common.{◌≡◌, ℕ, zero, suc, ◌==◌, not, List, [], ◌∷◌, ◌++◌, length, refl, sym, ap, ◌∙◌, subst, append-nil, Option, Some, None, ℤ}
 use Rattle.std.specs.Prelude.{filter, IfSome}
 use Rattle.std.specs.List.{AllZip}
 use Rattle.std.proofs.lemmas.List.Elements.{AllZip-get_or, AllZip-push, length_all_zip}
@@ -14,7 +14,7 @@ use Rattle.vs_tree.specs.History.{FullStep, Opening, Place, State, Took, Split, 
 use Rattle.vs_tree.specs.Prices.{Prices, no_prices, zero_prices}
 use Rattle.vs_tree.specs.Sound.{IsOpening, IsPlanOf, IsSound}
 use Rattle.vs_tree.specs.Takes.{held_leaves}
-use Rattle.vs_tree.proofs.CallerLemmas.{among-filter, first_sound, leaf_within, step_sound, zeros_lawful}
+use Rattle.vs_tree.proofs.CallerLemmas.{among-filter, first_sound, leaf_within, step_sound, zeros_lawful, filter-among}
 use Rattle.vs_trace.specs.Told.{told_of}
 use Rattle.vs_trace.specs.Traces.{told_opening, told_steps}
 use Rattle.vs_trace.specs.declared.trace.Trace.{Trace}
@@ -32,19 +32,6 @@ with_told s tables offered = record {
   gone = s.gone;
   offered = offered;
 }
-
--- what is among some and passes the test is among those that do
-filter-among : (test : ℕ → Bool) (x : ℕ) (xs : List ℕ) → test x ≡ true → IsAmong x xs → IsAmong x (filter test xs)
-filter-among test x [] passes (k, is) = absurd cc
-filter-among test x (y ∷ ys) passes (zero, is) =
-    let same : y ≡ x = cc in
-    let here : test y ≡ true = ap test same ∙ passes in
-    subst (λ (b : Bool). IsAmong x (cond b (y ∷ filter test ys) (filter test ys))) (sym here) (0, is)
-filter-among test x (y ∷ ys) passes (suc k, is) = by_test (test y) (filter-among test x ys passes (k, is))
-  where
-    by_test : (b : Bool) → IsAmong x (filter test ys) → IsAmong x (cond b (y ∷ filter test ys) (filter test ys))
-    by_test true (j, found) = (suc j, found)
-    by_test false found = found
 
 -- a state that is the same as another is so
 pub same_is : (p : Problem) (s u : State) → SameStates p s u → u ≡ with_told s u.tables u.offered

@@ -6,8 +6,8 @@ use Rattle.vs_reader.specs.Names.{NameLists}
 use Rattle.vs_reader.specs.Rows.{Row, lines}
 use Rattle.vs_reader.specs.Texts.{IsRefused}
 use Rattle.vs_reader.specs.declared.refused.Refused.{Refused}
-use Rattle.vs_report.specs.Network.{AreNetworkRows}
-use Rattle.vs_report.specs.RefusalRows.{refusal_row}
+use Rattle.vs_reply.specs.Network.{AreNetworkRows}
+use Rattle.vs_reply.specs.RefusalRows.{refusal_row}
 use Rattle.vs_instance.specs.Firsts.{first}
 use Rattle.vs_peakcheck.specs.Flaws.{flaws_of}
 use Rattle.vs_peakcheck.specs.HoldingClaims.{HoldingClaims, ProvePeaks}

@@ -2,3 +2,8 @@ pub mod Status
 pub mod Cases
 pub mod Owed
 pub mod Answered
+pub mod RefusalRows
+pub mod FlawRows
+pub mod PeakFlawRows
+pub mod Network
+pub mod Timetable

@@ -15,7 +15,7 @@ use Rattle.vs_rows.specs.DocumentRows.{claim_field, number_field}
 use Rattle.vs_document.specs.declared.refused.DocWhy.{DocWhy}
 use Rattle.vs_reader.specs.Texts.{IsRefused}
 use Rattle.vs_reader.specs.declared.refused.Refused.{Refused}
-use Rattle.vs_counting.specs.Counting.{numbered, permitted_trips}
+use Rattle.vs_peakcheck.specs.Counting.{numbered, permitted_trips}
 use Rattle.vs_peakcheck.specs.Flaws.{flaws_of as peak_flaws_of}
 use Rattle.vs_peakcheck.specs.HoldingClaims.{HoldingClaims, ProvePeaks}
 use Rattle.vs_peakcheck.specs.declared.claimed.Claimed.{Claimed}
@@ -23,12 +23,12 @@ use Rattle.vs_peakcheck.specs.declared.flaw.PeakFlaw.{PeakFlaw}
 use Rattle.vs_peakcheck.specs.declared.refused.PeakWhy.{PeakWhy}
 use Rattle.vs_types.specs.declared.numbers.LayerNo.{LayerNo}
 use Rattle.vs_reply.specs.Cases.{CheckText, LacksClaims, LacksDocument, PeakCheckText, SolveText}
-use Rattle.vs_report.specs.RefusalRows.{document_refusal_row, peak_refusal_row, refusal_row}
-use Rattle.vs_report.specs.PeakFlawRows.{no_peak_row}
-use Rattle.vs_report.specs.FlawRows.{no_row}
+use Rattle.vs_reply.specs.RefusalRows.{document_refusal_row, peak_refusal_row, refusal_row}
+use Rattle.vs_reply.specs.PeakFlawRows.{no_peak_row}
+use Rattle.vs_reply.specs.FlawRows.{no_row}
 use Rattle.vs_make.specs.Generator.{make_rows}
-use Rattle.vs_report.specs.Network.{AreNetworkRows}
-use Rattle.vs_report.specs.Timetable.{timetable_of}
+use Rattle.vs_reply.specs.Network.{AreNetworkRows}
+use Rattle.vs_reply.specs.Timetable.{timetable_of}
 use Rattle.vs_instance.specs.Plan.{IsPlan}
 use Rattle.vs_plan.specs.PlanFaults.{faults_of}
 use Rattle.vs_plan.specs.declared.plan_fault.PlanFault.{PlanFault}

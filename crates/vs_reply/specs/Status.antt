@@ -1,7 +1,7 @@
 -- How a run ends: the exit status that goes with each end, and the end that goes with a claim.
 use Rattle.std.specs.Prelude.{ℕ}
-use Rattle.vs_cases.specs.declared.claim.Claim.{Claim}
-use Rattle.vs_cases.specs.declared.claim.Claim.TheVariants.{Optimal, Infeasible, StillOpen}
+use Rattle.vs_prices.specs.declared.claim.Claim.{Claim}
+use Rattle.vs_prices.specs.declared.claim.Claim.TheVariants.{Optimal, Infeasible, StillOpen}
 use Rattle.vs_reply.specs.declared.status.Status.{Status}
 use Rattle.vs_reply.specs.declared.status.Status.TheVariants as status
 

@@ -3,19 +3,20 @@
 ghost use Rattle.std.specs.Prelude.{◌≡◌, ℕ, List, [], ◌∷◌, length, IfOk};
 ghost use Rattle.vs_check.specs.Flaws.{IsFlawWithin};
 ghost use Rattle.vs_reply.specs.Answered.{RefusesText};
-ghost use Rattle.vs_report.specs.FlawRows.{no_row};
+ghost use Rattle.vs_reply.specs.FlawRows.{no_row};
 ghost use Rattle.vs_reply.specs.Owed.{yes_row};
-ghost use Rattle.vs_report.specs.RefusalRows.{document_refusal_row, refusal_row, too_large_row, words_row};
+ghost use Rattle.vs_reply.specs.RefusalRows.{document_refusal_row, refusal_row, too_large_row, words_row};
 ghost use Rattle.vs_reader.specs.ReadErrors.{RefusesAs};
 ghost use Rattle.vs_reader.specs.Rows.{lines};
 ghost use Rattle.vs_reader.specs.Texts.{IsRefused};
 
+use crate::flaws::flaw_fields;
+use crate::refusal::{write_document_why, write_why};
 use crate::status::Status;
 use std::alloc::Global;
 use vs_check::Flaw;
 use vs_document::{DocWhy, Document, Text, bound_field, claim_field, cost_field};
 use vs_reader::{Names, ReadError, Refused};
-use vs_report::{flaw_fields, write_document_why, write_why};
 use vs_types::Memory;
 
 /// What a run answers, and what it writes before it ends.

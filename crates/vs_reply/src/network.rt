@@ -7,12 +7,12 @@ ghost use Rattle.vs_reply.specs.Cases.{input_limit};
 ghost use Rattle.vs_reply.specs.Owed.{NetworkOwes};
 
 use crate::answer::Answer;
+use crate::net_rows::write_nets;
 use crate::status::Status;
 use std::alloc::Global;
 use vs_document::Text;
 use vs_instance::Instance;
 use vs_reader::{Names, read_instance};
-use vs_report::write_nets;
 use vs_types::Memory;
 
 /// What `network` answers for the bytes of an instance, whatever follows its records.

@@ -1,25 +1,25 @@
 //! `peakcheck`: whether what a text claims of how few vehicles each layer needs holds.
 
 ghost use Rattle.std.specs.Prelude.{◌≡◌, ℕ, ◌<◌, ◌≤◌, List, length, IfOk};
-ghost use Rattle.vs_counting.specs.Counting.{permitted_trips};
+ghost use Rattle.vs_peakcheck.specs.Counting.{permitted_trips};
 ghost use Rattle.vs_peakcheck.specs.Claims.{CanBeChecked};
 ghost use Rattle.vs_reader.specs.Names.{HaveCounts};
 ghost use Rattle.vs_reader.specs.Texts.{StandsFor};
-ghost use Rattle.vs_report.specs.PeakFlawRows.{IsPeakFlawWithin};
+ghost use Rattle.vs_reply.specs.PeakFlawRows.{IsPeakFlawWithin};
 ghost use Rattle.vs_rows.specs.RowForms.{IsInput};
 ghost use Rattle.vs_reply.specs.Answered.{HasVerdict, IsTextOf, TellsRow};
 ghost use Rattle.vs_reply.specs.Cases.{input_limit};
 ghost use Rattle.vs_reply.specs.Owed.{PeakCheckOwes, peaks_no_row, peaks_yes_row};
-ghost use Rattle.vs_report.specs.RefusalRows.{peak_refusal_row};
+ghost use Rattle.vs_reply.specs.RefusalRows.{peak_refusal_row};
 
 use crate::answer::Answer;
+use crate::peak_flaws::peak_flaw_fields;
+use crate::refusal::write_peak_why;
 use crate::status::Status;
 use std::alloc::Global;
-use vs_counting::trips_of;
 use vs_instance::Instance;
-use vs_peakcheck::{Claimed, PeakError, PeakFlaw, PeakVerdict, PeakWhy, check};
+use vs_peakcheck::{Claimed, PeakError, PeakFlaw, PeakVerdict, PeakWhy, check, trips_of};
 use vs_reader::{Input, Names};
-use vs_report::{peak_flaw_fields, write_peak_why};
 use vs_rows::Text;
 use vs_types::{LayerNo, Memory};
 

@@ -5,7 +5,7 @@ ghost use Rattle.vs_instance.specs.Plan.{IsPlan};
 ghost use Rattle.vs_plan.specs.Blocks.{CanBeJudged, blocks_of, pairs_of};
 ghost use Rattle.vs_reader.specs.Names.{HaveCounts};
 ghost use Rattle.vs_reader.specs.Rows.{lines};
-ghost use Rattle.vs_report.specs.Timetable.{timetable};
+ghost use Rattle.vs_reply.specs.Timetable.{timetable};
 ghost use Rattle.vs_reply.specs.Answered.{IsTextOf};
 ghost use Rattle.vs_reply.specs.Cases.{CheckText, input_limit};
 ghost use Rattle.vs_reply.specs.Owed.{BlocksOwes};
@@ -13,13 +13,13 @@ ghost use Rattle.vs_reply.specs.Owed.{BlocksOwes};
 use crate::answer::Answer;
 use crate::case::{Case, CaseError, read_case};
 use crate::status::Status;
+use crate::vehicle_rows::write_timetable;
 use std::alloc::Global;
 use vs_check::Flaw;
 use vs_document::Text;
 use vs_instance::Instance;
 use vs_plan::{Block, PlanError, judge};
 use vs_reader::Names;
-use vs_report::write_timetable;
 use vs_types::Memory;
 
 /// What `blocks` answers for the bytes of an instance and a document.

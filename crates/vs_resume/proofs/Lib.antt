@@ -2,4 +2,9 @@ pub mod trees
 pub mod worths
 pub mod parts
 pub mod documents
+pub mod Pieces
+pub mod PartPlans
+pub mod WidenedPrices
+pub mod WidenedTables
+pub mod WidenedWorths
 pub mod CallerLemmas

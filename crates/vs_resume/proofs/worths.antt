@@ -1,8 +1,6 @@
 -- What leaves are worth: the least of all, and the better of two tables.
-pub mod SetMembers
 pub mod BoundOrder
 pub mod LeastWorths
-pub mod NarrowerSets
 pub mod Settled
 pub mod Settling
 pub mod Counts

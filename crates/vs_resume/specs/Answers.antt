@@ -2,13 +2,13 @@
 use Rattle.std.specs.Prelude.{◌≡◌, ℕ, ◌*◌, ◌+◌, ◌≤◌, max, Bool, true, false, List, length, count_by}
 use Rattle.vs_instance.specs.Problem.{Problem}
 use Rattle.vs_prices.specs.declared.bound.Bound.{Bound}
-use Rattle.vs_cases.specs.declared.claim.Claim.TheVariants.{StillOpen}
+use Rattle.vs_prices.specs.declared.claim.Claim.TheVariants.{StillOpen}
 use Rattle.vs_rows.specs.DocumentText.{HasText}
 use Rattle.vs_rows.specs.declared.document.Document.{Document}
 use Rattle.vs_rows.specs.declared.document.Shape.{Shape}
 use Rattle.vs_rows.specs.declared.document.Shape.TheVariants as shape
 use Rattle.vs_check.specs.HoldingDocument.{HoldingDocument}
-use Rattle.vs_answer.specs.Answers.{AreNamedInOrder, AreWorths, IsBoundOf, places_of}
+use Rattle.vs_cert.specs.Answers.{AreNamedInOrder, AreWorths, IsBoundOf, places_of}
 use Rattle.vs_resume.specs.declared.resuming.TheConstants.{MAX_RESUMED_ENTRIES}
 use Rattle.vs_resume.specs.Standing.{IsPrinted, IsWrittenFor, Standing}
 use Rattle.vs_resume.specs.Turns.{AreTurns, Turned, nodes_of}

@@ -3,7 +3,7 @@ use Rattle.std.specs.Prelude.{◌≡◌, ◌⊎◌, ℕ, ◌+◌, ◌<◌, List,
 use Rattle.std.specs.List.{AllZip}
 use Rattle.vs_types.specs.declared.layer_set.LayerSet.{LayerSet}
 use Rattle.vs_instance.specs.Problem.{Problem}
-use Rattle.vs_cases.specs.Tree.{IsGoodTree, LeafPlace, Tree, leaves, right_of, with_set}
+use Rattle.vs_prices.specs.Tree.{IsGoodTree, LeafPlace, Tree, leaves, right_of, with_set}
 use Rattle.vs_prices.specs.Bounds.{IsNoLess}
 use Rattle.vs_prices.specs.Worth.{IsWorth}
 use Rattle.vs_prices.specs.declared.bound.Bound.{Bound}

@@ -3,7 +3,7 @@ use Rattle.std.specs.Prelude.{◌≡◌, ℕ, ◌≤◌, None}
 use Rattle.vs_instance.specs.Problem.{Problem}
 use Rattle.vs_tree.specs.Search.{Search, state}
 use Rattle.vs_tree.specs.Takes.{IsOver}
-use Rattle.vs_answer.specs.Laws.{EachReachesTheStart}
+use Rattle.vs_cert.specs.AnswerLaws.{EachReachesTheStart}
 
 -- A search of the part with this budget that began with no plan and is over. It finished some node, and each of its
 -- leaves is worth no less than the value at the starting multipliers.

@@ -1,6 +1,6 @@
 -- A part of a tree of cases in the place of one of its leaves.
 use Rattle.std.specs.Prelude.{ℕ, zero, suc, ◌+◌, ◌-◌, nat_lt, if◌then◌else◌, List, [], ◌∷◌, ◌++◌, take, drop}
-use Rattle.vs_cases.specs.Tree.{Leaf, Split, Tree}
+use Rattle.vs_prices.specs.Tree.{Leaf, Split, Tree}
 use Rattle.vs_rows.specs.declared.document.Shape.{Shape}
 use Rattle.vs_rows.specs.declared.document.Shape.TheVariants as shape
 

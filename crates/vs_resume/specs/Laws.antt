@@ -4,9 +4,9 @@ use Rattle.vs_instance.specs.Instance.{IsInstance}
 use Rattle.vs_instance.specs.Problem.{Problem}
 use Rattle.vs_instance.specs.Restriction.{permitted_sets}
 use Rattle.vs_prices.specs.Bounds.{IsBelow}
-use Rattle.vs_cases.specs.declared.claim.Claim.TheVariants.{StillOpen}
+use Rattle.vs_prices.specs.declared.claim.Claim.TheVariants.{StillOpen}
 use Rattle.vs_rows.specs.declared.document.Document.{Document}
-use Rattle.vs_answer.specs.Answers.{choices}
+use Rattle.vs_cert.specs.Answers.{choices}
 use Rattle.vs_resume.specs.Answers.{ResumeAnswer}
 
 -- no leaf of an answer is below its cost, and its claim isn't open

@@ -10,3 +10,5 @@ pub mod Parts
 pub mod Courses
 pub mod Writing
 pub mod Laws
+pub mod Widened
+pub mod PartLaws

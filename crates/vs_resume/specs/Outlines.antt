@@ -1,6 +1,6 @@
 -- The rows of a tree apart from the tables that its leaves name.
 use Rattle.std.specs.Prelude.{◌≡◌, ℕ, List, [], ◌∷◌, map}
-use Rattle.vs_cases.specs.Tree.{Tree}
+use Rattle.vs_prices.specs.Tree.{Tree}
 use Rattle.vs_rows.specs.Shapes.{preorder}
 use Rattle.vs_rows.specs.declared.document.Shape.{Shape}
 use Rattle.vs_rows.specs.declared.document.Shape.TheVariants as shape

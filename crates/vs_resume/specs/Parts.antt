@@ -7,7 +7,7 @@ use Rattle.vs_prices.specs.Table.{Fits}
 use Rattle.vs_prices.specs.declared.table.Table.{Table}
 use Rattle.vs_tree.specs.History.{State}
 use Rattle.vs_tree.specs.Prices.{Prices, no_prices, prices_of}
-use Rattle.vs_part.specs.Widened.{IsWidened}
+use Rattle.vs_resume.specs.Widened.{IsWidened}
 
 -- a table of these prices, widened
 pub record IsWidenedFrom (p : Problem) (sets : List LayerSet) (prices : Prices) (table : Table) : Type 0 where

@@ -5,7 +5,7 @@ use Rattle.vs_instance.specs.Problem.{Problem}
 use Rattle.vs_instance.specs.Restriction.{permitted_sets}
 use Rattle.vs_plan.specs.Blocks.{blocks_of}
 use Rattle.vs_prices.specs.declared.bound.Bound.{Bound}
-use Rattle.vs_cases.specs.Tree.{LeafPlace, Tree, leaves}
+use Rattle.vs_prices.specs.Tree.{LeafPlace, Tree, leaves}
 use Rattle.vs_rows.specs.Shapes.{preorder}
 use Rattle.vs_rows.specs.declared.document.Document.{Document}
 use Rattle.vs_tree.specs.Prices.{AreWorth, Prices, no_prices, prices_of}

@@ -9,10 +9,10 @@ use Rattle.vs_instance.specs.Problem.{Problem}
 use Rattle.vs_instance.specs.Restriction.{IsWithin}
 use Rattle.vs_prices.specs.Bounds.{IsBelow, IsNoLess, ReachesValue}
 use Rattle.vs_prices.specs.declared.bound.Bound.{Bound}
-use Rattle.vs_cases.specs.Tree.{IsGoodTree, LeafPlace, Tree, leaves, splits}
+use Rattle.vs_prices.specs.Tree.{IsGoodTree, LeafPlace, Tree, leaves, splits}
 use Rattle.vs_tree.specs.History.{IsCheaper}
 use Rattle.vs_tree.specs.Prices.{AreLawful, Prices}
-use Rattle.vs_answer.specs.Answers.{count_not_below}
+use Rattle.vs_cert.specs.Answers.{count_not_below}
 use Rattle.vs_resume.specs.declared.deepen.TheConstants.{MAX_TURN}
 use Rattle.vs_resume.specs.InPlace.{with_part}
 use Rattle.vs_resume.specs.Standing.{AreNamedWorths, IsNamedWorth, Standing, leaves_of}

@@ -3,7 +3,7 @@ use Rattle.std.specs.Prelude.{◌≡◌, ℕ, List, map, slice_get, Some}
 use Rattle.std.specs.List.{AllPairs, AllZip}
 use Rattle.vs_instance.specs.Problem.{Problem}
 use Rattle.vs_prices.specs.declared.table.Table.{Table}
-use Rattle.vs_cases.specs.Claims.{claim_found}
+use Rattle.vs_prices.specs.Claims.{claim_found}
 use Rattle.vs_rows.specs.declared.document.Document.{Document}
 use Rattle.vs_tree.specs.Report.{bound_of}
 use Rattle.vs_cert.specs.StateDocument.{first_times}

@@ -1,7 +1,7 @@
 //! The leaves of a tree of cases: the layers of each, its table, and what that is worth there.
 
 ghost use Rattle.std.specs.Prelude.{◌≡◌, ◌<◌, ◌+◌, ◌^◌, ◌∷◌, [], ◌++◌, length, map, All, IfOk, OnOk};
-ghost use Rattle.vs_cases.specs.Tree.{right_of, with_set};
+ghost use Rattle.vs_prices.specs.Tree.{right_of, with_set};
 ghost use Rattle.vs_instance.specs.Restriction.{IsRestriction};
 ghost use Rattle.vs_prices.specs.Table.{Fits};
 ghost use Rattle.vs_resume.specs.Cases.{AreCasesOfRows, AreGoodRows, AreSettled, CanGoOver, GoesOver, IsSettled, sets_ahead};

@@ -1,5 +1,7 @@
-//! A search that is carried on from the document that it ended with: turn after turn, the leaf of least worth gives
-//! place to a search of its part.
+//! A search that is carried on from the document that it ended with.
+//!
+//! Round after round, the leaf with the lowest bound gives place to a search of its part: the instance in which each
+//! trip may be run only in the layers that the leaf leaves it.
 #![tactic(auto)]
 
 mod cases;
@@ -8,11 +10,15 @@ mod deepen;
 mod laws;
 mod order;
 mod part;
+mod part_laws;
 mod resuming;
 mod rows;
 mod turning;
+mod widening;
 mod writing;
 
 pub use deepen::{Deepen, MAX_PART_ENTRIES, MAX_TURN};
-pub use laws::enough_nodes_leave_nothing_open;
+pub use laws::{enough_nodes_leave_nothing_open, limits_are_fixed};
+pub use part_laws::{plans_of_parts, widened_tables_are_worth_the_same, widened_tables_hold};
 pub use resuming::{MAX_RESUMED_ENTRIES, resume};
+pub use widening::widen;

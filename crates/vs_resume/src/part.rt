@@ -8,9 +8,9 @@ ghost use Rattle.vs_tree.specs.Prices.{prices_of};
 ghost use Rattle.vs_tree.specs.Search.{state};
 ghost use Rattle.vs_resume.specs.Parts.{AreWidenedTables};
 
+use crate::widening::widen;
 use std::alloc::Global;
 use vs_instance::Instance;
-use vs_part::widen;
 use vs_plan::{Block, Plan};
 use vs_prices::Table;
 use vs_tree::Tree;

@@ -4,8 +4,7 @@ ghost use Rattle.std.specs.Prelude.{◌≡◌, ◌<◌, ◌≤◌, length, IfOk,
 ghost use Rattle.vs_instance.specs.Narrowed.{narrowed};
 ghost use Rattle.vs_instance.specs.Restriction.{IsRestriction};
 ghost use Rattle.vs_resume.specs.declared.deepen.TheConstants.{MAX_TURN};
-ghost use Rattle.vs_resume.specs.Courses.{AreNext, HasFewTables, HasNewTables, HasSetsAt, IsPartPut, IsPlanTaken};
-ghost use Rattle.vs_resume.specs.Courses.{IsSomeCourse, TurnsOn};
+ghost use Rattle.vs_resume.specs.Courses.{AreNext, HasFewTables, HasNewTables, HasSetsAt, IsPartPut, IsPlanTaken, IsSomeCourse, TurnsOn};
 ghost use Rattle.vs_resume.specs.Deepened.{IsDeepened};
 
 use crate::cases::{cases_of, settle};

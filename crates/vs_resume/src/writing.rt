@@ -9,10 +9,9 @@ use crate::order::bound_with;
 use crate::rows::number_leaves;
 use std::alloc::Global;
 use std::mem;
-use vs_cases::claim_found;
 use vs_cert::Numbering;
 use vs_document::Document;
-use vs_prices::Table;
+use vs_prices::{Table, claim_found};
 use vs_types::Memory;
 
 /// The places at which the tables of the leaves are written, leaf by leaf, and the numbers of the tables in the order

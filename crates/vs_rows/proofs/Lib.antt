@@ -1,3 +1,5 @@
+pub mod Lists
+pub mod TreeRows
 pub mod words
 pub mod rows
 pub mod tables

@@ -1,8 +1,7 @@
 //! What a document has, and the rows of its tree.
 
-use vs_cases::Claim;
 use vs_plan::Plan;
-use vs_prices::Table;
+use vs_prices::{Claim, Table};
 use vs_types::{LayerSet, TripNo};
 
 /// A plan with what proves it.

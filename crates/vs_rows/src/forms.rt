@@ -6,7 +6,7 @@ ghost use Rattle.vs_types.specs.declared.numbers.TripNo.{TripNo as TripOf};
 ghost use Rattle.vs_instance.specs.Plan.{LayerBlock};
 ghost use Rattle.vs_plan.specs.Blocks.{pair_of};
 ghost use Rattle.vs_reader.specs.Rows.{row_of};
-ghost use Rattle.vs_cases.specs.declared.claim.Claim.{Claim as ClaimOf};
+ghost use Rattle.vs_prices.specs.declared.claim.Claim.{Claim as ClaimOf};
 ghost use Rattle.vs_rows.specs.DocumentRows.{ClaimRow, CostRow, BoundRow, NodesRow, BlockRow, TableRow, FleetRow, PriceRow, SplitRow, LeafRow, EndRow, claim_field, kind_field, number_field, IsWithin, IsBetween};
 ghost use Rattle.vs_rows.specs.RowForms.{IsInput, NameSet, NameTrips, NeverTells, SaysThere, Tells};
 
@@ -15,8 +15,8 @@ use crate::limits::{MAX_BOUND, MAX_COST, MAX_FINISHED, MAX_NUMBER, MAX_PRINTED_P
 use crate::names::{Likely, layer_named, trip_named};
 use crate::numbers::between;
 use std::alloc::Global;
-use vs_cases::Claim;
 use vs_plan::Block;
+use vs_prices::Claim;
 use vs_reader::{Input, Rows};
 use vs_types::{LayerNo, LayerSet, Memory, TripNo};
 

@@ -4,4 +4,17 @@ pub mod WrittenSteps
 pub mod SaidRows
 pub mod SaidSteps
 pub mod MadeTraces
+pub mod RefusedRows
+pub mod PricePlaces
+pub mod AcceptedRows
+pub mod ReadThrough
+pub mod SamePlaces
+pub mod PartReading
+pub mod StepReading
+pub mod KindsOfRows
+pub mod SplitForms
+pub mod TellsOnce
+pub mod RefusedOnce
+pub mod AlikeTraces
+pub mod WholeReading
 pub mod CallerLemmas

@@ -1,7 +1,7 @@
 -- What a search names has a name: the trips and layers of its steps, and those of its plans.
-use Rattle.std.proofs.Common.{◌≡◌, ℕ, zero, suc, ◌<◌, List, [], ◌∷◌, length, map, ap, subst, arith, Option, Some, None, IfSome, slice_get}
+use Rattle.std.proofs.Common.{◌<◌, List, [], ◌∷◌, length, map, ap, subst, arith, Option, Some, None, IfSome}
 use Rattle.std.specs.List.{All}
-use Rattle.std.proofs.lemmas.List.Elements.{All-cons, All-head, All-map, All-nil, All-tail, All-weaker}
+use Rattle.std.proofs.lemmas.List.Elements.{All-cons, All-map, All-nil, All-weaker}
 use Rattle.vs_types.specs.Parts.{IsProperPart}
 use Rattle.vs_types.specs.declared.layer_set.LayerSet.{LayerSet}
 use Rattle.vs_types.specs.declared.numbers.TripNo.{TripNo}
@@ -74,9 +74,3 @@ module _ (o : Opening) (opening : IsOpening o) (names : NameLists) (counts : Hav
       → IfSome first (λ plan. All (IsNamedBlock names) plan.blocks)
   first_named None is = tt
   first_named (Some plan) is = blocks_named plan is
-
--- what is true of all is true of the one at a place
-pub all_at : {X : Type 0} (P : X → Type 0) (xs : List X) (k : ℕ) (x : X) → All P xs → slice_get xs k ≡ Some x → P x
-all_at P [] k x all is = absurd cc
-all_at P (y ∷ ys) zero x all is = let same : y ≡ x = cc in subst P same (All-head P y ys all)
-all_at P (y ∷ ys) (suc k) x all is = all_at P ys k x (All-tail P y ys all) is

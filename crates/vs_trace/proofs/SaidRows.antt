@@ -1,31 +1,24 @@
 -- Rows of a trace, as they are written, say what they are to say.
-use Rattle.std.proofs.Common.{◌≡◌, ℕ, ◌<◌, ◌≤◌, List, [], ◌∷◌, true, length, map, refl, subst, arith, ℤ, pos, ◌≤ℤ◌}
+use Rattle.std.proofs.Common.{ℕ, ◌<◌, ◌≤◌, List, [], ◌∷◌, length, map, refl, subst, arith, pos}
 use Rattle.std.specs.Prelude.{flat_map, ◌==◌, All}
 use Rattle.std.specs.List.{range_with_len}
 use Rattle.std.specs.Int.{bit_at}
-use Rattle.std.proofs.lemmas.Bool.{eqb-true}
-use Rattle.std.proofs.lemmas.Int.{ints}
-use Rattle.std.proofs.lemmas.List.Elements.{All-contains, All-cons, All-filter, All-from_get_or, All-head, All-map, All-nil, All-tail, All-weaker, filter_passes}
-use Rattle.std.proofs.lemmas.List.FromFn.{get_or-range_with_len, length-range_with_len}
-use Rattle.std.proofs.lemmas.List.Kept.{AllPairs-from_increasing}
-use Rattle.vs_types.specs.LayerSet.{Has, layer_numbers, members}
+use Rattle.std.proofs.lemmas.List.Elements.{All-cons, All-filter, All-head, All-map, All-nil, All-tail, All-weaker}
+use Rattle.vs_types.specs.LayerSet.{members}
 use Rattle.vs_types.specs.declared.layer_set.LayerSet.{LayerSet}
-use Rattle.vs_types.specs.declared.numbers.TheConstants.{MAX_LAYERS}
 use Rattle.vs_types.specs.declared.numbers.TripNo.{TripNo}
-use Rattle.vs_types.proofs.CallerLemmas.{Contains-members_below, IsStrictlyIncreasing-members}
 use Rattle.vs_instance.specs.Instance.{IsInstance}
 use Rattle.vs_instance.specs.Plan.{LayerBlock, plan_cost}
 use Rattle.vs_instance.specs.Problem.{Problem}
 use Rattle.vs_instance.specs.Ways.{trip_of}
 use Rattle.vs_instance.proofs.CallerLemmas.{All-numbers}
 use Rattle.vs_plan.specs.CheckedPlan.{Checked, IsChecked}
-use Rattle.vs_plan.specs.declared.costs.TheConstants.{MAX_PLAN_COST}
-use Rattle.vs_prices.specs.Table.{Fits, IsPrice, from_price, into_price, vehicle_price}
+use Rattle.vs_prices.specs.Table.{Fits, from_price, into_price, vehicle_price}
 use Rattle.vs_prices.specs.declared.table.Table.{Table}
 use Rattle.vs_reader.specs.Names.{HaveCounts, NameLists}
-use Rattle.vs_rows.specs.DocumentRows.{AreLayersOf, BlockRow, DocumentRow, FleetRow, IsBetween, IsNamedBlock, IsWithin, PriceRow, TableRow, layer_rows, permitted_trips, table_rows}
-use Rattle.vs_rows.specs.declared.limits.TheConstants.{MAX_COST, MAX_NUMBER, MAX_PRINTED_PRICE}
-use Rattle.vs_rows.proofs.CallerLemmas.{price_anywhere, prices_in_all}
+use Rattle.vs_rows.specs.DocumentRows.{BlockRow, DocumentRow, FleetRow, IsBetween, IsNamedBlock, PriceRow, TableRow, layer_rows, permitted_trips, table_rows}
+use Rattle.vs_rows.specs.declared.limits.TheConstants.{MAX_COST, MAX_NUMBER}
+use Rattle.vs_rows.proofs.CallerLemmas.{price_anywhere, prices_in_all, all_below, members_are, printed, checked_cost}
 use Rattle.vs_tree.specs.Prices.{AreLawful, Prices}
 use Rattle.vs_trace.specs.TraceRows.{AreNumbers, IsSplitForm, PartRow, SayAllSo, SaysSo, SplitRow, TraceRow, block_rows, part_row, parts, priced_rows, written_trace, written_traces}
 
@@ -39,37 +32,8 @@ say_all names [] all = tt
 say_all names (row ∷ said) all =
     (All-head (IsSaid names) row said all, say_all names said (All-tail (IsSaid names) row said all))
 
--- numbers of a list of so many are below them
-below : (n : ℕ) → All (λ k. k < n) (range_with_len 0 n)
-below n = All-from_get_or (λ k. k < n) (range_with_len 0 n) 0
-    (λ i within.
-    let i_below : i < n = omega (arith, length-range_with_len 0 n) in
-    omega (arith, get_or-range_with_len 0 n i 0 i_below))
-
--- the members of a set whose layers are below so many, each once
-members_are : (left : LayerSet) (layers : ℕ) → layers ≤ MAX_LAYERS → ((l : ℕ) → Has left l → l < layers)
-    → AreLayersOf left (members left)
-members_are left layers few below_layers = record {
-  once = λ i j d lt within. let less = AllPairs-from_increasing (members left)
-      (IsStrictlyIncreasing-members left) i j d lt
-      within in λ same. absurd (omega arith);
-  members = λ l. (
-    (λ among. eqb-true (bit_at left.0 l) 1
-        (All-contains (λ k. (bit_at left.0 k == 1) ≡ true) (members left) l
-        (filter_passes (λ k. bit_at left.0 k == 1) layer_numbers) among)),
-    (λ has. Contains-members_below left l (omega (arith, below_layers l has)) has),
-  );
-}
-
--- a price is one that a row may have, and so is a plan's cost
-printed : (n : ℤ) → IsPrice n → IsWithin MAX_PRINTED_PRICE n
-printed n price = (omega (arith, ints), omega (arith, ints))
-
-cost_between : (n : ℕ) (cost : ℤ) → cost ≡ pos n → cost ≤ℤ MAX_PLAN_COST → IsBetween (pos 0) MAX_COST cost
-cost_between n cost is few = (omega (arith, ints), omega (arith, ints))
-
 pub checked_between : (plan : Checked) → IsChecked plan → IsBetween (pos 0) MAX_COST plan.cost
-checked_between plan is = cost_between (plan_cost plan.problem plan.blocks) plan.cost is.cost is.limit
+checked_between plan is = checked_cost (plan_cost plan.problem plan.blocks) plan.cost is.cost is.limit
 
 pub blocks_said : (names : NameLists) (blocks : List LayerBlock) → All (IsNamedBlock names) blocks
     → All (IsSaid names) (block_rows blocks)
@@ -93,7 +57,7 @@ module _ (p : Problem) (names : NameLists) (instance : IsInstance p) (counts : H
       let price : ℕ → DocumentRow = λ i. PriceRow l i (into_price p table l i) (from_price p table l i) in
       let numbers = range_with_len 0 (length p.trips) in
       let permitted : All (λ i. i < length p.trips) (permitted_trips p l) =
-      All-filter (λ i. bit_at (trip_of p i).layers.0 l == 1) (λ i. i < length p.trips) numbers (below
+      All-filter (λ i. bit_at (trip_of p i).layers.0 l == 1) (λ i. i < length p.trips) numbers (all_below
       (length p.trips)) in
       All-cons IsSaidPart (FleetRow l (vehicle_price table l)) (map price (permitted_trips p l))
       (tt, record { form = (layer, printed _ (price_anywhere table.fleet.items l fits.fleet)); written = refl })

@@ -2,3 +2,10 @@ pub mod TraceRows
 pub mod Traces
 pub mod Told
 pub mod Writing
+pub mod Forms
+pub mod Places
+pub mod TraceRefusals
+pub mod RowKinds
+pub mod Reading
+pub mod Alike
+pub mod Laws

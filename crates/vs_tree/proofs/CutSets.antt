@@ -8,7 +8,7 @@ use Rattle.vs_tree.specs.declared.spot.Cut.{Cut}
 use Rattle.vs_tree.specs.declared.spot.Spot.{Spot}
 use Rattle.vs_tree.specs.Cuts.{AreCuts, AreLaid, IsLaid, cut_at, laid, places_of, sets_after, sets_of}
 use Rattle.vs_tree.specs.History.{Place, no_place, place_at, with_spot}
-use Rattle.vs_cases.specs.Tree.{with_set}
+use Rattle.vs_prices.specs.Tree.{with_set}
 
 abbrev sets_at : List (List LayerSet) → ℕ → List LayerSet
 sets_at all k = get_or all k []

@@ -11,7 +11,7 @@ use Rattle.vs_types.specs.declared.layer_set.LayerSet.{LayerSet}
 use Rattle.vs_instance.specs.Instance.{IsInstance}
 use Rattle.vs_instance.specs.Problem.{Problem}
 use Rattle.vs_instance.specs.Restriction.{IsRestriction, set_of}
-use Rattle.vs_instance.specs.HoldingTable.{price_of, scaled}
+use Rattle.vs_instance.specs.HoldingTable.{HoldsInLayer, price_of, scaled}
 use Rattle.vs_instance.specs.Lagrangian.{total}
 use Rattle.vs_instance.specs.Pieces.{trip_piece}
 use Rattle.vs_instance.specs.Ways.{layer_of}
@@ -19,7 +19,7 @@ use Rattle.vs_types.specs.LayerSet.{members}
 use Rattle.vs_prices.specs.declared.bound.Bound.{Bound}
 use Rattle.vs_prices.specs.declared.bound.Bound.TheVariants.{AtLeast, NoPlan}
 use Rattle.vs_prices.specs.declared.table.Table.{Table}
-use Rattle.vs_prices.specs.Table.{Fits, IsPrice, prices_in}
+use Rattle.vs_prices.specs.Table.{Fits, HoldingTable, IsPrice, prices_in}
 use Rattle.vs_prices.specs.Worth.{BoundsPlans, IsRoundedUp, IsWorth, least, worth_of}
 use Rattle.vs_prices.proofs.CallerLemmas.{bounds_plans, zeros_hold, worth_of-IsWorth, worth_once}
 use Rattle.vs_tree.specs.Prices.{AreLawful, AreWorth, Prices, prices_of, zero_prices}
@@ -148,3 +148,11 @@ lawful_fits p t lawful =
       from = subst (All IsPrice) from lawful.fits.from;
       fleet = subst (All IsPrice) fleet lawful.fits.fleet;
     }
+
+-- and holds
+pub lawful_holds : (p : Problem) (t : Table) → AreLawful p (prices_of t) → HoldingTable p t
+lawful_holds p t lawful =
+    let P : Prices → Type 0 =
+    λ x. (l : ℕ) → l < length p.layers
+    → HoldsInLayer p l x.ray (prices_in p l x.into) (prices_in p l x.from) (price_of x.fleet l) in
+    subst P lawful.listed lawful.holds

@@ -3,7 +3,10 @@ pub mod CutSets
 pub mod LawfulPrices
 pub mod LogSteps
 pub mod PlacesSeen
+pub mod BoundOrder
 pub mod Matches
+pub mod SetMembers
+pub mod NarrowerSets
 pub mod Spots
 pub mod search
 pub mod sound

@@ -1,23 +1,10 @@
 -- What a match at an inner place of a tournament changes, and who wins at its root.
 use Rattle.std.proofs.Common.{◌≡◌, ◌≢◌, ℕ, zero, suc, ◌+◌, ◌-◌, ◌*◌, ◌/◌, ◌<◌, ◌≤◌, length, set, drop, refl, sym, ◌∙◌, ap, subst, arith, inl, inr, Option, Some, None}
 use Rattle.std.proofs.lemmas.Bool.{cases_eq, cases_lt}
-use Rattle.std.proofs.lemmas.Int.{ints}
 use Rattle.std.proofs.lemmas.List.{get_or-set_same, get_or-set_other, get_or-drop, get_or_past}
-use Rattle.vs_prices.specs.Bounds.{IsNoLess}
-use Rattle.vs_prices.specs.declared.bound.Bound.{Bound}
-use Rattle.vs_prices.specs.declared.bound.Bound.TheVariants.{AtLeast, NoPlan}
 use Rattle.vs_tree.specs.declared.entry.Entry.{Entry}
 use Rattle.vs_tree.specs.Free.{Entries, IsEmpty, IsFirst, IsFirstOf, IsNotAfter, IsPlayed, IsTournament, entry_at}
-
-pub no_less-refl : (a : Bound) → IsNoLess a a
-no_less-refl NoPlan = tt
-no_less-refl (AtLeast n) = omega (arith, ints)
-
-pub no_less-trans : (a b c : Bound) → IsNoLess a b → IsNoLess b c → IsNoLess a c
-no_less-trans NoPlan b c ab bc = tt
-no_less-trans (AtLeast n) NoPlan c ab bc = absurd ab
-no_less-trans (AtLeast n) (AtLeast m) NoPlan ab bc = absurd bc
-no_less-trans (AtLeast n) (AtLeast m) (AtLeast k) ab bc = omega (arith, ints, ab, bc)
+use Rattle.vs_tree.proofs.BoundOrder.{no_less-refl, no_less-trans}
 
 not_after-refl : (a : Option Entry) → IsNotAfter a a
 not_after-refl None = tt

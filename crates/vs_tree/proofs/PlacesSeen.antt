@@ -3,15 +3,14 @@ use Rattle.std.proofs.Common.{◌≡◌, ℕ, ◌+◌, ◌<◌, List, [], ◌∷
 use Rattle.std.specs.declared.alloc.Global.{Global}
 use Rattle.std.specs.declared.vec.Vec.{Vec}
 use Rattle.std.proofs.lemmas.Bool.{cases_lt}
-use Rattle.std.proofs.lemmas.List.{same_lists}
+use Rattle.std.proofs.lemmas.List.{same_lists, get_or_append_left, get_or-append-add, get_or_default}
 use Rattle.vs_instance.specs.Restriction.{set_of}
-use Rattle.std.proofs.lemmas.List.{get_or_append_left, get_or-append-add, get_or_default}
 use Rattle.vs_types.specs.declared.layer_set.LayerSet.{LayerSet}
 use Rattle.vs_tree.specs.declared.spot.Cut.{Cut}
 use Rattle.vs_tree.specs.declared.spot.Spot.{Spot}
 use Rattle.vs_tree.specs.Cuts.{AreCuts, AreLaid, ArePlaces, IsCut, IsLaid, Places, cut_at, laid, no_cut, places_of, sets_of}
 use Rattle.vs_tree.specs.History.{Place, no_place, place_at}
-use Rattle.vs_cases.specs.Tree.{with_set}
+use Rattle.vs_prices.specs.Tree.{with_set}
 use Rattle.vs_tree.proofs.CutSets.{laid_last, length-places_of, length-sets_after, places_of-at, places_of-last, sets-size, sets_after-last}
 
 abbrev no_set : LayerSet

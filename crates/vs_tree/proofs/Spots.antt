@@ -8,7 +8,7 @@ use Rattle.vs_types.specs.declared.layer_set.LayerSet.{LayerSet}
 use Rattle.vs_types.specs.declared.numbers.TripNo.{TripNo}
 use Rattle.vs_tree.specs.declared.spot.Spot.TheVariants.{Inner, Free}
 use Rattle.vs_tree.specs.Cuts.{part_at, split_at, with_lower}
-use Rattle.vs_cases.specs.Tree.{with_set}
+use Rattle.vs_prices.specs.Tree.{with_set}
 use Rattle.vs_tree.specs.History.{Place, count_spots, is_inner, no_place, place_at, with_spot}
 
 -- a leaf stands within the places

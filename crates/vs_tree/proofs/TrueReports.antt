@@ -9,9 +9,9 @@ use Rattle.vs_prices.specs.Bounds.{IsNoLess}
 use Rattle.vs_prices.specs.Worth.{BoundsPlans, IsBoundOn}
 use Rattle.vs_prices.specs.declared.bound.Bound.{Bound}
 use Rattle.vs_prices.specs.declared.bound.Bound.TheVariants.{AtLeast, NoPlan}
-use Rattle.vs_cases.specs.Claims.{claim_found}
-use Rattle.vs_cases.specs.declared.claim.Claim.{Claim}
-use Rattle.vs_cases.specs.declared.claim.Claim.TheVariants.{Optimal, StillOpen}
+use Rattle.vs_prices.specs.Claims.{claim_found}
+use Rattle.vs_prices.specs.declared.claim.Claim.{Claim}
+use Rattle.vs_prices.specs.declared.claim.Claim.TheVariants.{Optimal, StillOpen}
 use Rattle.vs_tree.specs.declared.calls.Report.{Report}
 use Rattle.vs_tree.specs.History.{Opening, State, IsLeaf, IsLeafWorth, incumbent, known, prices_at, sets_at, spot_at, state_of, table_of}
 use Rattle.vs_tree.specs.Laws.{IsTrueClaim, LeavesBoundPlans, ReportsAreTrue}

@@ -9,7 +9,7 @@ use Rattle.vs_tree.specs.declared.spot.Spot.{Spot}
 use Rattle.vs_tree.specs.declared.spot.Spot.TheVariants.{Inner, Free}
 use Rattle.vs_types.specs.declared.numbers.TripNo.{TripNo}
 use Rattle.vs_tree.specs.History.{Place, place_at, with_spot}
-use Rattle.vs_cases.specs.Tree.{with_set}
+use Rattle.vs_prices.specs.Tree.{with_set}
 
 -- the places, and how many there may be
 pub record Places : Type 0 where

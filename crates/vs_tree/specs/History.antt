@@ -11,7 +11,7 @@ use Rattle.vs_prices.specs.declared.bound.Bound.{Bound}
 use Rattle.vs_tree.specs.declared.spot.Spot.{Spot}
 use Rattle.vs_tree.specs.declared.spot.Spot.TheVariants.{Inner, Free, Held, Closed as ClosedSpot}
 use Rattle.vs_tree.specs.Prices.{Prices, AreLawful, AreWorth, no_prices, zero_prices}
-use Rattle.vs_cases.specs.Tree.{right_of, with_set}
+use Rattle.vs_prices.specs.Tree.{right_of, with_set}
 use Rattle.vs_types.specs.Parts.{IsProperPart}
 
 -- how a search begins: the instance, how many leaves may be worked on, how many workers there are, and a plan that is

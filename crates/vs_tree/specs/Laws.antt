@@ -4,14 +4,14 @@ use Rattle.vs_instance.specs.Problem.{Problem}
 use Rattle.vs_instance.specs.Plan.{LayerBlock, IsPlan, plan_cost}
 use Rattle.vs_prices.specs.Worth.{BoundsPlans}
 use Rattle.vs_prices.specs.declared.bound.Bound.{Bound}
-use Rattle.vs_cases.specs.declared.claim.Claim.{Claim}
-use Rattle.vs_cases.specs.declared.claim.Claim.TheVariants.{Optimal, Infeasible, StillOpen}
+use Rattle.vs_prices.specs.declared.claim.Claim.{Claim}
+use Rattle.vs_prices.specs.declared.claim.Claim.TheVariants.{Optimal, Infeasible, StillOpen}
 use Rattle.vs_tree.specs.declared.calls.Report.{Report}
 use Rattle.vs_tree.specs.History.{FullStep, Opening, State, IsHistory, IsLeaf, IsLeafWorth, incumbent, sets_at, state_of}
 use Rattle.vs_tree.specs.Report.{IsReport}
 use Rattle.vs_tree.specs.Sound.{IsOpening, IsPlanOf, IsSound}
 use Rattle.vs_tree.specs.StateTree.{IsTreeOf}
-use Rattle.vs_cases.specs.Tree.{Tree}
+use Rattle.vs_prices.specs.Tree.{Tree}
 
 -- every state that a history leads to is sound
 abbrev pub HistoriesAreSound : Type 0

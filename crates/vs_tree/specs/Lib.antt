@@ -1,6 +1,6 @@
-pub use Rattle.vs_cases.specs.Tree
+pub use Rattle.vs_prices.specs.Tree
 pub mod Laws
-pub use Rattle.vs_cases.specs.Claims
+pub use Rattle.vs_prices.specs.Claims
 pub mod Prices
 pub mod History
 pub mod Sound

@@ -4,7 +4,7 @@ use Rattle.vs_instance.specs.Problem.{Problem}
 use Rattle.vs_prices.specs.Bounds.{IsNoLess}
 use Rattle.vs_prices.specs.declared.bound.Bound.{Bound}
 use Rattle.vs_prices.specs.declared.bound.Bound.TheVariants.{AtLeast, NoPlan}
-use Rattle.vs_cases.specs.Claims.{claim_found}
+use Rattle.vs_prices.specs.Claims.{claim_found}
 use Rattle.vs_tree.specs.declared.calls.Report.{Report}
 use Rattle.vs_tree.specs.History.{Place, State, IsLeaf, IsLeafWorth, is_inner, known, place_at}
 

@@ -6,7 +6,7 @@ use Rattle.vs_instance.specs.Problem.{Problem}
 use Rattle.vs_instance.specs.Restriction.{permitted_sets}
 use Rattle.vs_tree.specs.declared.spot.Spot.TheVariants.{Inner}
 use Rattle.vs_tree.specs.History.{Place, State, count_spots, is_inner, place_at, table_of}
-use Rattle.vs_cases.specs.Tree.{Tree, Leaf, Split, IsGoodTree, LeafPlace, leaves, right_of, splits, with_set}
+use Rattle.vs_prices.specs.Tree.{Tree, Leaf, Split, IsGoodTree, LeafPlace, leaves, right_of, splits, with_set}
 
 -- spot k is a leaf that has this table, where each trip may be run in these layers
 pub record IsLeafAt (places : List Place) (k : ℕ) (sets : List LayerSet) (table : ℕ) (spots : List ℕ) : Type 0 where

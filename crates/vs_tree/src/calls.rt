@@ -1,7 +1,7 @@
 //! What passes between a search and its workers: what a worker has in hand, what it is told when it asks, what it makes
 //! of a leaf, and what the search reports.
 
-use vs_cases::Claim;
+use vs_prices::Claim;
 use vs_types::{LayerSet, TripNo};
 
 /// What a worker of a search has in hand.

@@ -5,7 +5,7 @@ ghost use Rattle.vs_types.specs.Parts.{IsProperPart};
 ghost use Rattle.vs_instance.specs.Restriction.{IsRestriction, set_of};
 ghost use Rattle.vs_prices.specs.Table.{Fits};
 ghost use Rattle.vs_prices.specs.Worth.{IsWorth};
-ghost use Rattle.vs_cases.specs.Tree.{right_of, with_set};
+ghost use Rattle.vs_prices.specs.Tree.{right_of, with_set};
 ghost use Rattle.vs_tree.specs.Finishes.{AreWorths, IsNextIn, next_in};
 ghost use Rattle.vs_tree.specs.Prices.{prices_of};
 

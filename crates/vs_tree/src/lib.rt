@@ -21,5 +21,5 @@ pub use laws::{
 pub use spot::Spot;
 pub use step::Step;
 pub use tree::Tree;
-pub use vs_cases::{Claim, claim_found, leaves_are_restrictions, leaves_share_out_plans};
 pub use vs_instance::{MAX_BUDGET, MAX_WORKERS};
+pub use vs_prices::{Claim, claim_found, leaves_are_restrictions, leaves_share_out_plans};

@@ -1,10 +1,8 @@
 //! A search: its tree of cases, its history, and the calls of its workers.
 
-ghost use Rattle.std.specs.Prelude.{◌≡◌, ◌<◌, ◌≤◌, ◌∷◌, [], length, map, IfOk, IfSome, slice_index_or};
-ghost use Rattle.std.specs.Prelude.{true, false, ◌⊎◌, ◌^◌, ℕ, ◌++◌, ◌↔◌, IsTrue, ◌+◌, count_by, option_copied, None, Some, slice_get, All};
+ghost use Rattle.std.specs.Prelude.{◌≡◌, ◌<◌, ◌≤◌, ◌∷◌, [], length, map, IfOk, IfSome, slice_index_or, true, false, ◌⊎◌, ◌^◌, ℕ, ◌++◌, ◌↔◌, IsTrue, ◌+◌, count_by, option_copied, None, Some, slice_get, All};
 ghost use Rattle.vs_tree.specs.History as full;
-ghost use Rattle.vs_tree.specs.History.{IsAmong, IsHeldBy, IsHistory, MayClose, MayCome, MaySplit, MayTake};
-ghost use Rattle.vs_tree.specs.History.{IsCheaper, IsLeafWorth, incumbent, is_inner, known, prices_at, sets_at, spot_at};
+ghost use Rattle.vs_tree.specs.History.{IsAmong, IsHeldBy, IsHistory, MayClose, MayCome, MaySplit, MayTake, IsCheaper, IsLeafWorth, incumbent, is_inner, known, prices_at, sets_at, spot_at};
 ghost use Rattle.vs_tree.specs.Free.{with_parts};
 ghost use Rattle.vs_tree.specs.Calls.{GivesBack, HoldsSome, finishing, offering, with_step};
 ghost use Rattle.vs_prices.specs.Bounds.{IsNoLess};
@@ -27,10 +25,9 @@ use crate::spot::Spot;
 use crate::step::Step;
 use std::alloc::Global;
 use std::marker::Model;
-use vs_cases::claim_found;
 use vs_instance::{Instance, MAX_BUDGET, MAX_WORKERS};
 use vs_plan::CheckedPlan;
-use vs_prices::{Bound, Table, permitted_sets, worth};
+use vs_prices::{Bound, Table, claim_found, permitted_sets, worth};
 use vs_turn::Kept;
 use vs_types::{LayerSet, Memory};
 

@@ -6,17 +6,20 @@ use Rattle.std.specs.declared.alloc.Global.{Global}
 use Rattle.std.proofs.lemmas.Slice.Eq.{bytes_eq-Decides}
 use Rattle.std.proofs.lemmas.List.{length-map, get_or-map}
 use Rattle.std.proofs.lemmas.List.Elements.{All-nil, All-cons}
-use Rattle.vs_instance.specs.declared.limits.TheConstants.{MAX_BUDGET, MAX_TRIPS, MAX_WORKERS}
+use Rattle.vs_instance.specs.declared.limits.TheConstants.{MAX_TRIPS}
 use Rattle.vs_words.specs.declared.command.Command.{Command}
-use Rattle.vs_words.specs.declared.command.Command.TheVariants.{Check, Solve, Network, Blocks, Make, Trial, Peak, PeakCheck, Resume, Trace, Replay}
+use Rattle.vs_words.specs.declared.command.Command.TheVariants as commands
 use Rattle.vs_words.specs.declared.command.Effort.{Effort}
+use Rattle.vs_words.specs.declared.command.Plain.{Plain}
+use Rattle.vs_words.specs.declared.command.Plain.TheVariants.{Check, Network, Blocks, Make, Peak, PeakCheck, Replay}
+use Rattle.vs_words.specs.declared.command.Search.TheVariants.{Solve, Trial, Resume, Trace}
 use Rattle.vs_words.specs.declared.words.Counting.{Counting}
 use Rattle.vs_words.specs.declared.words.Counting.TheVariants as counting
 use Rattle.vs_words.specs.declared.words.Searching.{Searching}
 use Rattle.vs_words.specs.declared.words.Searching.TheVariants as searching
 use Rattle.vs_words.specs.declared.words.Setting.{Setting}
 use Rattle.vs_words.specs.declared.words.Setting.TheVariants.{Workers, Nodes}
-use Rattle.vs_words.specs.Words.{Word, AreAccepted, AreBadAt, AreFurther, AreOptions, AskFor, Begin, IsCount, IsNumberFor, IsNumberUpTo, IsWordAt, command_name, counted, default_effort, other_setting, search_name, searched, setting_name, with_setting, words_of}
+use Rattle.vs_words.specs.Words.{Word, AreAccepted, AreBadAt, AreFurther, AreOptions, AskFor, Begin, IsAlone, IsCount, IsNumberFor, IsNumberUpTo, IsWordAt, command_name, counted, default_effort, first_of_plain, other_setting, search_name, searched, setting_name, with_setting, words_of}
 
 -- words that ask for a command have its name first
 pub record BeginsAs (name : Word) (further : List Word) : Type 0 where
@@ -52,17 +55,20 @@ SearchWords words = (effort : Effort) × AreOptions effort words
 -- which further words each command takes
 solve_further : (d : Command) (words : List Word) → command_name d ≡ codes "solve" → AreFurther d words
     → SearchWords words
-solve_further (Solve effort) words e f = (effort, f)
+solve_further (commands.Search (Solve effort)) words e f = (effort, f)
+solve_further (commands.Plain Check) words e f = absurd (omega (arith, ap sum e))
 solve_further _ words e f = absurd (omega (arith, ap sum e))
 
 resume_further : (d : Command) (words : List Word) → command_name d ≡ codes "resume" → AreFurther d words
     → SearchWords words
-resume_further (Resume effort) words e f = (effort, f)
+resume_further (commands.Search (Resume effort)) words e f = (effort, f)
+resume_further (commands.Plain Check) words e f = absurd (omega (arith, ap sum e))
 resume_further _ words e f = absurd (omega (arith, ap sum e))
 
 trace_further : (d : Command) (words : List Word) → command_name d ≡ codes "trace" → AreFurther d words
     → SearchWords words
-trace_further (Trace effort) words e f = (effort, f)
+trace_further (commands.Search (Trace effort)) words e f = (effort, f)
+trace_further (commands.Plain Check) words e f = absurd (omega (arith, ap sum e))
 trace_further _ words e f = absurd (omega (arith, ap sum e))
 
 search_further : (kind : Searching) (d : Command) (words : List Word) → command_name d ≡ search_name kind
@@ -90,11 +96,13 @@ record Counts (words : List Word) : Type 0 where
   number_is : IsNumberUpTo MAX_TRIPS count n
 
 make_further : (d : Command) (words : List Word) → command_name d ≡ codes "make" → AreFurther d words → Counts words
-make_further (Make n) words e f = record { n = n; count = f.0; words_are = f.1; number_is = f.2 }
+make_further (commands.Plain (Make n)) words e f = record { n = n; count = f.0; words_are = f.1; number_is = f.2 }
+make_further (commands.Search (Trial n)) words e f = absurd (omega (arith, ap sum e))
 make_further _ words e f = absurd (omega (arith, ap sum e))
 
 trial_further : (d : Command) (words : List Word) → command_name d ≡ codes "trial" → AreFurther d words → Counts words
-trial_further (Trial n) words e f = record { n = n; count = f.0; words_are = f.1; number_is = f.2 }
+trial_further (commands.Search (Trial n)) words e f = record { n = n; count = f.0; words_are = f.1; number_is = f.2 }
+trial_further (commands.Plain Check) words e f = absurd (omega (arith, ap sum e))
 trial_further _ words e f = absurd (omega (arith, ap sum e))
 
 count_further : (kind : Counting) (d : Command) (words : List Word) → command_name d ≡ command_name (counted kind 0)
@@ -125,8 +133,8 @@ one_up_to most few = record {
 
 -- every option takes it
 one_for : (s : Setting) → IsNumberFor s (codes "1") 1
-one_for Workers = record { number = one_up_to MAX_WORKERS (omega arith); many = omega arith }
-one_for Nodes = record { number = one_up_to MAX_BUDGET (omega arith); many = omega arith }
+one_for Workers = record { number = one_up_to 64 (omega arith); many = omega arith }
+one_for Nodes = record { number = one_up_to 100000 (omega arith); many = omega arith }
 
 -- options of one name are one option
 pub same_setting : (s t : Setting) → setting_name s ≡ setting_name t → s ≡ t
@@ -524,6 +532,39 @@ count_accepted kind (a ∷ b ∷ []) count n command first second is two same =
     (count_asks kind a b n first.word_is (subst (λ (x : Word). IsNumberUpTo MAX_TRIPS x n) (sym second.word_is) is))
 count_accepted kind (a ∷ b ∷ c ∷ words) count n command first second is two same = absurd (omega arith)
 
+-- a command that takes no further words has none behind its name
+alone_further : (plain : Plain) (d : Command) (words : List Word) → IsAlone plain
+    → command_name d ≡ first_of_plain plain → AreFurther d words → words ≡ []
+alone_further (Make n) d words alone e f = absurd alone
+alone_further _ (commands.Plain Check) words alone e f = f
+alone_further _ (commands.Plain Network) words alone e f = f
+alone_further _ (commands.Plain Blocks) words alone e f = f
+alone_further _ (commands.Plain Peak) words alone e f = f
+alone_further _ (commands.Plain PeakCheck) words alone e f = f
+alone_further _ (commands.Plain Replay) words alone e f = f
+alone_further _ (commands.Search (Solve effort)) words alone e f = absurd (omega (arith, ap sum e))
+alone_further _ _ words alone e f = absurd (omega (arith, ap sum e))
+
+takes_none : (plain : Plain) → IsAlone plain → AreFurther (commands.Plain plain) []
+takes_none (Make n) alone = absurd alone
+takes_none _ alone = refl
+
+pub alone_bad_second : (plain : Plain) (words : List Word) → IsAlone plain
+    → IsWordAt words 0 (first_of_plain plain) → ¬ (length words ≡ 1) → AreBadAt words 2
+alone_bad_second plain [] alone first more = absurd (let w = first.within in omega arith)
+alone_bad_second plain (a ∷ []) alone first more = absurd (more refl)
+alone_bad_second plain (a ∷ b ∷ words) alone first more = record {
+  some = omega arith;
+  within = omega arith;
+  before = ([], (commands.Plain plain, asks a [] (commands.Plain plain) first.word_is (takes_none plain alone)));
+  bad = λ within begin.
+      let x = begun_as a (b ∷ []) begin in
+      let none : b ∷ x.0 ≡ [] = alone_further plain x.1.command (b ∷ x.0) alone (x.1.name_is ∙ first.word_is)
+      x.1.are_further in
+      cc;
+  missing = λ end. absurd (omega arith);
+}
+
 -- words of which the first is no command's
 not_the_name : (words : List Word) (c : Command) → ¬ (IsWordAt words 0 (codes "check"))
     → ¬ (IsWordAt words 0 (codes "network")) → ¬ (IsWordAt words 0 (codes "blocks"))
@@ -532,30 +573,40 @@ not_the_name : (words : List Word) (c : Command) → ¬ (IsWordAt words 0 (codes
     → ¬ (IsWordAt words 0 (codes "peakcheck")) → ¬ (IsWordAt words 0 (codes "resume"))
     → ¬ (IsWordAt words 0 (codes "trace")) → ¬ (IsWordAt words 0 (codes "replay"))
     → ¬ (IsWordAt words 0 (command_name c))
-not_the_name words Check check network blocks solve make trial peak peakcheck resume trace replay = check
-not_the_name words Network check network blocks solve make trial peak peakcheck resume trace replay = network
-not_the_name words Blocks check network blocks solve make trial peak peakcheck resume trace replay = blocks
-not_the_name words (Solve effort) check network blocks solve make trial peak peakcheck resume trace replay = solve
-not_the_name words (Make n) check network blocks solve make trial peak peakcheck resume trace replay = make
-not_the_name words (Trial n) check network blocks solve make trial peak peakcheck resume trace replay = trial
-not_the_name words Peak check network blocks solve make trial peak peakcheck resume trace replay = peak
-not_the_name words PeakCheck check network blocks solve make trial peak peakcheck resume trace replay = peakcheck
-not_the_name words (Resume effort) check network blocks solve make trial peak peakcheck resume trace replay = resume
-not_the_name words (Trace effort) check network blocks solve make trial peak peakcheck resume trace replay = trace
-not_the_name words Replay check network blocks solve make trial peak peakcheck resume trace replay = replay
+not_the_name words (commands.Plain Check) check network blocks solve make trial peak peakcheck resume trace
+    replay = check
+not_the_name words (commands.Plain Network) check network blocks solve make trial peak peakcheck resume trace
+    replay = network
+not_the_name words (commands.Plain Blocks) check network blocks solve make trial peak peakcheck resume trace
+    replay = blocks
+not_the_name words (commands.Search (Solve effort)) check network blocks solve make trial peak peakcheck resume trace
+    replay = solve
+not_the_name words (commands.Plain (Make n)) check network blocks solve make trial peak peakcheck resume trace
+    replay = make
+not_the_name words (commands.Search (Trial n)) check network blocks solve make trial peak peakcheck resume trace
+    replay = trial
+not_the_name words (commands.Plain Peak) check network blocks solve make trial peak peakcheck resume trace replay = peak
+not_the_name words (commands.Plain PeakCheck) check network blocks solve make trial peak peakcheck resume trace
+    replay = peakcheck
+not_the_name words (commands.Search (Resume effort)) check network blocks solve make trial peak peakcheck resume trace
+    replay = resume
+not_the_name words (commands.Search (Trace effort)) check network blocks solve make trial peak peakcheck resume trace
+    replay = trace
+not_the_name words (commands.Plain Replay) check network blocks solve make trial peak peakcheck resume trace
+    replay = replay
 
 pub first_bad : (words : List Word) → ((c : Command) → ¬ (IsWordAt words 0 (command_name c))) → AreBadAt words 1
 first_bad [] none = record {
   some = omega arith;
   within = omega arith;
-  before = (codes "check" ∷ [], (Check, asks (codes "check") [] Check refl refl));
+  before = (codes "check" ∷ [], (commands.Plain Check, asks (codes "check") [] (commands.Plain Check) refl refl));
   bad = λ within. absurd (omega arith);
   missing = λ end accepted. let e = accepted.1.words_are in omega (arith, ap length e);
 }
 first_bad (a ∷ words) none = record {
   some = omega arith;
   within = omega arith;
-  before = (codes "check" ∷ [], (Check, asks (codes "check") [] Check refl refl));
+  before = (codes "check" ∷ [], (commands.Plain Check, asks (codes "check") [] (commands.Plain Check) refl refl));
   bad = λ within begin.
       let b = begun_as a [] begin in
       none b.1.command (record { within = omega arith; word_is = sym b.1.name_is });

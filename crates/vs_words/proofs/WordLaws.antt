@@ -3,8 +3,10 @@ use Rattle.std.proofs.Common.{◌≡◌, ℕ, ◌+◌, ◌-◌, ◌<◌, ◌≤�
 use Rattle.std.specs.Str.Parse.{digits_value}
 use Rattle.std.proofs.lemmas.List.{append-nil, take-append-drop, take-take}
 use Rattle.vs_words.specs.declared.command.Command.{Command}
-use Rattle.vs_words.specs.declared.command.Command.TheVariants.{Check, Solve, Network, Blocks, Make, Trial, Peak, PeakCheck, Resume, Trace, Replay}
+use Rattle.vs_words.specs.declared.command.Command.TheVariants as commands
 use Rattle.vs_words.specs.declared.command.Effort.{Effort}
+use Rattle.vs_words.specs.declared.command.Plain.TheVariants.{Check, Network, Blocks, Make, Peak, PeakCheck, Replay}
+use Rattle.vs_words.specs.declared.command.Search.TheVariants.{Solve, Trial, Resume, Trace}
 use Rattle.vs_words.specs.declared.words.Setting.{Setting}
 use Rattle.vs_words.specs.Words.{Word, AreAccepted, AreBadAt, AreFurther, AreOptions, AskFor, Begin, IsCount, IsNumberFor, command_name, other_setting, setting_name}
 use Rattle.vs_words.proofs.CommandWords.{same_setting}
@@ -58,17 +60,34 @@ one_count words m n f g =
 -- one list of further words is one command's
 one_further : (c d : Command) (words : List Word) → command_name c ≡ command_name d → AreFurther c words
     → AreFurther d words → c ≡ d
-one_further Check Check words e f g = refl
-one_further (Solve effort) (Solve also) words e f g = ap Solve (one_effort words effort also f g)
-one_further Network Network words e f g = refl
-one_further Blocks Blocks words e f g = refl
-one_further (Make m) (Make n) words e f g = ap Make (one_count words m n f g)
-one_further (Trial m) (Trial n) words e f g = ap Trial (one_count words m n f g)
-one_further Peak Peak words e f g = refl
-one_further PeakCheck PeakCheck words e f g = refl
-one_further (Resume effort) (Resume also) words e f g = ap Resume (one_effort words effort also f g)
-one_further (Trace effort) (Trace also) words e f g = ap Trace (one_effort words effort also f g)
-one_further Replay Replay words e f g = refl
+one_further (commands.Plain Check) (commands.Plain Check) words e f g = refl
+one_further (commands.Plain Network) (commands.Plain Network) words e f g = refl
+one_further (commands.Plain Blocks) (commands.Plain Blocks) words e f g = refl
+one_further (commands.Plain (Make m)) (commands.Plain (Make n)) words e f g =
+    ap (λ k. commands.Plain (Make k)) (one_count words m n f g)
+one_further (commands.Plain Peak) (commands.Plain Peak) words e f g = refl
+one_further (commands.Plain PeakCheck) (commands.Plain PeakCheck) words e f g = refl
+one_further (commands.Plain Replay) (commands.Plain Replay) words e f g = refl
+one_further (commands.Search (Solve effort)) (commands.Search (Solve also)) words e f g =
+    ap (λ k. commands.Search (Solve k)) (one_effort words effort also f g)
+one_further (commands.Search (Resume effort)) (commands.Search (Resume also)) words e f g =
+    ap (λ k. commands.Search (Resume k)) (one_effort words effort also f g)
+one_further (commands.Search (Trace effort)) (commands.Search (Trace also)) words e f g =
+    ap (λ k. commands.Search (Trace k)) (one_effort words effort also f g)
+one_further (commands.Search (Trial m)) (commands.Search (Trial n)) words e f g =
+    ap (λ k. commands.Search (Trial k)) (one_count words m n f g)
+-- no two names are one: each pair of commands is a case
+one_further (commands.Plain Check) (commands.Search (Trial n)) words e f g = absurd (omega (arith, ap sum e))
+one_further (commands.Plain Network) (commands.Search (Trial n)) words e f g = absurd (omega (arith, ap sum e))
+one_further (commands.Plain Blocks) (commands.Search (Trial n)) words e f g = absurd (omega (arith, ap sum e))
+one_further (commands.Plain (Make m)) (commands.Search (Trial n)) words e f g = absurd (omega (arith, ap sum e))
+one_further (commands.Plain Peak) (commands.Search (Trial n)) words e f g = absurd (omega (arith, ap sum e))
+one_further (commands.Plain PeakCheck) (commands.Search (Trial n)) words e f g = absurd (omega (arith, ap sum e))
+one_further (commands.Plain Replay) (commands.Search (Trial n)) words e f g = absurd (omega (arith, ap sum e))
+one_further (commands.Search (Solve effort)) (commands.Plain Check) words e f g = absurd (omega (arith, ap sum e))
+one_further (commands.Search (Trial m)) (commands.Plain Check) words e f g = absurd (omega (arith, ap sum e))
+one_further (commands.Search (Resume effort)) (commands.Plain Check) words e f g = absurd (omega (arith, ap sum e))
+one_further (commands.Search (Trace effort)) (commands.Plain Check) words e f g = absurd (omega (arith, ap sum e))
 one_further _ _ words e f g = absurd (omega (arith, ap sum e))
 
 pub one_command : (words : List Word) (c d : Command) → AskFor words c → AskFor words d → c ≡ d

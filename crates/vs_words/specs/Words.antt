@@ -2,11 +2,15 @@
 use Rattle.std.specs.Prelude.{◌≡◌, ℕ, ◌+◌, ◌-◌, ◌<◌, ◌≤◌, List, [], ◌∷◌, ◌++◌, length, map, take, codes, String, string_bytes, slice_index_or, Result, MatchResult, Some, None, IfSome, ◌⊎◌}
 use Rattle.std.specs.Str.Parse.{digits_value}
 use Rattle.std.specs.declared.alloc.Global.{Global}
-use Rattle.vs_instance.specs.declared.limits.TheConstants.{MAX_BUDGET, MAX_TRIPS, MAX_WORKERS}
+use Rattle.vs_instance.specs.declared.limits.TheConstants.{MAX_TRIPS}
 use Rattle.vs_reader.specs.Numbers.{AreDigits}
 use Rattle.vs_words.specs.declared.command.Command.{Command}
-use Rattle.vs_words.specs.declared.command.Command.TheVariants.{Check, Solve, Network, Blocks, Make, Trial, Peak, PeakCheck, Resume, Trace, Replay}
+use Rattle.vs_words.specs.declared.command.Command.TheVariants as commands
 use Rattle.vs_words.specs.declared.command.Effort.{Effort}
+use Rattle.vs_words.specs.declared.command.Plain.{Plain}
+use Rattle.vs_words.specs.declared.command.Plain.TheVariants.{Check, Network, Blocks, Make, Peak, PeakCheck, Replay}
+use Rattle.vs_words.specs.declared.command.Search.{Search}
+use Rattle.vs_words.specs.declared.command.Search.TheVariants.{Solve, Trial, Resume, Trace}
 use Rattle.vs_words.specs.declared.words.BadWord.{BadWord}
 use Rattle.vs_words.specs.declared.words.Counting.{Counting}
 use Rattle.vs_words.specs.declared.words.Counting.TheVariants as counting
@@ -14,40 +18,45 @@ use Rattle.vs_words.specs.declared.words.Searching.{Searching}
 use Rattle.vs_words.specs.declared.words.Searching.TheVariants as searching
 use Rattle.vs_words.specs.declared.words.Setting.{Setting}
 use Rattle.vs_words.specs.declared.words.Setting.TheVariants.{Workers, Nodes}
-use Rattle.vs_words.specs.declared.words.TheConstants.{DEFAULT_WORKERS, MAX_DIGITS}
 
 -- a word, as bytes
 abbrev pub Word : Type 0
 Word = List ℕ
 
 -- the first word of each command
+abbrev pub first_of_search : Search → Word
+first_of_search (Solve effort) = codes "solve"
+first_of_search (Trial n) = codes "trial"
+first_of_search (Resume effort) = codes "resume"
+first_of_search (Trace effort) = codes "trace"
+
+abbrev pub first_of_plain : Plain → Word
+first_of_plain Check = codes "check"
+first_of_plain Network = codes "network"
+first_of_plain Blocks = codes "blocks"
+first_of_plain (Make n) = codes "make"
+first_of_plain Peak = codes "peak"
+first_of_plain PeakCheck = codes "peakcheck"
+first_of_plain Replay = codes "replay"
+
 abbrev pub command_name : Command → Word
-command_name Check = codes "check"
-command_name (Solve effort) = codes "solve"
-command_name Network = codes "network"
-command_name Blocks = codes "blocks"
-command_name (Make n) = codes "make"
-command_name (Trial n) = codes "trial"
-command_name Peak = codes "peak"
-command_name PeakCheck = codes "peakcheck"
-command_name (Resume effort) = codes "resume"
-command_name (Trace effort) = codes "trace"
-command_name Replay = codes "replay"
+command_name (commands.Search search) = first_of_search search
+command_name (commands.Plain plain) = first_of_plain plain
 
 -- the command of so many trips
 abbrev pub counted : Counting → ℕ → Command
-counted counting.Make n = Make n
-counted counting.Trial n = Trial n
+counted counting.Make n = commands.Plain (Make n)
+counted counting.Trial n = commands.Search (Trial n)
 
 -- the command of a search with this effort
 abbrev pub searched : Searching → Effort → Command
-searched searching.Solve effort = Solve effort
-searched searching.Resume effort = Resume effort
-searched searching.Trace effort = Trace effort
+searched searching.Solve effort = commands.Search (Solve effort)
+searched searching.Resume effort = commands.Search (Resume effort)
+searched searching.Trace effort = commands.Search (Trace effort)
 
 -- 1 to 6 digits, with leading zeros or without, that write n, which is no greater than `most`
 pub record IsNumberUpTo (most : ℕ) (word : Word) (n : ℕ) : Type 0 where
-  pub digits : AreDigits word MAX_DIGITS
+  pub digits : AreDigits word 6
   pub value : n ≡ digits_value 10 word
   pub few : n ≤ most
 
@@ -61,23 +70,23 @@ abbrev pub other_setting : Setting → Setting
 other_setting Workers = Nodes
 other_setting Nodes = Workers
 
--- the least number and the greatest one that the option takes
+-- the least number and the greatest one that the option takes: 1 to 64 workers, and 0 to 100,000 nodes
 abbrev pub least_of : Setting → ℕ
 least_of Workers = 1
 least_of Nodes = 0
 
 abbrev pub most_of : Setting → ℕ
-most_of Workers = MAX_WORKERS
-most_of Nodes = MAX_BUDGET
+most_of Workers = 64
+most_of Nodes = 100000
 
 -- 1 to 6 digits that write n, which is one of the option's numbers
 pub record IsNumberFor (setting : Setting) (word : Word) (n : ℕ) : Type 0 where
   pub number : IsNumberUpTo (most_of setting) word n
   pub many : least_of setting ≤ n
 
--- the effort of a search where the words don't say
+-- the effort of a search where the words don't say: 4 workers, and no number of nodes
 abbrev pub default_effort : Effort
-default_effort = record { workers = DEFAULT_WORKERS; nodes = None }
+default_effort = record { workers = 4; nodes = None }
 
 -- the name of a search, whatever its effort
 abbrev pub search_name : Searching → Word
@@ -119,17 +128,12 @@ IsCount n words = (count : Word) × (words ≡ count ∷ []) × IsNumberUpTo MAX
 
 -- the words behind the first
 abbrev pub AreFurther : Command → List Word → Type 0
-AreFurther Check words = words ≡ []
-AreFurther (Solve effort) words = AreOptions effort words
-AreFurther Network words = words ≡ []
-AreFurther Blocks words = words ≡ []
-AreFurther (Make n) words = IsCount n words
-AreFurther (Trial n) words = IsCount n words
-AreFurther Peak words = words ≡ []
-AreFurther PeakCheck words = words ≡ []
-AreFurther (Resume effort) words = AreOptions effort words
-AreFurther (Trace effort) words = AreOptions effort words
-AreFurther Replay words = words ≡ []
+AreFurther (commands.Search (Solve effort)) words = AreOptions effort words
+AreFurther (commands.Search (Trial n)) words = IsCount n words
+AreFurther (commands.Search (Resume effort)) words = AreOptions effort words
+AreFurther (commands.Search (Trace effort)) words = AreOptions effort words
+AreFurther (commands.Plain (Make n)) words = IsCount n words
+AreFurther (commands.Plain _) words = words ≡ []
 
 -- the words ask for the command
 pub record AskFor (words : List Word) (command : Command) : Type 0 where
@@ -159,33 +163,33 @@ abbrev pub Answers : List Word → Result Command BadWord → Type 0
 Answers words result = MatchResult result (AskFor words) (λ bad. AreBadAt words bad.0)
 
 -- the command takes no further words
-abbrev pub IsAlone : Command → Type 0
-IsAlone Check = Unit {0}
-IsAlone Network = Unit {0}
-IsAlone Blocks = Unit {0}
-IsAlone Peak = Unit {0}
-IsAlone PeakCheck = Unit {0}
-IsAlone Replay = Unit {0}
-IsAlone _ = ⊥
+abbrev pub IsAlone : Plain → Type 0
+IsAlone (Make n) = ⊥
+IsAlone _ = Unit {0}
 
--- a search may have so many workers and nodes
+-- a search may have so many workers and nodes: 1 to 64, and where a number of nodes is given, 100,000 at most
 abbrev pub MayBeTaken : Effort → Type 0
-MayBeTaken effort =
-    (1 ≤ effort.workers) × (effort.workers ≤ MAX_WORKERS) × IfSome effort.nodes (λ n. n ≤ MAX_BUDGET)
+MayBeTaken effort = (1 ≤ effort.workers) × (effort.workers ≤ 64) × IfSome effort.nodes (λ n. n ≤ 100000)
 
--- an instance may have as many trips as the command asks for, and a search as many workers and nodes
+-- a search may have as many workers and nodes as the command asks for, and an instance as many trips
+abbrev pub IsSearchWithin : Search → Type 0
+IsSearchWithin (Solve effort) = MayBeTaken effort
+IsSearchWithin (Trial n) = n ≤ MAX_TRIPS
+IsSearchWithin (Resume effort) = MayBeTaken effort
+IsSearchWithin (Trace effort) = MayBeTaken effort
+
+abbrev pub IsPlainWithin : Plain → Type 0
+IsPlainWithin (Make n) = n ≤ MAX_TRIPS
+IsPlainWithin _ = Unit {0}
+
 abbrev pub IsWithinLimits : Command → Type 0
-IsWithinLimits (Make n) = n ≤ MAX_TRIPS
-IsWithinLimits (Trial n) = n ≤ MAX_TRIPS
-IsWithinLimits (Solve effort) = MayBeTaken effort
-IsWithinLimits (Resume effort) = MayBeTaken effort
-IsWithinLimits (Trace effort) = MayBeTaken effort
-IsWithinLimits _ = Unit {0}
+IsWithinLimits (commands.Search search) = IsSearchWithin search
+IsWithinLimits (commands.Plain plain) = IsPlainWithin plain
 
 -- the command takes input
 abbrev pub Reads : Command → Type 0
-Reads (Make n) = ⊥
-Reads (Trial n) = ⊥
+Reads (commands.Search (Trial n)) = ⊥
+Reads (commands.Plain (Make n)) = ⊥
 Reads _ = Unit {0}
 
 -- the words ask for a command that takes input

@@ -11,26 +11,41 @@ pub struct Effort {
 /// What the program is asked to do.
 #[derive(Clone, Copy, Debug, PartialEq, Eq)]
 pub enum Command {
+    /// A search, which threads may share.
+    Search(Search),
+    /// Anything else: it starts no thread, and waits for none.
+    Plain(Plain),
+}
+
+/// A command that searches.
+#[derive(Clone, Copy, Debug, PartialEq, Eq)]
+pub enum Search {
+    /// Plan an instance.
+    Solve(Effort),
+    /// Plan the generator's instance of so many trips, 0 to 2,000, judge the document, and print the outcome in one
+    /// row.
+    Trial(u32),
+    /// Carry a search on from the document that it ended with.
+    Resume(Effort),
+    /// Plan an instance, and write the trace of the search.
+    Trace(Effort),
+}
+
+/// A command that doesn't search.
+#[derive(Clone, Copy, Debug, PartialEq, Eq)]
+pub enum Plain {
     /// Judge a document.
     Check,
-    /// Plan an instance by a search.
-    Solve(Effort),
-    /// Tell how large the nets of an instance's layers are.
+    /// Print how large the nets of an instance's layers are.
     Network,
     /// Print the timetable of a document's plan.
     Blocks,
     /// Write the generator's instance of so many trips, 0 to 2,000.
     Make(u32),
-    /// Plan the generator's instance of so many trips, 0 to 2,000, judge the document, and tell the outcome in one row.
-    Trial(u32),
-    /// Tell how few vehicles each layer needs for all that it may run.
+    /// Print how few vehicles each layer needs for all that it may run.
     Peak,
-    /// Judge a text that tells so.
+    /// Judge a text that claims so.
     PeakCheck,
-    /// Carry a search on from the document that it ended with.
-    Resume(Effort),
-    /// Plan an instance by a search, and write its trace.
-    Trace(Effort),
     /// Make the steps of a trace again.
     Replay,
 }

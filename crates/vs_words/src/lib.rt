@@ -5,6 +5,6 @@ mod command;
 mod laws;
 mod words;
 
-pub use command::{Command, Effort};
+pub use command::{Command, Effort, Plain, Search};
 pub use laws::words_mean_one_thing;
 pub use words::{BadWord, Counting, DEFAULT_WORKERS, MAX_DIGITS, Searching, Setting, command_of};

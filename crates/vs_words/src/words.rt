@@ -3,7 +3,7 @@
 ghost use Rattle.std.specs.Prelude.{◌≡◌, ℕ, ◌≤◌, IsTrue, MatchOption, ◌↔◌};
 ghost use Rattle.vs_words.specs.Words.{Answers, IsAlone, IsNumberFor, IsNumberUpTo, IsWordAt, Word, command_name, counted, least_of, most_of, other_setting, search_name, searched, setting_name, with_setting, words_of};
 
-use crate::command::{Command, Effort};
+use crate::command::{Command, Effort, Plain, Search};
 use vs_instance::{MAX_BUDGET, MAX_TRIPS, MAX_WORKERS};
 
 /// The first bad word, counted from 1. Where a word is missing it is one more than there are.
@@ -102,8 +102,8 @@ impl Counting {
         ensures { result ≡ counted self n }
     {
         match self {
-            Counting::Make => Command::Make(n),
-            Counting::Trial => Command::Trial(n),
+            Counting::Make => Command::Plain(Plain::Make(n)),
+            Counting::Trial => Command::Search(Search::Trial(n)),
         }
     }
 }
@@ -121,11 +121,12 @@ impl Searching {
     fn command(self, effort: Effort) -> Command
         ensures { result ≡ searched self effort }
     {
-        match self {
-            Searching::Solve => Command::Solve(effort),
-            Searching::Resume => Command::Resume(effort),
-            Searching::Trace => Command::Trace(effort),
-        }
+        let search = match self {
+            Searching::Solve => Search::Solve(effort),
+            Searching::Resume => Search::Resume(effort),
+            Searching::Trace => Search::Trace(effort),
+        };
+        Command::Search(search)
     }
 }
 
@@ -136,11 +137,11 @@ pub fn command_of(words: &[String]) -> Result<Command, BadWord>
     ensures { Answers (words_of words.now) result }
 {
     if is_word(words, 0, "check") {
-        alone(words, Command::Check)
+        alone(words, Plain::Check)
     } else if is_word(words, 0, "network") {
-        alone(words, Command::Network)
+        alone(words, Plain::Network)
     } else if is_word(words, 0, "blocks") {
-        alone(words, Command::Blocks)
+        alone(words, Plain::Blocks)
     } else if is_word(words, 0, "solve") {
         search_of(words, Searching::Solve)
     } else if is_word(words, 0, "make") {
@@ -148,28 +149,28 @@ pub fn command_of(words: &[String]) -> Result<Command, BadWord>
     } else if is_word(words, 0, "trial") {
         count_of(words, Counting::Trial)
     } else if is_word(words, 0, "peak") {
-        alone(words, Command::Peak)
+        alone(words, Plain::Peak)
     } else if is_word(words, 0, "peakcheck") {
-        alone(words, Command::PeakCheck)
+        alone(words, Plain::PeakCheck)
     } else if is_word(words, 0, "resume") {
         search_of(words, Searching::Resume)
     } else if is_word(words, 0, "trace") {
         search_of(words, Searching::Trace)
     } else if is_word(words, 0, "replay") {
-        alone(words, Command::Replay)
+        alone(words, Plain::Replay)
     } else {
         Err(BadWord(1))
     }
 }
 
 /// A command that takes no further words.
-fn alone(words: &[String], command: Command) -> Result<Command, BadWord>
-    requires alone { IsAlone command }
-    requires first { IsWordAt (words_of words.now) 0 (command_name command) }
+fn alone(words: &[String], plain: Plain) -> Result<Command, BadWord>
+    requires alone { IsAlone plain }
+    requires first { IsWordAt (words_of words.now) 0 (command_name (Command.Plain plain)) }
     ensures { Answers (words_of words.now) result }
 {
     if words.len() == 1 {
-        Ok(command)
+        Ok(Command::Plain(plain))
     } else {
         Err(BadWord(2))
     }

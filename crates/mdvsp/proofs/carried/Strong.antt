@@ -9,7 +9,7 @@ use Rattle.vs_prices.specs.Bounds.{IsNoLess}
 use Rattle.vs_prices.specs.Worth.{Reaches}
 use Rattle.vs_prices.specs.declared.bound.Bound.{Bound}
 use Rattle.vs_prices.specs.declared.bound.Bound.TheVariants.{AtLeast, NoPlan}
-use Rattle.vs_cases.specs.Tree.{LeafPlace}
+use Rattle.vs_prices.specs.Tree.{LeafPlace}
 use Rattle.vs_tree.specs.Prices.{AreWorth, Prices}
 use Rattle.vs_tree.proofs.CallerLemmas.{one_worth}
 use Rattle.vs_resume.specs.Standing.{AreNamedWorths, IsNamedWorth}

@@ -1,10 +1,9 @@
 -- What a document that holds prints shows its bound leaf by leaf, and so does what it leads to.
-use Rattle.std.proofs.Common.{◌≡◌, ℕ, List, [], ◌∷◌, ◌++◌, map, slice_get, Option, Some, None, IfSome, inl, inr, refl, sym, ap, ◌∙◌, subst, arith, ℤ, pos, ◌≤ℤ◌, append_assoc}
+use Rattle.std.proofs.Common.{◌≡◌, ℕ, List, [], ◌∷◌, map, slice_get, Option, Some, None, IfSome, inl, inr, refl, sym, ap, ◌∙◌, subst, arith, ℤ, pos, ◌≤ℤ◌}
 use Rattle.std.specs.Prelude.{IfNone, MatchOption, slice_index_or}
 use Rattle.std.specs.List.{All}
 use Rattle.std.specs.Option.{option_map}
 use Rattle.std.proofs.lemmas.Int.{ints}
-use Rattle.std.proofs.lemmas.List.{append-nil}
 use Rattle.std.proofs.lemmas.List.Elements.{All-nil, All-cons, All-head, All-tail, All-append}
 use Rattle.std.proofs.lemmas.Option.{get_or_from_slice_get, slice_get-map}
 use Rattle.vs_types.specs.declared.layer_set.LayerSet.{LayerSet}
@@ -17,50 +16,16 @@ use Rattle.vs_prices.specs.Worth.{IsWorth, Reaches}
 use Rattle.vs_prices.specs.declared.bound.Bound.{Bound}
 use Rattle.vs_prices.specs.declared.bound.Bound.TheVariants.{AtLeast, NoPlan}
 use Rattle.vs_prices.specs.declared.table.Table.{Table}
-use Rattle.vs_cases.specs.Tree.{Leaf, LeafPlace, Split, Tree, leaves, right_of, with_set}
-use Rattle.vs_rows.specs.Shapes.{preorder}
+use Rattle.vs_prices.specs.Tree.{Leaf, LeafPlace, Split, Tree, leaves, right_of, with_set}
 use Rattle.vs_rows.specs.declared.document.Document.{Document}
-use Rattle.vs_rows.specs.declared.document.Shape.{Shape}
+use Rattle.vs_rows.proofs.CallerLemmas.{tree_once}
 use Rattle.vs_check.specs.HoldingDocument.{HoldingDocument, IsStrongLeaf, ProvesItsClaim}
 use Rattle.vs_tree.specs.Prices.{Prices, no_prices, prices_of}
 use Rattle.vs_cert.specs.StateDocument.{IsRenumbered, first_times, tables_named}
-use Rattle.vs_answer.specs.Answers.{AreWorths, IsAmong, IsBoundOf, places_of}
+use Rattle.vs_cert.specs.Answers.{AreWorths, IsAmong, IsBoundOf, places_of}
 use Rattle.vs_resume.specs.Standing.{IsPrinted, IsWrittenFor, Standing, leaves_of}
 use Rattle.mdvsp.proofs.carried.Strong.{AreStrong, IsStrong, reaches_by}
 use Rattle.mdvsp.proofs.carried.StrongTurns.{all-left, all-right}
-
--- rows that begin with those of a tree begin with no other tree's
-record IsSameTree (t u : Tree) (xs ys : List Shape) : Type 0 where
-  tree : t ≡ u
-  rest : xs ≡ ys
-
-same_split : (trip also : TripNo) (left part : LayerSet) (a b c d : Tree) → trip ≡ also → left ≡ part → a ≡ c → b ≡ d
-    → Split trip left a b ≡ Split also part c d
-same_split trip also left part a b c d e f g h = cc
-
-one_tree : (t u : Tree) (xs ys : List Shape) → preorder t ++ xs ≡ preorder u ++ ys → IsSameTree t u xs ys
-one_tree (Leaf m) (Leaf n) xs ys e =
-    let same : m ≡ n = cc in
-    let others : xs ≡ ys = cc in
-    record { tree = ap Leaf same; rest = others }
-one_tree (Leaf m) (Split trip left lower upper) xs ys e = cc
-one_tree (Split trip left lower upper) (Leaf n) xs ys e = cc
-one_tree (Split trip left lower upper) (Split also part first second) xs ys e =
-    let tail : (preorder lower ++ preorder upper) ++ xs ≡ (preorder first ++ preorder second) ++ ys = cc in
-    let rows = sym (append_assoc (preorder lower) (preorder upper) xs) ∙ tail
-    ∙ append_assoc (preorder first) (preorder second) ys in
-    let trips : trip ≡ also = cc in
-    let lefts : left ≡ part = cc in
-    let one = one_tree lower first (preorder upper ++ xs) (preorder second ++ ys) rows in
-    let other = one_tree upper second xs ys one.rest in
-    record {
-      tree = same_split trip also left part lower upper first second trips lefts one.tree other.tree;
-      rest = other.rest;
-    }
-
-same_tree : (t u : Tree) → preorder t ≡ preorder u → t ≡ u
-same_tree t u e =
-    (one_tree t u [] [] (append-nil (preorder t) ∙ e ∙ sym (append-nil (preorder u)))).tree
 
 module _ (p : Problem) (bound : Option ℤ) where
   -- the leaves of a tree that reaches the bound
@@ -137,7 +102,7 @@ pub printed_strong : (p : Problem) (d : Document) (s : Standing) → HoldingDocu
     → AreStrong p d.bound s.tables (leaves_of p s)
 printed_strong p d s holds printed =
     let tree : s.tree ≡ holds.tree.tree =
-    same_tree s.tree holds.tree.tree (sym printed.rows ∙ holds.tree.shape_is) in
+    tree_once s.tree holds.tree.tree (sym printed.rows ∙ holds.tree.shape_is) in
     subst (λ (t : Tree). AreStrong p d.bound s.tables (leaves (permitted_sets p) t)) (sym tree)
     (subst (λ (tables : List Prices). AreStrong p d.bound tables (leaves (permitted_sets p) holds.tree.tree))
     (sym printed.tables)
@@ -149,7 +114,7 @@ pub written_reaches : (p : Problem) (bound : Option ℤ) (s : Standing) (e : Doc
     → AreStrong p bound s.tables (leaves_of p s) → All (λ worth. Reaches worth bound) worths
 written_reaches p bound s e worths holds written are strong =
     let tree : written.shape ≡ holds.tree.tree =
-    same_tree written.shape holds.tree.tree (sym written.rows ∙ holds.tree.shape_is) in
+    tree_once written.shape holds.tree.tree (sym written.rows ∙ holds.tree.shape_is) in
     worths_reach p bound e (places_of p e holds) worths are
     (subst (λ (t : Tree). All (ReachesIfNamed p bound e.tables.items) (leaves (permitted_sets p) t)) tree
     (renumbered_reaches p bound s.tables e.tables.items (first_times (tables_named s.tree)) (permitted_sets p) s.tree

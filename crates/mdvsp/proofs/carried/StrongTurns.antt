@@ -4,29 +4,19 @@ use Rattle.std.specs.Prelude.{IsSomeAnd}
 use Rattle.std.specs.List.{All}
 use Rattle.std.proofs.lemmas.Bool.{false≢true, lt-ltb, ltb-true}
 use Rattle.std.proofs.lemmas.Int.{ints}
-use Rattle.std.proofs.lemmas.List.{length-append}
 use Rattle.std.proofs.lemmas.List.Elements.{All-nil, All-cons, All-head, All-tail, All-append}
 use Rattle.vs_types.specs.declared.layer_set.LayerSet.{LayerSet}
 use Rattle.vs_types.specs.declared.numbers.TripNo.{TripNo}
 use Rattle.vs_instance.specs.Problem.{Problem}
 use Rattle.vs_instance.specs.Restriction.{permitted_sets}
-use Rattle.vs_cases.specs.Tree.{Leaf, LeafPlace, Split, Tree, leaves, right_of, with_set}
+use Rattle.vs_prices.specs.Tree.{Leaf, LeafPlace, Split, Tree, leaves, right_of, with_set}
 use Rattle.vs_tree.specs.History.{IsCheaper}
 use Rattle.vs_tree.specs.Prices.{Prices}
 use Rattle.vs_resume.specs.InPlace.{count_leaves, with_part}
 use Rattle.vs_resume.specs.Standing.{Standing, leaves_of}
 use Rattle.vs_resume.specs.Turns.{AreTurns, IsTurn, Turned}
+use Rattle.vs_resume.proofs.CallerLemmas.{count-leaves}
 use Rattle.mdvsp.proofs.carried.Strong.{AreStrong, IsStrong, are_strong-more, get-left, get-right, reaches_by, strong_at, strong_deeper, worth_at}
-
--- a tree has as many leaves as places
-count-places : (sets : List LayerSet) (tree : Tree) → length (leaves sets tree) ≡ count_leaves tree
-count-places sets (Leaf table) = refl
-count-places sets (Split trip left lower upper) =
-    let one = count-places (with_set sets trip left) lower in
-    let other = count-places (with_set sets trip (right_of sets trip left)) upper in
-    let both = length-append (leaves (with_set sets trip left) lower)
-    (leaves (with_set sets trip (right_of sets trip left)) upper) in
-    omega (arith, one, other, both)
 
 module _ (P : LeafPlace → Type 0) where
   -- the two parts of a list of leaves
@@ -58,14 +48,14 @@ module _ (P : LeafPlace → Type 0) where
     all_on_sides sets trip left lower upper k true is low high found all =
         let xs : List LeafPlace = leaves (with_set sets trip left) lower in
         let ys : List LeafPlace = leaves (with_set sets trip (right_of sets trip left)) upper in
-        let size = count-places (with_set sets trip left) lower in
+        let size = count-leaves (with_set sets trip left) lower in
         let less : k < count_leaves lower = ltb-true k (count_leaves lower) is in
         let below : k < length xs = omega (arith, less, size) in
         All-append P _ ys (low (get-left xs ys k leaf below found) (all-left xs ys all)) (all-right xs ys all)
     all_on_sides sets trip left lower upper k false is low high found all =
         let xs : List LeafPlace = leaves (with_set sets trip left) lower in
         let ys : List LeafPlace = leaves (with_set sets trip (right_of sets trip left)) upper in
-        let size = count-places (with_set sets trip left) lower in
+        let size = count-leaves (with_set sets trip left) lower in
         let past : ¬ (k < length xs) =
         λ lt. false≢true (sym is ∙ lt-ltb k (count_leaves lower) (omega (arith, lt, size))) in
         let there = get-right xs ys k leaf past found in

@@ -12,7 +12,7 @@ use Rattle.vs_reply.specs.Cases.{CheckText}
 use Rattle.vs_reply.specs.declared.status.Status.{Status}
 use Rattle.vs_reply.specs.declared.status.Status.TheVariants as status
 use Rattle.vs_reply.proofs.CallerLemmas.{case_refused, same_case}
-use Rattle.vs_answer.specs.Answers.{choices}
+use Rattle.vs_cert.specs.Answers.{choices}
 use Rattle.vs_resume.specs.Answers.{is_leaf}
 use Rattle.vs_resume.proofs.CallerLemmas.{enough_nodes_leave_nothing_open}
 use Rattle.vs_words.specs.declared.command.Effort.{Effort}

@@ -1,7 +1,5 @@
 -- What two searches of one instance have to do with each other.
-use Rattle.std.proofs.Common.{◌≡◌, ◌≢◌, ℕ, ◌+◌, ◌*◌, ◌≤◌, inl, inr, refl, List, Option, Some, None, IfSome, sym, ◌∙◌, subst, ℤ, pos, ◌≤ℤ◌, arith}
-use Rattle.std.proofs.lemmas.Int.{ints}
-use Rattle.vs_instance.specs.Plan.{IsPlan, LayerBlock, plan_cost}
+use Rattle.std.proofs.Common.{◌≡◌, ◌≢◌, ℕ, ◌+◌, ◌*◌, ◌≤◌, inl, inr, refl, List, Some, None, sym, ◌∙◌, subst}
 use Rattle.vs_instance.specs.Problem.{Problem}
 use Rattle.vs_instance.specs.Restriction.{permitted_sets}
 use Rattle.vs_plan.specs.Blocks.{blocks_of}
@@ -9,38 +7,20 @@ use Rattle.vs_reader.specs.Names.{NameLists}
 use Rattle.vs_reader.specs.Rows.{Row, lines}
 use Rattle.vs_reader.proofs.CallerLemmas.{one_reading, refused_none}
 use Rattle.vs_make.specs.Generator.{make_rows}
-use Rattle.vs_cases.specs.declared.claim.Claim.{Claim}
-use Rattle.vs_cases.specs.declared.claim.Claim.TheVariants.{Optimal, Infeasible, StillOpen}
+use Rattle.vs_prices.specs.declared.claim.Claim.{Claim}
+use Rattle.vs_prices.specs.declared.claim.Claim.TheVariants.{Optimal, Infeasible, StillOpen}
 use Rattle.vs_rows.specs.declared.document.Document.{Document}
-use Rattle.vs_answer.specs.Answers.{choices}
+use Rattle.vs_cert.specs.Answers.{choices}
 use Rattle.vs_check.specs.HoldingDocument.{ProvesItsClaim}
-use Rattle.vs_answer.proofs.CallerLemmas.{enough_budgets_leave_nothing_open}
+use Rattle.vs_cert.proofs.CallerLemmas.{enough_budgets_leave_nothing_open}
 use Rattle.vs_words.specs.declared.command.Effort.{Effort}
 use Rattle.vs_reply.specs.Cases.{SolveText}
 use Rattle.vs_reply.specs.declared.status.Status.{Status}
 use Rattle.vs_reply.specs.declared.status.Status.TheVariants as status
 use Rattle.mdvsp.specs.Budgets.{budget_of}
-use Rattle.mdvsp.specs.Laws.{MayBothBe, NeverPasses}
+use Rattle.mdvsp.specs.Laws.{MayBothBe}
 use Rattle.mdvsp.specs.Owed.{OwesDocument, OwesNoSearch, OwesTrial, SolveOwes, TrialOwes}
 use Rattle.vs_reply.specs.Status.{status_of}
-
--- what two documents prove of the same instance
-bound_and_cost : (p : Problem) (d e : Document) (bound cost : Option ℤ) → d.bound ≡ bound → e.cost ≡ cost
-    → ProvesItsClaim p d → ProvesItsClaim p e
-    → IfSome bound (λ b. IfSome cost (λ c. b ≤ℤ c))
-bound_and_cost p d e None cost is so proves also = tt
-bound_and_cost p d e (Some b) None is so proves also = tt
-bound_and_cost p d e (Some b) (Some c) is so proves also =
-    let plan = subst (λ (o : Option ℤ). IfSome o (λ cost. IsPlan p (blocks_of e.plan)
-    × (cost ≡ pos (plan_cost p (blocks_of e.plan))))) so also.plan in
-    let least = subst (λ (o : Option ℤ). IfSome o (λ bound. (blocks : List LayerBlock) → IsPlan p blocks
-    → bound ≤ℤ pos (plan_cost p blocks))) is proves.bound in
-    let low = least (blocks_of e.plan) plan.0 in
-    let same = plan.1 in
-    omega (arith, ints)
-
-pub never_passes : (p : Problem) (d e : Document) → ProvesItsClaim p d → ProvesItsClaim p e → NeverPasses d e
-never_passes p d e proves also = bound_and_cost p d e d.bound e.cost refl refl proves also
 
 -- no document proves that a plan is optimal where another proves that there is none
 pub never_both : (p : Problem) (d e : Document) → ProvesItsClaim p d → ProvesItsClaim p e → d.claim ≡ Optimal
@@ -57,11 +37,8 @@ module _ (bytes : List ℕ) (m n : Effort) (a b : Status) (r s : List Row) (owed
   proves : ProvesItsClaim owed.problem also.document
   proves = subst (λ (x : Problem). ProvesItsClaim x also.document) same also.proves
 
-  pub bounds_never_pass_costs : NeverPasses owed.document also.document
-  bounds_never_pass_costs = never_passes owed.problem owed.document also.document owed.proves proves
-
   -- none is optimal where the other shows that there is no plan
-  pub not_both : owed.document.claim ≡ Optimal → also.document.claim ≡ Infeasible → ⊥
+  not_both : owed.document.claim ≡ Optimal → also.document.claim ≡ Infeasible → ⊥
   not_both = never_both owed.problem owed.document also.document owed.proves proves
 
 -- the statuses of two claims

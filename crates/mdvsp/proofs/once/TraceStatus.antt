@@ -5,8 +5,8 @@ use Rattle.vs_instance.specs.Problem.{Problem}
 use Rattle.vs_plan.specs.CheckedPlan.{Checked}
 use Rattle.vs_reader.specs.Rows.{Row}
 use Rattle.vs_reader.proofs.CallerLemmas.{one_reading}
-use Rattle.vs_cases.specs.declared.claim.Claim.{Claim}
-use Rattle.vs_cases.specs.declared.claim.Claim.TheVariants.{Optimal, Infeasible}
+use Rattle.vs_prices.specs.declared.claim.Claim.{Claim}
+use Rattle.vs_prices.specs.declared.claim.Claim.TheVariants.{Optimal, Infeasible}
 use Rattle.vs_reply.specs.declared.status.Status.{Status}
 use Rattle.vs_reply.specs.declared.status.Status.TheVariants as status
 use Rattle.vs_tree.specs.History.{State, incumbent, state_of}

@@ -1,23 +1,21 @@
 -- What `resume` answers is owed.
-use Rattle.std.proofs.Common.{◌≡◌, ℕ, List, [], ◌∷◌, Result, Ok, Err, Option, Some, None, inl, inr, refl, IfOk}
+use Rattle.std.proofs.Common.{◌≡◌, ℕ, List, [], ◌∷◌, Result, Ok, Err, Some, None, inl, inr, refl, IfOk}
 use Rattle.vs_types.specs.declared.memory.Memory.{Memory}
 use Rattle.vs_instance.specs.Firsts.{first}
 use Rattle.vs_instance.specs.Problem.{Problem}
-use Rattle.vs_cases.specs.declared.claim.Claim.{Claim}
-use Rattle.vs_cases.specs.declared.claim.Claim.TheVariants.{Optimal, Infeasible, StillOpen}
+use Rattle.vs_prices.specs.declared.claim.Claim.{Claim}
+use Rattle.vs_prices.specs.declared.claim.Claim.TheVariants.{Optimal, Infeasible, StillOpen}
 use Rattle.vs_reader.specs.Names.{NameLists}
 use Rattle.vs_reader.specs.Rows.{Row}
 use Rattle.vs_rows.specs.DocumentRows.{document_rows}
 use Rattle.vs_rows.specs.declared.document.Document.{Document}
-use Rattle.vs_check.specs.Flaws.{flaws_of, verdict_of}
+use Rattle.vs_check.specs.Flaws.{flaws_of}
 use Rattle.vs_check.specs.HoldingDocument.{HoldingDocument}
 use Rattle.vs_check.specs.declared.flaw.Flaw.{Flaw}
-use Rattle.vs_check.specs.declared.verdict.Verdict.{Verdict}
-use Rattle.vs_check.specs.declared.verdict.Verdict.TheVariants.{No}
 use Rattle.vs_check.proofs.CallerLemmas.{prove_their_claims}
-use Rattle.vs_report.specs.FlawRows.{no_row}
-use Rattle.vs_report.specs.RefusalRows.{too_large_row}
-use Rattle.vs_reply.specs.Answered.{TellsRow}
+use Rattle.vs_reply.specs.FlawRows.{no_row}
+use Rattle.vs_reply.specs.RefusalRows.{too_large_row}
+use Rattle.vs_reply.specs.Answered.{IsTextOf, TellsRow}
 use Rattle.vs_reply.specs.Cases.{CheckText}
 use Rattle.vs_reply.specs.Status.{status_of}
 use Rattle.vs_reply.specs.declared.answer.Answer.{Answer}
@@ -25,24 +23,17 @@ use Rattle.vs_reply.specs.declared.case.Case.{Case}
 use Rattle.vs_reply.specs.declared.status.Status.TheVariants as status
 use Rattle.vs_reply.proofs.CallerLemmas.{owed_so}
 use Rattle.vs_words.specs.declared.command.Effort.{Effort}
-use Rattle.vs_words.specs.declared.command.Command.TheVariants.{Resume}
-use Rattle.mdvsp.specs.Answered.{IsOwedFor, IsResumed}
+use Rattle.mdvsp.specs.Answered.{IsResumed}
 use Rattle.mdvsp.specs.Budgets.{resumed_budget}
 use Rattle.mdvsp.specs.Resuming.{IsStart}
 use Rattle.mdvsp.specs.declared.resuming.Start.TheVariants.{Not}
 use Rattle.mdvsp.specs.Owed.{OwesResumed, ResumeOwes}
 
--- the flaw of a verdict is the first
-pub first_of_verdict : (found : Option Flaw) (verdict : Verdict) (flaw : Flaw) → verdict ≡ verdict_of found
-    → verdict ≡ No flaw → found ≡ Some flaw
-first_of_verdict None verdict flaw is refused = cc
-first_of_verdict (Some other) verdict flaw is refused = cc
-
 module _ (effort : Effort) (bytes : List ℕ) (p : Problem) (names : NameLists) (d : Document)
     (text : CheckText bytes p names d) where
   -- and so are too many leaves and nodes
   pub resume_too_large_owed : (a : Answer) → resumed_budget p d effort.nodes ≡ None
-      → TellsRow status.BadInput too_large_row a → IsOwedFor (Resume effort) bytes a
+      → TellsRow status.BadInput too_large_row a → IsTextOf (ResumeOwes effort bytes) a
   resume_too_large_owed a none says =
       owed_so (ResumeOwes effort bytes) a status.BadInput (too_large_row ∷ [])
       (inr (record {
@@ -58,7 +49,7 @@ module _ (effort : Effort) (bytes : List ℕ) (p : Problem) (names : NameLists) 
   pub resume_denial_owed : (budget : ℕ) (flaw : Flaw) (a : Answer)
       → resumed_budget p d effort.nodes ≡ Some budget → ¬ (HoldingDocument p d)
       → first (flaws_of p d) ≡ Some flaw → TellsRow status.SaysNo (no_row names flaw) a
-      → IsOwedFor (Resume effort) bytes a
+      → IsTextOf (ResumeOwes effort bytes) a
   resume_denial_owed budget flaw a budget_is fails is_first says =
       owed_so (ResumeOwes effort bytes) a status.SaysNo (no_row names flaw ∷ []) (record {
         denied = record {
@@ -83,7 +74,7 @@ module _ (effort : Effort) (bytes : List ℕ) (p : Problem) (names : NameLists) 
   resume_owes StillOpen rows o = o
 
   pub resumed_owed : (budget : ℕ) (r : Result Answer Memory) → resumed_budget p d effort.nodes ≡ Some budget
-      → HoldingDocument p d → IfOk r (IsResumed p names budget d) → IfOk r (IsOwedFor (Resume effort) bytes)
+      → HoldingDocument p d → IfOk r (IsResumed p names budget d) → IfOk r (IsTextOf (ResumeOwes effort bytes))
   resumed_owed budget (Ok a) budget_is held is =
       owed_so (ResumeOwes effort bytes) a (status_of is.document.claim) (document_rows p names is.document)
       (resume_owes is.document.claim (document_rows p names is.document) (record {
@@ -105,7 +96,7 @@ module _ (effort : Effort) (bytes : List ℕ) (p : Problem) (names : NameLists) 
 -- what is answered where a search isn't carried on is owed
 pub no_start_owed : (effort : Effort) (bytes : List ℕ) (case : Case) (a : Answer)
     → CheckText bytes case.input.instance case.input.names case.document → IsStart effort case (Not a)
-    → IsOwedFor (Resume effort) bytes a
+    → IsTextOf (ResumeOwes effort bytes) a
 no_start_owed effort bytes case a text (inl large) =
     resume_too_large_owed effort bytes case.input.instance case.input.names case.document text a large.too_large
     large.tells

@@ -9,62 +9,73 @@ use Rattle.vs_reply.specs.declared.answer.Answer.{Answer}
 use Rattle.vs_reply.specs.declared.status.Status.{Status}
 use Rattle.vs_reply.specs.declared.status.Status.TheVariants.{Done, SaysNo, BadWords, BadInput, Infeasible, StillOpen}
 use Rattle.vs_words.specs.declared.command.Command.{Command}
-use Rattle.vs_words.specs.declared.command.Effort.{Effort}
-use Rattle.vs_words.specs.declared.command.Command.TheVariants.{Check, Solve, Network, Blocks, Make, Trial, Peak, PeakCheck, Resume, Trace, Replay}
+use Rattle.vs_words.specs.declared.command.Command.TheVariants as commands
+use Rattle.vs_words.specs.declared.command.Plain.{Plain}
+use Rattle.vs_words.specs.declared.command.Plain.TheVariants.{Check, Network, Blocks, Make, Peak, PeakCheck, Replay}
+use Rattle.vs_words.specs.declared.command.Search.{Search}
+use Rattle.vs_words.specs.declared.command.Search.TheVariants.{Solve, Trial, Resume, Trace}
 use Rattle.mdvsp.specs.Answered.{IsOwedFor, IsSaid}
-use Rattle.mdvsp.specs.Outcome.{Run, Told, Answered, CouldNotRead, Ends, HasRead, IsOwed, IsTold, Searches, StartsNoThread, TookFew, unread_status}
-use Rattle.mdvsp.specs.Owed.{Owes}
+use Rattle.mdvsp.specs.Outcome.{Run, Told, Answered, CouldNotRead, Ends, HasRead, IsOwed, IsTold, TookFew, unread_status}
+use Rattle.mdvsp.specs.Owed.{Owes, PlainOwes, SearchOwes}
 use Rattle.vs_reader.specs.Rows.{Row, lines}
 use Rattle.vs_words.specs.Words.{AreBadAt, AskFor}
-use Rattle.vs_report.specs.RefusalRows.{words_row}
+use Rattle.vs_reply.specs.RefusalRows.{words_row}
 
 -- what was owed for some command was written
+search_ends : (run : Run) (search : Search) (bytes : List ℕ) (answer : Status) (rows : List Row)
+    → SearchOwes search bytes answer rows → Answered run answer → Ends run answer
+search_ends run (Solve effort) bytes Done rows o w = w
+search_ends run (Solve effort) bytes BadInput rows o w = w
+search_ends run (Solve effort) bytes Infeasible rows o w = w
+search_ends run (Solve effort) bytes StillOpen rows o w = w
+search_ends run (Solve effort) bytes _ rows o w = absurd o
+search_ends run (Trial n) bytes Done rows o w = w
+search_ends run (Trial n) bytes Infeasible rows o w = w
+search_ends run (Trial n) bytes StillOpen rows o w = w
+search_ends run (Trial n) bytes _ rows o w = absurd o
+search_ends run (Resume effort) bytes Done rows o w = w
+search_ends run (Resume effort) bytes SaysNo rows o w = w
+search_ends run (Resume effort) bytes BadInput rows o w = w
+search_ends run (Resume effort) bytes Infeasible rows o w = w
+search_ends run (Resume effort) bytes StillOpen rows o w = w
+search_ends run (Resume effort) bytes _ rows o w = absurd o
+search_ends run (Trace effort) bytes Done rows o w = w
+search_ends run (Trace effort) bytes BadInput rows o w = w
+search_ends run (Trace effort) bytes Infeasible rows o w = w
+search_ends run (Trace effort) bytes StillOpen rows o w = w
+search_ends run (Trace effort) bytes _ rows o w = absurd o
+
+plain_ends : (run : Run) (plain : Plain) (bytes : List ℕ) (answer : Status) (rows : List Row)
+    → PlainOwes plain bytes answer rows → Answered run answer → Ends run answer
+plain_ends run Check bytes Done rows o w = w
+plain_ends run Check bytes SaysNo rows o w = w
+plain_ends run Check bytes BadInput rows o w = w
+plain_ends run Check bytes _ rows o w = absurd o
+plain_ends run Network bytes Done rows o w = w
+plain_ends run Network bytes BadInput rows o w = w
+plain_ends run Network bytes _ rows o w = absurd o
+plain_ends run Blocks bytes Done rows o w = w
+plain_ends run Blocks bytes SaysNo rows o w = w
+plain_ends run Blocks bytes BadInput rows o w = w
+plain_ends run Blocks bytes _ rows o w = absurd o
+plain_ends run (Make n) bytes Done rows o w = w
+plain_ends run (Make n) bytes _ rows o w = absurd o
+plain_ends run Peak bytes Done rows o w = w
+plain_ends run Peak bytes BadInput rows o w = w
+plain_ends run Peak bytes _ rows o w = absurd o
+plain_ends run PeakCheck bytes Done rows o w = w
+plain_ends run PeakCheck bytes SaysNo rows o w = w
+plain_ends run PeakCheck bytes BadInput rows o w = w
+plain_ends run PeakCheck bytes _ rows o w = absurd o
+plain_ends run Replay bytes Done rows o w = w
+plain_ends run Replay bytes SaysNo rows o w = w
+plain_ends run Replay bytes BadInput rows o w = w
+plain_ends run Replay bytes _ rows o w = absurd o
+
 answered_ends : (run : Run) (command : Command) (bytes : List ℕ) (answer : Status) (rows : List Row)
     → Owes command bytes answer rows → Answered run answer → Ends run answer
-answered_ends run Check bytes Done rows o w = w
-answered_ends run Check bytes SaysNo rows o w = w
-answered_ends run Check bytes BadInput rows o w = w
-answered_ends run Check bytes _ rows o w = absurd o
-answered_ends run (Solve effort) bytes Done rows o w = w
-answered_ends run (Solve effort) bytes BadInput rows o w = w
-answered_ends run (Solve effort) bytes Infeasible rows o w = w
-answered_ends run (Solve effort) bytes StillOpen rows o w = w
-answered_ends run (Solve effort) bytes _ rows o w = absurd o
-answered_ends run Network bytes Done rows o w = w
-answered_ends run Network bytes BadInput rows o w = w
-answered_ends run Network bytes _ rows o w = absurd o
-answered_ends run Blocks bytes Done rows o w = w
-answered_ends run Blocks bytes SaysNo rows o w = w
-answered_ends run Blocks bytes BadInput rows o w = w
-answered_ends run Blocks bytes _ rows o w = absurd o
-answered_ends run (Make n) bytes Done rows o w = w
-answered_ends run (Make n) bytes _ rows o w = absurd o
-answered_ends run (Trial n) bytes Done rows o w = w
-answered_ends run (Trial n) bytes Infeasible rows o w = w
-answered_ends run (Trial n) bytes StillOpen rows o w = w
-answered_ends run (Trial n) bytes _ rows o w = absurd o
-answered_ends run Peak bytes Done rows o w = w
-answered_ends run Peak bytes BadInput rows o w = w
-answered_ends run Peak bytes _ rows o w = absurd o
-answered_ends run PeakCheck bytes Done rows o w = w
-answered_ends run PeakCheck bytes SaysNo rows o w = w
-answered_ends run PeakCheck bytes BadInput rows o w = w
-answered_ends run PeakCheck bytes _ rows o w = absurd o
-answered_ends run (Resume effort) bytes Done rows o w = w
-answered_ends run (Resume effort) bytes SaysNo rows o w = w
-answered_ends run (Resume effort) bytes BadInput rows o w = w
-answered_ends run (Resume effort) bytes Infeasible rows o w = w
-answered_ends run (Resume effort) bytes StillOpen rows o w = w
-answered_ends run (Resume effort) bytes _ rows o w = absurd o
-answered_ends run (Trace effort) bytes Done rows o w = w
-answered_ends run (Trace effort) bytes BadInput rows o w = w
-answered_ends run (Trace effort) bytes Infeasible rows o w = w
-answered_ends run (Trace effort) bytes StillOpen rows o w = w
-answered_ends run (Trace effort) bytes _ rows o w = absurd o
-answered_ends run Replay bytes Done rows o w = w
-answered_ends run Replay bytes SaysNo rows o w = w
-answered_ends run Replay bytes BadInput rows o w = w
-answered_ends run Replay bytes _ rows o w = absurd o
+answered_ends run (commands.Search search) bytes answer rows o w = search_ends run search bytes answer rows o w
+answered_ends run (commands.Plain plain) bytes answer rows o w = plain_ends run plain bytes answer rows o w
 
 ends_answered : (run : Run) (answer : Status) (rows : List Row) → IsOwed run answer rows
     → Appends run.taken run.taken_after (lines rows) → Ends run answer
@@ -87,17 +98,17 @@ took_none left left_after same =
 -- what a command read is gone, and isn't too much
 took_few : (command : Command) (left left_after : Told) (bytes : List ℕ) → HasRead command left left_after bytes
     → TookFew left left_after
-took_few (Make n) left left_after bytes h = took_none left left_after h.1
-took_few (Trial n) left left_after bytes h = took_none left left_after h.1
-took_few Check left left_after bytes h = (bytes, takes_all left left_after bytes h.0, h.1)
-took_few (Solve effort) left left_after bytes h = (bytes, takes_all left left_after bytes h.0, h.1)
-took_few Network left left_after bytes h = (bytes, takes_all left left_after bytes h.0, h.1)
-took_few Blocks left left_after bytes h = (bytes, takes_all left left_after bytes h.0, h.1)
-took_few Peak left left_after bytes h = (bytes, takes_all left left_after bytes h.0, h.1)
-took_few PeakCheck left left_after bytes h = (bytes, takes_all left left_after bytes h.0, h.1)
-took_few (Resume effort) left left_after bytes h = (bytes, takes_all left left_after bytes h.0, h.1)
-took_few (Trace effort) left left_after bytes h = (bytes, takes_all left left_after bytes h.0, h.1)
-took_few Replay left left_after bytes h = (bytes, takes_all left left_after bytes h.0, h.1)
+took_few (commands.Search (Trial n)) left left_after bytes h = took_none left left_after h.1
+took_few (commands.Plain (Make n)) left left_after bytes h = took_none left left_after h.1
+took_few (commands.Search (Solve effort)) left left_after bytes h = (bytes, takes_all left left_after bytes h.0, h.1)
+took_few (commands.Search (Resume effort)) left left_after bytes h = (bytes, takes_all left left_after bytes h.0, h.1)
+took_few (commands.Search (Trace effort)) left left_after bytes h = (bytes, takes_all left left_after bytes h.0, h.1)
+took_few (commands.Plain Check) left left_after bytes h = (bytes, takes_all left left_after bytes h.0, h.1)
+took_few (commands.Plain Network) left left_after bytes h = (bytes, takes_all left left_after bytes h.0, h.1)
+took_few (commands.Plain Blocks) left left_after bytes h = (bytes, takes_all left left_after bytes h.0, h.1)
+took_few (commands.Plain Peak) left left_after bytes h = (bytes, takes_all left left_after bytes h.0, h.1)
+took_few (commands.Plain PeakCheck) left left_after bytes h = (bytes, takes_all left left_after bytes h.0, h.1)
+took_few (commands.Plain Replay) left left_after bytes h = (bytes, takes_all left left_after bytes h.0, h.1)
 
 -- a command's answer was said
 pub command_ends : (run : Run) (command : Command) (bytes : List ℕ) (answer : Result Answer Memory) (said : Status)
@@ -146,33 +157,3 @@ pub unread_ends : (run : Run) (command : Command) (error : SlurpError) (said : S
     → CouldNotRead command run.left run.left_after run.source_faults run.source_faults_after error → Ends run said
 unread_ends run command error said is asked same could =
     subst (Ends run) (sym is) (unread_so run command error asked same could)
-
--- a command but these four is done without threads
-pub no_search : (command : Command) → ((effort : Effort) → ¬ (command ≡ Solve effort))
-    → ((n : ℕ) → ¬ (command ≡ Trial n)) → ((effort : Effort) → ¬ (command ≡ Resume effort))
-    → ((effort : Effort) → ¬ (command ≡ Trace effort)) → StartsNoThread command
-no_search Check solve trial resume trace = tt
-no_search (Solve effort) solve trial resume trace = solve effort refl
-no_search Network solve trial resume trace = tt
-no_search Blocks solve trial resume trace = tt
-no_search (Make n) solve trial resume trace = tt
-no_search (Trial n) solve trial resume trace = trial n refl
-no_search Peak solve trial resume trace = tt
-no_search PeakCheck solve trial resume trace = tt
-no_search (Resume effort) solve trial resume trace = resume effort refl
-no_search (Trace effort) solve trial resume trace = trace effort refl
-no_search Replay solve trial resume trace = tt
-
--- and such a command doesn't search
-pub not_both : (command : Command) → StartsNoThread command → ¬ (Searches command)
-not_both Check alone searches = searches
-not_both (Solve effort) alone searches = alone
-not_both Network alone searches = searches
-not_both Blocks alone searches = searches
-not_both (Make n) alone searches = searches
-not_both (Trial n) alone searches = alone
-not_both Peak alone searches = searches
-not_both PeakCheck alone searches = searches
-not_both (Resume effort) alone searches = alone
-not_both (Trace effort) alone searches = alone
-not_both Replay alone searches = searches

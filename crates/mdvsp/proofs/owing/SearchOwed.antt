@@ -2,22 +2,21 @@
 use Rattle.std.proofs.Common.{◌≡◌, ℕ, List, [], ◌∷◌, Result, Ok, Err, Some, None, inl, inr, refl, IfOk}
 use Rattle.vs_types.specs.declared.memory.Memory.{Memory}
 use Rattle.vs_instance.specs.Problem.{Problem}
-use Rattle.vs_cases.specs.declared.claim.Claim.{Claim}
-use Rattle.vs_cases.specs.declared.claim.Claim.TheVariants.{Optimal, Infeasible, StillOpen}
+use Rattle.vs_prices.specs.declared.claim.Claim.{Claim}
+use Rattle.vs_prices.specs.declared.claim.Claim.TheVariants.{Optimal, Infeasible, StillOpen}
 use Rattle.vs_reader.specs.Names.{NameLists}
 use Rattle.vs_reader.specs.Rows.{Row}
 use Rattle.vs_rows.specs.DocumentRows.{document_rows}
 use Rattle.vs_check.proofs.CallerLemmas.{prove_their_claims}
-use Rattle.vs_report.specs.RefusalRows.{refusal_row, too_large_row}
+use Rattle.vs_reply.specs.RefusalRows.{refusal_row, too_large_row}
 use Rattle.vs_reply.specs.declared.answer.Answer.{Answer}
 use Rattle.vs_reply.specs.declared.status.Status.TheVariants as status
-use Rattle.vs_reply.specs.Answered.{RefusesText, TellsRow}
+use Rattle.vs_reply.specs.Answered.{IsTextOf, RefusesText, TellsRow}
 use Rattle.vs_reply.specs.Cases.{SolveText}
 use Rattle.vs_reply.specs.Status.{status_of}
 use Rattle.vs_reply.proofs.CallerLemmas.{owed_so}
 use Rattle.vs_words.specs.declared.command.Effort.{Effort}
-use Rattle.vs_words.specs.declared.command.Command.TheVariants.{Solve}
-use Rattle.mdvsp.specs.Answered.{IsDocumentOf, IsOwedFor}
+use Rattle.mdvsp.specs.Answered.{IsDocumentOf}
 use Rattle.mdvsp.specs.Budgets.{budget_of}
 use Rattle.mdvsp.specs.Owed.{OwesDocument, SolveOwes}
 use Rattle.mdvsp.specs.Searching.{IsNoSearch}
@@ -43,8 +42,9 @@ module _ (effort : Effort) (bytes : List ℕ) (a : Answer) where
   }
 
   -- what is answered then is owed by `solve`
-  pub no_search_owed : IsNoSearch effort bytes a → IsOwedFor (Solve effort) bytes a
-  no_search_owed denied = owed_so (SolveOwes effort bytes) a status.BadInput denied.rows denied.owed denied.status_is denied.text_is
+  pub no_search_owed : IsNoSearch effort bytes a → IsTextOf (SolveOwes effort bytes) a
+  no_search_owed denied =
+      owed_so (SolveOwes effort bytes) a status.BadInput denied.rows denied.owed denied.status_is denied.text_is
 
 -- a document with its claim's status is what solve owes
 solve_owes : (effort : Effort) (bytes : List ℕ) (claim : Claim) (rows : List Row)
@@ -55,7 +55,7 @@ solve_owes effort bytes StillOpen rows o = o
 
 pub document_owed : (effort : Effort) (bytes : List ℕ) (p : Problem) (names : NameLists) (budget : ℕ)
     (r : Result Answer Memory) → SolveText bytes p names → budget_of p effort.nodes ≡ Some budget
-    → IfOk r (IsDocumentOf p names budget effort.workers) → IfOk r (IsOwedFor (Solve effort) bytes)
+    → IfOk r (IsDocumentOf p names budget effort.workers) → IfOk r (IsTextOf (SolveOwes effort bytes))
 document_owed effort bytes p names budget (Ok a) text budget_is d =
     owed_so (SolveOwes effort bytes) a (status_of d.document.claim) (document_rows p names d.document)
     (solve_owes effort bytes d.document.claim (document_rows p names d.document) (record {

@@ -8,23 +8,21 @@ use Rattle.vs_reader.specs.Rows.{Row, lines}
 use Rattle.vs_reader.specs.Texts.{HasRows, StandsFor, StandsForInstance}
 use Rattle.vs_reader.proofs.CallerLemmas.{one_reading}
 use Rattle.vs_make.specs.Generator.{make_rows}
-use Rattle.vs_made.specs.Made.{IsWholeText, made_names, made_problem}
-use Rattle.vs_made.proofs.CallerLemmas.{made_text}
-use Rattle.vs_cases.specs.declared.claim.Claim.{Claim}
-use Rattle.vs_cases.specs.declared.claim.Claim.TheVariants.{Optimal, Infeasible, StillOpen}
+use Rattle.vs_make.specs.Made.{IsWholeText, made_names, made_problem}
+use Rattle.vs_make.proofs.CallerLemmas.{made_text}
+use Rattle.vs_prices.specs.declared.claim.Claim.{Claim}
+use Rattle.vs_prices.specs.declared.claim.Claim.TheVariants.{Optimal, Infeasible, StillOpen}
 use Rattle.vs_rows.specs.DocumentRows.{claim_field, document_rows, number_field}
 use Rattle.vs_rows.specs.declared.document.Document.{Document}
 use Rattle.vs_document.specs.Alike.{AreAlike}
 use Rattle.vs_document.proofs.CallerLemmas.{read_back}
 use Rattle.vs_check.specs.HoldingDocument.{HoldingDocument}
 use Rattle.vs_check.proofs.CallerLemmas.{prove_their_claims}
-use Rattle.vs_words.specs.declared.command.Command.TheVariants.{Trial}
 use Rattle.vs_reply.specs.declared.answer.Answer.{Answer}
-use Rattle.mdvsp.specs.declared.trial.TheConstants.{TRIAL_NODES, TRIAL_WORKERS}
-use Rattle.vs_reply.specs.Answered.{IsNoCase}
+use Rattle.vs_reply.specs.Answered.{IsNoCase, IsTextOf}
 use Rattle.vs_reply.specs.Status.{status_of}
 use Rattle.vs_reply.proofs.CallerLemmas.{case_refused, owed_so, same_case}
-use Rattle.mdvsp.specs.Answered.{AreWritten, IsDocumentOf, IsOwedFor, IsReadOf, IsWritten}
+use Rattle.mdvsp.specs.Answered.{AreWritten, IsDocumentOf, IsReadOf, IsWritten}
 use Rattle.vs_reply.specs.Cases.{CheckText}
 use Rattle.mdvsp.specs.Owed.{OwesTrial, TrialOwes, trial_row}
 
@@ -84,7 +82,7 @@ module _ (made written : List ℕ) (p : Problem) (names : NameLists) (d : Docume
 
 -- the document that was planned was written
 written_so : (made : List ℕ) (p : Problem) (names : NameLists) (answer : Answer) → IsWholeText made p names
-    → (planned : IsDocumentOf p names TRIAL_NODES TRIAL_WORKERS answer)
+    → (planned : IsDocumentOf p names 20 1 answer)
     → IsWritten made answer.text.items p names planned.document
 written_so made p names answer whole planned = record {
   whole = whole;
@@ -94,7 +92,7 @@ written_so made p names answer whole planned = record {
 }
 
 pub planned_written : (made : List ℕ) (p : Problem) (names : NameLists) (answer : Answer) → IsWholeText made p names
-    → IsDocumentOf p names TRIAL_NODES TRIAL_WORKERS answer → AreWritten made answer.text.items
+    → IsDocumentOf p names 20 1 answer → AreWritten made answer.text.items
 planned_written made p names answer whole planned =
     (p, names, planned.document, written_so made p names answer whole planned)
 
@@ -117,12 +115,12 @@ trial_owes n Infeasible rows owed = owed
 trial_owes n StillOpen rows owed = owed
 
 -- the row of the document that was read is owed
-pub trial_owed : (n : ℕ) (bytes made : List ℕ) (p : Problem) (names : NameLists) (planned answer : Answer)
+pub trial_owed : (n : ℕ) (made : List ℕ) (p : Problem) (names : NameLists) (planned answer : Answer)
     (e : Document) → made ≡ lines (make_rows n) → IsWholeText made p names
-    → IsDocumentOf p names TRIAL_NODES TRIAL_WORKERS planned → IsReadOf made planned.text.items e
+    → IsDocumentOf p names 20 1 planned → IsReadOf made planned.text.items e
     → answer.status ≡ planned.status → answer.text.items ≡ lines (trial_row n e ∷ [])
-    → IsOwedFor (Trial n) bytes answer
-trial_owed n bytes made p names planned answer e made_is whole by read status_is text_is =
+    → IsTextOf (TrialOwes n) answer
+trial_owed n made p names planned answer e made_is whole by read status_is text_is =
     let d = by.document in
     let alike = read p names d (written_so made p names planned whole by) in
     let stands = subst (λ (text : List ℕ). StandsFor text p names whole.before []) made_is whole.stands in

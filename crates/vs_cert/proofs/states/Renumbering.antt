@@ -2,7 +2,7 @@
 use Rattle.std.proofs.Common.{◌≡◌, ℕ, List, [], ◌∷◌, ◌++◌, refl, sym, ap, ◌∙◌, subst, Some}
 use Rattle.std.specs.List.{slice_get}
 use Rattle.std.proofs.lemmas.List.{append_assoc, append-nil}
-use Rattle.vs_cases.specs.Tree.{Tree, Leaf, Split}
+use Rattle.vs_prices.specs.Tree.{Tree, Leaf, Split}
 use Rattle.vs_rows.specs.Shapes.{preorder}
 use Rattle.vs_cert.specs.StateDocument.{IsRenumbered, tables_named}
 use Rattle.vs_rows.specs.declared.document.Shape.{Shape}

@@ -1,5 +1,5 @@
 -- The numbers and the blocks in the document of a state are within their limits.
-use Rattle.std.proofs.Common.{◌≡◌, ℕ, [], inl, inr, refl, subst, arith, rules, Option, Some, None, option_map, ℤ, pos, ◌≤ℤ◌}
+use Rattle.std.proofs.Common.{◌≡◌, [], inl, inr, refl, subst, arith, rules, Option, Some, None, option_map, ℤ, pos}
 use Rattle.std.specs.Prelude.{IfNone, IfSome}
 use Rattle.std.specs.List.{All}
 use Rattle.std.proofs.lemmas.Int.{ints}
@@ -10,7 +10,6 @@ use Rattle.vs_instance.specs.Plan.{LayerBlock, plan_cost}
 use Rattle.vs_instance.specs.Problem.{Problem}
 use Rattle.vs_plan.specs.Blocks.{IsOfInstance}
 use Rattle.vs_plan.specs.CheckedPlan.{Checked}
-use Rattle.vs_plan.specs.declared.costs.TheConstants.{MAX_PLAN_COST}
 use Rattle.vs_prices.specs.Bounds.{IsNoLess}
 use Rattle.vs_prices.specs.declared.bound.Bound.TheVariants.{AtLeast, NoPlan}
 use Rattle.vs_tree.specs.History.{Opening, State, incumbent, known, sets_at, spot_at, table_of}
@@ -20,15 +19,9 @@ use Rattle.vs_tree.proofs.CallerLemmas.{last-is}
 use Rattle.vs_rows.specs.DocumentRows.{IsBetween, IsWithin}
 use Rattle.vs_cert.specs.StateDocument.{known_blocks}
 use Rattle.vs_rows.specs.declared.limits.TheConstants.{MAX_BOUND, MAX_COST}
+use Rattle.vs_rows.proofs.CallerLemmas.{checked_cost, cost_bound}
 use Rattle.vs_cert.proofs.states.TreeTables.{number_fits}
 use Rattle.vs_cert.proofs.states.WorthRange.{worth_within}
-
--- the cost of a checked plan
-checked_cost : (n : ℕ) (cost : ℤ) → cost ≡ pos n → cost ≤ℤ MAX_PLAN_COST → IsBetween (pos 0) MAX_COST cost
-checked_cost n cost is few = (omega (arith, ints), omega (arith, ints))
-
-cost_bound : (n cost : ℤ) → n ≡ cost → IsBetween (pos 0) MAX_COST cost → IsWithin MAX_BOUND n
-cost_bound n cost is between = (omega (arith, ints), omega (arith, ints))
 
 module _ (o : Opening) (s : State) (instance : IsInstance o.problem) (sound : IsSound o s) where
   abbrev p : Problem

@@ -34,7 +34,7 @@ use Rattle.vs_cert.proofs.states.TreeTables.{HasTables, numbers_within, some_tab
 use denote.RawPtr.{null_ptr}
 
 -- a vector of these tables
-vec_of : (xs : List Table) → length xs < 2 ^ 63 → Vec Table Global
+pub vec_of : (xs : List Table) → length xs < 2 ^ 63 → Vec Table Global
 vec_of xs few = record {
   ptr = null_ptr;
   len = length xs;
@@ -44,6 +44,10 @@ vec_of xs few = record {
   ok = (refl, omega arith);
   small = few;
 }
+
+pub vec-items : (xs : List Table) (few : length xs < 2 ^ 63) → (vec_of xs few).items ≡ xs
+unfolding vec_of
+vec-items xs few = refl
 
 module _ (o : Opening) (s : State) (instance : IsInstance o.problem) (budget : o.budget ≤ MAX_BUDGET)
     (sound : IsSound o s) (numbers : List ℕ) (rows : List Shape) (are : AreRowsOf o s numbers rows) where

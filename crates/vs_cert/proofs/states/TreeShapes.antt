@@ -9,9 +9,9 @@ use Rattle.vs_instance.specs.Instance.{IsInstance}
 use Rattle.vs_instance.specs.Problem.{Problem}
 use Rattle.vs_instance.specs.Restriction.{IsRestriction, set_of}
 use Rattle.vs_instance.specs.Ways.{no_trip}
-use Rattle.vs_cases.specs.Tree.{Tree, Leaf, Split, IsGoodTree, right_of, with_set}
+use Rattle.vs_prices.specs.Tree.{Tree, Leaf, Split, IsGoodTree, right_of, with_set}
 use Rattle.vs_types.specs.Parts.{IsProperPart}
-use Rattle.vs_cases.proofs.CallerLemmas.{left-restricts, right-restricts}
+use Rattle.vs_prices.proofs.CallerLemmas.{left-restricts, right-restricts}
 use Rattle.vs_rows.specs.Shapes.{IsShapeOf, preorder}
 use Rattle.vs_cert.specs.StateDocument.{IsRenumbered}
 use Rattle.vs_rows.specs.declared.document.Shape.{Shape}

@@ -13,7 +13,7 @@ use Rattle.vs_tree.specs.Prices.{AreLawful, Prices, no_prices, prices_of}
 use Rattle.vs_tree.specs.Sound.{IsSound}
 use Rattle.vs_tree.specs.StateTree.{IsTreeAt, IsTreeOf}
 use Rattle.vs_tree.proofs.CallerLemmas.{lawful_fits}
-use Rattle.vs_cases.specs.Tree.{Tree, Leaf, Split, right_of, with_set}
+use Rattle.vs_prices.specs.Tree.{Tree, Leaf, Split, right_of, with_set}
 use Rattle.vs_rows.specs.DocumentRows.{DocumentRow, table_rows}
 use Rattle.vs_cert.specs.StateDocument.{first_times, tables_named}
 use Rattle.vs_cert.specs.TreeRows.{AreRowsOf}
@@ -21,7 +21,7 @@ use Rattle.vs_cert.specs.TreeText.{prices_of_number, prices_rows}
 use Rattle.vs_rows.specs.declared.document.Shape.{Shape}
 
 -- what is true of numbers is true of them once each
-first_times-All : (P : ℕ → Type 0) (xs : List ℕ) → All P xs → All P (first_times xs)
+pub first_times-All : (P : ℕ → Type 0) (xs : List ℕ) → All P xs → All P (first_times xs)
 first_times-All P [] each = All-nil P
 first_times-All P (n ∷ rest) each =
     All-cons P n (filter (λ m. not (m == n)) (first_times rest)) (All-head P n rest each)

@@ -9,7 +9,7 @@ use Rattle.vs_tree.specs.declared.spot.Spot.{Spot}
 use Rattle.vs_tree.specs.declared.spot.Spot.TheVariants.{Inner, Free, Held, Closed}
 use Rattle.vs_tree.specs.History.{Opening, Place, State, count_spots, is_inner, spot_at, table_of}
 use Rattle.vs_tree.specs.StateTree.{IsTreeAt, IsTreeOf}
-use Rattle.vs_cases.specs.Tree.{Tree, Leaf, Split, right_of, splits, with_set}
+use Rattle.vs_prices.specs.Tree.{Tree, Leaf, Split, right_of, splits, with_set}
 use Rattle.vs_tree.proofs.CallerLemmas.{leaf_within}
 use Rattle.vs_cert.specs.Numbering.{with_number}
 use Rattle.vs_rows.specs.Shapes.{preorder}

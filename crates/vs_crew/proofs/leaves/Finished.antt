@@ -12,7 +12,7 @@ use Rattle.vs_tree.specs.Search.{Search, state}
 use Rattle.vs_tree.specs.Sound.{IsOpening, IsSound}
 use Rattle.vs_tree.specs.declared.finishing.Finish.{Finish}
 use Rattle.vs_tree.specs.declared.spot.Spot.{Spot}
-use Rattle.vs_tree.proofs.CallerLemmas.{state-last, histories_are_sound, prices-kept}
+use Rattle.vs_tree.proofs.CallerLemmas.{state-last, histories_are_sound, prices-kept, state-append}
 use Rattle.vs_node.specs.WorkedHistory.{AreWorkedFrom}
 use Rattle.vs_node.specs.declared.outcome.Outcome.{Outcome}
 use Rattle.vs_node.specs.declared.outcome.Task.{Task}
@@ -23,7 +23,7 @@ use Rattle.vs_crew.proofs.leaves.Finishing.{finish_worked, may_finish}
 use Rattle.vs_crew.proofs.leaves.LetGo.{finish-by, finish-gone, finish-none}
 use Rattle.vs_crew.proofs.leaves.Offering.{IsOffered, offered}
 use Rattle.vs_crew.proofs.leaves.WorkedSteps.{worked-append, worked-finish}
-use Rattle.vs_crew.proofs.others.Histories.{follow-first, follow-rest, idle_still, state-append, steps_keep}
+use Rattle.vs_crew.proofs.others.Histories.{follow-first, follow-rest, idle_still, steps_keep}
 use Rattle.vs_crew.proofs.others.Keeping.{Keeps}
 
 by-append : (w : ℕ) (xs ys : List FullStep) → AreBy w xs → AreBy w ys → AreBy w (xs ++ ys)

@@ -5,7 +5,7 @@ use Rattle.vs_instance.specs.Restriction.{permitted_sets}
 use Rattle.vs_tree.specs.History.{FullStep, Opening, IsHistory, IsLeaf, is_inner, sets_at, spot_at, state_of}
 use Rattle.vs_tree.specs.Sound.{IsOpening}
 use Rattle.vs_tree.specs.StateTree.{IsTreeAt}
-use Rattle.vs_cases.specs.Tree.{Tree, Leaf, Split}
+use Rattle.vs_prices.specs.Tree.{Tree, Leaf, Split}
 use Rattle.vs_tree.proofs.CallerLemmas.{states_are_trees}
 
 -- as long as the root is a leaf, each trip may be run there in the layers that permit it

@@ -6,8 +6,8 @@ use Rattle.vs_prices.specs.declared.bound.Bound.{Bound}
 use Rattle.vs_prices.specs.declared.table.Table.{Table}
 use Rattle.vs_tree.specs.declared.calls.Next.TheVariants.{Close}
 use Rattle.vs_node.specs.declared.outcome.Task.{Task}
-use Rattle.vs_ray.specs.Rays.{ShowsNoPlan}
-use Rattle.vs_ray.proofs.CallerLemmas.{shown-no_less, shown-once, shown-reaches}
+use Rattle.vs_penalty.specs.Rays.{ShowsNoPlan}
+use Rattle.vs_penalty.proofs.CallerLemmas.{shown-no_less, shown-once, shown-reaches}
 use Rattle.vs_crew.specs.Found.{IsFound}
 
 -- it may be closed

@@ -15,12 +15,12 @@ use Rattle.vs_tree.specs.declared.calls.Take.{Take}
 use Rattle.vs_tree.specs.declared.calls.Take.TheVariants.{Node, Wait, Done, Spent}
 use Rattle.vs_tree.specs.declared.spot.Spot.{Spot}
 use Rattle.vs_tree.specs.declared.spot.Spot.TheVariants.{Held}
-use Rattle.vs_tree.proofs.CallerLemmas.{lawful_fits, leaf_within, state-last, among-filter, histories_are_sound, sets-kept, spot-here}
+use Rattle.vs_tree.proofs.CallerLemmas.{lawful_fits, leaf_within, state-last, among-filter, histories_are_sound, sets-kept, spot-here, lawful_holds}
 use Rattle.vs_node.specs.declared.outcome.Task.{Task}
 use Rattle.vs_crew.specs.Found.{IsLawfulTask}
 use Rattle.vs_crew.specs.Leaves.{HoldsLeaf, IsTold}
 use Rattle.vs_crew.specs.Sharing.{IsIdle}
-use Rattle.vs_crew.proofs.leaves.LeafTables.{lawful_holds, leaf_lawful}
+use Rattle.vs_crew.proofs.leaves.LeafTables.{leaf_lawful}
 use Rattle.vs_crew.proofs.leaves.RootSets.{root_leaf}
 
 module _ (o : Opening) (steps : List FullStep) (w leaf : ℕ) (opening : IsOpening o) (history : IsHistory o steps)

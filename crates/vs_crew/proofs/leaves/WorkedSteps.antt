@@ -17,11 +17,10 @@ use Rattle.vs_tree.specs.History.{FullStep, Opening, State, after, first_state, 
 use Rattle.vs_tree.specs.Prices.{Prices, prices_of}
 use Rattle.vs_tree.specs.declared.calls.Next.{Next}
 use Rattle.vs_tree.specs.declared.calls.Next.TheVariants.{Close, Split}
-use Rattle.vs_tree.proofs.CallerLemmas.{worth_of_table}
+use Rattle.vs_tree.proofs.CallerLemmas.{worth_of_table, state-append}
 use Rattle.vs_node.specs.WorkedHistory.{AreWorkedFrom, AreWorkedPrices, IsWorkedStep}
 use Rattle.vs_node.specs.WorkedStep.{IsWorked}
 use Rattle.vs_crew.specs.Crew.{AreWorkedAfter}
-use Rattle.vs_crew.proofs.others.Histories.{state-append}
 
 -- where each leaf was worked on in some steps and in those that follow, it was in all
 pub worked-append : (o : Opening) (s : State) (xs ys : List FullStep) → AreWorkedFrom o s xs

@@ -6,9 +6,9 @@ use Rattle.vs_tree.specs.Entries.{worker_of}
 use Rattle.vs_tree.specs.History.{FullStep, Opening, Place, State, Took, Split, Closed, Offered, GaveBack, IsAmong, IsHeldBy, IsHistory, MayCome, MayFollow, after, count_spots, first_state, is_held, place_at, state_after, state_of}
 use Rattle.vs_tree.specs.Sound.{IsOpening}
 use Rattle.vs_tree.specs.Takes.{IsOver, IsWorkLeft}
-use Rattle.vs_tree.proofs.CallerLemmas.{histories_are_sound, not_held}
+use Rattle.vs_tree.proofs.CallerLemmas.{histories_are_sound, not_held, state-append}
 use Rattle.vs_crew.specs.Sharing.{HasEnded, IsEnd, NoneIsHeld, WasOver}
-use Rattle.vs_crew.proofs.others.Histories.{follow-rest, state-append}
+use Rattle.vs_crew.proofs.others.Histories.{follow-rest}
 use Rattle.vs_crew.proofs.others.Keeping.{step_keeps}
 
 -- where a spot is held, the held ones are some

@@ -9,11 +9,6 @@ use Rattle.vs_tree.proofs.CallerLemmas.{same_step}
 use Rattle.vs_crew.specs.Sharing.{AreBy, AreByOthers, IsIdle}
 use Rattle.vs_crew.proofs.others.Keeping.{Keeps, both_keep, same_keeps, step_keeps}
 
--- what steps come after others
-pub state-append : (s : State) (xs ys : List FullStep) → state_after s (xs ++ ys) ≡ state_after (state_after s xs) ys
-state-append s [] ys = refl
-state-append s (x ∷ xs) ys = state-append (after s x) xs ys
-
 pub follow-first : (o : Opening) (s : State) (xs ys : List FullStep) → MayFollow o s (xs ++ ys) → MayFollow o s xs
 follow-first o s [] ys may = tt
 follow-first o s (x ∷ xs) ys may = (may.0, follow-first o (after s x) xs ys may.1)

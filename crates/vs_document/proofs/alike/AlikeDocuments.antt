@@ -19,7 +19,7 @@ use Rattle.vs_prices.specs.declared.table.Table.{Table}
 use Rattle.vs_reader.specs.Names.{NameLists}
 use Rattle.vs_reader.specs.NameRules.{AreNames}
 use Rattle.vs_reader.specs.Rows.{Row}
-use Rattle.vs_cases.specs.declared.claim.Claim.{Claim}
+use Rattle.vs_prices.specs.declared.claim.Claim.{Claim}
 use Rattle.vs_document.specs.Alike.{AreAlike}
 use Rattle.vs_rows.specs.declared.document.Document.{Document}
 use Rattle.vs_rows.specs.declared.document.Shape.{Shape}
@@ -165,7 +165,7 @@ module _ (p : Problem) (t u : Table) where
       Contains-filter (λ k. eqb (bit_at (trip_of p k).layers.0 l) 1) (range_with_len 0 (length p.trips)) i
       (in_range (length p.trips) i lt) (eq-eqb _ 1 may)
 
-  same_table : (n : ℕ) → Fits p t → Fits p u → table_rows p (n, t) ≡ table_rows p (n, u) → Agree p t u
+  pub same_table : (n : ℕ) → Fits p t → Fits p u → table_rows p (n, t) ≡ table_rows p (n, u) → Agree p t u
   same_table n fits_t fits_u e =
       let ls = range_with_len 0 (length p.layers) in
       let parts = same_first (TableRow n t.ray) (TableRow n u.ray) (flat_map (layer_rows p t) ls)

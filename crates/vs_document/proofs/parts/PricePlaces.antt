@@ -16,7 +16,7 @@ use Rattle.vs_document.specs.Places.{HasNumber, InTable, behind}
 use Rattle.vs_document.specs.Reading.{IsRefusedAt}
 use Rattle.vs_document.proofs.rows.RefusedRows.{leads_one, no_prices}
 
-neither : {T : Type 0} (b : Bool) (x : Option T) → cond (b && false) x None ≡ None
+pub neither : {T : Type 0} (b : Bool) (x : Option T) → cond (b && false) x None ≡ None
 neither true x = refl
 neither false x = refl
 

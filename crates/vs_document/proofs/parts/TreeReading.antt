@@ -4,7 +4,7 @@ use Rattle.std.proofs.lemmas.List.{drop_more, map_push}
 use Rattle.std.proofs.lemmas.List.Elements.{All-push, All-nil}
 use Rattle.vs_types.specs.declared.layer_set.LayerSet.{LayerSet}
 use Rattle.vs_types.specs.declared.numbers.TripNo.{TripNo}
-use Rattle.vs_cases.specs.Tree.{Tree, Leaf, Split}
+use Rattle.vs_prices.specs.Tree.{Tree, Leaf, Split}
 use Rattle.vs_reader.specs.Rows.{Row, row_of}
 use Rattle.vs_reader.specs.Names.{HaveCounts}
 use Rattle.vs_reader.specs.declared.input.Input.{Input}

@@ -1,15 +1,15 @@
 -- The rows of a document lead from its claim to behind its end.
-use Rattle.std.proofs.Common.{◌≡◌, ℕ, suc, ◌+◌, ◌<◌, List, [], ◌∷◌, ◌++◌, length, map, flat_map, refl, sym, ap, ◌∙◌, subst, arith, ℤ, All, Some, None, Option, append_assoc, length-append}
+use Rattle.std.proofs.Common.{◌≡◌, ℕ, suc, ◌+◌, ◌<◌, List, [], ◌∷◌, ◌++◌, length, map, flat_map, refl, sym, ap, ◌∙◌, subst, arith, ℤ, All, Some, None, Option, append_assoc}
 use Rattle.std.specs.Prelude.{IfNone}
 use Rattle.std.specs.List.{enumerate_from, range_with_len}
-use Rattle.std.proofs.lemmas.List.{get_or_append_left, map-append}
+use Rattle.std.proofs.lemmas.List.{map-append}
 use Rattle.std.proofs.lemmas.List.Elements.{All-head, All-tail}
 use Rattle.vs_instance.specs.Plan.{LayerBlock}
 use Rattle.vs_instance.specs.Problem.{Problem}
 use Rattle.vs_plan.specs.Blocks.{blocks_of}
 use Rattle.vs_prices.specs.Table.{Fits, into_price, from_price, vehicle_price}
 use Rattle.vs_prices.specs.declared.table.Table.{Table}
-use Rattle.vs_cases.specs.Tree.{Tree, Leaf, Split}
+use Rattle.vs_prices.specs.Tree.{Tree, Leaf, Split}
 use Rattle.vs_rows.specs.declared.document.Document.{Document}
 use Rattle.vs_rows.specs.declared.document.Shape.{Shape}
 use Rattle.vs_rows.specs.declared.document.Shape.TheVariants as shape
@@ -19,7 +19,7 @@ use Rattle.vs_rows.specs.PriceOrder.{PriceOf, Trip, Vehicle, HasPrices, prices_o
 use Rattle.vs_document.specs.Places.{Place, AtClaim, AtCost, AtBound, AtNodes, AtBlocks, InTable, InTree, AtEnd, HasNumber, SuitsCost, behind}
 use Rattle.vs_rows.specs.Shapes.{IsShapeOf, preorder}
 use Rattle.vs_document.proofs.rows.BoundBesideCost.{suits}
-use Rattle.vs_rows.proofs.CallerLemmas.{price_anywhere, prices_in_all}
+use Rattle.vs_rows.proofs.CallerLemmas.{price_anywhere, prices_in_all, All-both}
 use Rattle.vs_document.proofs.parts.PricePlaces.{price_order}
 use Rattle.vs_document.proofs.parts.SamePlaces.{number_of_blocks, number_of_tables}
 
@@ -28,15 +28,6 @@ abbrev pub LeadsTo : Problem → Place → List DocumentRow → Place → Type 0
 LeadsTo p place [] last = place ≡ last
 LeadsTo p place (said ∷ more) last = (next : Place) × SuitsCost place said × (behind p place said ≡ Some next)
     × HasNumber place said × HasPrices said × LeadsTo p next more last
-
--- what holds of each of two lists, holds of the first and of the second
-All-left : {X : Type 0} (P : X → Type 0) (xs ys : List X) → All P (xs ++ ys) → All P xs
-All-left P xs ys all k d lt =
-    subst P (get_or_append_left xs ys d k lt) (all k d (omega (arith, length-append xs ys)))
-
-All-right : {X : Type 0} (P : X → Type 0) (xs ys : List X) → All P (xs ++ ys) → All P ys
-All-right P [] ys all = all
-All-right P (x ∷ xs) ys all = All-right P xs ys (All-tail P x (xs ++ ys) all)
 
 module _ (p : Problem) where
   leads-append : (place middle last : Place) (said more : List DocumentRow) → LeadsTo p place said middle
@@ -62,8 +53,8 @@ module _ (p : Problem) where
         subst P (sym (map-append shape_row (preorder lower) (preorder upper)))
             (leads-append (InTree n (suc (suc parts))) (InTree n (suc parts)) (InTree n parts)
             (map shape_row (preorder lower)) (map shape_row (preorder upper))
-            (leads_tree n (suc parts) lower (All-left (IsShapeOf p n) (preorder lower) (preorder upper) parts_are))
-            (leads_tree n parts upper (All-right (IsShapeOf p n) (preorder lower) (preorder upper) parts_are))),
+            (leads_tree n (suc parts) lower (All-both (IsShapeOf p n) (preorder lower) (preorder upper) parts_are).0)
+            (leads_tree n parts upper (All-both (IsShapeOf p n) (preorder lower) (preorder upper) parts_are).1)),
       )
 
   -- where a table comes, the tree comes too

@@ -10,7 +10,7 @@ ghost use Rattle.vs_document.specs.Reading.{IsRefusedAt, ReadsRow, ReadsHead};
 use crate::reading::said::{Said, said_at};
 use crate::refused::{DocError, DocWhy, refusal};
 use std::alloc::Global;
-use vs_cases::Claim;
+use vs_prices::Claim;
 use vs_reader::Input;
 
 /// The first four rows of a document.

@@ -8,8 +8,8 @@ ghost use Rattle.vs_document.specs.RowKinds.{row_said, IsOtherRow, IsHeadRow};
 
 use crate::refused::{DocError, DocWhy, refusal};
 use std::alloc::Global;
-use vs_cases::Claim;
 use vs_plan::Block;
+use vs_prices::Claim;
 use vs_reader::{Input, Rows};
 use vs_rows::{Likely, Priced, forms, prices_said};
 use vs_types::{LayerSet, TripNo};

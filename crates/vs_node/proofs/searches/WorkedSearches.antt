@@ -11,21 +11,18 @@ use Rattle.vs_prices.specs.Bounds.{ReachesValue}
 use Rattle.vs_prices.specs.Worth.{IsWorth, worth_of}
 use Rattle.vs_prices.specs.declared.bound.Bound.{Bound}
 use Rattle.vs_prices.specs.declared.table.Table.{Table}
-use Rattle.vs_prices.proofs.CallerLemmas.{worth_of-IsWorth}
+use Rattle.vs_prices.proofs.CallerLemmas.{worth_of-IsWorth, left-restricts, right-restricts, set_of-other, set_of-same}
 use Rattle.vs_tree.specs.declared.spot.Spot.{Spot}
 use Rattle.vs_tree.specs.declared.spot.Spot.TheVariants.{Inner, Free, Held, Closed as ClosedSpot}
 use Rattle.vs_tree.specs.Prices.{AreLawful, AreWorth, Prices, no_prices, prices_of}
 use Rattle.vs_tree.specs.Sound.{IsOpening, IsSound}
-use Rattle.vs_cases.specs.Tree.{right_of, with_set}
+use Rattle.vs_prices.specs.Tree.{right_of, with_set}
 use Rattle.vs_tree.specs.History.{FullStep, Opening, Place, State, Took, Split, Closed, Offered, GaveBack, IsLeaf, IsLeafWorth, MayCome, MayFollow, MayGive, MaySplit, after, first_state, is_inner, left_part, place_at, prices_at, right_part, sets_at, spot_at, state_after, table_of, with_spot}
-use Rattle.vs_tree.proofs.CallerLemmas.{lawful_worth, leaf_within, last-prices, split, other, lower, upper, nowhere, where_is, split-here, split-lower, split-nowhere, split-other, split-upper, first_sound, step_sound, leaves-kept, prices-kept, same-worth, sets-kept, spot-here, spot-there}
-use Rattle.vs_cases.proofs.CallerLemmas.{left-restricts, right-restricts, set_of-other, set_of-same}
+use Rattle.vs_tree.proofs.CallerLemmas.{lawful_worth, leaf_within, last-prices, split, other, lower, upper, nowhere, where_is, split-here, split-lower, split-nowhere, split-other, split-upper, first_sound, step_sound, leaves-kept, prices-kept, same-worth, sets-kept, spot-here, spot-there, reaches-more, narrower-no_less}
 use Rattle.vs_types.proofs.CallerLemmas.{rest-within}
 use Rattle.vs_node.specs.Laws.{WorkedSearchesReachTheStart}
 use Rattle.vs_node.specs.WorkedHistory.{AreWorkedFrom, AreWorkedPrices, IsWorkedStep}
 use Rattle.vs_node.specs.WorkedStep.{IsWorked}
-use Rattle.vs_node.proofs.tables.Comparing.{reaches-more}
-use Rattle.vs_node.proofs.sets.NarrowerSets.{narrower-no_less}
 
 -- a trip's set with fewer layers is within the old one, and any other is the same
 with_set-within : (sets : List LayerSet) (trip : TripNo) (layers : LayerSet) → trip.0 < length sets

@@ -1,30 +1,13 @@
 -- How what tables are worth compares.
-use Rattle.std.proofs.Common.{List, subst, arith, ℤ}
-use Rattle.std.proofs.lemmas.Int.{ints}
+use Rattle.std.proofs.Common.{List, subst, ℤ}
 use Rattle.vs_types.specs.declared.layer_set.LayerSet.{LayerSet}
 use Rattle.vs_instance.specs.Problem.{Problem}
 use Rattle.vs_prices.specs.declared.bound.Bound.{Bound}
-use Rattle.vs_prices.specs.declared.bound.Bound.TheVariants.{AtLeast, NoPlan}
 use Rattle.vs_prices.specs.declared.table.Table.{Table}
-use Rattle.vs_prices.specs.Bounds.{IsNoLess, IsWorthNoLess, ReachesLagrangian, ReachesValue}
+use Rattle.vs_prices.specs.Bounds.{IsNoLess, IsWorthNoLess, ReachesLagrangian}
 use Rattle.vs_prices.specs.Worth.{IsWorth, worth_of}
 use Rattle.vs_prices.proofs.CallerLemmas.{worth_of-IsWorth, worth_once}
-
--- a bound is no less than itself
-pub no_less-itself : (a : Bound) → IsNoLess a a
-no_less-itself NoPlan = tt
-no_less-itself (AtLeast n) = omega (arith, ints)
-
-no_less-trans : (a b c : Bound) → IsNoLess a b → IsNoLess b c → IsNoLess a c
-no_less-trans NoPlan b c more less = tt
-no_less-trans (AtLeast n) NoPlan c more less = absurd more
-no_less-trans (AtLeast n) (AtLeast m) NoPlan more less = absurd less
-no_less-trans (AtLeast n) (AtLeast m) (AtLeast k) more less = omega (arith, ints, more, less)
-
-pub reaches-more : (a b : Bound) (value : ℤ) → IsNoLess a b → ReachesValue b value → ReachesValue a value
-reaches-more NoPlan b value more reaches = tt
-reaches-more (AtLeast n) NoPlan value more reaches = absurd more
-reaches-more (AtLeast n) (AtLeast m) value more reaches = omega (arith, ints, more, reaches)
+use Rattle.vs_tree.proofs.CallerLemmas.{no_less-refl, no_less-trans, reaches-more}
 
 module _ (p : Problem) (sets : List LayerSet) where
   -- a table with a worth that is no less than another's is worth no less
@@ -37,7 +20,7 @@ module _ (p : Problem) (sets : List LayerSet) where
   -- a table is worth no less than itself
   pub worth_no_less-itself : (table : Table) → IsWorthNoLess p sets table table
   worth_no_less-itself table w l is_w is_l =
-      subst (λ (b : Bound). IsNoLess w b) (worth_once p sets table w l is_w is_l) (no_less-itself w)
+      subst (λ (b : Bound). IsNoLess w b) (worth_once p sets table w l is_w is_l) (no_less-refl w)
 
   -- and no less than a table that another one between the two is worth no less than
   pub worth_no_less-trans : (a b c : Table) → IsWorthNoLess p sets a b → IsWorthNoLess p sets b c

@@ -15,8 +15,9 @@ use Rattle.vs_reader.specs.NameRules.{AreNames}
 use Rattle.vs_reader.specs.Names.{NameLists}
 use Rattle.vs_reader.specs.Rows.{Row}
 use Rattle.vs_rows.specs.DocumentRows.{BlockRow, EndRow, FleetRow, PriceRow}
-use Rattle.vs_counting.specs.Counting.{counting, numbered, own_blocks, own_number, own_trips, permitted_trips}
-use Rattle.vs_counting.proofs.CallerLemmas.{count_is, own_once}
+use Rattle.vs_peakcheck.specs.Counting.{counting, numbered, own_blocks, own_number, own_trips, permitted_trips}
+use Rattle.vs_peakcheck.proofs.CountedTrips.{count_is}
+use Rattle.vs_peakcheck.proofs.PermittedTrips.{own_once}
 use Rattle.vs_peakcheck.specs.Alike.{AreAlike, SaysTheSame}
 use Rattle.vs_peakcheck.specs.Claims.{IsClaimed}
 use Rattle.vs_peakcheck.specs.Laws.{ClaimsOfRowsAreAlike}

@@ -20,7 +20,7 @@ use Rattle.vs_prices.specs.declared.bound.Bound.{Bound}
 use Rattle.vs_prices.specs.declared.bound.Bound.TheVariants.{AtLeast, NoPlan}
 use Rattle.vs_prices.specs.declared.broken_at.BrokenAt.{BrokenAt}
 use Rattle.vs_prices.specs.declared.broken_at.BrokenAt.TheVariants.{Fleet, Link, PullIn, PullOut}
-use Rattle.vs_counting.specs.Counting.{counting}
+use Rattle.vs_peakcheck.specs.Counting.{counting}
 use Rattle.vs_peakcheck.specs.Alike.{AreAlike, SaysTheSame}
 use Rattle.vs_peakcheck.specs.Flaws.{broken_flaws, count_flaws, flaws_in, flaws_of, layer_flaws, weakness}
 use Rattle.vs_peakcheck.specs.Laws.{AlikeClaimsAreJudgedAlike, ClaimsOfRowsAreJudgedAlike}

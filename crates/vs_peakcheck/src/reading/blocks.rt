@@ -5,7 +5,7 @@ ghost use Rattle.vs_plan.specs.Blocks.{pair_of, pairs_of};
 ghost use Rattle.vs_instance.specs.declared.limits.TheConstants.{MAX_TRIPS};
 ghost use Rattle.vs_rows.specs.DocumentRows.{BlockRow};
 ghost use Rattle.vs_rows.specs.RowForms.{IsInput, SaysThere};
-ghost use Rattle.vs_counting.specs.Counting.{numbered, permitted_trips};
+ghost use Rattle.vs_peakcheck.specs.Counting.{numbered, permitted_trips};
 ghost use Rattle.vs_peakcheck.specs.Places.{AtBlocks, MayRun};
 ghost use Rattle.vs_peakcheck.specs.Reading.{IsCountedBlock, IsRefusedAt, ReadsBlocks};
 

@@ -4,7 +4,7 @@ ghost use Rattle.std.specs.Prelude.{◌≡◌, ◌≢◌, ◌≤◌, ℕ, Option
 ghost use Rattle.vs_rows.specs.PriceOrder.{Trip, Vehicle};
 ghost use Rattle.vs_rows.specs.RowForms.{IsInput};
 ghost use Rattle.vs_rows.specs.TableReading.{IsWrong, ReadsFleet, ReadsPrice};
-ghost use Rattle.vs_counting.specs.Counting.{numbered, permitted_trips};
+ghost use Rattle.vs_peakcheck.specs.Counting.{numbered, permitted_trips};
 ghost use Rattle.vs_peakcheck.specs.PeakRows.{PeakRow, SaysPeak};
 ghost use Rattle.vs_peakcheck.specs.Places.{AtBlocks, AtEnd, AtPrices, Place, behind, in_prices};
 ghost use Rattle.vs_rows.specs.Standing.{IsNoBlock};

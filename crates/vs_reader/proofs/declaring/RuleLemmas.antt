@@ -4,10 +4,10 @@ use Rattle.std.specs.Option.{ok_or}
 use Rattle.vs_instance.specs.declared.limits.TheConstants.{MAX_TRIPS, TWO_DAYS}
 use Rattle.vs_reader.specs.declared.refused.Why.{Why}
 use Rattle.vs_reader.specs.declared.refused.Why.TheVariants as why
-use Rattle.vs_reader.specs.Rows.{Field, Row, field_of}
+use Rattle.vs_reader.specs.Rows.{Field, Row}
 use Rattle.vs_reader.specs.Numbers.{IsTime}
 use Rattle.vs_reader.specs.Names.{NameLists}
-use Rattle.vs_reader.specs.Rules.{Rule, WritesTime, WritesNumber, HasRoom, IsNoneOf, AreKept, BreaksFirst, known_name, layer_names, trip_rules}
+use Rattle.vs_reader.specs.Rules.{Rule, WritesTime, HasRoom, IsNoneOf, AreKept, BreaksFirst, known_name, layer_names, trip_rules}
 use Rattle.vs_reader.specs.Judged.{Judged}
 
 -- rules that are kept, and more of them
@@ -50,18 +50,6 @@ pub judged_time : (field : Field) (o : Option ℕ) (r : Result ℕ Why)
     → r ≡ ok_or o why.BadTime → Judged (WritesTime field ∷ []) (λ t. IsTime field t) r
 judged_time field None r read is = rw is (inl ((λ w. read w.0 w.1), refl))
 judged_time field (Some t) r read is = rw is (((t, read.0), tt), read.0)
-
--- what is judged of a trip behind its end, behind the stop where it ends, and behind its start
-module _ (names : NameLists) (row : Row) where
-  abbrev pub after_end : List Rule
-  after_end =
-      WritesNumber (field_of row 6) ∷ (layer_names names.layers [] (drop 7 row) ++ HasRoom MAX_TRIPS names.trips ∷ [])
-
-  abbrev pub after_to : List Rule
-  after_to = WritesTime (field_of row 5) ∷ after_end
-
-  abbrev pub after_start : List Rule
-  after_start = known_name names.stops (field_of row 4) ++ after_to
 
 -- what is left of rules that are kept
 AreKept-behind : (rules more : List Rule) → AreKept (rules ++ more) → AreKept more

@@ -8,30 +8,31 @@ use Rattle.vs_reader.specs.declared.refused.Refused.{Refused}
 use Rattle.vs_reader.proofs.CallerLemmas.{one_reading, refused_none}
 use Rattle.vs_reply.specs.declared.status.Status.{Status}
 use Rattle.vs_reply.specs.declared.status.Status.TheVariants as status
-use Rattle.vs_report.specs.Network.{AreNetworkRows}
+use Rattle.vs_reply.specs.Network.{AreNetworkRows}
 use Rattle.vs_instance.specs.Firsts.{first}
 use Rattle.vs_instance.specs.Plan.{IsPlan, LayerBlock}
 use Rattle.vs_plan.specs.Blocks.{blocks_of}
 use Rattle.vs_plan.specs.PlanFaults.{faults_of}
 use Rattle.vs_plan.specs.declared.plan_fault.PlanFault.{PlanFault}
-use Rattle.vs_cases.specs.declared.claim.Claim.{Claim}
+use Rattle.vs_prices.specs.declared.claim.Claim.{Claim}
 use Rattle.vs_rows.specs.DocumentRows.{claim_field, number_field}
 use Rattle.vs_check.specs.declared.flaw.Flaw.{Flaw}
 use Rattle.vs_check.specs.declared.flaw.Flaw.TheVariants.{Plan}
 use Rattle.vs_check.specs.Flaws.{flaws_of}
 use Rattle.vs_check.specs.HoldingDocument.{HoldingDocument}
-use Rattle.vs_report.specs.FlawRows.{no_row}
+use Rattle.vs_reply.specs.FlawRows.{no_row}
 use Rattle.vs_make.specs.Generator.{make_rows}
 use Rattle.vs_types.specs.declared.numbers.LayerNo.{LayerNo}
 use Rattle.vs_peakcheck.specs.Flaws.{flaws_of as peak_flaws_of}
 use Rattle.vs_peakcheck.specs.HoldingClaims.{HoldingClaims}
 use Rattle.vs_peakcheck.specs.declared.flaw.PeakFlaw.{PeakFlaw}
 use Rattle.vs_reply.specs.Owed.{BlocksOwes, CheckOwes, MakeOwes, NetworkOwes, OwesNetwork, OwesNo, OwesNoCase, OwesNoClaims, OwesNoTimetable, OwesPeaksNo, OwesPeaksYes, OwesRefusal, OwesTimetable, OwesYes, PeakCheckOwes, peaks_no_row}
-use Rattle.vs_report.specs.Timetable.{rows_beside, timetable_of}
+use Rattle.vs_reply.specs.Timetable.{rows_beside, timetable_of}
 use Rattle.vs_reply.proofs.once.OneCase.{case_refused, one_document_refusal, same_case}
 use Rattle.vs_reply.proofs.once.OneClaim.{claim_refused, one_claims_refusal, same_claim}
-use Rattle.vs_report.specs.RefusalRows.{refusal_row}
-use Rattle.vs_report.proofs.CallerLemmas.{one_network, one_refusal}
+use Rattle.vs_reply.specs.RefusalRows.{refusal_row}
+use Rattle.vs_reply.proofs.one_row.OneNet.{one_network}
+use Rattle.vs_reply.proofs.one_row.OneRefusal.{one_refusal}
 
 -- the row of a document that holds
 abbrev yes_fields : Claim → Option ℤ → Option ℤ → Row

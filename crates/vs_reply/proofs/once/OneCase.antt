@@ -15,7 +15,7 @@ use Rattle.vs_check.specs.Laws.{AreJudgedAlike}
 use Rattle.vs_check.proofs.CallerLemmas.{judged_alike}
 use Rattle.vs_reply.specs.Cases.{CheckText}
 use Rattle.vs_reply.specs.Owed.{OwesDocumentRefusal, OwesNoCase}
-use Rattle.vs_report.specs.RefusalRows.{document_refusal_row}
+use Rattle.vs_reply.specs.RefusalRows.{document_refusal_row}
 
 -- two readings of the same bytes behind which documents stand
 pub record IsSameCase (p q : Problem) (names others : NameLists) (d e : Document) : Type 0 where

@@ -11,7 +11,7 @@ use Rattle.vs_peakcheck.specs.PeakRefusals.{AreRefused}
 use Rattle.vs_peakcheck.specs.declared.claimed.Claimed.{Claimed}
 use Rattle.vs_peakcheck.specs.declared.refused.PeakWhy.{PeakWhy}
 use Rattle.vs_peakcheck.proofs.CallerLemmas.{not_refused_claims, refused_once, rows_judged_alike}
-use Rattle.vs_report.specs.RefusalRows.{peak_refusal_row}
+use Rattle.vs_reply.specs.RefusalRows.{peak_refusal_row}
 use Rattle.vs_reply.specs.Cases.{PeakCheckText}
 use Rattle.vs_reply.specs.Owed.{OwesClaimsRefusal, OwesNoClaims}
 

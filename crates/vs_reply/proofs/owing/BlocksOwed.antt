@@ -19,8 +19,8 @@ use Rattle.vs_reply.specs.declared.answer.Answer.{Answer}
 use Rattle.vs_reply.specs.declared.status.Status.TheVariants as status
 use Rattle.vs_reply.specs.Answered.{IsTextOf}
 use Rattle.vs_reply.specs.Owed.{BlocksOwes}
-use Rattle.vs_report.specs.FlawRows.{no_row}
-use Rattle.vs_report.specs.Timetable.{rows_beside, timetable}
+use Rattle.vs_reply.specs.FlawRows.{no_row}
+use Rattle.vs_reply.specs.Timetable.{rows_beside, timetable}
 use Rattle.vs_reply.proofs.owing.OwedAnswers.{owed_so}
 
 -- a cost that is printed, and one that isn't

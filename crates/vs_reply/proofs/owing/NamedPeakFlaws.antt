@@ -23,12 +23,12 @@ use Rattle.vs_prices.specs.declared.table.Table.{Table}
 use Rattle.vs_prices.proofs.CallerLemmas.{all_broken}
 use Rattle.vs_check.specs.Flaws.{IsBreakWithin, IsFaultWithin}
 use Rattle.vs_check.proofs.CallerLemmas.{break_of, faults_named}
-use Rattle.vs_counting.specs.Counting.{counted_trip, counting, permitted_trips}
+use Rattle.vs_peakcheck.specs.Counting.{counted_trip, counting, permitted_trips}
 use Rattle.vs_peakcheck.specs.Flaws.{blocks_flaws, broken_flaws, count_flaws, flaws_in, flaws_of, layer_flaws, weakness}
 use Rattle.vs_peakcheck.specs.declared.claimed.Claimed.{Claimed}
 use Rattle.vs_peakcheck.specs.declared.flaw.PeakFlaw.{PeakFlaw}
 use Rattle.vs_peakcheck.specs.declared.flaw.PeakFlaw.TheVariants.{Blocks, CountDiffers, TableBroken, TooWeak}
-use Rattle.vs_report.specs.PeakFlawRows.{IsPeakFlawWithin}
+use Rattle.vs_reply.specs.PeakFlawRows.{IsPeakFlawWithin}
 
 -- of the problem that counts the vehicles of layer l
 module _ (p : Problem) (l : ℕ) where

@@ -1,5 +1,5 @@
 -- Answers that are owed.
-use Rattle.std.proofs.Common.{◌≡◌, ℕ, List, [], ◌∷◌, Result, Ok, Err, Option, Some, None, inl, inr, refl, sym, subst, IfOk}
+use Rattle.std.proofs.Common.{◌≡◌, ℕ, List, [], ◌∷◌, Result, Ok, Err, Some, inl, inr, refl, sym, subst, IfOk}
 use Rattle.vs_types.specs.declared.memory.Memory.{Memory}
 use Rattle.vs_instance.specs.Problem.{Problem}
 use Rattle.vs_rows.specs.declared.document.Document.{Document}
@@ -16,13 +16,11 @@ use Rattle.vs_document.specs.DocumentRefusals.{AreRefused}
 use Rattle.vs_document.specs.declared.refused.DocWhy.{DocWhy}
 use Rattle.vs_reply.specs.Cases.{CheckText, SolveText}
 use Rattle.vs_reply.specs.Owed.{CheckOwes, NetworkOwes, OwesRefusal, yes_row}
-use Rattle.vs_report.specs.RefusalRows.{document_refusal_row, refusal_row}
-use Rattle.vs_report.specs.FlawRows.{no_row}
+use Rattle.vs_reply.specs.RefusalRows.{document_refusal_row, refusal_row}
+use Rattle.vs_reply.specs.FlawRows.{no_row}
 use Rattle.vs_instance.specs.Firsts.{first}
-use Rattle.vs_check.specs.Flaws.{flaws_of, verdict_of}
+use Rattle.vs_check.specs.Flaws.{flaws_of}
 use Rattle.vs_check.specs.declared.flaw.Flaw.{Flaw}
-use Rattle.vs_check.specs.declared.verdict.Verdict.{Verdict}
-use Rattle.vs_check.specs.declared.verdict.Verdict.TheVariants.{No}
 use Rattle.vs_check.proofs.CallerLemmas.{prove_their_claims}
 
 -- rows that are owed with a status, as an answer has them
@@ -125,12 +123,6 @@ no_owed bytes p names d flaw (Ok a) text fails is_first says =
       rows_are = refl;
     }) says.0 says.1
 no_owed bytes p names d flaw (Err m) text fails is_first says = tt
-
--- the flaw of a verdict is the first
-pub first_of_verdict : (found : Option Flaw) (verdict : Verdict) (flaw : Flaw) → verdict ≡ verdict_of found
-    → verdict ≡ No flaw → found ≡ Some flaw
-first_of_verdict None verdict flaw is refused = cc
-first_of_verdict (Some other) verdict flaw is refused = cc
 
 -- the sizes of the nets are what network owes
 pub sizes_owed : (bytes : List ℕ) (p : Problem) (names : NameLists) (r : Result Answer Memory)

@@ -16,7 +16,7 @@ use Rattle.vs_peakcheck.specs.declared.flaw.PeakFlaw.{PeakFlaw}
 use Rattle.vs_peakcheck.specs.declared.flaw.PeakVerdict.{PeakVerdict}
 use Rattle.vs_peakcheck.specs.declared.flaw.PeakVerdict.TheVariants.{No}
 use Rattle.vs_peakcheck.specs.declared.refused.PeakWhy.{PeakWhy}
-use Rattle.vs_report.specs.RefusalRows.{peak_refusal_row, refusal_row}
+use Rattle.vs_reply.specs.RefusalRows.{peak_refusal_row, refusal_row}
 use Rattle.vs_reply.specs.Answered.{HasVerdict, IsTextOf, RefusesText, TellsRow}
 use Rattle.vs_reply.specs.Cases.{PeakCheckText}
 use Rattle.vs_reply.specs.Owed.{PeakCheckOwes, peaks_no_row, peaks_yes_row}

@@ -8,7 +8,7 @@ use Rattle.vs_instance.specs.Restriction.{permitted_sets}
 use Rattle.vs_plan.specs.Blocks.{blocks_of}
 use Rattle.vs_prices.specs.Table.{Fits, HoldingTable}
 use Rattle.vs_prices.specs.declared.table.Table.{Table}
-use Rattle.vs_cases.specs.Tree.{LeafPlace, leaves}
+use Rattle.vs_prices.specs.Tree.{LeafPlace, leaves}
 use Rattle.vs_rows.specs.DocumentText.{HasText}
 use Rattle.vs_rows.specs.declared.document.Document.{Document}
 use Rattle.vs_check.specs.HoldingDocument.{HoldingDocument, IsStrongLeaf}

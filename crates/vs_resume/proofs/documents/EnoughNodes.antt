@@ -9,12 +9,13 @@ use Rattle.vs_instance.specs.Restriction.{permitted_sets}
 use Rattle.vs_instance.proofs.CallerLemmas.{permitted_sets-IsRestriction}
 use Rattle.vs_prices.specs.Bounds.{IsBelow}
 use Rattle.vs_prices.specs.declared.bound.Bound.{Bound}
-use Rattle.vs_cases.specs.Tree.{LeafPlace, Tree, leaves}
-use Rattle.vs_cases.specs.declared.claim.Claim.TheVariants.{StillOpen}
+use Rattle.vs_prices.specs.Tree.{LeafPlace, Tree, leaves}
+use Rattle.vs_prices.specs.declared.claim.Claim.TheVariants.{StillOpen}
 use Rattle.vs_rows.specs.declared.document.Document.{Document}
+use Rattle.vs_rows.proofs.CallerLemmas.{tree_once}
 use Rattle.vs_cert.specs.StateDocument.{first_times, tables_named}
-use Rattle.vs_answer.specs.Answers.{AreWorths, choices, count_not_below}
-use Rattle.vs_answer.proofs.CallerLemmas.{few_leaves}
+use Rattle.vs_cert.specs.Answers.{AreWorths, choices, count_not_below}
+use Rattle.vs_cert.proofs.CallerLemmas.{few_leaves}
 use Rattle.vs_resume.specs.Answers.{ResumeAnswer}
 use Rattle.vs_resume.specs.InPlace.{count_leaves}
 use Rattle.vs_resume.specs.Laws.{EnoughNodesLeaveNothingOpen, LeavesNothingOpen}
@@ -24,7 +25,6 @@ use Rattle.vs_resume.proofs.documents.TurnCounts.{turns_counted}
 use Rattle.vs_resume.proofs.documents.WrittenOnce.{IsRenamed, renamed-leaves, written_once}
 use Rattle.vs_resume.proofs.trees.Growth.{leaves-splits}
 use Rattle.vs_resume.proofs.trees.InPlace.{count-leaves}
-use Rattle.vs_resume.proofs.trees.RowWalks.{one_tree}
 use Rattle.vs_resume.proofs.worths.Counts.{one_below}
 use Rattle.vs_resume.proofs.worths.OpenClaims.{below_open, open_below}
 
@@ -52,7 +52,7 @@ module _ (p : Problem) (budget : ℕ) (d e : Document) (answers : ResumeAnswer p
 
   shape_is : answers.holds.tree.tree ≡ shape
   shape_is =
-      one_tree answers.holds.tree.tree shape
+      tree_once answers.holds.tree.tree shape
       (sym answers.holds.tree.shape_is ∙ answers.carried_on.written.rows)
 
   are_worths : AreWorths p e (leaves (permitted_sets p) shape) answers.worths

@@ -1,8 +1,7 @@
 -- Numbers once each, in the order in which they first come.
 use Rattle.std.proofs.Common.{◌≡◌, ℕ, ◌≤◌, ◌==◌, not, Bool, true, false, List, [], ◌∷◌, length, filter, sym, ap, arith}
-use Rattle.std.specs.List.{All}
 use Rattle.std.proofs.lemmas.Bool.{eq-eqb}
-use Rattle.std.proofs.lemmas.List.Elements.{All-cons, All-filter, All-head, All-nil, All-tail, All-weaker, filter_passes}
+use Rattle.std.proofs.lemmas.List.Elements.{All-weaker, filter_passes}
 use Rattle.std.proofs.lemmas.List.Kept.{AllPairs-cons, AllPairs-filter}
 use Rattle.std.proofs.lemmas.List.Sums.{count_by-le-length, length-filter}
 use Rattle.vs_cert.specs.StateDocument.{first_times}
@@ -35,10 +34,3 @@ first_times_few (n ∷ xs) =
     let kept = length-filter (others n) (first_times xs) in
     let fewer = count_by-le-length (others n) (first_times xs) in
     omega (arith, rest, kept, fewer)
-
--- what is true of numbers is true of them once each
-pub first_times-All : (P : ℕ → Type 0) (xs : List ℕ) → All P xs → All P (first_times xs)
-first_times-All P [] each = All-nil P
-first_times-All P (n ∷ rest) each =
-    All-cons P n (filter (others n) (first_times rest)) (All-head P n rest each)
-    (All-filter (others n) P (first_times rest) (first_times-All P rest (All-tail P n rest each)))

@@ -2,7 +2,6 @@
 use Rattle.std.proofs.Common.{◌≡◌, ℕ, ◌+◌, ◌-◌, ◌<◌, ◌≤◌, ◌⊎◌, inl, inr, cond, List, [], ◌∷◌, length, map, refl, sym, ap, ◌∙◌, subst, arith, rules, Option, Some, None, ℤ, pos, slice_index_or}
 use Rattle.std.specs.Prelude.{IfNone, IfSome, count_by}
 use Rattle.std.specs.List.{All}
-use Rattle.std.proofs.lemmas.Int.{ints}
 use Rattle.std.proofs.lemmas.List.Elements.{All-cons, All-contains, All-map, All-nil, All-weaker}
 use Rattle.std.proofs.lemmas.List.Sums.{sum_by-cons}
 use Rattle.std.proofs.lemmas.Option.{slice_get_within}
@@ -18,8 +17,8 @@ use Rattle.vs_prices.specs.Bounds.{IsBelow, IsNoLess}
 use Rattle.vs_prices.specs.Table.{Fits}
 use Rattle.vs_prices.specs.declared.bound.Bound.{Bound}
 use Rattle.vs_prices.specs.declared.table.Table.{Table}
-use Rattle.vs_cases.specs.Tree.{LeafPlace, leaves}
-use Rattle.vs_cases.specs.declared.claim.Claim.TheVariants.{StillOpen}
+use Rattle.vs_prices.specs.Tree.{LeafPlace, leaves}
+use Rattle.vs_prices.specs.declared.claim.Claim.TheVariants.{StillOpen}
 use Rattle.vs_rows.specs.DocumentRows.{IsBetween, IsWithin}
 use Rattle.vs_rows.specs.DocumentText.{HasText}
 use Rattle.vs_rows.specs.Shapes.{IsShapeOf, preorder}
@@ -27,13 +26,13 @@ use Rattle.vs_rows.specs.declared.document.Document.{Document}
 use Rattle.vs_rows.specs.declared.document.Shape.{Shape}
 use Rattle.vs_rows.specs.declared.document.Shape.TheVariants as row
 use Rattle.vs_rows.specs.declared.limits.TheConstants.{MAX_BOUND, MAX_COST}
+use Rattle.vs_rows.proofs.CallerLemmas.{cost_bound}
 use Rattle.vs_check.specs.HoldingDocument.{HasPlan, HoldingDocument}
 use Rattle.vs_tree.specs.Prices.{Prices, no_prices, prices_of}
 use Rattle.vs_tree.specs.Report.{bound_of}
 use Rattle.vs_cert.specs.StateDocument.{first_times, tables_named}
-use Rattle.vs_cert.proofs.CallerLemmas.{rows_of_instance}
-use Rattle.vs_answer.specs.Answers.{AreNamedInOrder, AreWorths, IsBoundOf}
-use Rattle.vs_answer.proofs.CallerLemmas.{lesser_is_bound, named_in_order, not_open, renumbered_good}
+use Rattle.vs_cert.proofs.CallerLemmas.{rows_of_instance, lesser_is_bound, named_in_order, not_open, renumbered_good, first_times-All}
+use Rattle.vs_cert.specs.Answers.{AreNamedInOrder, AreWorths, IsBoundOf}
 use Rattle.vs_resume.specs.declared.cases.Case.{Case}
 use Rattle.vs_resume.specs.declared.course.Course.{Course}
 use Rattle.vs_resume.specs.declared.resuming.TheConstants.{MAX_RESUMED_ENTRIES}
@@ -44,7 +43,7 @@ use Rattle.vs_resume.specs.InPlace.{count_leaves}
 use Rattle.vs_resume.specs.Order.{IsLeastWith, worths_in}
 use Rattle.vs_resume.specs.Standing.{IsWrittenFor, Standing}
 use Rattle.vs_resume.specs.Writing.{IsPrintedOf}
-use Rattle.vs_resume.proofs.documents.FirstTimes.{first_times-All, first_times_few}
+use Rattle.vs_resume.proofs.documents.FirstTimes.{first_times_few}
 use Rattle.vs_resume.proofs.trees.Growth.{few_leaves, turns_leaves}
 use Rattle.vs_resume.proofs.trees.InPlace.{leaf_rows, leaf_rows-preorder}
 use Rattle.vs_resume.proofs.documents.Naming.{named_within}
@@ -61,17 +60,13 @@ count_rows (row.Leaf table ∷ rows) =
 count_rows (row.Split trip left ∷ rows) =
     omega (arith, count_rows rows, sum_by-cons (λ (s : Shape). cond (is_leaf s) 1 0) (row.Split trip left) rows)
 
--- what is said of a cost that can be printed, and of a bound
-between_within : (n cost : ℤ) → n ≡ cost → IsBetween (pos 0) MAX_COST cost → IsWithin MAX_BOUND n
-between_within n cost same between = (omega (arith, ints), omega (arith, ints))
-
 same_printable : (bound cost : Option ℤ) → IfSome cost (IsBetween (pos 0) MAX_COST) → bound_of bound ≡ bound_of cost
     → IsPrintable (bound_of bound)
 same_printable None cost between same = tt
 same_printable (Some n) None between same = absurd cc
 same_printable (Some n) (Some cost) between same =
     let is : n ≡ cost = cc in
-    between_within n cost is between
+    cost_bound n cost is between
 
 printable_bound : (bound : Option ℤ) → IsPrintable (bound_of bound) → IfSome bound (IsWithin MAX_BOUND)
 printable_bound None is = search rules

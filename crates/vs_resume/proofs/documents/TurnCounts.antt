@@ -6,10 +6,10 @@ use Rattle.vs_instance.specs.Plan.{plan_cost}
 use Rattle.vs_instance.specs.Problem.{Problem}
 use Rattle.vs_instance.specs.Restriction.{permitted_sets}
 use Rattle.vs_prices.specs.declared.bound.Bound.{Bound}
-use Rattle.vs_cases.specs.Tree.{LeafPlace, leaves}
+use Rattle.vs_prices.specs.Tree.{LeafPlace, leaves}
 use Rattle.vs_tree.specs.History.{IsCheaper}
 use Rattle.vs_tree.specs.Prices.{Prices}
-use Rattle.vs_answer.specs.Answers.{count_not_below}
+use Rattle.vs_cert.specs.Answers.{count_not_below}
 use Rattle.vs_resume.specs.InPlace.{count_leaves, in_place}
 use Rattle.vs_resume.specs.Standing.{AreNamedWorths, IsNamedWorth, Standing, leaves_of}
 use Rattle.vs_resume.specs.Turns.{AreTurns, IsTurn, Turned, nodes_of}

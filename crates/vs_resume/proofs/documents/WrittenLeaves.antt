@@ -1,5 +1,5 @@
 -- What the leaves of a document that is written are worth.
-use Rattle.std.proofs.Common.{◌≡◌, ℕ, zero, suc, List, [], ◌∷◌, ◌++◌, map, refl, sym, ap, ◌∙◌, subst, arith, inl, inr, Option, Some, None, slice_get, slice_index_or, ℤ}
+use Rattle.std.proofs.Common.{◌≡◌, ℕ, zero, suc, List, [], ◌∷◌, ◌++◌, map, refl, sym, ap, ◌∙◌, subst, arith, inl, inr, Some, slice_get, slice_index_or}
 use Rattle.std.specs.Prelude.{Contains}
 use Rattle.std.specs.List.{All}
 use Rattle.std.proofs.lemmas.Int.{ints}
@@ -12,36 +12,27 @@ use Rattle.vs_instance.specs.Instance.{IsInstance}
 use Rattle.vs_instance.specs.Problem.{Problem}
 use Rattle.vs_prices.specs.Bounds.{IsNoLess}
 use Rattle.vs_prices.specs.Table.{Fits}
-use Rattle.vs_prices.specs.Worth.{IsWorth, Reaches}
+use Rattle.vs_prices.specs.Worth.{IsWorth}
 use Rattle.vs_prices.specs.declared.bound.Bound.{Bound}
 use Rattle.vs_prices.specs.declared.bound.Bound.TheVariants.{AtLeast, NoPlan}
 use Rattle.vs_prices.specs.declared.table.Table.{Table}
-use Rattle.vs_cases.specs.Tree.{Leaf, LeafPlace, Split, Tree, leaves, right_of, with_set}
+use Rattle.vs_prices.specs.Tree.{Leaf, LeafPlace, Split, Tree, leaves, right_of, with_set}
 use Rattle.vs_rows.specs.DocumentRows.{IsWithin}
 use Rattle.vs_rows.specs.declared.document.Document.{Document}
 use Rattle.vs_rows.specs.declared.limits.TheConstants.{MAX_BOUND}
+use Rattle.vs_rows.proofs.CallerLemmas.{all_at}
 use Rattle.vs_check.specs.HoldingDocument.{IsStrongLeaf}
 use Rattle.vs_tree.specs.Prices.{AreWorth, no_prices, prices_of}
 use Rattle.vs_tree.specs.Report.{bound_of}
 use Rattle.vs_tree.proofs.CallerLemmas.{worth_of_table}
 use Rattle.vs_cert.specs.StateDocument.{IsRenumbered}
-use Rattle.vs_cert.proofs.CallerLemmas.{worth_within}
-use Rattle.vs_answer.specs.Answers.{AreWorths}
-use Rattle.vs_answer.proofs.CallerLemmas.{AreNoLess, IsOneOf}
+use Rattle.vs_cert.proofs.CallerLemmas.{worth_within, AreNoLess, IsOneOf, worths-append, reaches}
+use Rattle.vs_cert.specs.Answers.{AreWorths}
 use Rattle.vs_resume.specs.Cases.{AreCasesOf, IsCaseOf}
 use Rattle.vs_resume.specs.Order.{worths_in}
 use Rattle.vs_resume.specs.declared.cases.Case.{Case}
-use Rattle.vs_resume.proofs.parts.PartTables.{all-at}
 use Rattle.vs_resume.proofs.documents.WrittenTables.{IsLawful, table_at}
 use Rattle.vs_resume.proofs.trees.Zips.{zip-cut}
-
-worths-append : (p : Problem) (d : Document) (xs ys : List LeafPlace) (vs ws : List Bound) → AreWorths p d xs vs
-    → AreWorths p d ys ws → AreWorths p d (xs ++ ys) (vs ++ ws)
-worths-append p d [] ys [] ws first second = second
-worths-append p d [] ys (v ∷ vs) ws first second = absurd first
-worths-append p d (x ∷ xs) ys [] ws first second = absurd first
-worths-append p d (x ∷ xs) ys (v ∷ vs) ws first second =
-    (first.0, first.1, first.2, worths-append p d xs ys vs ws first.3 second)
 
 -- the leaves are worth what they were, where they name their tables by the places of these numbers
 module _ (p : Problem) (d : Document) (known : List Table) (numbers : List ℕ)
@@ -85,12 +76,6 @@ module _ (p : Problem) (d : Document) (known : List Table) (numbers : List ℕ)
       (subst (λ (set : LayerSet). Are trip set) (sym same.1)
       (subst (AreWorths p d (on_left first ++ on_right second)) worths_are both))
 
--- a worth that is no less than a printed bound reaches it
-reaches : (worth : Bound) (bound : Option ℤ) → IsNoLess worth (bound_of bound) → Reaches worth bound
-reaches NoPlan bound no_less = tt
-reaches (AtLeast n) (Some m) no_less = no_less
-reaches (AtLeast n) None no_less = absurd no_less
-
 -- so leaves that are worth no less than the bound are strong
 pub strong_leaves : (p : Problem) (d : Document) (places : List LeafPlace) (worths : List Bound)
     → AreWorths p d places worths → All (λ worth. IsNoLess worth (bound_of d.bound)) worths
@@ -129,7 +114,7 @@ printable_worths p is tables lawful [] (found ∷ cases) are = absurd are
 printable_worths p is tables lawful (leaf ∷ places) [] are = absurd are
 printable_worths p is tables lawful (leaf ∷ places) (found ∷ cases) are =
     let here = are.0 in
-    let fits = (all-at (IsLawful p) tables leaf.table here.table lawful here.named).0 in
+    let fits = (all_at (IsLawful p) tables leaf.table here.table lawful here.named).0 in
     All-cons IsPrintable found.worth (worths_in cases) (printable p is here.table fits leaf.sets found.worth here.worth)
     (printable_worths p is tables lawful places cases are.1)
 

@@ -9,12 +9,12 @@ use Rattle.vs_instance.specs.Problem.{Problem}
 use Rattle.vs_prices.specs.Worth.{IsWorth}
 use Rattle.vs_prices.specs.declared.bound.Bound.{Bound}
 use Rattle.vs_prices.specs.declared.table.Table.{Table}
-use Rattle.vs_cases.specs.Tree.{Leaf, LeafPlace, Split, Tree, leaves, right_of, with_set}
+use Rattle.vs_prices.specs.Tree.{Leaf, LeafPlace, Split, Tree, leaves, right_of, with_set}
 use Rattle.vs_rows.specs.declared.document.Document.{Document}
 use Rattle.vs_tree.specs.Prices.{Prices, no_prices, prices_of}
 use Rattle.vs_tree.proofs.CallerLemmas.{one_worth}
 use Rattle.vs_cert.specs.StateDocument.{IsRenumbered}
-use Rattle.vs_answer.specs.Answers.{AreWorths}
+use Rattle.vs_cert.specs.Answers.{AreWorths}
 use Rattle.vs_resume.specs.Standing.{AreNamedWorths, IsNamedWorth}
 use Rattle.vs_resume.proofs.trees.Zips.{zip-append}
 

@@ -10,7 +10,7 @@ use Rattle.vs_prices.specs.Bounds.{IsNoLess}
 use Rattle.vs_prices.specs.Worth.{IsWorth}
 use Rattle.vs_prices.specs.declared.bound.Bound.{Bound}
 use Rattle.vs_prices.specs.declared.table.Table.{Table}
-use Rattle.vs_cases.specs.Tree.{LeafPlace}
+use Rattle.vs_prices.specs.Tree.{LeafPlace}
 use Rattle.vs_tree.specs.Prices.{Prices, prices_of}
 use Rattle.vs_tree.proofs.CallerLemmas.{one_worth}
 use Rattle.vs_resume.specs.Cases.{AreCasesOf, AreSettled, IsCaseOf, IsSettled}

@@ -11,16 +11,16 @@ use Rattle.vs_prices.specs.Worth.{IsWorth, worth_of}
 use Rattle.vs_prices.specs.declared.bound.Bound.{Bound}
 use Rattle.vs_prices.specs.declared.table.Table.{Table}
 use Rattle.vs_prices.proofs.CallerLemmas.{worth_of-IsWorth, worth_once}
-use Rattle.vs_cases.specs.Tree.{Leaf, Split, Tree, leaves, right_of, with_set}
-use Rattle.vs_part.specs.Widened.{IsWidened}
-use Rattle.vs_part.proofs.CallerLemmas.{widened_worth}
+use Rattle.vs_prices.specs.Tree.{Leaf, Split, Tree, leaves, right_of, with_set}
+use Rattle.vs_resume.specs.Widened.{IsWidened}
+use Rattle.vs_resume.proofs.WidenedWorths.{widened_worth}
 use Rattle.vs_tree.specs.History.{Opening, State, IsLeafWorth, prices_at, sets_at}
 use Rattle.vs_tree.specs.Prices.{no_prices, prices_of}
 use Rattle.vs_tree.specs.Sound.{IsSound}
 use Rattle.vs_tree.specs.StateTree.{IsTreeAt}
 use Rattle.vs_tree.proofs.CallerLemmas.{leaf_within}
 use Rattle.vs_cert.specs.StateDocument.{IsRenumbered}
-use Rattle.vs_answer.proofs.CallerLemmas.{AreSpotWorths}
+use Rattle.vs_cert.proofs.CallerLemmas.{AreSpotWorths}
 use Rattle.vs_resume.specs.Cases.{AreCasesOf, IsCaseOf}
 use Rattle.vs_resume.specs.Order.{worths_in}
 use Rattle.vs_resume.specs.Parts.{AreWidenedTables, IsWidenedFrom}

@@ -13,11 +13,12 @@ use Rattle.vs_instance.specs.Restriction.{IsRestriction, permitted_sets}
 use Rattle.vs_instance.proofs.CallerLemmas.{permitted_sets-IsRestriction}
 use Rattle.vs_prices.specs.Table.{Fits, HoldingTable}
 use Rattle.vs_prices.specs.declared.table.Table.{Table}
-use Rattle.vs_cases.specs.Tree.{IsGoodTree, Leaf, LeafPlace, Split, Tree, leaves, right_of, with_set}
-use Rattle.vs_cases.proofs.CallerLemmas.{leaves_restrict}
+use Rattle.vs_prices.specs.Tree.{IsGoodTree, Leaf, LeafPlace, Split, Tree, leaves, right_of, with_set}
+use Rattle.vs_prices.proofs.CallerLemmas.{leaves_restrict}
 use Rattle.vs_rows.specs.Shapes.{preorder}
 use Rattle.vs_rows.specs.declared.document.Shape.{Shape}
 use Rattle.vs_rows.specs.declared.document.Shape.TheVariants as row
+use Rattle.vs_rows.proofs.CallerLemmas.{all_at}
 use Rattle.vs_tree.specs.History.{IsHistory, State}
 use Rattle.vs_tree.specs.Prices.{no_prices}
 use Rattle.vs_tree.specs.Search.{Search, state}
@@ -25,8 +26,7 @@ use Rattle.vs_tree.specs.Sound.{IsOpening, IsSound}
 use Rattle.vs_tree.proofs.CallerLemmas.{histories_are_sound}
 use Rattle.vs_cert.specs.StateDocument.{IsRenumbered}
 use Rattle.vs_cert.specs.TreeRows.{AreRowsOf}
-use Rattle.vs_cert.proofs.CallerLemmas.{numbers_within}
-use Rattle.vs_answer.proofs.CallerLemmas.{renumbered_good}
+use Rattle.vs_cert.proofs.CallerLemmas.{numbers_within, renumbered_good}
 use Rattle.vs_resume.specs.declared.cases.Case.{Case}
 use Rattle.vs_resume.specs.declared.course.Course.{Course}
 use Rattle.vs_resume.specs.declared.deepen.TheConstants.{MAX_TURN}
@@ -38,7 +38,7 @@ use Rattle.vs_resume.specs.Order.{worths_in}
 use Rattle.vs_resume.specs.Standing.{Standing}
 use Rattle.vs_resume.proofs.trees.InPlace.{count-leaves, leaf_rows, leaf_rows-preorder}
 use Rattle.vs_resume.proofs.trees.Outlines.{leaf_rows-plain}
-use Rattle.vs_resume.proofs.parts.PartTables.{all-at, sets_of_part}
+use Rattle.vs_resume.proofs.parts.PartTables.{sets_of_part}
 use Rattle.vs_resume.proofs.trees.Zips.{zip-beside}
 
 -- leaves that name tables by their places among numbers name places that there are
@@ -172,7 +172,7 @@ module _ (p : Problem) (c : Course) (course : IsSomeCourse p c) (k : ℕ) (insid
   pub leaf_restricts : IsInstance p → IsRestriction p found.sets.items
   leaf_restricts is =
       subst (IsRestriction p) (sym beside.2.sets)
-      (all-at (λ (place : LeafPlace). IsRestriction p place.sets) places k beside.0
+      (all_at (λ (place : LeafPlace). IsRestriction p place.sets) places k beside.0
       (leaves_restrict p (permitted_sets p) s.tree (permitted_sets-IsRestriction p is) course.1.good) beside.1)
 
   pub table_within : found.table < length c.tables.items
@@ -196,7 +196,7 @@ module _ (p : Problem) (c : Course) (course : IsSomeCourse p c) (k : ℕ) (insid
 
     pub table_fits : Fits p table
     table_fits =
-        (all-at (λ (t : Table). Fits p t × HoldingTable p t) c.tables.items found.table table course.1.lawful
+        (all_at (λ (t : Table). Fits p t × HoldingTable p t) c.tables.items found.table table course.1.lawful
         table_stands).0
 
 -- the leaf that comes next is there

@@ -1,9 +1,8 @@
 -- The part that these sets leave, and what its widened tables are in the instance.
-use Rattle.std.proofs.Common.{◌≡◌, ℕ, ◌*◌, ◌<◌, List, [], ◌∷◌, length, sym, ap, ◌∙◌, subst, arith, Some, slice_get, slice_index_or}
+use Rattle.std.proofs.Common.{◌≡◌, ℕ, ◌*◌, ◌<◌, List, [], ◌∷◌, length, sym, ap, ◌∙◌, subst, arith, slice_index_or}
 use Rattle.std.specs.List.{All}
 use Rattle.std.proofs.lemmas.List.{ext_get_or, length-map}
 use Rattle.std.proofs.lemmas.List.Elements.{All-cons, All-head, All-nil, All-tail}
-use Rattle.std.proofs.lemmas.Option.{get_or_from_slice_get, slice_get_within}
 use Rattle.vs_types.specs.declared.layer_set.LayerSet.{LayerSet}
 use Rattle.vs_instance.specs.HoldingTable.{HoldsInLayer, price_of}
 use Rattle.vs_instance.specs.Narrowed.{narrowed}
@@ -13,17 +12,12 @@ use Rattle.vs_instance.specs.declared.trip.Trip.{Trip}
 use Rattle.vs_instance.proofs.CallerLemmas.{length-narrowed, set_of-permitted_sets, trip_of-narrowed}
 use Rattle.vs_prices.specs.Table.{Fits, HoldingTable, prices_in}
 use Rattle.vs_prices.specs.declared.table.Table.{Table}
-use Rattle.vs_part.proofs.CallerLemmas.{widened_holds}
+use Rattle.vs_resume.proofs.WidenedTables.{widened_holds}
 use Rattle.vs_tree.specs.History.{Opening, State}
 use Rattle.vs_tree.specs.Prices.{AreLawful, Prices, no_prices, prices_of}
 use Rattle.vs_tree.specs.Sound.{IsSound}
 use Rattle.vs_tree.proofs.CallerLemmas.{lawful_fits}
 use Rattle.vs_resume.specs.Parts.{AreWidenedTables, IsWidenedFrom}
-
--- what is true of each item is true of the one at a place
-pub all-at : {A : Type 0} (P : A → Type 0) (xs : List A) (k : ℕ) (x : A) → All P xs → slice_get xs k ≡ Some x → P x
-all-at P xs k x each stands =
-    subst P (get_or_from_slice_get xs k x x stands) (each k x (slice_get_within xs k x stands))
 
 module _ (p : Problem) (sets : List LayerSet) (restricts : IsRestriction p sets) where
   abbrev part : Problem

@@ -23,19 +23,19 @@ use Rattle.vs_prices.specs.Table.{Fits, HoldingTable}
 use Rattle.vs_prices.specs.Worth.{IsWorth}
 use Rattle.vs_prices.specs.declared.bound.Bound.{Bound}
 use Rattle.vs_prices.specs.declared.table.Table.{Table}
-use Rattle.vs_cases.specs.Tree.{IsGoodTree, LeafPlace, Tree, leaves, splits}
-use Rattle.vs_cases.proofs.CallerLemmas.{leaves_restrict}
+use Rattle.vs_prices.specs.Tree.{IsGoodTree, LeafPlace, Tree, leaves, splits}
+use Rattle.vs_prices.proofs.CallerLemmas.{leaves_restrict}
 use Rattle.vs_rows.specs.DocumentRows.{IsBetween}
 use Rattle.vs_rows.specs.declared.limits.TheConstants.{MAX_COST}
-use Rattle.vs_part.proofs.CallerLemmas.{plans_of_part}
+use Rattle.vs_rows.proofs.CallerLemmas.{all_at}
+use Rattle.vs_resume.proofs.PartPlans.{plans_of_part}
 use Rattle.vs_tree.specs.History.{IsCheaper, IsHistory, State, count_spots, incumbent, is_inner, known}
 use Rattle.vs_tree.specs.Prices.{AreLawful, Prices, no_prices, prices_of}
 use Rattle.vs_tree.specs.Search.{Search, state}
 use Rattle.vs_tree.specs.Sound.{IsOpening, IsPlanOf, IsSound}
-use Rattle.vs_tree.proofs.CallerLemmas.{histories_are_sound, last-is}
-use Rattle.vs_cert.proofs.CallerLemmas.{named_within}
-use Rattle.vs_answer.specs.Answers.{count_not_below}
-use Rattle.vs_answer.proofs.CallerLemmas.{AreSpotWorths, closed_leaves, renumbered_good, renumbered_splits}
+use Rattle.vs_tree.proofs.CallerLemmas.{histories_are_sound, last-is, no_less-trans, reaches-more, narrower-no_less}
+use Rattle.vs_cert.proofs.CallerLemmas.{named_within, AreSpotWorths, closed_leaves, renumbered_good, renumbered_splits}
+use Rattle.vs_cert.specs.Answers.{count_not_below}
 use Rattle.vs_resume.specs.declared.cases.Case.{Case}
 use Rattle.vs_resume.specs.declared.course.Course.{Course}
 use Rattle.vs_resume.specs.declared.deepen.TheConstants.{MAX_TURN}
@@ -47,14 +47,12 @@ use Rattle.vs_resume.specs.Order.{worths_in}
 use Rattle.vs_resume.specs.Outlines.{plain}
 use Rattle.vs_resume.specs.Standing.{AreNamedWorths, Standing, leaves_of}
 use Rattle.vs_resume.specs.Turns.{AreBetter, AreDeeper, IsPlanFound, IsPlanKept, IsTurn}
-use Rattle.vs_resume.proofs.worths.BoundOrder.{no_less-trans, reaches-more}
 use Rattle.vs_resume.proofs.worths.Counts.{more_not_below}
 use Rattle.vs_resume.proofs.trees.InPlace.{count-leaves, leaves-with_part, slice_get-left}
-use Rattle.vs_resume.proofs.worths.NarrowerSets.{narrower-no_less}
 use Rattle.vs_resume.proofs.trees.Outlines.{outline-with_part}
 use Rattle.vs_resume.proofs.parts.BetterTables.{better_all}
 use Rattle.vs_resume.proofs.parts.PartLeaves.{spot_worths}
-use Rattle.vs_resume.proofs.parts.PartTables.{all-at, sets_of_part, tables_lawful}
+use Rattle.vs_resume.proofs.parts.PartTables.{sets_of_part, tables_lawful}
 use Rattle.vs_resume.proofs.trees.Renamed.{good-renamed, leaves-renamed, plain-renamed, renamed, splits-renamed}
 use Rattle.vs_resume.proofs.worths.Settled.{IsNoMore, named_worths, settled_cases, settled_no_less, tables_in}
 use Rattle.vs_resume.proofs.trees.Within.{AreNarrower, leaves-narrower}
@@ -148,7 +146,7 @@ module _ (p : Problem) (is : IsInstance p) (left nodes k : ℕ) (t : Search) (ol
 
   restricts : IsRestriction p sets
   restricts =
-      all-at (λ (place : LeafPlace). IsRestriction p place.sets) places k
+      all_at (λ (place : LeafPlace). IsRestriction p place.sets) places k
       (record { sets = sets; table = put.leaf.table })
       all_restrict stands
 

@@ -13,13 +13,13 @@ use Rattle.vs_instance.specs.Restriction.{permitted_sets}
 use Rattle.vs_instance.specs.Ways.{no_trip}
 use Rattle.vs_instance.specs.declared.trip.Trip.{Trip}
 use Rattle.vs_instance.proofs.CallerLemmas.{permitted_sets-IsRestriction}
-use Rattle.vs_cases.specs.Tree.{IsGoodTree, Leaf, Split, Tree, splits}
+use Rattle.vs_prices.specs.Tree.{IsGoodTree, Leaf, Split, Tree, splits}
 use Rattle.vs_resume.specs.InPlace.{count_leaves, with_part}
 use Rattle.vs_resume.specs.Standing.{Standing, leaves_of}
 use Rattle.vs_resume.specs.Turns.{AreTurns, Turned, nodes_of}
 use Rattle.vs_resume.proofs.trees.InPlace.{count-leaves}
 use Rattle.vs_resume.proofs.documents.OnCourse.{nodes-cons}
-use Rattle.vs_resume.proofs.worths.SetMembers.{member}
+use Rattle.vs_tree.proofs.CallerLemmas.{member}
 
 -- a tree has one leaf more than splits
 pub leaves-splits : (tree : Tree) → count_leaves tree ≡ splits tree + 1

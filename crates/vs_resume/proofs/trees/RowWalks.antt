@@ -2,49 +2,21 @@
 use Rattle.std.proofs.Common.{◌≡◌, ℕ, ◌<◌, List, [], ◌∷◌, ◌++◌, length, map, reverse, refl, sym, ap, ◌∙◌, subst, append_assoc, Vec, Global}
 use Rattle.std.specs.List.{All, AllZip, flat_map}
 use Rattle.std.proofs.lemmas.List.{append-nil, map_push, reverse-append}
-use Rattle.std.proofs.lemmas.List.Elements.{All-cons, All-head, All-nil, All-tail}
+use Rattle.std.proofs.lemmas.List.Elements.{All-head}
 use Rattle.vs_types.specs.declared.layer_set.LayerSet.{LayerSet}
 use Rattle.vs_instance.specs.Problem.{Problem}
 use Rattle.vs_instance.specs.Restriction.{IsRestriction}
 use Rattle.vs_prices.specs.declared.table.Table.{Table}
-use Rattle.vs_cases.specs.Tree.{IsGoodTree, Leaf, LeafPlace, Split, Tree, leaves, right_of, with_set}
-use Rattle.vs_cases.proofs.CallerLemmas.{left-restricts, right-restricts}
+use Rattle.vs_prices.specs.Tree.{IsGoodTree, Leaf, LeafPlace, Split, Tree, leaves, right_of, with_set}
+use Rattle.vs_prices.proofs.CallerLemmas.{left-restricts, right-restricts}
 use Rattle.vs_rows.specs.Shapes.{preorder}
 use Rattle.vs_rows.specs.declared.document.Shape.{Shape}
 use Rattle.vs_rows.specs.declared.document.Shape.TheVariants as shape
+use Rattle.vs_rows.proofs.CallerLemmas.{All-both}
 use Rattle.vs_resume.specs.declared.cases.Case.{Case}
 use Rattle.vs_resume.specs.declared.cases.Walk.{Walk}
 use Rattle.vs_resume.specs.Cases.{AreCasesOf, CanGoOver, GoesOver, IsCaseOf, sets_ahead}
 use Rattle.vs_resume.proofs.trees.Zips.{zip-append}
-
--- the rows of one tree are those of no other, whatever follows
-pub record IsSameTree (t u : Tree) (xs ys : List Shape) : Type 0 where
-  pub tree : t ≡ u
-  pub behind : xs ≡ ys
-
-pub same_tree : (t u : Tree) (xs ys : List Shape) → preorder t ++ xs ≡ preorder u ++ ys → IsSameTree t u xs ys
-same_tree (Leaf n) (Leaf m) xs ys same = record { tree = cc; behind = cc }
-same_tree (Leaf n) (Split trip left lower upper) xs ys same = absurd cc
-same_tree (Split trip left lower upper) (Leaf m) xs ys same = absurd cc
-same_tree (Split trip left lower upper) (Split also set first second) xs ys same =
-    let row : shape.Split trip left ≡ shape.Split also set = cc in
-    let rest : (preorder lower ++ preorder upper) ++ xs ≡ (preorder first ++ preorder second) ++ ys = cc in
-    let below = same_tree lower first (preorder upper ++ xs) (preorder second ++ ys)
-    (sym (append_assoc (preorder lower) (preorder upper) xs) ∙ rest
-    ∙ append_assoc (preorder first) (preorder second) ys) in
-    let above = same_tree upper second xs ys below.behind in
-    record { tree = cc (row, below.tree, above.tree); behind = above.behind }
-
-pub one_tree : (t u : Tree) → preorder t ≡ preorder u → t ≡ u
-one_tree t u same =
-    (same_tree t u [] [] (append-nil (preorder t) ∙ same ∙ sym (append-nil (preorder u)))).tree
-
--- what holds of each element of two lists in a row holds of each element of both
-All-both : {X : Type 0} (P : X → Type 0) (xs ys : List X) → All P (xs ++ ys) → All P xs × All P ys
-All-both P [] ys each = (All-nil P, each)
-All-both P (x ∷ xs) ys each =
-    let rest = All-both P xs ys (All-tail P x (xs ++ ys) each) in
-    (All-cons P x xs (All-head P x (xs ++ ys) each) rest.0, rest.1)
 
 -- a tree that is still to come at a part with these layers
 pub record IsToCome (p : Problem) (tables : ℕ) (sets : List LayerSet) (tree : Tree) : Type 0 where

@@ -8,8 +8,8 @@ use Rattle.vs_types.specs.declared.layer_set.LayerSet.{LayerSet}
 use Rattle.vs_types.specs.declared.numbers.TripNo.{TripNo}
 use Rattle.vs_types.proofs.CallerLemmas.{rest-within}
 use Rattle.vs_instance.specs.Restriction.{set_of}
-use Rattle.vs_cases.specs.Tree.{IsGoodTree, Leaf, LeafPlace, Split, Tree, leaves, right_of, with_set}
-use Rattle.vs_cases.proofs.CallerLemmas.{set_of-other, set_of-same}
+use Rattle.vs_prices.specs.Tree.{IsGoodTree, Leaf, LeafPlace, Split, Tree, leaves, right_of, with_set}
+use Rattle.vs_prices.proofs.CallerLemmas.{set_of-other, set_of-same}
 
 -- these sets have no layer that those haven't
 abbrev pub AreNarrower : List LayerSet → List LayerSet → Type 0

@@ -6,11 +6,11 @@ use Rattle.std.proofs.lemmas.List.Sums.{sum_by-append, sum_by-cons}
 use Rattle.vs_prices.specs.Bounds.{IsBelow, IsNoLess}
 use Rattle.vs_prices.specs.declared.bound.Bound.{Bound}
 use Rattle.vs_prices.specs.declared.bound.Bound.TheVariants.{AtLeast, NoPlan}
-use Rattle.vs_answer.specs.Answers.{count_not_below, is_below}
+use Rattle.vs_cert.specs.Answers.{count_not_below, is_below}
 use Rattle.vs_resume.specs.InPlace.{in_place}
 use Rattle.vs_resume.proofs.trees.InPlace.{in_place-cons}
-use Rattle.vs_resume.proofs.worths.BoundOrder.{no_less-itself}
 use Rattle.vs_resume.proofs.worths.Settled.{AreNoLess, IsNoMore}
+use Rattle.vs_tree.proofs.CallerLemmas.{no_less-refl}
 
 abbrev out : Option ℤ → Bound → ℕ
 out cost worth = cond (not (is_below cost worth)) 1 0
@@ -64,7 +64,7 @@ at_most cost (w ∷ worths) =
 -- the same worths
 each_itself : (worths : List Bound) → AreNoLess worths worths
 each_itself [] = tt
-each_itself (w ∷ worths) = (no_less-itself w, each_itself worths)
+each_itself (w ∷ worths) = (no_less-refl w, each_itself worths)
 
 -- a worth that is below a cost
 below-out : (cost : Option ℤ) (worth : Bound) → IsBelow worth cost → out cost worth ≤ 0
@@ -97,7 +97,7 @@ others_not_below less cost (w ∷ worths) others (suc k) worth no_more stands be
       arith,
       placed,
       others_not_below less cost worths others k worth no_more stands below,
-      out_more less cost w w no_more (no_less-itself w),
+      out_more less cost w w no_more (no_less-refl w),
       sum_by-cons (out cost) w worths,
       sum_by-cons (out less) w (in_place worths k others),
     )

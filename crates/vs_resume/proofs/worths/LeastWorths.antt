@@ -10,17 +10,18 @@ use Rattle.vs_prices.specs.Bounds.{IsBelow, IsNoLess}
 use Rattle.vs_prices.specs.declared.bound.Bound.{Bound}
 use Rattle.vs_prices.specs.declared.bound.Bound.TheVariants.{NoPlan}
 use Rattle.vs_tree.specs.Report.{bound_of}
+use Rattle.vs_tree.proofs.CallerLemmas.{no_less-refl, no_less-trans}
 use Rattle.vs_resume.specs.declared.cases.Case.{Case}
 use Rattle.vs_resume.specs.Order.{IsFirstLeast, IsLeastWith, worth_at, worths_in}
 use Rattle.vs_resume.specs.Turns.{IsNextIn}
-use Rattle.vs_resume.proofs.worths.BoundOrder.{no_less-itself, no_less-or, no_less-trans, not_below}
+use Rattle.vs_resume.proofs.worths.BoundOrder.{no_less-or, not_below}
 
 module _ (worths : List Bound) where
   pub first_alone : IsFirstLeast worths 1 0
   first_alone = record {
     within = omega arith;
     least = λ j low. let is : 0 ≡ j = omega (arith, low) in
-        subst (λ (i : ℕ). IsNoLess (worth_at worths i) (worth_at worths 0)) is (no_less-itself (worth_at worths 0));
+        subst (λ (i : ℕ). IsNoLess (worth_at worths i) (worth_at worths 0)) is (no_less-refl (worth_at worths 0));
     first = λ j low no_less. omega arith;
   }
 
@@ -31,7 +32,7 @@ module _ (worths : List Bound) where
     within = omega arith;
     least = λ j low. elim (cases_eq j i) [
       | inl same ↦ subst (λ (k : ℕ). IsNoLess (worth_at worths k) (worth_at worths i)) (sym same)
-          (no_less-itself (worth_at worths i))
+          (no_less-refl (worth_at worths i))
       | inr other ↦ no_less-trans (worth_at worths j) (worth_at worths best) (worth_at worths i)
           (is.least j (omega (arith, low, other)))
           (no_less-or (worth_at worths i) (worth_at worths best) lesser)
@@ -84,7 +85,7 @@ module _ (worths : List Bound) where
 pub least_alone : (cost : Option ℤ) → IsLeastWith cost [] (bound_of cost)
 least_alone cost = record {
   worths = All-nil (λ (worth : Bound). IsNoLess worth (bound_of cost));
-  cost = no_less-itself (bound_of cost);
+  cost = no_less-refl (bound_of cost);
   reached = inl refl;
 }
 

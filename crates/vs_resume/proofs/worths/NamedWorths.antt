@@ -4,7 +4,7 @@ use Rattle.std.specs.List.{AllZip}
 use Rattle.std.proofs.lemmas.Option.{slice_get_within}
 use Rattle.vs_instance.specs.Problem.{Problem}
 use Rattle.vs_prices.specs.declared.bound.Bound.{Bound}
-use Rattle.vs_cases.specs.Tree.{LeafPlace}
+use Rattle.vs_prices.specs.Tree.{LeafPlace}
 use Rattle.vs_tree.specs.Prices.{AreWorth, Prices}
 use Rattle.vs_tree.proofs.CallerLemmas.{one_worth}
 use Rattle.vs_resume.specs.Standing.{AreNamedWorths, IsNamedWorth}

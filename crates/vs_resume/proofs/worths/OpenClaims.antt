@@ -6,10 +6,11 @@ use Rattle.std.proofs.lemmas.Int.{ints}
 use Rattle.vs_prices.specs.Bounds.{IsBelow}
 use Rattle.vs_prices.specs.declared.bound.Bound.{Bound}
 use Rattle.vs_prices.specs.declared.bound.Bound.TheVariants.{AtLeast, NoPlan}
-use Rattle.vs_cases.specs.Claims.{claim_found}
-use Rattle.vs_cases.specs.declared.claim.Claim.{Claim}
-use Rattle.vs_cases.specs.declared.claim.Claim.TheVariants.{Optimal, StillOpen}
-use Rattle.vs_answer.specs.Answers.{IsAmong, IsBoundOf}
+use Rattle.vs_prices.specs.Claims.{claim_found}
+use Rattle.vs_prices.specs.declared.claim.Claim.{Claim}
+use Rattle.vs_prices.specs.declared.claim.Claim.TheVariants.{Optimal, StillOpen}
+use Rattle.vs_cert.specs.Answers.{IsAmong, IsBoundOf}
+use Rattle.vs_cert.proofs.CallerLemmas.{cost_among}
 
 -- some worth is below the cost
 pub record SomeIsBelow (cost : Option ℤ) (worths : List Bound) : Type 0 where
@@ -50,11 +51,6 @@ at-among None (AtLeast w ∷ worths) (suc k) n at = inr (at-among None worths k 
 at-among cost (NoPlan ∷ worths) zero n at = absurd cc
 at-among (Some c) (NoPlan ∷ worths) (suc k) n at = at-among (Some c) worths k n at
 at-among None (NoPlan ∷ worths) (suc k) n at = at-among None worths k n at
-
-cost_among : (c : ℤ) (worths : List Bound) → IsAmong (Some c) worths c
-cost_among c [] = refl
-cost_among c (AtLeast w ∷ worths) = inr (cost_among c worths)
-cost_among c (NoPlan ∷ worths) = cost_among c worths
 
 open_apart : (c b : ℤ) → claim_found (Some c) (Some b) ≡ StillOpen → c ≡ b → ⊥
 open_apart c b still same =

@@ -9,7 +9,7 @@ use Rattle.vs_prices.specs.Bounds.{IsNoLess}
 use Rattle.vs_prices.specs.Worth.{IsWorth}
 use Rattle.vs_prices.specs.declared.bound.Bound.{Bound}
 use Rattle.vs_prices.specs.declared.table.Table.{Table}
-use Rattle.vs_cases.specs.Tree.{LeafPlace}
+use Rattle.vs_prices.specs.Tree.{LeafPlace}
 use Rattle.vs_tree.specs.Prices.{prices_of}
 use Rattle.vs_resume.specs.Cases.{AreCasesOf, AreSettled, IsCaseOf, IsSettled}
 use Rattle.vs_resume.specs.Order.{worths_in}

@@ -3,8 +3,7 @@ use Rattle.std.proofs.Common.{◌≡◌, ℕ, ◌+◌, ◌<◌, ◌≤◌, List,
 use Rattle.std.specs.Prelude.{flat_map, ◌==◌, All}
 use Rattle.std.specs.List.{enumerate_from, range_with_len}
 use Rattle.std.specs.Int.{bit_at}
-use Rattle.std.proofs.lemmas.List.Elements.{All-append, All-contains, All-cons, All-filter, All-from_get_or, All-head, All-map, All-nil, All-tail, All-weaker, filter_passes}
-use Rattle.std.proofs.lemmas.List.FromFn.{get_or-range_with_len, length-range_with_len}
+use Rattle.std.proofs.lemmas.List.Elements.{All-append, All-contains, All-cons, All-filter, All-head, All-map, All-nil, All-tail, All-weaker, filter_passes}
 use Rattle.std.proofs.lemmas.List.Kept.{AllPairs-from_increasing}
 use Rattle.std.proofs.lemmas.Bool.{eqb-true}
 use Rattle.vs_types.specs.LayerSet.{Has, layer_numbers, members}
@@ -28,16 +27,10 @@ use Rattle.vs_rows.specs.DocumentRows.{AreLayersOf, BlockRow, BoundRow, ClaimRow
 use Rattle.vs_rows.specs.DocumentText.{DocumentText, HasText}
 use Rattle.vs_rows.specs.Shapes.{IsShapeOf}
 use Rattle.vs_rows.proofs.written.PriceRanges.{price_anywhere, prices_in_all, printed}
-
--- numbers of a list of so many are below them
-below : (n : ℕ) → All (λ k. k < n) (range_with_len 0 n)
-below n = All-from_get_or (λ k. k < n) (range_with_len 0 n) 0
-    (λ i within.
-    let i_below : i < n = omega (arith, length-range_with_len 0 n) in
-    omega (arith, get_or-range_with_len 0 n i 0 i_below))
+use Rattle.vs_rows.proofs.Lists.{all_below}
 
 -- the members of a set whose layers are below so many, each once
-members_are : (left : LayerSet) (layers : ℕ) → layers ≤ MAX_LAYERS → ((l : ℕ) → Has left l → l < layers)
+pub members_are : (left : LayerSet) (layers : ℕ) → layers ≤ MAX_LAYERS → ((l : ℕ) → Has left l → l < layers)
     → AreLayersOf left (members left)
 members_are left layers few below_layers = record {
   once = λ i j d lt within. let less = AllPairs-from_increasing (members left)
@@ -60,7 +53,7 @@ module _ (p : Problem) (names : NameLists) (instance : IsInstance p) (counts : H
       let price : ℕ → DocumentRow = λ i. PriceRow l i (into_price p table l i) (from_price p table l i) in
       let numbers = range_with_len 0 (length p.trips) in
       let permitted : All (λ i. i < length p.trips) (permitted_trips p l) =
-      All-filter (λ i. bit_at (trip_of p i).layers.0 l == 1) (λ i. i < length p.trips) numbers (below
+      All-filter (λ i. bit_at (trip_of p i).layers.0 l == 1) (λ i. i < length p.trips) numbers (all_below
       (length p.trips)) in
       All-cons (HasForm names) (FleetRow l (vehicle_price table l)) (map price (permitted_trips p l))
       (layer, printed _ (price_anywhere table.fleet.items l fits.fleet))

@@ -4,7 +4,7 @@ ghost use Rattle.std.specs.Prelude.{◌≡◌, ◌∷◌, ◌++◌, OnOk};
 ghost use Rattle.vs_rows.specs.DocumentRows.{claim_field, number_field};
 
 use crate::text::Text;
-use vs_cases::Claim;
+use vs_prices::Claim;
 use vs_types::Memory;
 
 /// Adds what a document claims to a row.

@@ -7,7 +7,7 @@ ghost use Rattle.vs_rows.specs.Writing.{AddsRows};
 
 use crate::text::Text;
 use crate::writing::amounts::{bound_field, claim_field, cost_field};
-use vs_cases::Claim;
+use vs_prices::Claim;
 use vs_reader::Names;
 use vs_types::Memory;
 

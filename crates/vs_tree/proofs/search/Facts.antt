@@ -19,6 +19,11 @@ pub state-last : (s : State) (steps : List FullStep) (step : FullStep)
 state-last s [] step = refl
 state-last s (x ∷ steps) step = state-last (after s x) steps step
 
+-- and behind steps and others
+pub state-append : (s : State) (xs ys : List FullStep) → state_after s (xs ++ ys) ≡ state_after (state_after s xs) ys
+state-append s [] ys = refl
+state-append s (x ∷ xs) ys = state-append (after s x) xs ys
+
 -- a step that may come makes a longer history
 pub history-last : (o : Opening) (s : State) (steps : List FullStep) (step : FullStep) → MayFollow o s steps
     → MayCome o (state_after s steps) step → MayFollow o s (steps ++ step ∷ [])

@@ -10,7 +10,7 @@ use Rattle.vs_types.specs.declared.layer_set.LayerSet.{LayerSet}
 use Rattle.vs_types.specs.declared.numbers.TripNo.{TripNo}
 use Rattle.vs_tree.specs.declared.spot.Spot.{Spot}
 use Rattle.vs_tree.specs.declared.spot.Spot.TheVariants.{Inner, Free, Held, Closed}
-use Rattle.vs_tree.proofs.Matches.{no_less-trans}
+use Rattle.vs_tree.proofs.BoundOrder.{no_less-trans}
 use Rattle.vs_tree.proofs.LawfulPrices.{one_worth}
 use Rattle.vs_tree.proofs.search.Facts.{leaf_is, spot-is}
 

@@ -17,7 +17,7 @@ use Rattle.vs_tree.specs.History.{FullStep, Split, Opening, Place, State, IsHeld
 use Rattle.vs_tree.specs.Prices.{AreWorth, Prices, no_prices}
 use Rattle.vs_tree.specs.Search.{ArePartsOf, IsHandOf, IsSearch, Parts, free_entry, hand_at, is_busy, is_gone, offers_left, steps_left, worth_at}
 use Rattle.vs_tree.specs.Sound.{IsSound}
-use Rattle.vs_cases.specs.Tree.{right_of, with_set}
+use Rattle.vs_prices.specs.Tree.{right_of, with_set}
 use Rattle.vs_tree.proofs.Spots.{leaf_within}
 use Rattle.std.proofs.lemmas.List.{get_or_past}
 use Rattle.vs_tree.proofs.search.ClosedLeaf.{counted}

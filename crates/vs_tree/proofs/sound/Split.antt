@@ -12,11 +12,11 @@ use Rattle.vs_prices.specs.Bounds.{IsBelow}
 use Rattle.vs_tree.specs.declared.spot.Spot.{Spot}
 use Rattle.vs_tree.specs.declared.spot.Spot.TheVariants.{Inner, Free, Held, Closed as ClosedSpot}
 use Rattle.vs_tree.specs.Prices.{Prices}
-use Rattle.vs_cases.specs.Tree.{right_of, with_set}
+use Rattle.vs_prices.specs.Tree.{right_of, with_set}
 use Rattle.vs_tree.specs.History.{Opening, Place, State, Split, IsClosed, IsHeldBy, IsLeaf, IsLeafWorth, MaySplit, after, count_spots, is_closed, is_held, is_inner, known, left_part, no_place, place_at, right_part, sets_at, spot_at, table_of}
 use Rattle.vs_tree.specs.Sound.{IsIn, IsInOneLeaf, IsSound}
 use Rattle.vs_tree.proofs.Spots.{leaf_within}
-use Rattle.vs_cases.proofs.CallerLemmas.{left-restricts, restriction-layers, right-restricts, IsRunIn, run_once, narrower, runs_in, wider}
+use Rattle.vs_prices.proofs.CallerLemmas.{left-restricts, restriction-layers, right-restricts, IsRunIn, run_once, narrower, runs_in, wider}
 use Rattle.vs_types.proofs.CallerLemmas.{rest-within, shares_out, SharesOut}
 use Rattle.vs_tree.proofs.sound.Closed.{all-more, one-more}
 use Rattle.vs_tree.proofs.sound.Grown.{split, other, lower, upper, nowhere, where_is, count-split, length-split, split-here, split-lower, split-nowhere, split-other, split-upper}

@@ -8,7 +8,7 @@ use Rattle.vs_tree.specs.declared.spot.Spot.{Spot}
 use Rattle.vs_tree.specs.declared.spot.Spot.TheVariants.{Inner, Free}
 use Rattle.vs_tree.specs.History.{Place, is_inner, place_at, table_of, with_spot}
 use Rattle.vs_tree.specs.StateTree.{IsTreeAt, times}
-use Rattle.vs_cases.specs.Tree.{Tree, Leaf, Split, IsGoodTree, right_of, splits, with_set}
+use Rattle.vs_prices.specs.Tree.{Tree, Leaf, Split, IsGoodTree, right_of, splits, with_set}
 use Rattle.vs_types.specs.Parts.{IsProperPart}
 use Rattle.vs_tree.proofs.Spots.{leaf_within}
 use Rattle.vs_tree.proofs.sound.Grown.{length-split, split-here, split-lower, split-other, split-upper}

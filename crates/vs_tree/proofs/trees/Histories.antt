@@ -10,7 +10,7 @@ use Rattle.vs_tree.specs.declared.spot.Spot.TheVariants.{Inner, Free, Held, Clos
 use Rattle.vs_tree.specs.Prices.{Prices}
 use Rattle.vs_tree.specs.Sound.{IsOpening, IsSound}
 use Rattle.vs_tree.specs.Laws.{StatesAreTrees}
-use Rattle.vs_cases.specs.Tree.{Tree, Leaf, IsGoodTree, right_of, splits, with_set}
+use Rattle.vs_prices.specs.Tree.{Tree, Leaf, IsGoodTree, right_of, splits, with_set}
 use Rattle.vs_types.specs.Parts.{IsProperPart}
 use Rattle.vs_tree.specs.History.{FullStep, Opening, Place, State, Took, Split, Closed, Offered, GaveBack, MayCome, MayFollow, MaySplit, after, count_spots, first_state, is_inner, no_place, place_at, spot_at, state_after, state_of, table_of, with_spot}
 use Rattle.vs_tree.specs.StateTree.{IsTreeAt, one_if, times}

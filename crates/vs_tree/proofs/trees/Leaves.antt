@@ -3,7 +3,7 @@ use Rattle.std.proofs.Common.{ℕ, List, [], ◌∷◌, ◌++◌, refl, sym, sub
 use Rattle.vs_types.specs.declared.layer_set.LayerSet.{LayerSet}
 use Rattle.vs_tree.specs.History.{Place}
 use Rattle.vs_tree.specs.StateTree.{AreLeavesAt, IsTreeAt}
-use Rattle.vs_cases.specs.Tree.{Tree, Leaf, Split, LeafPlace, leaves, right_of, with_set}
+use Rattle.vs_prices.specs.Tree.{Tree, Leaf, Split, LeafPlace, leaves, right_of, with_set}
 
 module _ (places : List Place) where
   both : (xs ys : List LeafPlace) (first second : List ℕ) → AreLeavesAt places xs first → AreLeavesAt places ys second

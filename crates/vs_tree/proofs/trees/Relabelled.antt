@@ -5,7 +5,7 @@ use Rattle.vs_types.specs.declared.layer_set.LayerSet.{LayerSet}
 use Rattle.vs_tree.specs.declared.spot.Spot.{Spot}
 use Rattle.vs_tree.specs.History.{Place, is_inner, place_at, table_of, with_spot}
 use Rattle.vs_tree.specs.StateTree.{IsTreeAt}
-use Rattle.vs_cases.specs.Tree.{Tree, Leaf, Split, IsGoodTree, right_of, splits, with_set}
+use Rattle.vs_prices.specs.Tree.{Tree, Leaf, Split, IsGoodTree, right_of, splits, with_set}
 use Rattle.vs_tree.proofs.Spots.{length-with_spot, with_spot-other, with_spot-same, with_spot-sets}
 
 -- a good tree of spot j with so many splits, whose leaves are these spots

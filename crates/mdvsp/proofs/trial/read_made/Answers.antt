@@ -1,6 +1,6 @@
 use Rattle.std.proofs.Common.{[], subst, sym}
 use Rattle.vs_reader.specs.ReadErrors.{IsRefusedError}
-use Rattle.vs_made.specs.Made.{made_names, made_problem}
+use Rattle.vs_make.specs.Made.{made_names, made_problem}
 use Rattle.mdvsp.proofs.owing.TrialOwed.{made_stands, whole_as_read}
 use Rattle.mdvsp.proofs.trial.read_made.Goals as goal
 

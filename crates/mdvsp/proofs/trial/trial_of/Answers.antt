@@ -19,9 +19,9 @@ read_back-requires g c =
     c.in_ok-planned.ensures)
 
 pub returns : goal.returns
-returns g c = λ bytes.
+returns g c =
     let timetable = c.in_ok-timetable.timetable in
-    trial_owed c.args.n bytes c.args.made.now timetable.instance timetable.names c.in_ok-planned.planned _
+    trial_owed c.args.n c.args.made.now timetable.instance timetable.names c.in_ok-planned.planned _
     c.in_ok-document.document c.requires.made c.in_ok-timetable.ensures c.in_ok-planned.ensures
     (subst (λ (written : List ℕ). IsReadOf c.args.made.now written c.in_ok-document.document) c.deref.ensures.value
     c.in_ok-document.ensures) refl c.in_ok-text.ensures

@@ -1,7 +1,7 @@
 use Rattle.std.proofs.Common.{List, Option, subst, IfSome}
 use Rattle.vs_types.specs.declared.layer_set.LayerSet.{LayerSet}
 use Rattle.vs_prices.specs.declared.table.Table.{Table}
-use Rattle.vs_ray.specs.Rays.{ShowsNoPlan}
+use Rattle.vs_penalty.specs.Rays.{ShowsNoPlan}
 use Rattle.vs_crew.proofs.leaves.ShownLeaves.{shown-IsFound}
 use Rattle.vs_crew.proofs.finding.closed_by_ray.Goals as goal
 

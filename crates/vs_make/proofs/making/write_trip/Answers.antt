@@ -2,10 +2,9 @@ use Rattle.std.proofs.Common.{◌≡◌, ℕ, ◌+◌, ◌*◌, List, [], ◌∷
 use Rattle.std.specs.Prelude.{codes, decimal}
 use Rattle.std.proofs.lemmas.List.{append_assoc}
 use Rattle.std.proofs.lemmas.Result.{IfOk-equal}
-use Rattle.vs_reader.specs.Rows.{Field}
+use Rattle.vs_reader.specs.Rows.{Field, more_fields}
 use Rattle.vs_rows.specs.Fields.{numbered, time_field}
 use Rattle.vs_make.specs.Generator.{distance, end_of, layer_names, stop_name}
-use Rattle.vs_reader.specs.Rows.{more_fields}
 use Rattle.vs_rows.proofs.CallerLemmas.{join-cons, one_more_field, some_more_fields, ended_row}
 use Rattle.vs_make.proofs.making.write_trip.Goals as goal
 

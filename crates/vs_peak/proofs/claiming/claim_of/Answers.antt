@@ -1,6 +1,6 @@
 use Rattle.std.proofs.Common.{ℤ, length, ap, ◌∙◌, Fits, w32, rules, Some}
 use Rattle.std.specs.Prelude.{nat_abs}
-use Rattle.vs_counting.proofs.CallerLemmas.{counts_vehicles}
+use Rattle.vs_peakcheck.proofs.CallerLemmas.{counts_vehicles}
 use Rattle.vs_peak.proofs.ClaimedPeaks.{claim_of_least, cost_word, few_in_least}
 use Rattle.vs_peak.proofs.claiming.claim_of.Goals as goal
 

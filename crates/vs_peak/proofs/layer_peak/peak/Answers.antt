@@ -1,5 +1,5 @@
 use Rattle.std.proofs.Common.{◌∙◌}
-use Rattle.vs_counting.proofs.CallerLemmas.{counts_vehicles}
+use Rattle.vs_peakcheck.proofs.CallerLemmas.{counts_vehicles}
 use Rattle.vs_peak.proofs.FoundPeaks.{peak_none, peak_some, single_sets}
 use Rattle.vs_peak.proofs.layer_peak.peak.Goals as goal
 

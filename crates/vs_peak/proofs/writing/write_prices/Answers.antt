@@ -3,7 +3,7 @@ use Rattle.std.proofs.lemmas.Int.{to_z-of_z}
 use Rattle.std.proofs.lemmas.List.{get_or_default}
 use Rattle.vs_reader.specs.Rows.{line}
 use Rattle.vs_rows.specs.DocumentRows.{PriceRow}
-use Rattle.vs_counting.specs.Counting.{numbered}
+use Rattle.vs_peakcheck.specs.Counting.{numbered}
 use Rattle.vs_peakcheck.specs.PeakRows.{PartRow, written_peak}
 use Rattle.vs_peak.specs.Writing.{AddsPeakRow}
 use Rattle.vs_peak.proofs.WrittenPeaks.{prices_more}

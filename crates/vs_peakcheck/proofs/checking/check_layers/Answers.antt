@@ -3,7 +3,7 @@ use Rattle.std.specs.Prelude.{option_map}
 use Rattle.vs_instance.specs.Firsts.{first}
 use Rattle.vs_instance.specs.Problem.{Problem}
 use Rattle.vs_instance.proofs.CallerLemmas.{first_from-here, first_from-more}
-use Rattle.vs_counting.specs.Counting.{counting}
+use Rattle.vs_peakcheck.specs.Counting.{counting}
 use Rattle.vs_peakcheck.specs.declared.claimed.Claimed.{Claimed}
 use Rattle.vs_peakcheck.specs.declared.flaw.PeakFlaw.{PeakFlaw}
 use Rattle.vs_peakcheck.specs.Flaws.{flaws_in, layer_flaws, verdict_of}

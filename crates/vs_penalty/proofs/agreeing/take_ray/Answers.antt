@@ -1,8 +1,8 @@
 use Rattle.std.proofs.Common.{Option, sym, subst, IfSome}
 use Rattle.vs_prices.specs.Bounds.{IsWorthNoLess}
 use Rattle.vs_prices.specs.declared.table.Table.{Table}
-use Rattle.vs_ray.specs.Rays.{ShowsNoPlan}
-use Rattle.vs_ray.proofs.CallerLemmas.{shown-no_less}
+use Rattle.vs_penalty.specs.Rays.{ShowsNoPlan}
+use Rattle.vs_penalty.proofs.CallerLemmas.{shown-no_less}
 use Rattle.vs_penalty.proofs.agreeing.take_ray.Goals as goal
 
 pub returns-in-Some-clause-worth : goal.returns-in-Some-clause-worth

@@ -1,4 +1,4 @@
-use Rattle.std.proofs.Common.{◌∙◌, refl, sym, ap, subst}
+use Rattle.std.proofs.Common.{◌∙◌, refl, sym, ap, subst, List}
 use Rattle.std.proofs.lemmas.Bool.{false≢true}
 use Rattle.vs_need.specs.Nets.{AreNets}
 use Rattle.vs_prices.specs.declared.broken_at.BrokenAt.{BrokenAt}
@@ -6,7 +6,6 @@ use Rattle.vs_instance.specs.Firsts.{first}
 use Rattle.vs_instance.proofs.CallerLemmas.{none_from_first}
 use Rattle.vs_prices.proofs.CallerLemmas.{holds_nowhere_broken, nowhere_broken}
 use Rattle.vs_prices.specs.Breaks.{breaks_of}
-use Rattle.std.proofs.Common.{List}
 use Rattle.vs_replay.proofs.finishing.table_holds.Goals as goal
 
 pub returns-in-None-clause-holds : goal.returns-in-None-clause-holds

@@ -4,8 +4,8 @@ use Rattle.vs_tree.specs.History.{Took, is_inner}
 use Rattle.vs_tree.specs.Search.{IsHandOf, state}
 use Rattle.vs_types.specs.declared.layer_set.LayerSet.{LayerSet}
 use Rattle.vs_tree.specs.declared.calls.Hand.{Hand}
-use Rattle.vs_tree.proofs.CallerLemmas.{histories_are_sound, leaf_within}
-use Rattle.vs_replay.proofs.MadeSteps.{idle_hand, not_made, sized_at, took}
+use Rattle.vs_tree.proofs.CallerLemmas.{histories_are_sound, leaf_within, idle-hand}
+use Rattle.vs_replay.proofs.MadeSteps.{not_made, sized_at, took}
 use Rattle.vs_replay.proofs.steps.take.Goals as goal
 
 pub returns-then-w-workers-clause-made : goal.returns-then-w-workers-clause-made
@@ -17,7 +17,7 @@ pub returns-in_default-clause-made : goal.returns-in_default-clause-made
 returns-in_default-clause-made c =
     let t = c.args.tree.now in
     not_made t t (Took c.args.w c.args.leaf)
-    (λ may. c.in_default.not-Idle (idle_hand (state t) c.args.w c.hand.result c.hand.ensures may.idle may.stays))
+    (λ may. c.in_default.not-Idle (idle-hand (state t) c.args.w c.hand.result c.hand.ensures may.idle may.stays))
 
 pub take-requires-clause-idle : goal.take-requires-clause-idle
 take-requires-clause-idle c =

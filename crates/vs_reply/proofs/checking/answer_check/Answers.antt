@@ -1,8 +1,9 @@
 use Rattle.std.proofs.Common.{ℕ, length, sym, subst}
 use Rattle.vs_instance.specs.Firsts.{first}
 use Rattle.vs_check.specs.Flaws.{IsFlawWithin, IsVerdictWithin, flaws_of}
+use Rattle.vs_check.proofs.CallerLemmas.{first_of_verdict}
 use Rattle.vs_reader.proofs.CallerLemmas.{stands_counts}
-use Rattle.vs_reply.proofs.owing.OwedAnswers.{first_of_verdict, yes_owed, no_owed}
+use Rattle.vs_reply.proofs.owing.OwedAnswers.{yes_owed, no_owed}
 use Rattle.vs_reply.proofs.checking.answer_check.Goals as goal
 
 pub returns-in-Yes : goal.returns-in-Yes

@@ -5,7 +5,7 @@ use Rattle.vs_plan.specs.PlanFaults.{IsFault, IsFirstFault}
 use Rattle.vs_reader.specs.Rows.{lines}
 use Rattle.vs_reply.specs.declared.answer.Answer.{Answer}
 use Rattle.vs_reply.specs.declared.status.Status.TheVariants.{Done}
-use Rattle.vs_report.specs.Timetable.{timetable}
+use Rattle.vs_reply.specs.Timetable.{timetable}
 use Rattle.vs_reply.proofs.owing.BlocksOwed.{no_cost_owed, timetable_owed, no_plan_owed, fault_named}
 use Rattle.vs_reply.proofs.timetable.answer_for.Goals as goal
 

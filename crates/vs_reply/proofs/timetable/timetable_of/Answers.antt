@@ -1,7 +1,7 @@
 use Rattle.std.proofs.Common.{ℕ, List, ◌++◌, ap, ◌∙◌}
 use Rattle.vs_plan.specs.Blocks.{pairs_of}
 use Rattle.vs_reader.specs.Rows.{lines}
-use Rattle.vs_report.specs.Timetable.{timetable}
+use Rattle.vs_reply.specs.Timetable.{timetable}
 use Rattle.vs_reply.proofs.timetable.timetable_of.Goals as goal
 
 pub returns : goal.returns

@@ -1,12 +1,13 @@
 use Rattle.std.proofs.Common.{◌≡◌, ◌+◌, ◌<◌, List, [], length, get_or, map, reverse, drop, refl, sym, ap, ◌∙◌, subst, arith, Vec, Global}
 use Rattle.std.proofs.lemmas.List.{drop_all, drop_more, nil_from_length}
 use Rattle.vs_types.specs.declared.layer_set.LayerSet.{LayerSet}
-use Rattle.vs_cases.specs.Tree.{Tree, leaves}
+use Rattle.vs_prices.specs.Tree.{Tree, leaves}
 use Rattle.vs_rows.specs.declared.document.Shape.{Shape}
 use Rattle.vs_rows.specs.declared.document.Shape.TheVariants as shape
+use Rattle.vs_rows.proofs.CallerLemmas.{tree_once}
 use Rattle.vs_resume.specs.declared.cases.Walk.{Walk}
 use Rattle.vs_resume.specs.Cases.{AreCasesOf, sets_ahead}
-use Rattle.vs_resume.proofs.trees.RowWalks.{IsOnWalk, at_end, at_root, behind_row, next_comes, next_taken, one_tree, taken_off}
+use Rattle.vs_resume.proofs.trees.RowWalks.{IsOnWalk, at_end, at_root, behind_row, next_comes, next_taken, taken_off}
 use Rattle.vs_resume.proofs.cases.cases_of.Goals as goal
 
 -- what stands past the end of the rows
@@ -98,5 +99,5 @@ returns c = λ tree rows_are.
     IsOnWalk c.args.instance.now c.args.tables.now c.args.sets.items over.tree rest walk)
     (drop_all i rows c.loop-row-test.false) over.on_walk in
     subst (λ (t : Tree). AreCasesOf c.args.instance.now c.args.tables.now (leaves c.args.sets.items t) walk.cases.items)
-    (one_tree over.tree tree (sym over.rows_are ∙ rows_are))
+    (tree_once over.tree tree (sym over.rows_are ∙ rows_are))
     (at_end c.args.instance.now c.args.tables.now c.args.sets.items over.tree walk on)

@@ -1,7 +1,7 @@
 use Rattle.std.proofs.Common.{◌≡◌, List, [], ◌∷◌, ◌++◌, map, set, ap, ◌∙◌, Vec, Global}
 use Rattle.std.specs.Vec.{with_item}
 use Rattle.vs_types.specs.declared.layer_set.LayerSet.{LayerSet}
-use Rattle.vs_cases.specs.Tree.{right_of, with_set}
+use Rattle.vs_prices.specs.Tree.{right_of, with_set}
 use Rattle.vs_resume.proofs.trees.RowWalks.{one_put}
 use Rattle.vs_resume.proofs.cases.right_part.Goals as goal
 

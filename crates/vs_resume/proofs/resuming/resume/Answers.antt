@@ -3,7 +3,7 @@ use Rattle.std.specs.List.{All}
 use Rattle.std.proofs.lemmas.Result.{IfOk-weaker}
 use Rattle.vs_instance.specs.Restriction.{permitted_sets}
 use Rattle.vs_prices.specs.Bounds.{IsBelow}
-use Rattle.vs_cases.specs.Tree.{leaves}
+use Rattle.vs_prices.specs.Tree.{leaves}
 use Rattle.vs_resume.specs.declared.cases.Case.{Case}
 use Rattle.vs_resume.specs.Answers.{ResumeAnswer}
 use Rattle.vs_resume.specs.Writing.{IsPrintedOf}

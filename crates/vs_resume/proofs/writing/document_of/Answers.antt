@@ -9,10 +9,11 @@ use Rattle.vs_resume.specs.declared.cases.Case.{Case}
 use Rattle.vs_resume.specs.Order.{IsLeastWith, worths_in}
 use Rattle.vs_resume.specs.Outlines.{with_numbers}
 use Rattle.vs_resume.specs.Writing.{AreFirstNamed, AreTaken, IsOnce}
-use Rattle.vs_resume.proofs.documents.FirstTimes.{first_times-All, first_times_once}
+use Rattle.vs_resume.proofs.documents.FirstTimes.{first_times_once}
 use Rattle.vs_resume.proofs.documents.Naming.{written_for}
 use Rattle.vs_resume.proofs.worths.Settled.{tables_in}
 use Rattle.vs_resume.proofs.writing.document_of.Goals as goal
+use Rattle.vs_cert.proofs.CallerLemmas.{first_times-All}
 
 pub named_by-requires : goal.named_by-requires
 named_by-requires c =

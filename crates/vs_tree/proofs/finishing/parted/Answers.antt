@@ -3,8 +3,8 @@ use Rattle.std.proofs.lemmas.List.{set-set}
 use Rattle.vs_types.specs.declared.layer_set.LayerSet.{LayerSet}
 use Rattle.vs_instance.specs.Restriction.{IsRestriction}
 use Rattle.vs_prices.specs.Worth.{IsWorth}
-use Rattle.vs_cases.specs.Tree.{right_of, with_set}
-use Rattle.vs_cases.proofs.CallerLemmas.{right-restricts}
+use Rattle.vs_prices.specs.Tree.{right_of, with_set}
+use Rattle.vs_prices.proofs.CallerLemmas.{right-restricts}
 use Rattle.vs_tree.proofs.finishing.parted.Goals as goal
 
 pub worth-upper-requires-clause-restriction : goal.worth-upper-requires-clause-restriction

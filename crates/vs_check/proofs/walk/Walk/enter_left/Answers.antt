@@ -3,7 +3,7 @@ use Rattle.std.proofs.lemmas.List.{get_or_read}
 use Rattle.vs_types.specs.declared.layer_set.LayerSet.{LayerSet}
 use Rattle.vs_instance.specs.Restriction.{set_of}
 use Rattle.vs_types.specs.Parts.{rest_of}
-use Rattle.vs_cases.specs.Tree.{right_of, with_set}
+use Rattle.vs_prices.specs.Tree.{right_of, with_set}
 use Rattle.vs_check.specs.declared.walk.Change.{Change}
 use Rattle.vs_check.specs.Walk.{end_of, right_part, sets_along}
 use Rattle.vs_check.proofs.WalkSteps.{ahead_on_left}

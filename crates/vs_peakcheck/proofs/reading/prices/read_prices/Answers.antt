@@ -1,11 +1,10 @@
 use Rattle.std.proofs.Common.{◌≡◌, ◌++◌, ◌∷◌, [], ◌<◌, ◌≤◌, ℕ, ℤ, List, length, map, get_or, ap, ◌∙◌, arith}
 use Rattle.std.proofs.lemmas.List.{get_or-map, length-map}
 use Rattle.vs_types.specs.declared.numbers.TripNo.{TripNo}
-use Rattle.vs_counting.specs.Counting.{numbered, permitted_trips}
+use Rattle.vs_peakcheck.specs.Counting.{numbered, permitted_trips}
 use Rattle.vs_peakcheck.specs.Places.{in_prices}
 use Rattle.vs_peakcheck.specs.Reading.{IsRefusedAt}
-use Rattle.vs_rows.proofs.CallerLemmas.{err_passes}
-use Rattle.vs_rows.proofs.CallerLemmas.{as_word}
+use Rattle.vs_rows.proofs.CallerLemmas.{err_passes, as_word}
 use Rattle.vs_peakcheck.proofs.PricedRows.{all_prices, one_more_price, refused_at_trip}
 use Rattle.vs_peakcheck.proofs.reading.prices.read_prices.Goals as goal
 

@@ -11,23 +11,24 @@ use Rattle.vs_reader.proofs.name_list.NameList.get.Goals as goal
 
 pub returns-clause-name : goal.returns-clause-name
 returns-clause-name c =
-    let within : c.args.number < length c.self.inside.names.items =
+    let texts = c.self.inside.names.keys in
+    let within : c.args.number < length texts =
     omega (
       arith,
       ap (λ (ns : List Field). length ns) c.self.view_is,
-      length-map c.self.inside.names.items (λ (t : String Global). string_bytes t),
+      length-map texts (λ (t : String Global). string_bytes t),
       c.requires,
     ) in
     c.as_str.ensures.value
     ∙ ap (λ (t : String Global). string_bytes t)
     (c.index-as_slice-number.is
-    ∙ ap (λ ks. get_or ks c.args.number c.index-as_slice-number.result) c.as_slice.ensures.value)
-    ∙ sym (get_or-map string_bytes c.self.inside.names.items c.args.number c.index-as_slice-number.result [] within)
+    ∙ ap (λ ts. get_or ts c.args.number c.index-as_slice-number.result) c.as_slice.ensures.keys)
+    ∙ sym (get_or-map string_bytes texts c.args.number c.index-as_slice-number.result [] within)
     ∙ ap (λ (ns : List Field). get_or ns c.args.number []) c.self.view_is
 
 pub returns-clause-only : goal.returns-clause-only
 returns-clause-only c = λ k at.
-    let are : AreNames c.args.self.now = subst (λ (ns : List Field). AreNames ns) c.self.view_is c.self.invariant.0 in
+    let are : AreNames c.args.self.now = subst (λ (ns : List Field). AreNames ns) c.self.view_is c.self.invariant in
     let name : c.as_str.result.now ≡ get_or c.args.self.now c.args.number [] = returns-clause-name c in
     same_number c.args.self.now c.as_str.result.now k c.args.number are.apart at
     (slice_get-get_or c.args.self.now c.args.number [] c.requires ∙ ap Some (sym name))

@@ -5,11 +5,12 @@ use Rattle.vs_instance.specs.Plan.{LayerBlock}
 use Rattle.vs_plan.specs.CheckedPlan.{Checked}
 use Rattle.vs_reader.specs.Rows.{Row, lines}
 use Rattle.vs_rows.specs.DocumentRows.{BlockRow, IsNamedBlock, written_rows}
+use Rattle.vs_rows.proofs.CallerLemmas.{all_at}
 use Rattle.vs_tree.specs.Search.{state}
 use Rattle.vs_tree.specs.Sound.{IsPlanOf}
 use Rattle.vs_tree.proofs.CallerLemmas.{histories_are_sound}
 use Rattle.vs_trace.specs.TraceRows.{OfferedRow, block_rows, offered_rows, written_trace, written_traces}
-use Rattle.vs_trace.proofs.NamedSteps.{all_at, blocks_named}
+use Rattle.vs_trace.proofs.NamedSteps.{blocks_named}
 use Rattle.vs_trace.proofs.WrittenSteps.{parts_written, rows_more}
 use Rattle.vs_trace.proofs.writing.steps.write_offer.Goals as goal
 

@@ -11,7 +11,7 @@ use Rattle.vs_tree.specs.History.{FullStep, MaySplit, is_inner, place_at, sets_a
 use Rattle.vs_tree.specs.Log.{Log, full_step}
 use Rattle.vs_tree.specs.Prices.{Prices, no_prices, prices_of}
 use Rattle.vs_tree.specs.Search.{IsSearch, Parts, Search, state}
-use Rattle.vs_cases.specs.Tree.{right_of}
+use Rattle.vs_prices.specs.Tree.{right_of}
 use Rattle.vs_types.proofs.CallerLemmas.{some-layers}
 use Rattle.vs_tree.proofs.search.Facts.{leaf_is, restriction-at, sets-are, tables_are, within_budget}
 use Rattle.vs_tree.proofs.search.GivingBack.{worker_inside}

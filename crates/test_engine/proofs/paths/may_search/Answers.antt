@@ -1,0 +1,33 @@
+use Rattle.std.proofs.Common.{◌≡◌, ◌∙◌, ◌-◌, ℕ, ℤ, get_or, pos, ap, subst, arith}
+use Rattle.std.proofs.lemmas.Int.{ints}
+use Rattle.vs_path.specs.declared.residual.TheConstants.{MAX_PATH_ARC_COST}
+use Rattle.vs_path.specs.Residual.{ResidualNet, IsWithin}
+use Rattle.vs_path.specs.PathTree.{HasNoNegativeCycle}
+use Rattle.vs_path.specs.Distances.{without_return}
+use Rattle.test_engine.proofs.paths.may_search.Goals as goal
+
+pub returns-clause-few : goal.returns-clause-few
+returns-clause-few c = λ yes i.
+    let own = c.has_path_costs.ensures.0 c.if-not-has_path_costs.false i in
+    let same : get_or c.new-residual.result.cost i (pos 0) ≡ get_or c.args.costs.now.cost.items i (pos 0) =
+    ap (λ (r : ResidualNet). get_or r.cost i (pos 0)) c.new-residual.ensures in
+    subst (λ (z : ℤ). IsWithin MAX_PATH_ARC_COST z) same
+    (record { low = omega (arith, ints, own.low); high = omega (arith, ints, own.high) })
+
+pub returns-clause-no_negative : goal.returns-clause-no_negative
+returns-clause-no_negative c = λ yes.
+    let net = c.args.net.now in
+    let flow = c.args.flow.now in
+    let costs = c.args.costs.now in
+    let of_arcs : ℕ → ResidualNet = λ n. record {
+      graph = net;
+      units = flow.units.items;
+      cost = costs.cost.items;
+      room = costs.room.items;
+      arcs = n;
+    } in
+    let same : c.new-residual.result ≡ without_return net flow costs =
+    c.new-residual.ensures ∙ ap (λ (n : ℕ). of_arcs (n - 1)) c.arcs.ensures.count in
+    subst HasNoNegativeCycle same
+    (c.sign_rule_leaves_no_negative_cycle.ensures c.new-residual.result c.args.prices.now
+    (c.keeps_sign_rule.ensures.0 yes))

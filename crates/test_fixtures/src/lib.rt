@@ -1,0 +1,13 @@
+//! What tests are run on: texts of instances and documents, what is read from them, and small timetables that are drawn
+//! from numbers, with the cost of their cheapest plans by a count of all plans.
+#![tactic(auto)]
+
+mod documents;
+mod reading;
+mod sharing;
+pub mod small;
+pub mod texts;
+
+pub use documents::{document_of, documented};
+pub use reading::{input_of, instance_of, joined, owned, text_with};
+pub use sharing::share;

@@ -1,0 +1,119 @@
+//! Sums at the ends of the limits.
+
+ghost use Rattle.std.specs.Prelude.{IfOk};
+ghost use Rattle.vs_instance.specs.Restriction.{IsRestriction};
+ghost use Rattle.vs_match.specs.LayerNets.{AreLayerNets};
+ghost use Rattle.vs_multi.specs.Rounds.{IsCase};
+ghost use Rattle.vs_prices.specs.Table.{Fits, HoldingTable};
+
+use std::alloc::Global;
+use std::test::Fail;
+use test_fixtures::{input_of, joined};
+use vs_circ::{MAX_MULTIPLIER, Work};
+use vs_instance::Instance;
+use vs_match::{LayerNet, layer_nets};
+use vs_multi::{Best, Case, rounds};
+use vs_node::{Task, work};
+use vs_prices::{Bound, permitted_sets};
+use vs_tree::Next;
+
+/// What 2,000 trips cost that run all the time there is, at the greatest rates: for each a vehicle, 1,000,000,000, and
+/// 1,000,000 for each of 2,879 minutes and 10,000 for each of 1,000,000 metres.
+const COST: i64 = 2_000 * (1_000_000_000 + 2_879 * 1_000_000 + 1_000_000 * 10_000);
+
+/// These trips, with a vehicle for each.
+fn dearest(alloc: Global) -> Result<Instance, Fail> {
+    let head = "instance,1\nstop,S\nlayer,L1,S,2000,1000000000,1000000,10000\n";
+    let mut text = joined(alloc, &[head])?;
+    for n in 1..2001 {
+        let row = format!(in alloc; "trip,T{n},S,0:00,S,47:59,1000000,L1\n")?;
+        text.extend_from_slice(row.as_bytes())?;
+    }
+    Ok(input_of(alloc, &text)?.instance)
+}
+
+/// The best round from the greatest multipliers on.
+fn best_round(case: &Case<'_>, kept: &mut Work) -> Result<Best, Fail>
+    requires { IsCase case.now.instance.now case.now.nets.now case.now.sets.now }
+    ensures fits { IfOk result (λ best. Fits case.now.instance.now best.table) }
+    ensures holds { IfOk result (λ best. HoldingTable case.now.instance.now best.table) }
+{
+    let (alloc, instance) = (case.alloc, case.instance);
+    let mut multipliers = vec![in alloc; MAX_MULTIPLIER; instance.trips() as usize]?;
+    Ok(rounds(
+        alloc,
+        instance,
+        case.nets,
+        case.sets,
+        &mut multipliers,
+        kept,
+    )?)
+}
+
+/// What that round is worth, and the work on the root from its table on.
+fn root_task(
+    alloc: Global,
+    instance: &Instance,
+    nets: &[LayerNet],
+    kept: &mut Work,
+) -> Result<(Bound, Task), Fail>
+    requires nets { AreLayerNets instance.now nets.now }
+    ensures restriction { IfOk result (λ r. IsRestriction instance.now r.1.sets.items) }
+    ensures fits { IfOk result (λ r. Fits instance.now r.1.table) }
+    ensures holds { IfOk result (λ r. HoldingTable instance.now r.1.table) }
+{
+    let sets = permitted_sets(alloc, instance)?;
+    let case = Case {
+        alloc,
+        instance,
+        nets,
+        sets: &sets,
+    };
+    let best = best_round(&case, kept)?;
+    let task = Task {
+        sets,
+        table: best.table,
+        known: None,
+        root: true,
+    };
+    Ok((best.worth, task))
+}
+
+/// What the plan costs that this work finds, and what becomes of the root.
+fn worked(
+    alloc: Global,
+    instance: &Instance,
+    nets: &[LayerNet],
+    task: &Task,
+    kept: &mut Work,
+) -> Result<(Option<i64>, Next), Fail>
+    requires nets { AreLayerNets instance.now nets.now }
+    requires restriction { IsRestriction instance.now task.now.sets.items }
+    requires fits { Fits instance.now task.now.table }
+    requires holds { HoldingTable instance.now task.now.table }
+{
+    let outcome = work(alloc, instance, nets, task, kept)?;
+    let cost = match &outcome.plan {
+        Some(plan) => Some(plan.cost()),
+        None => None,
+    };
+    Ok((cost, outcome.next))
+}
+
+/// What the best round is worth, what the plan costs then, and what becomes of the root.
+fn found(alloc: Global, instance: &Instance) -> Result<(Bound, Option<i64>, Next), Fail> {
+    let nets = layer_nets(alloc, instance)?;
+    let mut kept = Work::new(alloc, &nets)?;
+    let (worth, task) = root_task(alloc, instance, &nets, &mut kept)?;
+    let (cost, next) = worked(alloc, instance, &nets, &task, &mut kept)?;
+    Ok((worth, cost, next))
+}
+
+#[test]
+fn sums_fit_at_the_greatest_rates_and_multipliers(rt: HostRuntime) -> Result<(), Fail> {
+    let instance = dearest(rt.alloc())?;
+    let (worth, cost, next) = found(rt.alloc(), &instance)?;
+    assert_eq!(rt; worth, Bound::AtLeast(i128::from(COST)));
+    assert_eq!(rt; (cost, next), (Some(COST), Next::Close));
+    Ok(())
+}

@@ -1,7 +1,0 @@
-use Rattle.std.proofs.Common.{◌≡◌, ℕ, Bool, true, false}
-use Rattle.vs_instance.specs.Ways.{Permitted}
-use Rattle.trial_engine.proofs.Pushed.{AreSoFar}
-use Rattle.trial_engine.proofs.circulations.offers.must_of.Given as goal
-
-abbrev pub invariant-loop-i : goal.invariant-loop-i
-invariant-loop-i l = AreSoFar false (λ (i : ℕ) (b : Bool). b ≡ true → Permitted l.instance 0 i) l.must.items l.i

@@ -1,5 +1,0 @@
-use Rattle.std.proofs.Common.{◌∙◌, ap, length, length-set}
-use Rattle.trial_engine.proofs.paths.take_of_both.Goals as goal
-
-pub returns-clause-size : goal.returns-clause-size
-returns-clause-size c = ap length c.in-Some.ensures.left ∙ length-set c.args.heap.now.waiting _ _ ∙ c.requires

@@ -1,9 +1,0 @@
-pub mod StateDocuments
-pub mod NamedTables
-pub mod AnswerBounds
-pub mod AnswerWorths
-pub mod AnswerCounts
-pub mod StateAnswers
-pub mod LeafCounts
-pub mod EnoughBudgets
-pub mod CallerLemmas

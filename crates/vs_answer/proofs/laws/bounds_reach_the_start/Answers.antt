@@ -1,5 +1,0 @@
-use Rattle.vs_answer.proofs.StateAnswers.{bounds_reach_the_start}
-use Rattle.vs_answer.proofs.laws.bounds_reach_the_start.Goals as goal
-
-pub returns : goal.returns
-returns c = bounds_reach_the_start

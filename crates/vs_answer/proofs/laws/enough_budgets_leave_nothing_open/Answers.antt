@@ -1,5 +1,0 @@
-use Rattle.vs_answer.proofs.EnoughBudgets.{enough_budgets_leave_nothing_open}
-use Rattle.vs_answer.proofs.laws.enough_budgets_leave_nothing_open.Goals as goal
-
-pub returns : goal.returns
-returns c = enough_budgets_leave_nothing_open

@@ -1,4 +1,0 @@
-pub mod RunIn
-pub mod Restrictions
-pub mod Sharing
-pub mod CallerLemmas

@@ -1,5 +1,0 @@
-pub mod Peak
-pub mod Counting
-pub mod Listed
-pub mod Parts
-pub mod Laws

@@ -1,2 +1,0 @@
-pub mod PeaksOwed
-pub mod CallerLemmas

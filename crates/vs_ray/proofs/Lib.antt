@@ -1,3 +1,0 @@
-pub mod CallerLemmas
-pub mod EvenMultipliers
-pub mod ShownRays

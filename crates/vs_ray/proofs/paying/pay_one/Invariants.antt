@@ -1,5 +1,0 @@
-use Rattle.vs_multi.specs.Multipliers.{AreMultipliers}
-use Rattle.vs_ray.proofs.paying.pay_one.Given as goal
-
-abbrev pub invariant-loop-i : goal.invariant-loop-i
-invariant-loop-i l = AreMultipliers l.instance l.multipliers

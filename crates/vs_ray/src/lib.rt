@@ -1,9 +1,0 @@
-//! Prices that show that there is no plan: a ray of the instance, sought as prices are where nothing costs anything.
-#![tactic(auto)]
-
-mod minutes;
-mod paying;
-mod ray;
-mod reasons;
-
-pub use ray::seek_ray;

@@ -1,5 +1,0 @@
-pub mod Room
-pub mod ReplayRows
-pub mod Owed
-pub mod Answered
-pub mod Laws

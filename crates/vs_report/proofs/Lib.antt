@@ -1,3 +1,0 @@
-pub mod written
-pub mod once
-pub mod CallerLemmas

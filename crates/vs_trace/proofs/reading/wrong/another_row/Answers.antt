@@ -1,0 +1,13 @@
+use Rattle.vs_trace.proofs.RefusedRows.{out_of_order}
+use Rattle.vs_trace.proofs.reading.wrong.another_row.Goals as goal
+use Rattle.vs_trace.proofs.reading.wrong.another_row.Goals.{in-Ok, in-Err}
+
+pub returns : goal.returns
+returns c = λ place going none. elim c.match-said_at.branch [
+  | in-Ok w ↦
+      rw w.result-is
+      (rw w.refusal.ensures
+      (out_of_order c.args.input.now c.args.row w.in-Ok.ensures.within place _ going w.in-Ok.ensures.says
+      (none _ w.in-Ok.ensures.says)))
+  | in-Err w ↦ rw w.result-is (w.in-Err.ensures.refused place going)
+]
