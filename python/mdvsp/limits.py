@@ -1,0 +1,7 @@
+"""The limits of a timetable's text, as docs/formats.md gives them."""
+
+MAX_STOPS, MAX_GROUPS, MAX_TRIPS = 500, 16, 2000
+MAX_MINUTES, MAX_METRES = 1440, 1_000_000
+MAX_VEHICLES, MAX_FIXED, MAX_PER_MINUTE, MAX_PER_METRE, MAX_STAY = 2000, 10**9, 10**6, 10**4, 600
+LAST_MINUTE = 48 * 60 - 1
+MAX_NAME = 32
