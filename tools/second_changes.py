@@ -84,6 +84,32 @@ end,
 End
 """.strip("\n").splitlines()]
 
+# Records of texts of peaks, for the two trips.
+STRANGE_PEAKS = """
+result,1,peak
+result,1,peaks
+peak,L1,1
+peak,L1,0
+peak,L1,none
+peak,L1,None
+peak,L1,01
+peak,L1,-1
+peak,L1,2001
+peak,L1
+peak,nobody,1
+block,L1,t1
+block,L1,t1,t2
+block,L1,t2,t1
+fleet,L1,0
+fleet,L1,1000
+price,L1,t1,1000,0
+price,L1,t2,0,0
+cost,1
+leaf,1
+table,1,cost
+end
+""".split()
+
 # What is put into records. The sign \udc80 stands for a byte 128 alone, which is no UTF-8.
 STRANGE_SIGNS = [
     '"', '""', '"""', '"x"', '"\n"', '","', "\r", "\r\r", "\n", "\r\n",
@@ -120,7 +146,7 @@ LIMITS = {
     ("trip", 3): TIMES, ("trip", 5): TIMES, ("trip", 6): [0, 10**6, 10**6 + 1],
     ("cost", 1): [-1, 0, 10**17, 10**17 + 1], ("bound", 1): [10**20, 10**20 + 1, -(10**20), -(10**20) - 1],
     ("nodes", 1): [-1, 0, 10**18, 10**18 + 1], ("table", 1): TABLE_NUMBERS, ("leaf", 1): TABLE_NUMBERS,
-    ("fleet", 2): PRICES, ("price", 3): PRICES, ("price", 4): PRICES,
+    ("peak", 2): [-1, 0, 1, 2000, 2001, "none"], ("fleet", 2): PRICES, ("price", 3): PRICES, ("price", 4): PRICES,
 }
 
 
@@ -167,6 +193,14 @@ def strange_records(records):
     """Yields other records put before each record, in the place of each, and behind the last."""
     for at in range(len(records) + 1):
         for strange in STRANGE_RECORDS:
+            yield Change(f"{strange!r} before record {at + 1}", at, at, [strange])
+            yield in_place(at, strange)
+
+
+def strange_peaks(records):
+    """Yields records of texts of peaks put before each record, and in the place of each."""
+    for at in range(len(records) + 1):
+        for strange in STRANGE_PEAKS:
             yield Change(f"{strange!r} before record {at + 1}", at, at, [strange])
             yield in_place(at, strange)
 

@@ -1,21 +1,30 @@
 #!/usr/bin/env python3
-"""A second checker of documents: `cat timetable.csv plan.csv | tools/second_check.py`.
+"""A second checker of documents.
 
-It reads an instance and a document behind it, judges the document against all connections of the timetable, prints
-the row that `mdvsp check` prints, and ends with the same status. It is no part of what is proved: it was written from
-the pages alone (docs/formats.md, docs/audit.md, docs/definitions.md, README.md), without a look at the sources of
+    tools/second_check.py TIMETABLE PLAN
+    cat TIMETABLE PLAN | tools/second_check.py
+
+It reads an instance and a document behind it, from two files or from standard input, judges the document against all
+connections of the timetable, prints the row that `mdvsp check` prints, and ends with the same status. Records are
+counted through both files. A second file that doesn't begin with a record `result` is no document: the checker says so
+on standard error and ends with 3.
+
+This file can be copied and used alone. It is no part of what is proved: it was written from
+the pages alone (docs/formats.md, docs/formats/, docs/audit.md, docs/definitions.md, README.md), without a look at the sources of
 `mdvsp`, so that a mistake of the one is no mistake of the other, and nothing is promised of it but what
 tools/test_second_check.py tries. All sums are of whole numbers, and it needs the standard library alone.
 
 The parts stand in the order in which an input is judged: records, instance, document, plan, prices, tree, claim.
 """
 
+from __future__ import annotations
+
 import re
 import sys
 from array import array
 from dataclasses import dataclass, field
 
-# Limits, as docs/formats.md gives them.
+# Limits, as docs/formats/input.md gives them.
 MOST_BYTES = 536_870_912
 MOST_STOPS, MOST_LAYERS, MOST_TRIPS = 500, 16, 2_000
 MOST_MINUTES, MOST_METRES = 1_440, 1_000_000
@@ -925,19 +934,58 @@ def text_of(data):
     return data.removeprefix(b"\xef\xbb\xbf").decode("latin-1")
 
 
+def joined(timetable, plan):
+    """Returns the text of a timetable and a document behind it, which begins a line of its own."""
+    return text_of(timetable) + "\n" + text_of(plan)
+
+
+def begins_a_document(data):
+    """Says whether the first record of bytes begins with `result`."""
+    return next(records(text_of(data)), [""])[0] == "result"
+
+
+def read_file(path):
+    """Returns the bytes of a file, up to one more than are taken."""
+    with open(path, "rb") as file:
+        return file.read(MOST_BYTES + 1)
+
+
+def bad_word(words):
+    """Returns the number of the first argument that is wrong, counted from 1, or 0: there are none, or two files."""
+    if words and words[0].startswith("-"):
+        return 1
+    return {0: 0, 1: 2, 2: 0}.get(len(words), 3)
+
+
+def answer(words):
+    """Returns the row that answers what is read, and the status; no row where the status says all."""
+    if not words:
+        data = sys.stdin.buffer.read(MOST_BYTES + 1)
+        return check(text_of(data)) if len(data) <= MOST_BYTES else (None, TOO_LONG)
+    timetable, plan = (read_file(path) for path in words)
+    if len(timetable) + len(plan) > MOST_BYTES:
+        return None, TOO_LONG
+    if not begins_a_document(plan):
+        print(f"{words[1]}: its first record isn't `result`, so it is no document of a plan", file=sys.stderr)
+        return None, REFUSED
+    return check(joined(timetable, plan))
+
+
 def main():
-    if len(sys.argv) > 1:
-        print("words,1")
+    words = sys.argv[1:]
+    if bad_word(words):
+        print(f"words,{bad_word(words)}")
         return WRONG_WORDS
     try:
-        data = sys.stdin.buffer.read(MOST_BYTES + 1)
-        if len(data) > MOST_BYTES:
-            return TOO_LONG
-        row, status = check(text_of(data))
-    except OSError:
+        row, status = answer(words)
+    except OSError as error:
+        if error.filename:
+            print(f"{error.filename}: {error.strerror}", file=sys.stderr)
         return READING_FAILED
     except MemoryError:
         return NO_MEMORY
+    if row is None:
+        return status
     try:
         print(",".join(str(value) for value in row), flush=True)
     except OSError:

@@ -1,7 +1,7 @@
 """Texts with several faults, for tools/test_second_check.py, and the row of the one that the pages say is told first.
 
-Each is a text in which parts are exchanged for others. The rows are what docs/formats.md says (*Flaws of a document*,
-*Input that is refused*), found by reading and not by a program.
+Each is a text in which parts are exchanged for others. The rows are what docs/formats/solution.md
+(*check*) and docs/formats/errors.md say, found by reading and not by a program.
 """
 
 from second_texts import JUST_A_REST, JUST_A_REST_PLAN, SPLITS, SPLITS_PLAN, TWO_TRIPS, TWO_TRIPS_PLAN

@@ -46,12 +46,18 @@ def commands(text):
 
 def shipped():
     """Yields the timetables of examples/ that a document stands beside: its name, and both together."""
+    for name, timetable, document in shipped_files():
+        yield name, timetable + document
+
+
+def shipped_files():
+    """Yields the same, each with the text of the timetable and that of the document."""
     names = sorted(os.listdir(os.path.join(TOP, "examples")))
     for name in names:
         for ending in ("_plan.csv", "_document.csv"):
             document = name.removesuffix(".csv") + ending
             if document in names:
-                yield document, page(f"examples/{name}") + page(f"examples/{document}")
+                yield document, page(f"examples/{name}"), page(f"examples/{document}")
 
 
 # Small timetables
@@ -213,6 +219,31 @@ KNOWN = [
         "no,3,TableBroken,1,link,L,a,b",
     ),
 ]
+
+
+# A text of peaks of the two trips, as docs/formats.md has it, and what it says of changes of it.
+PEAKS = """result,1,peak
+peak,L1,1
+block,L1,t1,t2
+fleet,L1,0
+price,L1,t1,1000,0
+price,L1,t2,0,0
+end
+"""
+
+KNOWN_PEAKS = [(row, TWO_TRIPS + PEAKS.replace(old, new), row) for row, old, new in [
+    ("yes", "", ""),
+    ("no,11,TooWeak,L1,1,2", "peak,L1,1\nblock,L1,t1,t2", "peak,L1,2\nblock,L1,t1\nblock,L1,t2"),
+    ("no,9,CountDiffers,L1,2,1", "peak,L1,1", "peak,L1,2"),
+    ("no,8,Blocks,L1,Uncovered,t2", "block,L1,t1,t2", "block,L1,t1"),
+    ("no,10,TableBroken,L1,link,L1,t1,t2", "price,L1,t2,0,0", "price,L1,t2,1000,0"),
+    (
+        "no,11,TooWeak,L1,0,none", "peak,L1,1\nblock,L1,t1,t2\nfleet,L1,0\nprice,L1,t1,1000",
+        "peak,L1,none\nfleet,L1,0\nprice,L1,t1,0",
+    ),
+    ("no,10,TableBroken,L1,out,L1,t1", "peak,L1,1\nblock,L1,t1,t2", "peak,L1,none"),
+    ("refused,14,60,NoPeak", "result,1,peak", "result,1,peaks"),
+]]
 
 
 # Timetables at their limits and one past

@@ -1,10 +1,10 @@
 #!/usr/bin/env python3
-"""Compares `mdvsp check` with tools/second_check.py, row by row and status by status.
+"""Compares `mdvsp check` with tools/second_check.py and the judge of web/judge.html, row by row and status by status.
 
     tools/test_second_check.py [PROGRAM] [--kinds]
 
 PROGRAM is the built program; without it bin/mdvsp or crates/mdvsp_main/out/mdvsp_main is taken, where both are there
-the newer. Both checkers judge
+the newer. The three judge
 
 - the examples that the pages print and texts with several faults, of which the row is known from the pages,
 - the timetables of examples/ and some small ones, with documents that stand beside them or that `solve` writes,
@@ -14,13 +14,18 @@ the newer. Both checkers judge
 - timetables and documents that are drawn from numbers,
 - and timetables at their limits and one past.
 
+Timetables and documents of examples/ are also given to the second checker as two files.
+
 They are the same each time; of the many changes of a text some are taken, spread by a fixed rule. Any difference
-fails. So does a program that isn't there. With `--kinds` it tells how often each kind of answer came.
+fails. So does a program that isn't there. The judge of the page also judges texts of peaks, as `mdvsp peakcheck` does:
+those that `peak` writes, changed in the same ways. It runs in node; where that isn't installed, the script says so and
+compares the other two. With `--kinds` it prints how often each kind of answer came.
 """
 
 import os
 import subprocess
 import sys
+import tempfile
 import time
 from collections import Counter
 
@@ -31,21 +36,25 @@ import second_check
 import second_changes
 import second_orders
 import second_texts
+import third_judge
 
 PLACES = ["bin/mdvsp", "crates/mdvsp_main/out/mdvsp_main"]
 SECOND = os.path.join(second_texts.TOP, "tools", "second_check.py")
 # How many changes of each way are made of a small text, about, how many timetables are drawn, and documents for each.
 CHANGES, TIMETABLES, DOCUMENTS = 80, 60, 10
+PEAK_CHANGES = 40
 # Differences beyond so many are counted and not told.
 MOST_TOLD = 20
 
 
 class Comparison:
-    """Both checkers, what they answered so far, and where they differed."""
+    """The checkers, what they answered so far, and where they differed."""
 
     def __init__(self, program):
         self.program = program
+        self.third = third_judge.third_judge()
         self.compared = 0
+        self.peaks = 0
         self.differences = 0
         self.kinds = Counter()
 
@@ -66,13 +75,42 @@ class Comparison:
         data = text.encode("utf-8", "surrogateescape")
         row, status = second_check.check(second_check.text_of(data))
         here = ",".join(str(value) for value in row) + "\n", status
-        self.note(name, self.judge([self.program, "check"], data), here)
+        self.note(name, self.judge([self.program, "check"], data), here, self.judge_third("check", data))
         return here[0]
 
     def compare_run(self, name, text):
         """Judges a text by the program and by the second checker as it is called."""
         data = text.encode()
-        self.note(name, self.judge([self.program, "check"], data), self.judge([sys.executable, SECOND], data))
+        second = self.judge([sys.executable, SECOND], data)
+        self.note(name, self.judge([self.program, "check"], data), second, self.judge_third("check", data))
+
+    def judge_third(self, command, data):
+        """Returns what the judge of the page says of a text, or nothing where it can't run."""
+        return self.third.judge(command, data) if self.third else None
+
+    def compare_peaks(self, name, text):
+        """Judges a text of peaks by the program and by the judge of the page."""
+        data = text.encode("utf-8", "surrogateescape")
+        self.peaks += 1
+        self.note(name, self.judge([self.program, "peakcheck"], data), None, self.judge_third("peakcheck", data))
+
+    def compare_files(self, name, timetable, plan):
+        """Judges a text by the program and, as two files, by the second checker."""
+        with tempfile.TemporaryDirectory() as folder:
+            paths = [os.path.join(folder, it) for it in ("timetable.csv", "plan.csv")]
+            for path, text in zip(paths, (timetable, plan)):
+                with open(path, "wb") as file:
+                    file.write(text.encode())
+            here = self.judge([sys.executable, SECOND, *paths], b"")
+        self.note(f"{name}, two files", self.judge([self.program, "check"], f"{timetable}\n{plan}".encode()), here, None)
+
+    def expect(self, name, words, wanted):
+        """Calls the second checker with arguments whose answer is known: what it prints, says, and ends with."""
+        run = subprocess.run([sys.executable, SECOND, *words], capture_output=True, stdin=subprocess.DEVNULL, check=False)
+        found = run.stdout.decode(), run.stderr.decode(), run.returncode
+        self.compared += 1
+        if found != wanted:
+            self.tell(f"{name}: {found!r} is answered, and {wanted!r} is known")
 
     def compare_known(self, name, text, row):
         """Judges a text of which the row is known."""
@@ -80,12 +118,12 @@ class Comparison:
         if found != row + "\n":
             self.tell(f"{name}: {found!r} is answered, and {row!r} is known")
 
-    def note(self, name, first, second):
-        """Counts an answer, and tells it where the two differ."""
+    def note(self, name, first, second, third):
+        """Counts an answer, and tells it where one judge differs from the program. None is a judge that can't say."""
         self.compared += 1
-        self.kinds[kind_of(second[0])] += 1
-        if first != second:
-            self.tell(f"{name}\n  mdvsp check   {first}\n  second check  {second}")
+        self.kinds[kind_of(first[0])] += 1
+        if any(other not in (None, first) for other in (second, third)):
+            self.tell(f"{name}\n  mdvsp         {first}\n  second check  {second}\n  judge page    {third}")
 
     def tell(self, difference):
         self.differences += 1
@@ -131,6 +169,24 @@ def compare_changed(comparison, name, text, most):
         comparison.compare(f"{name}: {change}", changed)
 
 
+def compare_files(comparison):
+    """Judges what examples/ has as two files, and calls the second checker with arguments that are wrong."""
+    for name, timetable, plan in second_texts.shipped_files():
+        comparison.compare_files(name, timetable, plan)
+        comparison.compare_files(f"{name} without its last line end", timetable.rstrip("\n"), plan)
+        comparison.compare_files(f"{name} with marks", f"\ufeff{timetable}", f"\r\n{plan}")
+    two_trips = os.path.join(second_texts.TOP, "examples", "two_trips.csv")
+    told = "its first record isn't `result`, so it is no document of a plan"
+    for name, words, wanted in (
+        ("a timetable twice", [two_trips, two_trips], ("", f"{two_trips}: {told}\n", 3)),
+        ("a file that isn't there", [two_trips, "nowhere"], ("", "nowhere: No such file or directory\n", 4)),
+        ("one file", [two_trips], ("words,2\n", "", 2)),
+        ("three files", [two_trips] * 3, ("words,3\n", "", 2)),
+        ("an option", ["--quickly"], ("words,1\n", "", 2)),
+    ):
+        comparison.expect(name, words, wanted)
+
+
 def compare_drawn(comparison):
     """Judges drawn documents, and those that `solve` writes for drawn timetables."""
     for number in range(TIMETABLES):
@@ -147,6 +203,35 @@ def compare_drawn(comparison):
         for _ in range(DOCUMENTS):
             document = second_texts.drawn_document(draws, instance)
             comparison.compare(f"drawn {number}:\n{timetable}{document}", timetable + document)
+
+
+def compare_peaks(comparison):
+    """Judges the texts of peaks that the page shows and that `peak` writes, these changed in small ways too."""
+    for name, text, row in second_texts.KNOWN_PEAKS:
+        comparison.compare_peaks(name, text)
+        found = comparison.third.judge("peakcheck", text.encode())[0]
+        if found != row + "\n":
+            comparison.tell(f"{name}: {found!r} is answered, and {row!r} is known")
+    timetables = [("splits", second_texts.SPLITS), ("rests", second_texts.RESTS), ("no layer", "instance,1\n")]
+    timetables += [("two trips", second_texts.TWO_TRIPS), ("split shift", second_texts.page("examples/split_shift.csv"))]
+    for name, timetable in timetables:
+        text = timetable + comparison.run(name, "peak", text=timetable)
+        comparison.compare_peaks(name, text)
+        compare_changed_peaks(comparison, name, text.splitlines())
+    for number in range(TIMETABLES):
+        timetable = second_texts.drawn_timetable(second_texts.Draws(number))
+        records = comparison.run(f"drawn {number}", "peak", text=timetable).splitlines()
+        for change in second_changes.spread(second_changes.field_changes(records), DOCUMENTS):
+            comparison.compare_peaks(f"peaks of drawn {number}: {change.name}", timetable + change.text(records))
+
+
+def compare_changed_peaks(comparison, name, records):
+    """Judges a text of peaks changed in each way."""
+    for way in [*second_changes.WAYS, second_changes.strange_peaks]:
+        for change in second_changes.spread(way(records), PEAK_CHANGES):
+            comparison.compare_peaks(f"peaks of {name}: {change.name}", change.text(records))
+    for change, changed in second_changes.text_changes(records):
+        comparison.compare_peaks(f"peaks of {name}: {change}", changed)
 
 
 def find_program(words):
@@ -168,11 +253,16 @@ def main():
     for name, text, most in texts(comparison):
         compare_changed(comparison, name, text, most)
     compare_drawn(comparison)
+    if comparison.third:
+        compare_peaks(comparison)
+    compare_files(comparison)
     if "--kinds" in sys.argv:
         print(*(f"{count:6} {kind}" for kind, count in sorted(comparison.kinds.items())), sep="\n")
-    compared, differences, seconds = comparison.compared, comparison.differences, time.monotonic() - begin
-    print(f"second_check: {compared} texts judged by both checkers, {differences} differences, {seconds:.0f} seconds")
-    return 1 if differences else 0
+    documents, seconds = comparison.compared - comparison.peaks, time.monotonic() - begin
+    judges = "three judges" if comparison.third else "two judges (node isn't here, so the page's judge is skipped)"
+    print(f"second_check: {documents} texts judged by {judges}, {comparison.peaks} texts of peaks by two, "
+          f"{comparison.differences} differences, {seconds:.0f} seconds")
+    return 1 if comparison.differences else 0
 
 
 if __name__ == "__main__":
