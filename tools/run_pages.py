@@ -1,5 +1,5 @@
 #!/usr/bin/env python3
-"""Runs the command lines of README.md and docs/*.md, and says where a page tells something else than they print.
+"""Runs the command lines of README.md and of the pages in docs/, and says where a page differs from what they print.
 
 usage: tools/run_pages.py [PROGRAM] [--write]
 
@@ -8,7 +8,8 @@ PROGRAM is the built mdvsp; where it isn't given, bin/mdvsp, or else what the ga
 - In a block that begins with ```console each line behind `$ ` is run by bash, a line that ends with a backslash together
   with the next, and the lines behind it are all that it has to print, on standard output and standard error together.
   The lines of one page are run one after another in a folder of the page's own, which has what the repository keeps of
-  examples/ and tools/, and the program as bin/mdvsp; `$?` is the status of the line before.
+  examples/, tools/ and python/, the program as bin/mdvsp, and `mdvsp-plan` on the PATH; `$?` is the status of the line
+  before.
 - A block whose first line names a file behind the language, as in ```rust crates/x/src/main.rt, has to be that file's text.
 - A link to a file of the repository has to lead to one.
 - A source that a page names with its crate, as `vs_x/src/y.rt` or `vs_x/specs/Y.antt`, has to be there.
@@ -29,7 +30,12 @@ import time
 TOP = os.path.dirname(os.path.dirname(os.path.abspath(__file__)))
 
 # What a page's folder has of the repository.
-FOLDERS = ["examples", "tools"]
+FOLDERS = ["examples", "tools", "python"]
+
+# The command of python/, as an installation makes it.
+PLAN_COMMAND = """#!/bin/sh
+PYTHONPATH="$(dirname "$0")/../python" exec python3 -m mdvsp "$@"
+"""
 
 # Where the built program may be.
 PROGRAMS = ["bin/mdvsp", "crates/mdvsp_main/out/mdvsp_main"]
@@ -45,8 +51,8 @@ SOURCE = re.compile(r"`(\w+/(?:src|specs|proofs)/[\w/]+\.(?:rt|antt))`")
 
 def pages():
     """Returns the pages, by their paths from the top."""
-    docs = sorted(name for name in os.listdir(f"{TOP}/docs") if name.endswith(".md"))
-    return ["README.md", *(f"docs/{name}" for name in docs)]
+    docs = [os.path.relpath(f"{at}/{name}", TOP) for at, _, names in os.walk(f"{TOP}/docs") for name in names]
+    return ["README.md", "CONTRIBUTING.md", *sorted(path for path in docs if path.endswith(".md"))]
 
 
 def kept_files():
@@ -104,14 +110,20 @@ class Room:
             shutil.copy(f"{TOP}/{path}", f"{folder}/{path}")
         os.makedirs(f"{folder}/bin")
         shutil.copy(program, f"{folder}/bin/mdvsp")
-        os.chmod(f"{folder}/bin/mdvsp", 0o755)
+        with open(f"{folder}/bin/mdvsp-plan", "w", encoding="ascii") as file:
+            file.write(PLAN_COMMAND)
+        for name in ("mdvsp", "mdvsp-plan"):
+            os.chmod(f"{folder}/bin/{name}", 0o755)
+        inherited = {name: value for name, value in os.environ.items() if name != "MDVSP"}
+        path = f"{folder}/bin{os.pathsep}{os.environ.get('PATH', os.defpath)}"
+        self.environment = {**inherited, "PATH": path, "LC_ALL": "C.UTF-8", "PYTHONDONTWRITEBYTECODE": "1"}
 
     def run(self, command):
         """Returns the lines that a command prints."""
         ran = subprocess.run(
             ["bash", "-c", f"(exit {self.status})\n{command}"],
             cwd=self.folder,
-            env={**os.environ, "LC_ALL": "C.UTF-8", "PYTHONDONTWRITEBYTECODE": "1"},
+            env=self.environment,
             stdin=subprocess.DEVNULL,
             stdout=subprocess.PIPE,
             stderr=subprocess.STDOUT,
