@@ -11,7 +11,6 @@ use Rattle.vs_replay.proofs.CallerLemmas.{written_traces_replay}
 use Rattle.vs_reply.specs.declared.status.Status.{Status}
 use Rattle.vs_reply.specs.declared.status.Status.TheVariants.{Done}
 use Rattle.vs_rows.specs.DocumentRows.{document_rows}
-use Rattle.vs_rows.specs.DocumentText.{HasText}
 use Rattle.vs_trace.specs.TraceRows.{IsOpeningForm, trace_text}
 use Rattle.vs_tree.specs.History.{FullStep, IsHistory, Opening, state_of}
 use Rattle.vs_tree.specs.Sound.{IsOpening}
@@ -20,6 +19,7 @@ use Rattle.vs_words.specs.Words.{MayBeTaken}
 use Rattle.vs_words.specs.declared.command.Effort.{Effort}
 use Rattle.mdvsp.specs.Laws.{WritesAnswer}
 use Rattle.mdvsp.specs.Owed.{OwesTrace}
+use Rattle.mdvsp.proofs.SearchAnswers.{search_answers}
 use Rattle.mdvsp.proofs.TraceRoom.{budget_few, budget_has_room}
 
 -- what is answered for the trace text of a search
@@ -85,8 +85,8 @@ module _ (effort : Effort) (bytes read : List ℕ) (answer replayed : Status) (r
         record {
           document = is.document;
           of_state = is.of_state;
-          solves = owed.tells.documents is.document (subst (λ (x : Problem). HasText x is.document) same is.has_text)
-              is.of_state;
+          solves = search_answers owed.problem owed.budget effort.workers owed.opening owed.steps is.document
+              owed.tells.made is.of_state is.has_text;
           lines_are =
               subst (λ (x : Problem). lines others ≡ lines (document_rows x owed.names is.document)) same is.bytes_are;
         },

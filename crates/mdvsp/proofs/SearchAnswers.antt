@@ -2,10 +2,11 @@
 use Rattle.std.proofs.Common.{◌≡◌, ℕ, ◌≤◌, List, Option, IfSome, sym, ap, subst, arith, ◌∙◌, ℤ}
 use Rattle.vs_instance.specs.Problem.{Problem}
 use Rattle.vs_prices.specs.Claims.{claim_found}
+use Rattle.vs_prices.proofs.CallerLemmas.{no_less-both}
 use Rattle.vs_tree.specs.History.{FullStep, Opening, State, state_of}
 use Rattle.vs_tree.specs.Report.{IsReport, bound_of}
 use Rattle.vs_tree.specs.declared.calls.Report.{Report}
-use Rattle.vs_tree.proofs.CallerLemmas.{no_less-both, same_bound, lesser-no_less}
+use Rattle.vs_tree.proofs.CallerLemmas.{same_bound, lesser-no_less}
 use Rattle.vs_node.proofs.CallerLemmas.{worked_searches_reach_the_start}
 use Rattle.vs_rows.specs.DocumentText.{HasText}
 use Rattle.vs_cert.specs.StateDocument.{IsDocumentOf}

@@ -40,14 +40,14 @@ IsSaid (Err memory) said taken taken_after faults faults_after = (said ≡ NoMem
 
 -- the text is that of a document that a search with this budget and so many workers answers, and the status that of its
 -- claim
-pub record IsDocumentOf (problem : Problem) (names : NameLists) (budget workers : ℕ) (answer : Answer) : Type 0 where
+pub record AnswersDocument (problem : Problem) (names : NameLists) (budget workers : ℕ) (answer : Answer) : Type 0 where
   pub document : Document
   pub solves : SolveAnswer problem budget workers document
   pub status_is : answer.status ≡ status_of document.claim
   pub text_is : answer.text.items ≡ lines (document_rows problem names document)
 
 -- the text is the trace of such a search, and the status that of what it reports
-pub record IsTraceOf (problem : Problem) (names : NameLists) (budget workers : ℕ) (answer : Answer) : Type 0 where
+pub record AnswersTrace (problem : Problem) (names : NameLists) (budget workers : ℕ) (answer : Answer) : Type 0 where
   pub opening : Opening
   pub steps : List FullStep
   pub report : Report
@@ -56,7 +56,7 @@ pub record IsTraceOf (problem : Problem) (names : NameLists) (budget workers : �
   pub text_is : answer.text.items ≡ lines (trace_text names opening steps)
 
 -- one text is an instance text and no more, and the other that of a document for this instance, which holds
-pub record IsWritten (made written : List ℕ) (p : Problem) (names : NameLists) (d : Document) : Type 0 where
+pub record AreTextsOf (made written : List ℕ) (p : Problem) (names : NameLists) (d : Document) : Type 0 where
   pub whole : IsWholeText made p names
   pub has_text : HasText p d
   pub holds : HoldingDocument p d
@@ -64,12 +64,12 @@ pub record IsWritten (made written : List ℕ) (p : Problem) (names : NameLists)
 
 -- the same of some instance and some document
 abbrev pub AreWritten : List ℕ → List ℕ → Type 0
-AreWritten made written = (p : Problem) × (names : NameLists) × (d : Document) × IsWritten made written p names d
+AreWritten made written = (p : Problem) × (names : NameLists) × (d : Document) × AreTextsOf made written p names d
 
 -- whatever document was written, this one is alike
 abbrev pub IsReadOf : List ℕ → List ℕ → Document → Type 0
 IsReadOf made written e =
-    (p : Problem) (names : NameLists) (d : Document) → IsWritten made written p names d → AreAlike p d e
+    (p : Problem) (names : NameLists) (d : Document) → AreTextsOf made written p names d → AreAlike p d e
 
 -- the text is that of a document that answers another one within this budget, and the status that of its claim
 pub record IsResumed (problem : Problem) (names : NameLists) (budget : ℕ) (before : Document) (answer : Answer) : Type 0

@@ -22,7 +22,7 @@ abbrev pub IsBudgetFor : Effort → Case → ℕ → Type 0
 IsBudgetFor effort case budget = resumed_budget case.input.instance case.document effort.nodes ≡ Some budget
 
 -- leaves and nodes are too many, and a row says so
-pub record TellsTooLarge (effort : Effort) (case : Case) (answer : Answer) : Type 0 where
+pub record TellsTooMany (effort : Effort) (case : Case) (answer : Answer) : Type 0 where
   pub too_large : resumed_budget case.input.instance case.document effort.nodes ≡ None
   pub tells : TellsRow BadInput too_large_row answer
 
@@ -42,6 +42,6 @@ pub record MayGoOn (effort : Effort) (case : Case) (budget : ℕ) : Type 0 where
   pub room : HasRoom case.input.instance case.document budget
   pub holds : HoldingDocument case.input.instance case.document
 
-abbrev pub IsStart : Effort → Case → Start → Type 0
-IsStart effort case (With budget) = MayGoOn effort case budget
-IsStart effort case (Not answer) = TellsTooLarge effort case answer ⊎ TellsFirstFlaw effort case answer
+abbrev pub BeginsResuming : Effort → Case → Start → Type 0
+BeginsResuming effort case (With budget) = MayGoOn effort case budget
+BeginsResuming effort case (Not answer) = TellsTooMany effort case answer ⊎ TellsFirstFlaw effort case answer

@@ -14,7 +14,7 @@ use Rattle.mdvsp.specs.declared.searchable.Searchable.{Searchable}
 use Rattle.mdvsp.specs.declared.searchable.Searchable.TheVariants.{With, Not}
 
 -- they are those of the instance with its names, and the budget is what the effort comes to there
-pub record IsFound (effort : Effort) (bytes : List ℕ) (timetable : Timetable) (budget : ℕ) : Type 0 where
+pub record IsReadToSearch (effort : Effort) (bytes : List ℕ) (timetable : Timetable) (budget : ℕ) : Type 0 where
   pub text : SolveText bytes timetable.instance timetable.names
   pub counts : HaveCounts timetable.instance timetable.names
   pub budget_is : budget_of timetable.instance effort.nodes ≡ Some budget
@@ -28,5 +28,5 @@ pub record IsNoSearch (effort : Effort) (bytes : List ℕ) (answer : Answer) : T
   pub text_is : answer.text.items ≡ lines rows
 
 abbrev pub IsSearchable : Effort → List ℕ → Searchable → Type 0
-IsSearchable effort bytes (With timetable budget) = IsFound effort bytes timetable budget
+IsSearchable effort bytes (With timetable budget) = IsReadToSearch effort bytes timetable budget
 IsSearchable effort bytes (Not answer) = IsNoSearch effort bytes answer

@@ -51,12 +51,13 @@ pub record SolveAnswer (p : Problem) (budget workers : ℕ) (d : Document) : Typ
   pub searched : IsSearched p budget workers d
 
 -- Such a search, of no more steps than a list may have, and what it reports of the state that it came to: that is true
--- of all plans of the instance, and each document of the state is one that a search may answer.
+-- of all plans of the instance. The state has a document, and that is one that a search may answer.
 pub record TraceAnswer (p : Problem) (budget workers : ℕ) (opening : Opening) (steps : List FullStep) (report : Report)
     : Type 0 where
   pub made : IsSearchOf p budget workers opening steps
   pub few_steps : length steps < 2 ^ 63
   pub is_report : IsReport p (state_of opening steps) report
   pub proves : IsTrueClaim p (state_of opening steps) report report.claim
-  pub documents : (d : Document) → HasText p d → IsDocumentOf opening (state_of opening steps) d
-      → SolveAnswer p budget workers d
+  pub document : Document
+  pub of_state : IsDocumentOf opening (state_of opening steps) document
+  pub solves : SolveAnswer p budget workers document

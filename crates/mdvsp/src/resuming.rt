@@ -13,7 +13,7 @@ ghost use Rattle.vs_rows.specs.DocumentText.{HasText};
 ghost use Rattle.vs_words.specs.Words.{MayBeTaken};
 ghost use Rattle.mdvsp.specs.Answered.{IsResumed};
 ghost use Rattle.mdvsp.specs.Owed.{ResumeOwes};
-ghost use Rattle.mdvsp.specs.Resuming.{IsStart};
+ghost use Rattle.mdvsp.specs.Resuming.{BeginsResuming};
 
 use crate::budget::resumed_budget;
 use crate::crew::{ByCalls, Crew};
@@ -104,7 +104,7 @@ fn start_of(alloc: Global, effort: Effort, case: &Case) -> Result<Start, Memory>
     requires effort { MayBeTaken effort }
     requires read_for { IsReadFor case.now.input.instance case.now.document }
     requires counts { HaveCounts case.now.input.instance case.now.input.names }
-    ensures { IfOk result (IsStart effort case.now) }
+    ensures { IfOk result (BeginsResuming effort case.now) }
 {
     let (instance, document) = (&case.input.instance, &case.document);
     let Some(budget) = resumed_budget(instance, document, effort.nodes) else {

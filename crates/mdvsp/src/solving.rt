@@ -6,7 +6,7 @@ ghost use Rattle.vs_tree.specs.Search.{state};
 ghost use Rattle.vs_tree.specs.Takes.{IsOver};
 ghost use Rattle.vs_instance.specs.declared.limits.TheConstants.{MAX_BUDGET};
 ghost use Rattle.vs_node.specs.WorkedHistory.{AreWorked};
-ghost use Rattle.mdvsp.specs.Answered.{IsDocumentOf};
+ghost use Rattle.mdvsp.specs.Answered.{AnswersDocument};
 ghost use Rattle.mdvsp.specs.Owed.{SolveOwes};
 ghost use Rattle.vs_reply.specs.Answered.{IsTextOf};
 ghost use Rattle.vs_reply.specs.Cases.{input_limit};
@@ -48,7 +48,7 @@ impl<'a, R: Threads + Wait + Sync, G: Gate + Sync> Crew<'a, R, G> {
         requires counts { HaveCounts timetable.now.instance timetable.now.names }
         requires budget { budget ≤ MAX_BUDGET }
         ensures { IfOk result
-            (IsDocumentOf timetable.now.instance timetable.now.names budget self.now.workers) }
+            (AnswersDocument timetable.now.instance timetable.now.names budget self.now.workers) }
     {
         let tree = self.search_anew(alloc, &timetable.instance, budget)?;
         let _instance = tree.instance();

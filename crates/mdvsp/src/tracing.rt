@@ -6,7 +6,7 @@ ghost use Rattle.vs_reader.specs.Names.{HaveCounts};
 ghost use Rattle.vs_reply.specs.Cases.{input_limit};
 ghost use Rattle.vs_words.specs.Words.{MayBeTaken};
 ghost use Rattle.vs_reply.specs.Answered.{IsTextOf};
-ghost use Rattle.mdvsp.specs.Answered.{IsTraceOf};
+ghost use Rattle.mdvsp.specs.Answered.{AnswersTrace};
 ghost use Rattle.mdvsp.specs.Owed.{TraceOwes};
 
 use crate::crew::Crew;
@@ -42,7 +42,7 @@ impl<'a, R: Threads + Wait + Sync, G: Gate + Sync> Crew<'a, R, G> {
         requires counts { HaveCounts timetable.now.instance timetable.now.names }
         requires budget { budget ≤ MAX_BUDGET }
         ensures { IfOk result
-            (IsTraceOf timetable.now.instance timetable.now.names budget self.now.workers) }
+            (AnswersTrace timetable.now.instance timetable.now.names budget self.now.workers) }
     {
         // for the proof: what a report claims is true, and a list has fewer than 2^63 steps.
         reports_are_true();

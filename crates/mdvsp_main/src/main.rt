@@ -9,42 +9,13 @@ use std::io::IsTerminal;
 use std::process::ExitCode;
 use std::rt::Env;
 use std::{env, io};
+use usage::{TOOLCHAIN, USAGE, VERSION};
 use vs_io::{StdSink, StdSource};
 use vs_messages::{reason_text, refusal_text};
 
 mod kept;
 mod progress;
-
-/// The version of the program.
-const VERSION: &str = "1.0.0";
-
-/// How the program is called.
-const USAGE: &str = "\
-usage: mdvsp COMMAND < input > output
-
-commands:
-  solve [--workers N] [--nodes N]
-            plan the vehicles of a timetable; so many workers, 1 to 64, share the search, 4 where none are told,
-            and they work on so many cases, 0 to 100000, at most
-  resume [--workers N] [--nodes N]
-            go on from the plan's document behind the timetable, where it ended, in the same way
-  trace [--workers N] [--nodes N]
-            plan as solve does, and write each step of the search in place of the plan's document
-  replay    make the steps of such a trace behind its timetable again, and write the document to which they lead
-  check     judge a plan's document behind its timetable
-  blocks    print the timetable of a plan's vehicles
-  network   tell how large a timetable's networks are
-  peak      tell how few vehicles each layer needs for all that it may run, whatever its fleet
-  peakcheck judge such a text behind its timetable
-  make N    write a timetable of N trips, 0 to 2000, to try the program on
-  trial N   make such a timetable, plan it by one worker and 20 cases, check the plan, and tell how it went
-  --help, --version
-            print this, or the version of the program
-
-exit status:
-  0 done, solve, resume, trace, trial: the plan is optimal   1 check, resume, replay, blocks, peakcheck: no
-  2 wrong words   3 the input is refused   4 reading failed   5 writing failed   6 no memory
-  7 the input is too long   10 solve, resume, trace, trial: there is no plan   11 they are open, the cases ran out";
+mod usage;
 
 /// Runs the words after the program's name over standard input and output, and ends with the run's code. Where standard
 /// error is a terminal, it tells there how far the run has come, why there is no plan where there is none, and what was
@@ -75,15 +46,15 @@ fn main(rt: HostRuntime) -> ExitCode {
     ExitCode::from(status.code())
 }
 
-/// Prints how the program is called, or its version, where the only word asks for that, and says how that ended. None
-/// where the words are for `run`.
+/// Prints how the program is called, or its version and the toolchain's, where the only word asks for that, and says
+/// how that ended. None where the words are for `run`.
 fn about_itself<R: Print>(rt: &R, words: &[String]) -> Option<Status> {
     if words.len() != 1 {
         return None;
     }
     let word = words[0].as_str();
     let printed = if word == "--version" {
-        println!(rt; "mdvsp {VERSION}")
+        println!(rt; "mdvsp {VERSION}\ntoolchain {TOOLCHAIN}")
     } else if word == "--help" || word == "-h" {
         println!(rt; "{USAGE}")
     } else {

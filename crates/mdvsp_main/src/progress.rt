@@ -38,7 +38,7 @@ impl<'a, R: Eprint + Clock> Progress<'a, R> {
 
 impl<R: Eprint + Clock> Gate for Progress<'_, R> {
     fn before(&self, _worker: u32, _leaf: u32) {
-        let taken = self.taken.fetch_add(1, Ordering::SeqCst).wrapping_add(1);
+        let taken = self.taken.fetch_add(1, Ordering::SeqCst).saturating_add(1);
         let Some(start) = self.start else {
             return;
         };

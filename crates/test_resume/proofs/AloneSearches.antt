@@ -25,7 +25,7 @@ use Rattle.vs_tree.proofs.CallerLemmas.{lawful_worth, state-last, zeros_lawful}
 use Rattle.vs_node.specs.WorkedHistory.{AreWorked}
 use Rattle.vs_crew.specs.Sharing.{IsIdle}
 use Rattle.vs_crew.proofs.CallerLemmas.{holders_are_workers, worked-append}
-use Rattle.test_resume.specs.Alone.{IsBetween, begun_alone}
+use Rattle.test_resume.specs.Alone.{IsBetweenLeaves, begun_alone}
 
 -- where some spots are held, one is
 abbrev SomeHeld : List Place → Type 0
@@ -114,9 +114,9 @@ module _ (o : Opening) where
   }
 
 pub begins : (p : Problem) (budget : ℕ) (t : Search) → t ≡ record { opening = begun_alone p budget; steps = [] }
-    → IsBetween t
+    → IsBetweenLeaves t
 begins p budget t is =
-    subst IsBetween (sym is) (record { workers = refl; idle = at_first (begun_alone p budget) refl; worked = tt })
+    subst IsBetweenLeaves (sym is) (record { workers = refl; idle = at_first (begun_alone p budget) refl; worked = tt })
 
 -- at first the root may be worked on
 module _ (o : Opening) (is : IsInstance o.problem) (first : o.first ≡ None) where

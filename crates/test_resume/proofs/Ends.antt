@@ -8,11 +8,11 @@ use Rattle.vs_tree.specs.Sound.{IsOpening}
 use Rattle.vs_tree.specs.Takes.{IsOver}
 use Rattle.vs_node.proofs.CallerLemmas.{worked_searches_reach_the_start}
 use Rattle.vs_resume.specs.Deepened.{IsDeepened}
-use Rattle.test_resume.specs.Alone.{IsBetween, begun_alone}
+use Rattle.test_resume.specs.Alone.{IsBetweenLeaves, begun_alone}
 use Rattle.test_resume.proofs.AloneSearches.{first_not_over, none_held}
 
 module _ (p : Problem) (budget : ℕ) (some : 1 ≤ budget) (t : Search) (begins : t.opening ≡ begun_alone p budget)
-    (opening : IsOpening t.opening) (history : IsHistory t.opening t.steps) (between : IsBetween t) where
+    (opening : IsOpening t.opening) (history : IsHistory t.opening t.steps) (between : IsBetweenLeaves t) where
   deepened : IsOver t.opening (state t) → 1 ≤ (state t).finished → IsDeepened p budget t
   deepened over finished = record {
     problem = ap (λ (o : Opening). o.problem) begins;

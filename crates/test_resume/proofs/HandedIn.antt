@@ -18,7 +18,7 @@ use Rattle.vs_node.specs.declared.outcome.Task.{Task}
 use Rattle.vs_crew.specs.Found.{IsLawfulNext, IsLawfulTask}
 use Rattle.vs_crew.specs.Leaves.{HasOffered}
 use Rattle.vs_crew.proofs.CallerLemmas.{IsReadyLeaf, after_offer, finished_idle, finished_opening, finished_steps, finished_worked, may_come, state_last, worked-append}
-use Rattle.test_resume.specs.Alone.{HasOutcome, IsAtLeaf, IsBetween, begun_alone}
+use Rattle.test_resume.specs.Alone.{HasOutcome, IsAtLeaf, IsBetweenLeaves, begun_alone}
 
 -- one leaf more is finished
 one_finished : (s : State) (leaf : ℕ) (prices : Prices) (next : Next)
@@ -77,7 +77,7 @@ module _ (old new : Search) (leaf : ℕ) (outcome : Outcome) (opening : IsOpenin
         (subst (AreWorked old.opening) steps
         (worked-append old.opening (first_state old.opening) old.steps _ has.at_leaf.worked added))
 
-    pub between : IsBetween last
+    pub between : IsBetweenLeaves last
     between =
         let holds = has.at_leaf.holds in
         record {

@@ -15,7 +15,7 @@ abbrev pub begun_alone : Problem → ℕ → Opening
 begun_alone p budget = record { problem = p; budget = budget; workers = 1; first = None }
 
 -- between two leaves: the worker has none, and worked on each that was split or closed
-pub record IsBetween (t : Search) : Type 0 where
+pub record IsBetweenLeaves (t : Search) : Type 0 where
   pub workers : t.opening.workers ≡ 1
   pub idle : IsIdle 0 t.opening (state t)
   pub worked : AreWorked t.opening t.steps

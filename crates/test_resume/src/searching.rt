@@ -9,7 +9,7 @@ ghost use Rattle.vs_tree.specs.History.{IsAmong};
 ghost use Rattle.vs_tree.specs.Search.{state};
 ghost use Rattle.vs_tree.specs.Sound.{IsPlanOf};
 ghost use Rattle.vs_tree.specs.Takes.{IsOver, IsSized};
-ghost use Rattle.test_resume.specs.Alone.{HasOutcome, IsAtLeaf, IsBetween};
+ghost use Rattle.test_resume.specs.Alone.{HasOutcome, IsAtLeaf, IsBetweenLeaves};
 
 use std::alloc::Global;
 use vs_circ::Work;
@@ -60,7 +60,7 @@ fn blank_task(alloc: Global, instance: &Instance) -> Result<Task, Memory>
 
 /// Takes the next leaf and its task. None where the search is over.
 fn take(tree: &mut Tree, task: &mut Task) -> Option<u32>
-    requires between { IsBetween tree.old }
+    requires between { IsBetweenLeaves tree.old }
     requires sets { length task.old.sets.items ≡ length tree.old.opening.problem.trips }
     requires table { IsSized tree.old.opening.problem task.old.table }
     ensures opening { tree.new.opening ≡ tree.old.opening }
@@ -86,7 +86,7 @@ fn hand_in(tree: &mut Tree, leaf: u32, outcome: Outcome)
     requires { HasOutcome leaf outcome tree.old }
     ensures opening { tree.new.opening ≡ tree.old.opening }
     ensures finished { (state tree.new).finished ≡ (state tree.old).finished + 1 }
-    ensures between { IsBetween tree.new }
+    ensures between { IsBetweenLeaves tree.new }
 {
     // for the proof: the steps of a search are a history from an opening.
     let _instance = tree.instance();

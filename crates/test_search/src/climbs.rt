@@ -66,7 +66,7 @@ fn climbed(alloc: Global, low: bool) -> Result<(i64, Vec<u32>), Fail> {
     let instance = instance_of(alloc, &[STOPS, LAYER, TRIPS])?;
     let mut multipliers = begun_at(alloc, &instance, low)?;
     let climbed = climbed_from(alloc, &instance, &mut multipliers)?;
-    Ok((climbed.value, climbed.shares))
+    Ok((climbed.value, climbed.shares.each))
 }
 
 /// One vehicle runs both trips for 1080, and no multipliers are worth more.

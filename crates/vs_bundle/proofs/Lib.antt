@@ -1,1 +1,1 @@
-pub mod Multipliers
+pub mod Places

@@ -1,19 +1,19 @@
 -- What a climb works on, and what it gives. How good that is nothing says.
-use Rattle.std.specs.Prelude.{◌≡◌, ℕ, ◌*◌, List, length, ℤ}
+use Rattle.std.specs.Prelude.{◌≡◌, List, length, ℤ}
 use Rattle.vs_types.specs.declared.layer_set.LayerSet.{LayerSet}
 use Rattle.vs_instance.specs.Problem.{Problem}
 use Rattle.vs_match.specs.LayerGraph.{LayerGraph}
 use Rattle.vs_cuts.specs.Bundles.{AreFound, HasSizes}
-use Rattle.vs_cuts.specs.Shares.{AreParts}
 use Rattle.vs_multi.specs.Multipliers.{AreMultipliers}
 use Rattle.vs_multi.specs.Rounds.{IsCase}
 use Rattle.vs_bundle.specs.declared.climbing.Ascent.{Ascent}
+use Rattle.vs_bundle.specs.declared.shares.Shares.{Shares}
 use Rattle.vs_bundle.specs.declared.valuing.Trial.{Trial}
 
 -- a share for each trip and layer
-pub record AreShares (p : Problem) (shares : List ℕ) : Type 0 where
-  pub each : length shares ≡ length p.trips * length p.layers
-  pub parts : AreParts shares
+pub record AreSharesFor (p : Problem) (shares : Shares) : Type 0 where
+  pub each_trip : shares.trips ≡ length p.trips
+  pub each_layer : shares.layers ≡ length p.layers
 
 -- space for what a layer is offered, with an entry for each trip, and for what each layer finds
 pub record IsTrialFor (p : Problem) (trial : Trial) : Type 0 where

@@ -1,19 +1,19 @@
 //! Multipliers climbed to the greatest Lagrangian value.
 
-ghost use Rattle.std.specs.Prelude.{◌≡◌, ◌*◌, ◌⊎◌, IfOk, length};
+ghost use Rattle.std.specs.Prelude.{◌≡◌, ◌⊎◌, IfOk, length};
 ghost use Rattle.vs_circ.specs.shipping.Ready.{IsReadyToRun};
 ghost use Rattle.vs_multi.specs.Multipliers.{AreMultipliers, AreWithin};
 ghost use Rattle.vs_multi.specs.Rounds.{IsCase};
 ghost use Rattle.vs_cuts.specs.Bundles.{AreFound, HasSizes, layers_of, trips_of_all};
-ghost use Rattle.vs_bundle.specs.Climbs.{AreShares, CanClimb, IsAscentFor};
+ghost use Rattle.vs_bundle.specs.Climbs.{AreSharesFor, CanClimb, IsAscentFor};
 
 use crate::aim::Aim;
+use crate::shares::Shares;
 use crate::stepping::go_further;
 use crate::stride::Stride;
 use crate::valuing::Trial;
 use vs_circ::{Work, begin_runs};
 use vs_cuts::{Bundle, Forecast, WHOLE};
-use vs_instance::{MAX_LAYERS, MAX_TRIPS};
 use vs_multi::Case;
 use vs_types::Memory;
 
@@ -29,8 +29,8 @@ const NEAR: i64 = 1_000_000;
 /// What a climb found.
 #[derive(Drop)]
 pub struct Climbed {
-    /// By layer, and within that by trip: how much of the trip the layer runs, in parts of `WHOLE`.
-    pub shares: Vec<u32>,
+    /// How much of each trip each layer runs.
+    pub shares: Shares,
     /// The Lagrangian value at the multipliers, in 1/1000 of a cost unit, or near it where it is past what fits.
     pub value: i64,
     /// How many rounds there were.
@@ -208,27 +208,15 @@ pub fn climb(
     requires case { IsCase case.now.instance.now case.now.nets.now case.now.sets.now }
     requires multipliers { AreMultipliers case.now.instance.now multipliers.old }
     ensures within { AreMultipliers case.now.instance.now multipliers.new }
-    ensures shares { IfOk result (λ climbed. AreShares case.now.instance.now climbed.shares.items) }
+    ensures shares { IfOk result (λ climbed. AreSharesFor case.now.instance.now climbed.shares) }
 {
     let mut ascent = Ascent::new(case, aim, multipliers)?;
     begin_runs(case.alloc, case.nets, work)?;
     ascent.begin(case, multipliers, work);
     let rounds = ascent.go_on(case, aim, multipliers, work);
     Ok(Climbed {
-        shares: shares_of(case, &ascent.bundle)?,
+        shares: Shares::of(case, &ascent.bundle)?,
         value: ascent.top,
         rounds,
     })
-}
-
-/// How much of each trip each layer runs.
-fn shares_of(case: &Case<'_>, bundle: &Bundle) -> Result<Vec<u32>, Memory>
-    requires { HasSizes (length case.now.instance.now.trips) (length case.now.instance.now.layers) bundle.now }
-    ensures { IfOk result (λ shares. AreShares case.now.instance.now shares.items) }
-{
-    prove!(case.instance.trips() <= MAX_TRIPS && case.instance.layers() <= MAX_LAYERS);
-    let trips = case.instance.trips() as usize;
-    let mut shares = vec![in case.alloc; 0; trips * case.instance.layers() as usize]?;
-    bundle.set_shares(&mut shares);
-    Ok(shares)
 }

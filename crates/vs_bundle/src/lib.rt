@@ -5,10 +5,12 @@
 
 mod aim;
 mod climbing;
+mod shares;
 mod stepping;
 mod stride;
 mod valuing;
 
 pub use aim::Aim;
 pub use climbing::{Climbed, climb};
+pub use shares::Shares;
 pub use vs_cuts::WHOLE;

@@ -1,4 +1,7 @@
 -- What crates above may cite of these proofs.
+pub use Rattle.vs_cert.proofs.states.FirstPlaces.{first_times_few}
+pub use Rattle.vs_cert.proofs.states.MadeDocuments.{states_have_documents}
+pub use Rattle.vs_cert.proofs.states.MadePlans.{make_plan}
 pub use Rattle.vs_cert.proofs.states.Numberings.{first_times-more, stands-append, stands-last, stands-more}
 pub use Rattle.vs_cert.proofs.states.TreeShapes.{rows_of_instance}
 pub use Rattle.vs_cert.proofs.states.TreeTables.{first_times-All, named_within, numbers_within, tables_rows-prices}

@@ -6,3 +6,7 @@ pub mod TreeShapes
 pub mod WorthRange
 pub mod StateRanges
 pub mod TreeDocument
+pub mod MadePlans
+pub mod MadeReports
+pub mod FirstPlaces
+pub mod MadeDocuments

@@ -2,12 +2,14 @@
 use Rattle.std.specs.Prelude.{◌≢◌, ℕ, ◌+◌, ◌*◌, ◌≤◌, List, IfSome, ℤ}
 use Rattle.vs_instance.specs.Restriction.{permitted_sets}
 use Rattle.vs_instance.specs.Lagrangian.{IsStartingValue}
+use Rattle.vs_instance.specs.declared.limits.TheConstants.{MAX_BUDGET}
 use Rattle.vs_prices.specs.Bounds.{ReachesValue}
 use Rattle.vs_prices.specs.declared.bound.Bound.{Bound}
 use Rattle.vs_prices.specs.declared.claim.Claim.TheVariants.{StillOpen}
 use Rattle.vs_tree.specs.History.{FullStep, IsHistory, IsLeaf, IsLeafWorth, Opening, State, state_of}
 use Rattle.vs_tree.specs.Sound.{IsOpening}
 use Rattle.vs_tree.specs.Takes.{IsOver}
+use Rattle.vs_rows.specs.DocumentText.{HasText}
 use Rattle.vs_rows.specs.declared.document.Document.{Document}
 use Rattle.vs_cert.specs.StateDocument.{IsDocumentOf}
 use Rattle.vs_check.specs.HoldingDocument.{HoldingDocument}
@@ -17,6 +19,11 @@ use Rattle.vs_cert.specs.Answers.{IsAnswer, ReachesStart, choices}
 abbrev pub DocumentsOfStatesHold : Type 0
 DocumentsOfStatesHold = (o : Opening) (steps : List FullStep) (d : Document) → IsOpening o → IsHistory o steps
     → IsDocumentOf o (state_of o steps) d → HoldingDocument o.problem d
+
+-- each state that a search comes to has a document, and that has a text
+abbrev pub StatesHaveDocuments : Type 0
+StatesHaveDocuments = (o : Opening) (steps : List FullStep) → IsOpening o → IsHistory o steps → o.budget ≤ MAX_BUDGET
+    → (d : Document) × IsDocumentOf o (state_of o steps) d × HasText o.problem d
 
 -- the document of a state that a search comes to, where the search is over, is an answer
 abbrev pub FinishedSearchesAnswer : Type 0

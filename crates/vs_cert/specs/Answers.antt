@@ -15,8 +15,8 @@ use Rattle.vs_rows.specs.declared.document.Document.{Document}
 use Rattle.vs_check.specs.HoldingDocument.{HoldingDocument}
 
 -- the leaves of the tree of a document that holds, in order
-abbrev pub places_of : (p : Problem) (d : Document) → HoldingDocument p d → List LeafPlace
-places_of p d holds = leaves (permitted_sets p) holds.tree.tree
+abbrev pub leaf_places : (p : Problem) (d : Document) → HoldingDocument p d → List LeafPlace
+leaf_places p d holds = leaves (permitted_sets p) holds.tree.tree
 
 -- how many splits that tree has
 abbrev pub splits_of : (p : Problem) (d : Document) → HoldingDocument p d → ℕ
@@ -77,9 +77,9 @@ choices (layers ∷ sets) = length (members layers) * choices sets
 -- than these and the leaves that aren't below the cost; where the claim is still open they are the whole budget.
 pub record IsAnswer (p : Problem) (budget : ℕ) (d : Document) : Type 0 where
   pub holds : HoldingDocument p d
-  pub written : AreNamedInOrder 0 (places_of p d holds) (length d.tables.items)
+  pub written : AreNamedInOrder 0 (leaf_places p d holds) (length d.tables.items)
   pub worths : List Bound
-  pub are_worths : AreWorths p d (places_of p d holds) worths
+  pub are_worths : AreWorths p d (leaf_places p d holds) worths
   pub bound : IsBoundOf d.cost worths d.bound
   pub within_budget : d.nodes ≤ budget
   pub each_split : splits_of p d holds ≤ d.nodes

@@ -17,7 +17,7 @@ abbrev pub place_in : List (Option ℕ) → ℕ → Option ℕ
 place_in places n = slice_index_or places n None
 
 -- these are the places of the numbers
-pub record ArePlaces (places : List (Option ℕ)) (numbers : List ℕ) : Type 0 where
+pub record ArePlacesOf (places : List (Option ℕ)) (numbers : List ℕ) : Type 0 where
   pub count : count_by is_some places ≡ length numbers
   pub stands : (n k : ℕ) → place_in places n ≡ Some k → slice_get numbers k ≡ Some n
   pub found : (n k : ℕ) → slice_get numbers k ≡ Some n → place_in places n ≡ Some k

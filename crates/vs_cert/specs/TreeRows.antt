@@ -34,7 +34,7 @@ pub record IsLeafRow (table : ℕ) (before after known more : List ℕ) (row : S
   pub placed : IsTablePlaced table known more row
 
 -- the row of a split, whose right part waits behind its left part
-pub record IsSplitRow (split : Shape) (lower upper : ℕ) (before after known more : List ℕ) (row : Shape) : Type 0
+pub record IsRowOfSplit (split : Shape) (lower upper : ℕ) (before after known more : List ℕ) (row : Shape) : Type 0
   where
     pub row_is : row ≡ split
     pub spots : after ≡ before ++ upper ∷ lower ∷ []
@@ -43,7 +43,7 @@ pub record IsSplitRow (split : Shape) (lower upper : ℕ) (before after known mo
 -- the row of a spot, with the spots that wait and the numbers of tables before and after it
 abbrev pub IsRowAt : Spot → List ℕ → List ℕ → List ℕ → List ℕ → Shape → Type 0
 IsRowAt (Inner trip left lower upper) before after numbers more row =
-    IsSplitRow (shape.Split trip left) lower upper before after numbers more row
+    IsRowOfSplit (shape.Split trip left) lower upper before after numbers more row
 IsRowAt (Free table) before after numbers more row = IsLeafRow table before after numbers more row
 IsRowAt (Held worker table) before after numbers more row = IsLeafRow table before after numbers more row
 IsRowAt (Closed table) before after numbers more row = IsLeafRow table before after numbers more row

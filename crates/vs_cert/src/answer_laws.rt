@@ -1,11 +1,17 @@
 //! What holds of the document of every search.
 
-ghost use Rattle.vs_cert.specs.AnswerLaws.{BoundsReachTheStart, DocumentsOfStatesHold, EnoughBudgetsLeaveNothingOpen, FinishedSearchesAnswer};
+ghost use Rattle.vs_cert.specs.AnswerLaws.{BoundsReachTheStart, DocumentsOfStatesHold, EnoughBudgetsLeaveNothingOpen, FinishedSearchesAnswer, StatesHaveDocuments};
 
 /// The document of any state that a search comes to holds: with the state's report, its cheapest plan, its tree of
 /// cases, and the tables that leaves name.
 pub fn documents_of_states_hold()
     ensures { DocumentsOfStatesHold }
+{}
+
+/// Each state that a search comes to has a document, which has a text, whether a leaf is held or not. So what is said
+/// of every document of a state is said of one at least.
+pub fn states_have_documents()
+    ensures { StatesHaveDocuments }
 {}
 
 /// Where a search is over, the document of its state is what a search with its budget answers: it holds; its bound is

@@ -18,13 +18,13 @@ pub struct Numbering {
 
 impl Model for Numbering {
     ghost use Rattle.std.specs.Prelude.{length};
-    ghost use Rattle.vs_cert.specs.Numbering.{ArePlaces, Numbered};
+    ghost use Rattle.vs_cert.specs.Numbering.{ArePlacesOf, Numbered};
 
     ghost Value = { Numbered };
 
     ghost view = { λ a. record { limit = length a.places.items; numbers = a.numbers.items } };
 
-    ghost invariant = { λ a. ArePlaces a.places.items a.numbers.items };
+    ghost invariant = { λ a. ArePlacesOf a.places.items a.numbers.items };
 }
 
 impl Numbering {

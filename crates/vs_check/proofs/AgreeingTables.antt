@@ -15,6 +15,7 @@ use Rattle.vs_instance.specs.Pieces.{in_piece, link_piece, out_piece, trip_piece
 use Rattle.vs_instance.specs.Problem.{Problem}
 use Rattle.vs_instance.specs.Restriction.{IsRestriction, set_of}
 use Rattle.vs_instance.specs.Ways.{Permitted, layer_of, no_trip, trip_of}
+use Rattle.vs_instance.proofs.CallerLemmas.{same_totals}
 use Rattle.vs_prices.specs.Breaks.{breaks_of, exceeds, layer_breaks, link_breaks, links_breaks, may_run, move_breaks, trip_breaks}
 use Rattle.vs_prices.specs.Table.{from_price, into_price, vehicle_price}
 use Rattle.vs_prices.specs.Worth.{fleet_price, least, least_price, rounded_up, table_value, trip_price, worth_of}
@@ -33,14 +34,6 @@ same_lists {M = M} f g a (suc n) same =
     ap (λ (xs : List M). xs ++ flat_map f (range_with_len (a + 1) n)) (same a (omega arith) (omega arith))
     ∙ ap (λ (xs : List M). g a ++ xs)
     (same_lists f g (a + 1) n (λ k from within. same k (omega arith) (omega arith)))
-
-pub same_totals : (f g : ℕ → ℤ) (a n : ℕ) → ((k : ℕ) → a ≤ k → k < a + n → f k ≡ g k)
-    → total (map f (range_with_len a n)) ≡ total (map g (range_with_len a n))
-same_totals f g a zero same = refl
-same_totals f g a (suc n) same =
-    ap (λ (x : ℤ). x +ℤ total (map f (range_with_len (a + 1) n))) (same a (omega arith) (omega arith))
-    ∙ ap (λ (x : ℤ). g a +ℤ x)
-    (same_totals f g (a + 1) n (λ k from within. same k (omega arith) (omega arith)))
 
 pub same_map : (f g : ℕ → ℤ) (ks : List ℕ) → All (λ k. f k ≡ g k) ks → map f ks ≡ map g ks
 same_map f g [] same = refl

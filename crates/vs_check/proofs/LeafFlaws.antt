@@ -1,18 +1,11 @@
 -- The flaw of a leaf is none exactly where its table is worth at least the printed bound.
-use Rattle.std.proofs.Common.{◌≡◌, ℕ, false, refl, arith, Option, Some, None as nothing, ℤ, ◌≤ℤ◌}
-use Rattle.std.specs.Prelude.{int_lt}
-use Rattle.std.proofs.lemmas.Int.{ints}
+use Rattle.std.proofs.Common.{ℕ, refl, Option, Some, None as nothing, ℤ}
+use Rattle.vs_types.proofs.CallerLemmas.{less_not, not_less}
 use Rattle.vs_instance.proofs.CallerLemmas.{None, false_from_none, none_from_false}
 use Rattle.vs_prices.specs.Worth.{Reaches}
 use Rattle.vs_prices.specs.declared.bound.Bound.{Bound}
 use Rattle.vs_prices.specs.declared.bound.Bound.TheVariants.{AtLeast, NoPlan}
 use Rattle.vs_check.specs.Flaws.{leaf_flaws}
-
-not_less : (n bound : ℤ) → int_lt n bound ≡ false → bound ≤ℤ n
-not_less n bound h = grind (arith, ints)
-
-less_not : (n bound : ℤ) → bound ≤ℤ n → int_lt n bound ≡ false
-less_not n bound h = grind (arith, ints)
 
 pub reaches_from_none : (position : ℕ) (worth : Bound) (bound : Option ℤ) → None (leaf_flaws position worth bound)
     → Reaches worth bound

@@ -1,6 +1,7 @@
 //! How many trips change where a call begins with given units and prices.
 
-ghost use Rattle.std.specs.Prelude.{◌≡◌, ◌<◌, length};
+ghost use Rattle.std.specs.Prelude.{◌≡◌, ◌<◌, ◌≤◌, length};
+ghost use Rattle.std.specs.Int.RustNames.{unsigned_abs};
 ghost use Rattle.vs_layer.specs.Graph.{IsNet};
 ghost use Rattle.vs_ship.specs.Works.{IsReadyFor};
 ghost use Rattle.vs_circ.specs.shipping.Ready.{CanRun};
@@ -42,7 +43,7 @@ fn is_before_nearer(net: &LayerNet, offers: &[Option<i64>], kept: &Kept) -> bool
     let trips = offers.len().min(MAX_TRIPS as usize) as u32;
     let mut fewer: i32 = 0;
     for i in 0..trips {
-        fewer = fewer.saturating_add(changes_saved(net, offers, kept, TripNo(i)));
+        fewer += changes_saved(net, offers, kept, TripNo(i));
     }
     0 < fewer
 }
@@ -53,6 +54,7 @@ fn changes_saved(net: &LayerNet, offers: &[Option<i64>], kept: &Kept, trip: Trip
     requires arcs { HasSmallArcs net.now }
     requires offers { AreSmallOffers offers.now }
     requires kept { IsReadyFor net.now.graph kept.now }
+    ensures { unsigned_abs result ≤ 1 }
 {
     let Some(k) = net.trip_arc(trip) else {
         return 0;

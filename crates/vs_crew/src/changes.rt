@@ -2,7 +2,7 @@
 use std::sync::{Condvar, Mutex, Wait};
 
 /// How often a shared search was changed so that a worker may find a leaf again. A worker that waits for a change
-/// sleeps.
+/// sleeps. It changes once for each leaf that a worker takes, so the count never comes to the limit of its type.
 #[derive(Drop)]
 pub(crate) struct Changes {
     count: Mutex<u64>,
@@ -25,7 +25,7 @@ impl Changes {
     /// Tells those that wait that there was one more.
     pub(crate) fn tell<R: Wait>(&self, rt: &R) {
         let mut count = self.count.lock(rt);
-        *count = count.wrapping_add(1);
+        *count = count.saturating_add(1);
         self.changed.notify_all();
     }
 

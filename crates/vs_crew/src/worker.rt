@@ -25,7 +25,7 @@ pub(crate) struct Worker {
     pub seat: Option<Seat>,
     pub task: Task,
     pub scratch: Work,
-    /// How many leaves it has taken.
+    /// How many leaves it has taken since it sought plans by passes.
     pub taken: u32,
     /// Whether it was told that the search is over.
     pub over: bool,
@@ -141,8 +141,8 @@ fn work_on<R: Wait, G: Gate>(
         (IsAfter worker.old.number result.1) result.0 }
 {
     let number = worker.number;
-    worker.taken = worker.taken.wrapping_add(1);
-    let passes = worker.taken % TURNS == 0;
+    let passes = worker.taken >= TURNS - 1;
+    worker.taken = if passes { 0 } else { worker.taken + 1 };
     let (task, scratch) = (&mut worker.task, &mut worker.scratch);
     match found(alloc, site.instance, site.nets, task, passes, scratch) {
         Ok(finding) => (hand_in(rt, site, seat, number, leaf, finding), After::Idle),

@@ -26,4 +26,5 @@ part_near z p h =
 pub product_near : (z p : ℤ) (m : ℕ) → IsPart p → unsigned_abs z ≤ m → unsigned_abs (z *ℤ p) ≤ m * 1048576
 product_near z p m h near =
     subst (λ (n : ℕ). n ≤ m * 1048576) (sym (unsigned_abs-mul z p))
-    (let parts : unsigned_abs z * unsigned_abs p ≤ unsigned_abs z * 1048576 = mul-le-mul_left (unsigned_abs z) (part_abs p h) in omega arith)
+    (let parts : unsigned_abs z * unsigned_abs p ≤ unsigned_abs z * 1048576 =
+    mul-le-mul_left (unsigned_abs z) (part_abs p h) in omega arith)

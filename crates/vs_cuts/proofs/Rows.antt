@@ -16,7 +16,8 @@ take_products most n row each k =
     elim (cases_lt k n) [
       | inl inside ↦ subst (IsProduct most) (sym (get_or-take n row k (pos 0) inside)) (each k)
       | inr past ↦
-          subst (IsProduct most) (sym (get_or_past (take n row) k (pos 0) (omega (arith, length-take n row)))) (no_product most)
+          subst (IsProduct most) (sym (get_or_past (take n row) k (pos 0) (omega (arith, length-take n row))))
+          (no_product most)
     ]
 
 -- what is a product where so many may be is one where more may be, also as it is read

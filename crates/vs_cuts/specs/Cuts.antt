@@ -17,4 +17,5 @@ trips_of_found found = trips_of found.cut
 
 -- cuts have theirs among as many as those in whose places they stand
 abbrev pub HaveTripsOf : List Cut → List Cut → Type 0
-HaveTripsOf old new = (k : ℕ) (d : Cut) → k < length old → trips_of (slice_index_or new k d) ≡ trips_of (slice_index_or old k d)
+HaveTripsOf old new =
+    (k : ℕ) (d : Cut) → k < length old → trips_of (slice_index_or new k d) ≡ trips_of (slice_index_or old k d)

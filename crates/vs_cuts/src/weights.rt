@@ -243,8 +243,8 @@ fn add_weight(standings: &mut [Standing], place: usize, amount: i64)
 /// Changes how much is lacking of the trips of each cut of a layer, where so much weight goes from the cut that has the
 /// first products to the one that has the others. Gives the peaks that are then.
 ///
-/// It is the innermost loop of a climb. It has a call of its own, since where it stood among all that calls it its numbers
-/// wouldn't find room in registers.
+/// It is the innermost loop of a climb. It has a call of its own, since its numbers wouldn't find room in registers
+/// among those of its caller.
 #[inline(never)]
 fn tilt(
     standings: &mut [Standing],
@@ -278,8 +278,8 @@ fn tilt(
     peaks
 }
 
-/// How much more is lacking of the trips of a cut, where so much weight goes from a cut with which it has the first product
-/// to one with which it has the other.
+/// How much more is lacking of the trips of a cut, where so much weight goes from a cut with which it has the first
+/// product to one with which it has the other.
 fn more_lacking(left: i64, taken: i64, amount: i64) -> i64
     requires left { IsProduct MOST_PRODUCT left }
     requires taken { IsProduct MOST_PRODUCT taken }

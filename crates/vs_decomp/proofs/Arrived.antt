@@ -1,11 +1,12 @@
 -- From the first node, where all vehicles stand, to the last, where they have run their blocks.
-use Rattle.std.proofs.Common.{◌≡◌, ℕ, zero, suc, ◌-◌, ◌<◌, Bool, not, cond, List, [], ◌∷◌, ◌++◌, length, map, get_or, set, refl, sym, ap, ◌∙◌, subst, arith}
+use Rattle.std.proofs.Common.{◌≡◌, ℕ, ◌-◌, ◌<◌, Bool, not, cond, List, [], ◌∷◌, ◌++◌, length, get_or, set, refl, sym, ap, ◌∙◌, subst, arith}
 use Rattle.std.specs.Prelude.{replicate}
 use Rattle.std.specs.List.{filter}
 use Rattle.std.proofs.lemmas.Bool.{ne_eqb}
 use Rattle.std.proofs.lemmas.List.{map-set, get_or-set_other, get_or-replicate}
 use Rattle.vs_types.specs.declared.numbers.LayerNo.{LayerNo}
 use Rattle.vs_types.specs.declared.numbers.TripNo.{TripNo}
+use Rattle.vs_types.proofs.CallerLemmas.{map-replicate}
 use Rattle.vs_layer.specs.Graph.{IsNet}
 use Rattle.vs_layer.specs.Circulation.{IsCirculation}
 use Rattle.vs_instance.specs.Problem.{Problem}
@@ -18,10 +19,6 @@ use Rattle.vs_match.specs.Underway.{IsOnward, Path, paths_at, trips_of, units_ba
 use Rattle.vs_match.proofs.CallerLemmas.{arrived, block_in, blocks_along, decompose, done_first, stands_first, under_first}
 use Rattle.vs_decomp.specs.Stands.{IsAt, has_run, run_on, vehicles_at}
 use Rattle.vs_decomp.proofs.Coming.{have_run, run_at, count_nodes}
-
-map_same : {X Y : Type 0} (f : X → Y) (n : ℕ) (x : X) → map f (replicate n x) ≡ replicate n (f x)
-map_same f zero x = refl
-map_same f (suc n) x = ap (λ ys. f x ∷ ys) (map_same f n x)
 
 -- of the vehicles that have run something, their blocks
 kept_one : (l : LayerNo) (trips : List TripNo) (rest : List LayerBlock)
@@ -53,8 +50,9 @@ module _ (n : LayerGraph) (l : LayerNo) (net : IsNet n.graph) (units : List ℕ)
       are = is
           ∙ sym (map-set (have_run n l) (replicate n.graph.nodes []) 0 (replicate vehicles [])
           ∙ ap (λ (s : List (List LayerBlock)). set s 0 (have_run n l (replicate vehicles [])))
-          (map_same (have_run n l) n.graph.nodes [])
-          ∙ ap (λ (s : List LayerBlock). set (replicate n.graph.nodes []) 0 s) (map_same (run_on n l) vehicles []));
+          (map-replicate (have_run n l) n.graph.nodes [])
+          ∙ ap (λ (s : List LayerBlock). set (replicate n.graph.nodes []) 0 s)
+          (map-replicate (run_on n l) vehicles []));
       under = under_first n.graph net units circulates;
     };
     below = λ i onward less. absurd (omega (arith, less));

@@ -1,5 +1,4 @@
 pub mod RowKinds
-pub mod RefusedRows
 pub mod BoundBesideCost
 pub mod AcceptedRows
 pub mod ReadThrough

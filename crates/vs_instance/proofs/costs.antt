@@ -3,4 +3,5 @@ pub mod Rates
 pub mod Links
 pub mod BlockPieces
 pub mod Totals
+pub mod TripsOfBlocks
 pub mod LayerDuality

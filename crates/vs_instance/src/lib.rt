@@ -20,8 +20,8 @@ mod ways;
 
 pub use instance::Instance;
 pub use laws::{
-    lagrangian_values_bound_plans, lagrangian_values_exist, starting_values_exist,
-    who_rests_connects,
+    lagrangian_values_bound_plans, lagrangian_values_exist, limits_are_fixed,
+    starting_values_exist, who_rests_connects,
 };
 pub use layer::Layer;
 pub use limits::{

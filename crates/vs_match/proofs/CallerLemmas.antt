@@ -1,8 +1,9 @@
 -- What the crates above cite of the proofs here.
 --
 -- of a layer's net, its nodes, arcs and walks
+pub use Rattle.vs_match.proofs.composition.NetEnds.{no_point_at_first}
 pub use Rattle.vs_match.proofs.events.Places.{placed}
-pub use Rattle.vs_match.proofs.matches.TripIndexes.{get_or-copies}
+pub use Rattle.vs_match.proofs.matches.TripIndexes.{get_or-copies, trip_number-is}
 pub use Rattle.vs_match.proofs.order.RightArcs.{no_fault}
 pub use Rattle.vs_match.proofs.walks.WaitingChains.{path_cost-append}
 -- of circulations that are divided into blocks

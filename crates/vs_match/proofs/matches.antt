@@ -1,8 +1,8 @@
 pub mod Sweeping
 pub mod Deadheading
-pub mod PulledOut
 pub mod WaitedAt
 pub mod RestedAt
+pub mod DepotDrives
 pub mod TripsRun
 pub mod TripIndexes
 pub mod WholeNet

@@ -12,7 +12,7 @@ pub mod Adds
 pub mod Parts
 pub mod ArcsOf
 pub mod Sweep
-pub mod RestMoves
+pub mod DepotDrives
 pub mod TripIndex
 pub mod Keys
 pub mod LawfulNets

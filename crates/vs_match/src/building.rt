@@ -10,12 +10,12 @@ ghost use Rattle.vs_match.specs.WalkLaw.{HasWalkLaw};
 
 use crate::arc_kind::{ArcKind, LayerArc};
 use crate::deadheads::push_deadheads;
+use crate::depot_drives::push_drives;
 use crate::layer_net::LayerNet;
 use crate::matching::Matching;
 use crate::nodes::{Nodes, nodes_of};
-use crate::pulls::{push_pull_ins, push_pull_outs};
 use crate::rates::fleet;
-use crate::rests::{push_rest_ins, push_rest_outs, push_rest_waits};
+use crate::rests::push_rest_waits;
 use crate::sorting::{by_ends, put_in_order};
 use crate::trip_arcs::push_trips;
 use crate::waiting::push_waiting;
@@ -59,11 +59,8 @@ fn arcs_of(
     push_trips(instance, l, nodes, &mut arcs)?;
     push_waiting(instance, l, nodes, &mut arcs)?;
     push_deadheads(instance, l, matching, nodes, &mut arcs)?;
-    push_pull_outs(instance, l, nodes, &mut arcs)?;
-    push_pull_ins(instance, l, nodes, &mut arcs)?;
-    push_rest_ins(instance, l, nodes, &mut arcs)?;
+    push_drives(instance, l, nodes, &mut arcs)?;
     push_rest_waits(instance, l, nodes, &mut arcs)?;
-    push_rest_outs(instance, l, nodes, &mut arcs)?;
     arcs.push(return_arc(instance, l, nodes.points.len() as u32 + 1))?;
     let mut ordered = by_ends(alloc, &arcs)?;
     put_in_order(&mut ordered);

@@ -6,6 +6,7 @@
 mod arc_kind;
 mod building;
 mod deadheads;
+mod depot_drives;
 mod event;
 mod laws;
 mod layer_net;

@@ -1,65 +1,48 @@
 //! The pull-outs and pull-ins of a layer's net.
 
-ghost use Rattle.std.specs.Prelude.{◌≡◌, ◌+◌, ◌<◌, ◌≤◌, length, OnOk};
+ghost use Rattle.std.specs.Prelude.{◌≡◌, ◌<◌, ◌≤◌, MatchOption, length};
 ghost use Rattle.vs_match.specs.Nodes.{AreNodes};
-ghost use Rattle.vs_match.specs.Adds.{Adds};
-ghost use Rattle.vs_match.specs.Parts.{IsPullOut, IsPullIn};
+ghost use Rattle.vs_match.specs.DepotDrives.{IsPullOutTo, IsPullInFrom};
 ghost use Rattle.vs_match.specs.ArcsOf.{pull_out_of, pull_in_of};
 
 use crate::arc_kind::{ArcKind, LayerArc};
 use crate::nodes::Nodes;
 use crate::rates::{fixed_and_rate, fleet, rate};
 use crate::stop_node::StopNode;
-use vs_instance::{Instance, MAX_METRES, MAX_MINUTES, MAX_TRIPS, Way};
-use vs_types::{LayerNo, Memory};
+use vs_instance::{Instance, MAX_METRES, MAX_MINUTES, Way};
+use vs_types::LayerNo;
 
-/// Puts the pull-outs of a layer to its arcs.
-pub fn push_pull_outs(
-    instance: &Instance,
-    l: LayerNo,
-    nodes: &Nodes,
-    arcs: &mut Vec<LayerArc>,
-) -> Result<(), Memory>
+/// The pull-out of a vehicle to a departure. None where there is no such way from minute 0 on.
+pub fn pull_out(instance: &Instance, l: LayerNo, until: &StopNode) -> Option<LayerArc>
     requires layer { l.0 < length instance.now.layers }
-    requires nodes { AreNodes instance.now l.0 nodes.now }
-    ensures adds { OnOk result
-        (Adds (IsPullOut instance.now l.0 nodes.now.points.items) arcs.old.items arcs.new.items) }
-    ensures few { OnOk result (length arcs.new.items ≤ length arcs.old.items + MAX_TRIPS) }
+    requires stop { until.now.stop.0 < instance.now.stops }
+    ensures { MatchOption result ((x : LayerArc) → ¬ (IsPullOutTo instance.now l.0 until.now x))
+        (IsPullOutTo instance.now l.0 until.now) }
 {
+    // for the proof: the layers of an instance are within its limits
     prove!(l.0 < instance.layers());
-    let depot = instance.layer(l).depot;
-    for departure in &nodes.departures {
-        if let Some(way) = instance.way(depot, departure.stop) {
-            if way.minutes <= departure.minute {
-                arcs.push(pull_out_arc(instance, l, way, departure))?;
-            }
-        }
+    let way = instance.way(instance.layer(l).depot, until.stop)?;
+    if way.minutes <= until.minute {
+        Some(pull_out_arc(instance, l, way, until))
+    } else {
+        None
     }
-    Ok(())
 }
 
-/// Puts the pull-ins of a layer to its arcs.
-pub fn push_pull_ins(
-    instance: &Instance,
-    l: LayerNo,
-    nodes: &Nodes,
-    arcs: &mut Vec<LayerArc>,
-) -> Result<(), Memory>
+/// The pull-in of a vehicle that arrived. None where there is no such way.
+pub fn pull_in(instance: &Instance, l: LayerNo, nodes: &Nodes, since: &StopNode) -> Option<LayerArc>
     requires layer { l.0 < length instance.now.layers }
     requires nodes { AreNodes instance.now l.0 nodes.now }
-    ensures adds { OnOk result
-        (Adds (IsPullIn instance.now l.0 nodes.now.points.items) arcs.old.items arcs.new.items) }
-    ensures few { OnOk result (length arcs.new.items ≤ length arcs.old.items + MAX_TRIPS) }
+    requires stop { since.now.stop.0 < instance.now.stops }
+    ensures { MatchOption result
+        ((x : LayerArc) → ¬ (IsPullInFrom instance.now l.0 nodes.now.points.items since.now x))
+        (IsPullInFrom instance.now l.0 nodes.now.points.items since.now) }
 {
+    // for the proof: the layers of an instance are within its limits
     prove!(l.0 < instance.layers());
-    let depot = instance.layer(l).depot;
+    let way = instance.way(since.stop, instance.layer(l).depot)?;
     let last = nodes.points.len() as u32 + 1;
-    for arrival in &nodes.arrivals {
-        if let Some(way) = instance.way(arrival.stop, depot) {
-            arcs.push(pull_in_arc(instance, l, last, way, arrival))?;
-        }
-    }
-    Ok(())
+    Some(pull_in_arc(instance, l, last, way, since))
 }
 
 fn pull_out_arc(instance: &Instance, l: LayerNo, way: Way, until: &StopNode) -> LayerArc

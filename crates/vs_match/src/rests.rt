@@ -4,9 +4,9 @@ ghost use Rattle.std.specs.Prelude.{◌≡◌, ◌+◌, ◌*◌, ◌<◌, ◌≤
 ghost use Rattle.vs_match.specs.Nodes.{AreNodes};
 ghost use Rattle.vs_match.specs.Adds.{Adds};
 ghost use Rattle.vs_match.specs.ArcsOf.{rest_in_of, rest_wait_of, rest_out_of};
-ghost use Rattle.vs_match.specs.Events.{DepartsAt, HasPlace};
-ghost use Rattle.vs_match.specs.Parts.{IsRestIn, IsRestWait, IsRestOut};
-ghost use Rattle.vs_match.specs.RestMoves.{IsRestInFrom, IsRestOutTo};
+ghost use Rattle.vs_match.specs.Events.{DepartsAt};
+ghost use Rattle.vs_match.specs.Parts.{IsRestWait};
+ghost use Rattle.vs_match.specs.DepotDrives.{IsRestInFrom, IsRestOutTo};
 ghost use Rattle.vs_match.specs.StopNodes.{IsRising, event_of};
 ghost use Rattle.vs_match.specs.Sweep.{IsFirstFrom};
 
@@ -17,29 +17,6 @@ use crate::rates::{fleet, rate, way_after_rest};
 use crate::stop_node::StopNode;
 use vs_instance::{Instance, MAX_METRES, MAX_MINUTES, MAX_TRIPS, TWO_DAYS, Way};
 use vs_types::{LayerNo, Memory};
-
-/// Puts the ways into the depot, for a rest, to a layer's arcs.
-pub fn push_rest_ins(
-    instance: &Instance,
-    l: LayerNo,
-    nodes: &Nodes,
-    arcs: &mut Vec<LayerArc>,
-) -> Result<(), Memory>
-    requires layer { l.0 < length instance.now.layers }
-    requires nodes { AreNodes instance.now l.0 nodes.now }
-    ensures adds { OnOk result
-        (Adds (IsRestIn instance.now l.0 nodes.now.points.items) arcs.old.items arcs.new.items) }
-    ensures few { OnOk result (length arcs.new.items ≤ length arcs.old.items + MAX_TRIPS) }
-{
-    // for the proof: the trips of an instance are within its limits
-    prove!(l.0 < instance.layers());
-    for arrival in &nodes.arrivals {
-        if let Some(arc) = rest_in(instance, l, &nodes.line, arrival) {
-            arcs.push(arc)?;
-        }
-    }
-    Ok(())
-}
 
 /// Puts the rests between minutes of the depot line that follow each other to a layer's arcs.
 pub fn push_rest_waits(
@@ -62,30 +39,14 @@ pub fn push_rest_waits(
     Ok(())
 }
 
-/// Puts the ways out of the depot, after a rest, to a layer's arcs.
-pub fn push_rest_outs(
-    instance: &Instance,
-    l: LayerNo,
-    nodes: &Nodes,
-    arcs: &mut Vec<LayerArc>,
-) -> Result<(), Memory>
-    requires layer { l.0 < length instance.now.layers }
-    requires nodes { AreNodes instance.now l.0 nodes.now }
-    ensures adds { OnOk result
-        (Adds (IsRestOut instance.now l.0 nodes.now.points.items) arcs.old.items arcs.new.items) }
-    ensures few { OnOk result (length arcs.new.items ≤ length arcs.old.items + MAX_TRIPS) }
-{
-    for departure in &nodes.departures {
-        if let Some(arc) = rest_out(instance, l, nodes, departure) {
-            arcs.push(arc)?;
-        }
-    }
-    Ok(())
-}
-
 /// The way into the depot of a vehicle that arrived. None where the layer has no stay, where there is no such way, or
 /// where nothing leaves the depot once the vehicle has rested.
-fn rest_in(instance: &Instance, l: LayerNo, line: &[StopNode], since: &StopNode) -> Option<LayerArc>
+pub fn rest_in(
+    instance: &Instance,
+    l: LayerNo,
+    line: &[StopNode],
+    since: &StopNode,
+) -> Option<LayerArc>
     requires layer { l.0 < length instance.now.layers }
     requires stop { since.now.stop.0 < instance.now.stops }
     requires minute { since.now.minute < TWO_DAYS }
@@ -119,10 +80,14 @@ fn first_rested(line: &[StopNode], minute: u32) -> Option<StopNode>
 
 /// The way out of the depot of a vehicle that rested and is to be at a departure. None where the layer has no stay, or
 /// where there is no such way from minute 0 on.
-fn rest_out(instance: &Instance, l: LayerNo, nodes: &Nodes, until: &StopNode) -> Option<LayerArc>
+pub fn rest_out(
+    instance: &Instance,
+    l: LayerNo,
+    nodes: &Nodes,
+    until: &StopNode,
+) -> Option<LayerArc>
     requires layer { l.0 < length instance.now.layers }
     requires nodes { AreNodes instance.now l.0 nodes.now }
-    requires place { HasPlace nodes.now.points.items until.now.node (event_of until.now) }
     requires departs { DepartsAt instance.now l.0 (event_of until.now) }
     ensures { MatchOption result
         ((x : LayerArc) → ¬ (IsRestOutTo instance.now l.0 nodes.now.points.items until.now x))

@@ -1,18 +1,18 @@
 -- The better of two tables.
-use Rattle.std.proofs.Common.{List, sym, subst, arith, inl, inr, ℤ}
+use Rattle.std.proofs.Common.{All, List, [], ◌∷◌, suc, refl, sym, subst, arith, inl, inr, ℤ}
 use Rattle.std.proofs.lemmas.Int.{ints}
+use Rattle.std.proofs.lemmas.List.Elements.{All-cons, All-nil}
 use Rattle.vs_types.specs.declared.layer_set.LayerSet.{LayerSet}
 use Rattle.vs_instance.specs.Problem.{Problem}
 use Rattle.vs_prices.specs.declared.bound.Bound.{Bound}
-use Rattle.vs_prices.specs.declared.bound.Bound.TheVariants.{AtLeast, NoPlan}
 use Rattle.vs_prices.specs.declared.table.Table.{Table}
 use Rattle.vs_prices.specs.Bounds.{IsNoLess, IsWorthNoLess, ReachesLagrangian}
 use Rattle.vs_prices.specs.Table.{Fits, HoldingTable}
-use Rattle.vs_prices.proofs.CallerLemmas.{worth_once}
+use Rattle.vs_prices.proofs.CallerLemmas.{else_no_less, no_less-refl, worth_once}
 use Rattle.vs_prices.specs.Worth.{IsWorth}
 use Rattle.vs_multi.specs.Raising.{IsCostTable}
-use Rattle.vs_multi.specs.Rounds.{IsBetter}
-use Rattle.vs_multi.proofs.BoundOrder.{else_no_less, lagrangian_more}
+use Rattle.vs_multi.specs.Rounds.{IsBestOf, IsBetter}
+use Rattle.vs_multi.proofs.BoundOrder.{lagrangian_more, outdone}
 
 module _ (p : Problem) (sets : List LayerSet) (multipliers : List ℤ) where
   -- a table with its worth, which reaches the Lagrangian value
@@ -45,10 +45,6 @@ module _ (p : Problem) (sets : List LayerSet) (multipliers : List ℤ) where
     better_other good other (inl (no_less, worth_is, best_is, table_is)) = subst (IsCostTable p) (sym table_is) other
     better_other good other (inr (less, worth_is, best_is, table_is)) = subst (IsCostTable p) (sym table_is) good
 
-no_less-itself : (a : Bound) → IsNoLess a a
-no_less-itself NoPlan = tt
-no_less-itself (AtLeast n) = omega (arith, ints)
-
 -- a table with its worth, which fits and holds
 pub record IsLawful (p : Problem) (sets : List LayerSet) (table : Table) (worth : Bound) : Type 0 where
   pub fits : Fits p table
@@ -68,6 +64,41 @@ module _ (p : Problem) (sets : List LayerSet) where
       subst (λ (c : Bound). IsNoLess c least) (worth_once p sets one a worth is_a is_worth)
       (subst (λ (c : Bound). IsNoLess a c) (worth_once p sets other b least is_b is_least) more)
 
+  -- a table is the best of itself alone
+  pub best_alone : (table : Table) (worth : Bound) → IsWorth p sets table worth → IsBestOf p sets (table ∷ []) table
+  best_alone table worth is_worth = record {
+    one = (0, omega arith, refl);
+    no_less = All-cons (IsWorthNoLess p sets table) table []
+        (no_less-by table table worth worth is_worth is_worth (no_less-refl worth))
+        (All-nil (IsWorthNoLess p sets table));
+  }
+
+  -- the better of the best and of one more is the best of all
+  pub best_more : (best table new_best new_table : Table) (greatest worth new_greatest : Bound)
+      → IsWorth p sets best greatest → IsWorth p sets table worth
+      → IsBetter best greatest table worth new_best new_greatest new_table
+      → (tables : List Table) → IsBestOf p sets tables best → IsBestOf p sets (table ∷ tables) new_best
+  best_more best table new_best new_table greatest worth new_greatest is_greatest is_worth (inl (more, _, best_is, _))
+      tables of_all =
+      let now : IsBestOf p sets (table ∷ tables) best = record {
+        one = (suc of_all.one.0, omega (arith, of_all.one.1), of_all.one.2);
+        no_less = All-cons (IsWorthNoLess p sets best) table tables
+            (no_less-by best table greatest worth is_greatest is_worth more) of_all.no_less;
+      } in
+      subst (IsBestOf p sets (table ∷ tables)) (sym best_is) now
+  best_more best table new_best new_table greatest worth new_greatest is_greatest is_worth (inr (less, _, best_is, _))
+      tables of_all =
+      let beats : All (IsWorthNoLess p sets table) tables =
+      λ k d below one other is_one is_other.
+      subst (λ (b : Bound). IsNoLess b other) (worth_once p sets table worth one is_worth is_one)
+      (outdone greatest worth other less (of_all.no_less k d below greatest other is_greatest is_other)) in
+      let now : IsBestOf p sets (table ∷ tables) table = record {
+        one = (0, omega arith, refl);
+        no_less = All-cons (IsWorthNoLess p sets table) table tables
+            (no_less-by table table worth worth is_worth is_worth (no_less-refl worth)) beats;
+      } in
+      subst (IsBestOf p sets (table ∷ tables)) (sym best_is) now
+
   -- the better of two lawful tables is the better of both
   pub better_of : (best table new_best new_table : Table) (greatest worth new_greatest : Bound)
       → IsLawful p sets best greatest → IsLawful p sets table worth
@@ -77,7 +108,7 @@ module _ (p : Problem) (sets : List LayerSet) where
       (inl (more, worth_is, best_is, _)) =
       let now : IsBetterOf p sets best table best greatest = record {
         lawful = of_best;
-        no_less = no_less-by best best greatest greatest of_best.is_worth of_best.is_worth (no_less-itself greatest);
+        no_less = no_less-by best best greatest greatest of_best.is_worth of_best.is_worth (no_less-refl greatest);
         no_less_other = no_less-by best table greatest worth of_best.is_worth of_table.is_worth more;
       } in
       subst (λ (t : Table). IsBetterOf p sets best table t new_greatest) (sym best_is)
@@ -88,7 +119,7 @@ module _ (p : Problem) (sets : List LayerSet) where
         lawful = of_table;
         no_less = no_less-by table best worth greatest of_table.is_worth of_best.is_worth
             (else_no_less greatest worth less);
-        no_less_other = no_less-by table table worth worth of_table.is_worth of_table.is_worth (no_less-itself worth);
+        no_less_other = no_less-by table table worth worth of_table.is_worth of_table.is_worth (no_less-refl worth);
       } in
       subst (λ (t : Table). IsBetterOf p sets best table t new_greatest) (sym best_is)
       (subst (λ (b : Bound). IsBetterOf p sets best table table b) (sym worth_is) now)

@@ -16,21 +16,16 @@ use Rattle.vs_prices.specs.declared.table.Table.{Table}
 use Rattle.vs_prices.specs.Bounds.{IsNoLess, ReachesLagrangian, ReachesValue}
 use Rattle.vs_prices.specs.Table.{prices_in}
 use Rattle.vs_prices.specs.Worth.{IsRoundedUp, IsWorth, least, table_value}
-use Rattle.vs_prices.proofs.CallerLemmas.{worth_once}
+use Rattle.vs_prices.proofs.CallerLemmas.{else_no_less, reaches_more, worth_once}
 
-else_below : (m n : ℤ) → ¬ (m ≤ℤ n) → n ≤ℤ m
-else_below m n never = grind (arith, ints)
-
--- of two bounds of which the one isn't no less than the other, the other is no less
-pub else_no_less : (a b : Bound) → ¬ (IsNoLess a b) → IsNoLess b a
-else_no_less NoPlan b never = absurd (never tt)
-else_no_less (AtLeast n) NoPlan never = tt
-else_no_less (AtLeast n) (AtLeast m) never = else_below m n never
-
-reaches_more : (a b : Bound) (value : ℤ) → IsNoLess a b → ReachesValue b value → ReachesValue a value
-reaches_more NoPlan b value more reaches = tt
-reaches_more (AtLeast n) NoPlan value more reaches = absurd more
-reaches_more (AtLeast n) (AtLeast m) value more reaches = omega (arith, ints)
+-- what a bound is no less than, one that it doesn't reach isn't less than either
+pub outdone : (a b c : Bound) → ¬ (IsNoLess a b) → IsNoLess a c → IsNoLess b c
+outdone NoPlan b c never more = absurd (never tt)
+outdone (AtLeast n) NoPlan c never more = tt
+outdone (AtLeast n) (AtLeast m) NoPlan never more = absurd more
+outdone (AtLeast n) (AtLeast m) (AtLeast k) never more =
+    let above : n ≤ℤ m = else_no_less (AtLeast n) (AtLeast m) never in
+    omega (arith, ints, above)
 
 module _ (p : Problem) (sets : List LayerSet) where
   -- a table that is worth no less than one that reaches the Lagrangian value reaches it too

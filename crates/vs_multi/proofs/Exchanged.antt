@@ -11,7 +11,8 @@ use Rattle.vs_circ.specs.LayerPrices.{AreHolding}
 use Rattle.vs_prices.specs.declared.table.Table.{Table}
 use Rattle.vs_prices.specs.Table.{Fits, HoldingTable, IsPrice, prices_in, vehicle_price}
 use Rattle.vs_multi.specs.Exchanges.{AgreeBut, HasPrices, IsWithPrices, with_row}
-use Rattle.vs_multi.proofs.Rows.{All-row, All-with_row, length-row, length-with_row, other_row, row_inside, with_row-back}
+use Rattle.vs_multi.proofs.Rows.{All-row, All-with_row, length-row, length-with_row, other_row, with_row-back}
+use Rattle.vs_types.proofs.CallerLemmas.{row_inside}
 
 module _ (p : Problem) (l : ℕ) (layer : l < length p.layers) where
   -- prices hold where the table has them, and the other way round

@@ -12,6 +12,7 @@ use Rattle.vs_match.specs.LayerGraph.{LayerGraph}
 use Rattle.vs_match.specs.LayerNets.{net_at}
 use Rattle.vs_circ.specs.declared.circ.Circ.{Circ}
 use Rattle.vs_circ.specs.Circulations.{RunTrip}
+use Rattle.vs_prices.specs.declared.table.Table.{Table}
 use Rattle.vs_multi.specs.declared.round.Round.{Round}
 use Rattle.vs_multi.specs.Exchanges.{HasPrices}
 use Rattle.vs_multi.specs.Offers.{IsLeastAt}
@@ -157,20 +158,23 @@ module _ (p : Problem) (nets : List LayerGraph) (sets : List LayerSet) (multipli
             omega (arith, none)
       ]
 
+  -- a circulation of the layer is a least one, and the table has its prices there
+  abbrev IsRunAt : Table → LayerNo → Option Circ → Type 0
+  IsRunAt table l circ = IfSome circ (IsLeastAt p (net_at nets l.0) sets multipliers l)
+      × IfSome circ (λ c. HasPrices p table l.0 c.prices)
+
   -- once all layers have run, it is a round
   pub all_run : (round : Round) → HaveRun p nets sets multipliers (length p.layers) round
-      → IsRound p nets sets multipliers round.covers.items
+      → IsRound p nets sets multipliers round.table round.covers.items
   all_run round have = record {
     circs = have.circs;
-    round = record { each_layer = have.each; least = λ l. found l (cases_lt l.0 (length p.layers)) };
+    round = record { each_layer = have.each; least = λ l. (found l (cases_lt l.0 (length p.layers))).0 };
+    prices = λ l. (found l (cases_lt l.0 (length p.layers))).1;
     covers = have.covers;
   }
     where
       found : (l : LayerNo) → (l.0 < length p.layers) ⊎ (length p.layers ≤ l.0)
-          → IfSome (slice_get have.circs l.0) (IsLeastAt p (net_at nets l.0) sets multipliers l)
-      found l (inl inside) =
-          let at = have.least l inside in
-          subst (λ (o : Option Circ). IfSome o (IsLeastAt p (net_at nets l.0) sets multipliers l)) (sym at.1) at.2
+          → IsRunAt round.table l (slice_get have.circs l.0)
+      found l (inl inside) = let at = have.least l inside in subst (IsRunAt round.table l) (sym at.1) (at.2, at.3)
       found l (inr past) =
-          subst (λ (o : Option Circ). IfSome o (IsLeastAt p (net_at nets l.0) sets multipliers l))
-          (sym (slice_get_past have.circs l.0 (omega (arith, have.each)))) tt
+          subst (IsRunAt round.table l) (sym (slice_get_past have.circs l.0 (omega (arith, have.each)))) (tt, tt)

@@ -1,10 +1,11 @@
 -- A table whose prices show the lows of all layers is worth no less than the Lagrangian value.
-use Rattle.std.proofs.Common.{◌≡◌, ◌≢◌, ℕ, zero, suc, ◌+◌, ◌<◌, ◌≤◌, Bool, true, false, eqb, List, [], ◌∷◌, map, length, get_or, refl, sym, ap, ◌∙◌, inl, inr, arith, Option, MatchBool, ℤ, pos, ◌+ℤ◌, ◌-ℤ◌, ◌*ℤ◌, ◌≤ℤ◌}
+use Rattle.std.proofs.Common.{◌≡◌, ℕ, zero, suc, ◌+◌, ◌<◌, ◌≤◌, Bool, true, false, eqb, List, [], ◌∷◌, length, get_or, refl, sym, ap, ◌∙◌, inl, inr, arith, Option, MatchBool, ℤ, pos, ◌+ℤ◌, ◌-ℤ◌, ◌*ℤ◌, ◌≤ℤ◌}
 use Rattle.std.specs.Int.{bit_at, int_min}
-use Rattle.std.specs.List.{All, range_with_len}
+use Rattle.std.specs.List.{range_with_len}
 use Rattle.std.proofs.lemmas.Bool.{cases_eq, eqb-true, eq-eqb, ne_eqb}
 use Rattle.std.proofs.lemmas.Int.{ints, clamps}
-use Rattle.std.proofs.lemmas.List.Elements.{All-head, All-tail, filter_passes}
+use Rattle.std.proofs.lemmas.List.FromFn.{fill_by_all}
+use Rattle.std.proofs.lemmas.List.Elements.{filter_passes}
 use Rattle.vs_types.specs.LayerSet.{layer_numbers, members}
 use Rattle.vs_types.specs.declared.layer_set.LayerSet.{LayerSet}
 use Rattle.vs_types.specs.declared.numbers.LayerNo.{LayerNo}
@@ -18,6 +19,7 @@ use Rattle.vs_instance.specs.Restriction.{IsRestriction, set_of}
 use Rattle.vs_instance.specs.Ways.{layer_of}
 use Rattle.vs_instance.proofs.CallerLemmas.{trip_of-IsTrip, total-map_add, total-map_sub, total-range_le, dec_has}
 use Rattle.vs_match.specs.LayerGraph.{LayerGraph}
+use Rattle.vs_prices.proofs.CallerLemmas.{least_above}
 use Rattle.vs_circ.specs.declared.circ.Circ.{Circ}
 use Rattle.vs_circ.specs.declared.circ.LayerPrices.{LayerPrices}
 use Rattle.vs_circ.specs.LayerPrices.{pays_at, trip_pays}
@@ -31,15 +33,6 @@ use Rattle.vs_prices.specs.Worth.{IsRoundedUp, IsWorth, fleet_price, least, leas
 use Rattle.vs_multi.specs.Exchanges.{HasPrices}
 use Rattle.vs_multi.specs.Offers.{AreOffersTo, IsLeastAt}
 use Rattle.vs_multi.proofs.OfferedBlocks.{low_once}
-
--- what is no more than any of some numbers is no more than their least
-least_above : (f : ℕ → ℤ) (v : ℤ) (ks : List ℕ) → ks ≢ [] → All (λ k. v ≤ℤ f k) ks → v ≤ℤ least (map f ks)
-least_above f v [] some each = absurd (some refl)
-least_above f v (k ∷ []) some each = All-head (λ (j : ℕ). v ≤ℤ f j) k [] each
-least_above f v (k ∷ j ∷ rest) some each =
-    let here = All-head (λ (i : ℕ). v ≤ℤ f i) k (j ∷ rest) each in
-    let after = least_above f v (j ∷ rest) (λ e. cc) (All-tail (λ (i : ℕ). v ≤ℤ f i) k (j ∷ rest) each) in
-    omega (arith, ints, clamps, here, after)
 
 -- where no number counts more than nothing, all together count no more than nothing, and than any one
 total_below : (f : ℕ → ℤ) (a n : ℕ) → ((k : ℕ) → f k ≤ℤ pos 0) → over_range f a n ≤ℤ pos 0
@@ -63,19 +56,10 @@ total_below_one f k a (suc n) from within none =
           omega (arith, ints, here, rest)
     ]
 
--- the total of a list, number by number
-listed_from : (xs before : List ℤ) (f : ℕ → ℤ) (a : ℕ) → ((k : ℕ) → f (a + k) ≡ get_or xs k (pos 0))
-    → total xs ≡ over_range f a (length xs)
-listed_from [] before f a is = refl
-listed_from (x ∷ xs) before f a is =
-    let here : f a ≡ x = ap f (omega arith) ∙ is 0 in
-    let rest = listed_from xs before f (a + 1) (λ k. ap f (omega arith) ∙ is (suc k)) in
-    omega (arith, ints, here, rest)
-
-total-listed : (xs : List ℤ) (n : ℕ) → length xs ≡ n → total xs ≡ over_range (λ k. get_or xs k (pos 0)) 0 n
-total-listed xs n size =
-    listed_from xs xs (λ k. get_or xs k (pos 0)) 0 (λ k. ap (λ (j : ℕ). get_or xs j (pos 0)) (omega arith))
-    ∙ ap (λ (m : ℕ). over_range (λ k. get_or xs k (pos 0)) 0 m) size
+-- a list's total, by the places of the list
+pub total-by_place : (xs : List ℤ) (n : ℕ) → length xs ≡ n → total xs ≡ over_range (λ k. get_or xs k (pos 0)) 0 n
+total-by_place xs n long =
+    ap total (fill_by_all (λ (k : ℕ). get_or xs k (pos 0)) xs n (pos 0) long (λ k inside. refl))
 
 -- what a trip gains in a layer by being left out, as far as it gains anything, where its set has the layer
 abbrev gains : Bool → ℤ → ℤ → ℤ
@@ -159,7 +143,7 @@ module _ (p : Problem) (sets : List LayerSet) (multipliers : List ℤ) (table : 
     -- the value is no more than what the trips and the vehicles pay
     value_below : (value : ℤ) → IsLagrangianValue p sets multipliers value → value ≤ℤ table_value p sets table
     value_below value is =
-        let lows = total-listed is.lows (length p.layers) is.each_layer in
+        let lows = total-by_place is.lows (length p.layers) is.each_layer in
         let shown = total-same (λ l. get_or is.lows l (pos 0)) (λ l. layer_gain l -ℤ fleet_price p table l) 0
         (length p.layers)
         (λ l from within.
@@ -167,7 +151,7 @@ module _ (p : Problem) (sets : List LayerSet) (multipliers : List ℤ) (table : 
         low_of no (omega arith) (get_or is.lows l (pos 0)) (is.are_lows no (omega arith))) in
         let parts = total-map_sub layer_gain (fleet_price p table) (range_with_len 0 (length p.layers)) in
         let turned = total-swap gain (range_with_len 0 (length p.layers)) (range_with_len 0 (length p.trips)) in
-        let paid = total-listed multipliers (length p.trips) each in
+        let paid = total-by_place multipliers (length p.trips) each in
         let both = total-map_add (multiplier_of multipliers) (λ i. over_range (λ l. gain l i) 0 (length p.layers))
         (range_with_len 0 (length p.trips)) in
         let below = total-range_le

@@ -23,9 +23,6 @@ use Rattle.vs_multi.specs.Offers.{AreOffersTo}
 not_none : (offer : Option ℤ) → offer ≡ None → ¬ (IsSome offer)
 not_none offer is some = false≢true (subst (λ (o : Option ℤ). IsSome o) is some)
 
-some_is : (offer : Option ℤ) (m : ℤ) → offer ≡ Some m → IsSome offer
-some_is offer m is = subst (λ (o : Option ℤ). IsSome o) (sym is) refl
-
 -- the same by two names of a list's trips
 all_where : {X : Type 0} (P Q R : X → Type 0) → ((x : X) → P x → Q x → R x) → (xs : List X) → All P xs → All Q xs
     → All R xs
@@ -50,7 +47,7 @@ module _ (p : Problem) (sets : List LayerSet) (multipliers : List ℤ) (l : Laye
       ]
 
   has_offered : (i : ℕ) → i < length p.trips → Has (set_of sets i) l.0 → IsOffered offers i
-  has_offered i inside has = some_is (offer_of offers i) (multiplier_of multipliers i) ((are.each i inside).offered has)
+  has_offered i inside has = subst (λ (o : Option ℤ). IsSome o) (sym ((are.each i inside).offered has)) refl
 
   -- it is paid its multiplier
   paid_same : (i : ℕ) → IsOffered offers i → multiplier_of (multipliers_of offers) i ≡ multiplier_of multipliers i
@@ -114,6 +111,6 @@ module _ (p : Problem) (sets : List LayerSet) (multipliers : List ℤ) (l : Laye
       within_at : (i : ℕ) (o : Option ℤ) → offer_of offers i ≡ o → IfSome o IsMultiplier
       within_at i None is = tt
       within_at i (Some m) is =
-          let has = offered_has i (some_is (offer_of offers i) m is) in
+          let has = offered_has i (subst (λ (o : Option ℤ). IsSome o) (sym is) refl) in
           let same : Some (multiplier_of multipliers i) ≡ Some m = sym ((are.each i has.0).offered has.1) ∙ is in
           subst IsMultiplier (ap paid same) (within.within i)

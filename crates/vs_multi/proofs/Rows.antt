@@ -2,12 +2,11 @@
 use Rattle.std.proofs.Common.{◌≡◌, ◌≢◌, ℕ, ◌+◌, ◌-◌, ◌*◌, ◌<◌, ◌≤◌, List, ◌++◌, length, take, drop, get_or, sym, ap, ◌∙◌, inl, inr, arith, length-append, length-drop, ℤ, pos}
 use Rattle.std.specs.Prelude.{slice_range}
 use Rattle.std.specs.List.{All, splice}
-use Rattle.std.proofs.Math.Nat.{add-mul}
 use Rattle.std.proofs.Math.Seq.{take-append_seam, drop-append_seam}
 use Rattle.std.proofs.lemmas.Bool.{cases_lt}
-use Rattle.std.proofs.lemmas.Nat.{mul-le}
 use Rattle.std.proofs.lemmas.List.{ext_get_or, get_or-append-add, get_or_append_left, get_or-drop, get_or-take, length-take-le, take-append-drop, drop-drop}
 use Rattle.std.proofs.lemmas.List.Elements.{All-append, All-drop, All-take}
+use Rattle.vs_types.proofs.CallerLemmas.{row_inside}
 use Rattle.vs_multi.specs.Exchanges.{row_of, with_row}
 
 module _ (xs given : List ℤ) (a : ℕ) (inside : a + length given ≤ length xs) where
@@ -88,14 +87,6 @@ pub All-row : (P : ℤ → Type 0) (n row : ℕ) (xs : List ℤ) → All P xs �
 All-row P n row xs each =
     All-take P (row * n + n - row * n) (drop (row * n) xs) (All-drop P (row * n) xs each)
 
--- a row lies within so many rows
-pub row_inside : (n row rows : ℕ) → row < rows → row * n + n ≤ rows * n
-row_inside n row rows less = omega (arith, mul-le (row + 1) n rows n (omega arith) (omega arith), add-mul row 1 n)
-
--- the rows before and after one
-rows_apart : (n row other : ℕ) → row < other → row * n + n ≤ other * n
-rows_apart n row other less = row_inside n row other less
-
 module _ (n row rows : ℕ) (xs given : List ℤ) (less : row < rows) (all_rows : length xs ≡ rows * n)
     (width : length given ≡ n) where
   inside_by_given : row * length given + length given ≤ length xs
@@ -129,10 +120,10 @@ module _ (n row rows : ℕ) (xs given : List ℤ) (less : row < rows) (all_rows 
       elim (cases_lt other row) [
         | inl lower ↦
             before xs given (row * length given) inside_by_given (other * n + i) d
-            (omega (arith, rows_apart n other row lower, wide))
+            (omega (arith, row_inside n other row lower, wide))
         | inr upper ↦
             after xs given (row * length given) inside_by_given (other * n + i) d
-            (omega (arith, rows_apart n row other (omega arith), wide, width))
+            (omega (arith, row_inside n row other (omega arith), wide, width))
       ]
 
   -- the other rows stay as they were

@@ -1,6 +1,6 @@
 -- Rounds, one after the other: in each a least circulation in every layer at the multipliers as they are, which then
 -- move.
-use Rattle.std.specs.Prelude.{◌≡◌, ℕ, zero, suc, ◌+◌, ◌<◌, ◌⊎◌, List, length, false, IfSome, IsSomeAnd, slice_get, slice_index, ℤ}
+use Rattle.std.specs.Prelude.{◌≡◌, ℕ, zero, suc, ◌+◌, ◌<◌, ◌⊎◌, All, Contains, List, [], ◌∷◌, length, false, IfSome, IsSomeAnd, slice_get, slice_index, ℤ}
 use Rattle.vs_types.specs.declared.layer_set.LayerSet.{LayerSet}
 use Rattle.vs_types.specs.declared.numbers.LayerNo.{LayerNo}
 use Rattle.vs_instance.specs.Problem.{Problem}
@@ -11,7 +11,7 @@ use Rattle.vs_circ.specs.declared.circ.Circ.{Circ}
 use Rattle.vs_circ.specs.Circulations.{RunTrip}
 use Rattle.vs_prices.specs.declared.bound.Bound.{Bound}
 use Rattle.vs_prices.specs.declared.table.Table.{Table}
-use Rattle.vs_prices.specs.Bounds.{IsNoLess}
+use Rattle.vs_prices.specs.Bounds.{IsNoLess, IsWorthNoLess}
 use Rattle.vs_prices.specs.Table.{Fits, HoldingTable}
 use Rattle.vs_multi.specs.declared.round.Round.{Round}
 use Rattle.vs_multi.specs.Exchanges.{AgreeBut, HasPrices}
@@ -45,32 +45,45 @@ pub record AreCovers (p : Problem) (nets : List LayerGraph) (circs : List Circ) 
   pub each_trip : length covers ≡ length p.trips
   pub count : (i : ℕ) → i < length p.trips → IsCountBelow (RunsTrip nets circs i) m (slice_index covers i)
 
--- a round at these multipliers: least circulations, and for each trip how many layers run it
-pub record IsRound (p : Problem) (nets : List LayerGraph) (sets : List LayerSet) (multipliers : List ℤ)
+-- in each layer the table has the prices of the circulation there
+abbrev pub HasPricesOf : Problem → List Circ → Table → Type 0
+HasPricesOf p circs table = (l : LayerNo) → IfSome (slice_get circs l.0) (λ c. HasPrices p table l.0 c.prices)
+
+-- a round at these multipliers: least circulations, a table of their prices, and for each trip how many layers run it
+pub record IsRound (p : Problem) (nets : List LayerGraph) (sets : List LayerSet) (multipliers : List ℤ) (table : Table)
     (counts : List ℕ) : Type 0 where
   pub circs : List Circ
   pub round : AreOfRound p nets sets multipliers circs
+  pub prices : HasPricesOf p circs table
   pub covers : AreCovers p nets circs (length p.layers) counts
 
--- so many rounds, counted from 0, lead from the first multipliers to the last: after each round every multiplier moves
--- by the step of that round, up once, and down once for each layer that runs its trip
-abbrev pub LeadTo : Problem → List LayerGraph → List LayerSet → Steps → ℕ → ℕ → List ℤ → List ℤ → Type 0
-LeadTo p nets sets steps most zero first last = last ≡ first
-LeadTo p nets sets steps most (suc n) first last =
-    (before : List ℤ) × (counts : List ℕ) × LeadTo p nets sets steps most n first before
-    × IsRound p nets sets before counts × AreMoved (step_in steps most n) counts before last
+-- rounds of these tables, that of the last round first, lead from the first multipliers to the last: after each round,
+-- counted from 0, every multiplier moves by the step of that round, up once, and down once for each layer that runs its
+-- trip
+abbrev pub LeadTo : Problem → List LayerGraph → List LayerSet → Steps → ℕ → List ℤ → List ℤ → List Table → Type 0
+LeadTo p nets sets steps most first last [] = last ≡ first
+LeadTo p nets sets steps most first last (table ∷ earlier) =
+    (before : List ℤ) × (counts : List ℕ) × LeadTo p nets sets steps most first before earlier
+    × IsRound p nets sets before table counts × AreMoved (step_in steps most (length earlier)) counts before last
 
--- the counts are those of the last of the rounds that begin with these multipliers: for each trip, how many layers run
--- it
-pub record IsLastRound (p : Problem) (nets : List LayerGraph) (sets : List LayerSet) (steps : Steps) (first : List ℤ)
-    (counts : List ℕ) : Type 0 where
+-- one of the tables, and within the sets worth no less than each of them
+pub record IsBestOf (p : Problem) (sets : List LayerSet) (tables : List Table) (best : Table) : Type 0 where
+  pub one : Contains tables best
+  pub no_less : All (IsWorthNoLess p sets best) tables
+
+-- the best table of the rounds that begin with these multipliers, and the counts of the last of them: for each trip,
+-- how many layers run it
+pub record IsBestOfRounds (p : Problem) (nets : List LayerGraph) (sets : List LayerSet) (steps : Steps) (first : List ℤ)
+    (best : Table) (counts : List ℕ) : Type 0 where
   pub most : ℕ
   pub greatest : IsGreatestStep p most
-  pub before : ℕ
-  pub all : before + 1 ≡ rounds_in steps
+  pub earlier : List Table
+  pub all : length earlier + 1 ≡ rounds_in steps
   pub multipliers : List ℤ
-  pub led : LeadTo p nets sets steps most before first multipliers
-  pub round : IsRound p nets sets multipliers counts
+  pub led : LeadTo p nets sets steps most first multipliers earlier
+  pub last : Table
+  pub round : IsRound p nets sets multipliers last counts
+  pub is_best : IsBestOf p sets (last ∷ earlier) best
 
 -- a trip's count is one more exactly where it is run
 abbrev pub IsCounted : LayerGraph → List ℕ → ℕ → ℕ → ℕ → Type 0

@@ -7,7 +7,7 @@ ghost use Rattle.vs_prices.specs.Bounds.{ReachesLagrangian};
 ghost use Rattle.vs_prices.specs.Table.{Fits, HoldingTable};
 ghost use Rattle.vs_prices.specs.Worth.{IsWorth};
 ghost use Rattle.vs_multi.specs.Multipliers.{AreMultipliers};
-ghost use Rattle.vs_multi.specs.Rounds.{IsBetter, IsCase, IsLastRound};
+ghost use Rattle.vs_multi.specs.Rounds.{IsBestOfRounds, IsBetter, IsCase};
 ghost use Rattle.vs_multi.specs.Steps.{HasRounds, IsGreatestStep};
 ghost use Rattle.vs_multi.specs.declared.steps.Steps.TheVariants.{Halving, Near};
 ghost use Rattle.vs_multi.specs.declared.steps.TheConstants.{ROUNDS};
@@ -71,8 +71,8 @@ fn best_of(
         IsWorth case.now.instance.now case.now.sets.now best.table best.worth) }
     ensures lagrangian { IfOk result (λ best.
         ReachesLagrangian case.now.instance.now case.now.sets.now multipliers.old best.table) }
-    ensures covers { IfOk result (λ best. IsLastRound case.now.instance.now case.now.nets.now
-        case.now.sets.now steps multipliers.old best.covers.items) }
+    ensures best { IfOk result (λ best. IsBestOfRounds case.now.instance.now case.now.nets.now
+        case.now.sets.now steps multipliers.old best.table best.covers.items) }
     ensures within { AreMultipliers case.now.instance.now multipliers.new }
 {
     let most = greatest_step(case.alloc, case.instance)?;
@@ -96,7 +96,8 @@ fn best_of(
 /// offered for its multiplier, and its prices go into the round's table. Then a trip's multiplier rises by a step
 /// where no layer runs it, and falls by one for each layer but one that does; the step is at first the mean of the
 /// multipliers to begin with, and halved every five rounds. The table is worth no less than the Lagrangian value at
-/// the first multipliers. They move on, also after want of memory.
+/// the first multipliers, and no less than the table of any of the rounds. The multipliers move on, also after want of
+/// memory. The search doesn't call it.
 pub fn rounds(
     alloc: Global,
     instance: &Instance,
@@ -113,8 +114,8 @@ pub fn rounds(
     ensures worth { IfOk result (λ best. IsWorth instance.now sets.now best.table best.worth) }
     ensures lagrangian { IfOk result (λ best.
         ReachesLagrangian instance.now sets.now multipliers.old best.table) }
-    ensures covers { IfOk result (λ best.
-        IsLastRound instance.now nets.now sets.now Halving multipliers.old best.covers.items) }
+    ensures best { IfOk result (λ best. IsBestOfRounds instance.now nets.now sets.now Halving
+        multipliers.old best.table best.covers.items) }
     ensures within { AreMultipliers instance.now multipliers.new }
 {
     let case = Case {
@@ -144,8 +145,8 @@ pub fn few_rounds(
         IsWorth case.now.instance.now case.now.sets.now best.table best.worth) }
     ensures lagrangian { IfOk result (λ best.
         ReachesLagrangian case.now.instance.now case.now.sets.now multipliers.old best.table) }
-    ensures covers { IfOk result (λ best. IsLastRound case.now.instance.now case.now.nets.now
-        case.now.sets.now (Near rounds) multipliers.old best.covers.items) }
+    ensures best { IfOk result (λ best. IsBestOfRounds case.now.instance.now case.now.nets.now
+        case.now.sets.now (Near rounds) multipliers.old best.table best.covers.items) }
     ensures within { AreMultipliers case.now.instance.now multipliers.new }
 {
     best_of(case, Steps::Near { rounds }, multipliers, work)

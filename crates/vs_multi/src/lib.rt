@@ -1,5 +1,8 @@
 //! Multipliers of trips: what a layer is paid for each trip that it runs. They are where a table of prices comes from,
 //! and come from a table.
+//!
+//! The search runs one round at a time, by `few_rounds`. It doesn't call `rounds`, the series from the starting
+//! multipliers on, which is here for callers of the library.
 #![tactic(auto)]
 
 mod best;
@@ -16,5 +19,4 @@ pub use offering::offer;
 pub use raising::raise;
 pub use round::Case;
 pub use starting::{multipliers_of, of_table, start};
-pub use steps::{Steps, moved};
-pub use vs_instance::MAX_MULTIPLIER;
+pub use steps::moved;

@@ -89,7 +89,7 @@ impl Round {
         ensures lagrangian { OnOk result
             (ReachesLagrangian case.now.instance.now case.now.sets.now multipliers.now self.new.table) }
         ensures ran { OnOk result (IsRound case.now.instance.now case.now.nets.now case.now.sets.now
-            multipliers.now self.new.covers.items) }
+            multipliers.now self.new.table self.new.covers.items) }
         ensures round { IsRoundFor case.now.instance.now self.new }
         ensures few { OnOk result ((i : ℕ) → slice_index self.new.covers.items i ≤ MAX_LAYERS) }
     {
@@ -117,7 +117,7 @@ impl Round {
         ensures lagrangian { OnOk result
             (ReachesLagrangian case.now.instance.now case.now.sets.now multipliers.old self.new.table) }
         ensures ran { OnOk result (IsRound case.now.instance.now case.now.nets.now case.now.sets.now
-            multipliers.old self.new.covers.items) }
+            multipliers.old self.new.table self.new.covers.items) }
         ensures moved { OnOk result
             (AreMoved step self.new.covers.items multipliers.old multipliers.new) }
         ensures within { AreMultipliers case.now.instance.now multipliers.new }

@@ -20,7 +20,7 @@ const MOST: u64 = MAX_MULTIPLIER as u64;
 
 /// How the step, by which multipliers change, falls from round to round.
 #[derive(Clone, Copy, Debug, PartialEq, Eq)]
-pub enum Steps {
+pub(crate) enum Steps {
     /// It begins as the greatest and is halved every few rounds, since nothing is known yet.
     Halving,
     /// It is small from the first of so many rounds on, so that what is known isn't lost.

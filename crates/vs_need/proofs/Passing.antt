@@ -2,7 +2,6 @@
 use Rattle.std.proofs.Common.{◌≡◌, ◌≢◌, ℕ, ◌+◌, ◌<◌, ◌≤◌, ◌⊎◌, inl, inr, Bool, true, false, List, length, get_or, set, replicate, Option, None, refl, sym, ap, ◌∙◌, subst, arith, w64, ℤ, FitsSigned}
 use Rattle.std.proofs.lemmas.Bool.{cases_eq, cases_lt}
 use Rattle.std.proofs.lemmas.List.{get_or-set_same, get_or-set_other}
-use Rattle.vs_types.specs.declared.numbers.TripNo.{TripNo}
 use Rattle.vs_layer.specs.declared.arc.Arc.{Arc}
 use Rattle.vs_layer.specs.declared.arc.TheConstants.{MAX_ARCS}
 use Rattle.vs_layer.specs.Graph.{arc_of}
@@ -11,7 +10,7 @@ use Rattle.vs_match.specs.declared.arc_kind.ArcKind.{ArcKind}
 use Rattle.vs_match.specs.declared.arc_kind.ArcKind.TheVariants.{Trip, Waiting, Deadhead, PullOut, PullIn, RestIn, RestWait, RestOut, Return}
 use Rattle.vs_match.specs.LayerGraph.{LayerGraph, IsArcOfTrip, arcs_in, kind_of}
 use Rattle.vs_match.specs.WalkLaw.{IsMove}
-use Rattle.vs_match.proofs.CallerLemmas.{get_or-copies}
+use Rattle.vs_match.proofs.CallerLemmas.{get_or-copies, trip_number-is}
 use Rattle.vs_need.specs.declared.aim.Aim.{Aim}
 use Rattle.vs_need.specs.Greatest.{IsGreatest, IfWide, greater_of}
 use Rattle.vs_need.specs.Gains.{AreGains, IsGain, far_of, is_against, near_of, prize_of}
@@ -42,9 +41,6 @@ none_greatest Such a is none = subst (IsGreatest Such) (sym is) none
 
 none_wide : (m : ℕ) (a : Option ℤ) → a ≡ None → IfWide m a
 none_wide m a is = subst (IfWide m) (sym is) tt
-
-trip_number-is : (a b : TripNo) → Trip a ≡ Trip b → a.0 ≡ b.0
-trip_number-is a b e = let same : a ≡ b = cc in ap (λ (t : TripNo). t.0) same
 
 -- a trip's entry, and that of another trip
 is_trip_or_not : (kind : ArcKind) (i : ℕ)

@@ -5,6 +5,7 @@ use Rattle.std.specs.Int.{bit_at}
 use Rattle.std.proofs.lemmas.Bool.{eqb-true, eq-eqb, false≢true}
 use Rattle.std.proofs.lemmas.Int.{ints}
 use Rattle.std.proofs.lemmas.Option.{none-some, same_Some}
+use Rattle.vs_types.proofs.CallerLemmas.{and_false}
 use Rattle.vs_instance.specs.Firsts.{first}
 use Rattle.vs_instance.specs.Problem.{Problem}
 use Rattle.vs_instance.specs.Ways.{trip_of}
@@ -37,10 +38,6 @@ piece_above ray (Some c) None price other is =
 piece_above ray (Some c) (Some x) price other is =
     let same : c ≡ is.0.piece = same_Some c is.0.piece is.0.is_piece in
     same_less other price (scaled ray c) x (is.0.worth ∙ ap (λ (n : ℕ). neg_ℤ (scaled ray n)) (sym same))
-
-no_more : (b t : Bool) → (b ≡ true → t ≡ false) → (b && t) ≡ false
-no_more true t fails = fails refl
-no_more false t fails = refl
 
 both_true : (b t : Bool) → b ≡ true → t ≡ true → (b && t) ≡ true
 both_true b t e e' = ap (λ (x : Bool). x && t) e ∙ e'
@@ -75,7 +72,7 @@ module _ (p : Problem) (table : Table) (l i : ℕ) where
       → is_above found (from_price p table l i) ≡ false → None ≡ first (links_breaks p table l i)
   no_links found greatest none =
       ap first (sym (none_numbers (link_breaks p table l i) 0 (length p.trips)
-      (λ j low within. none_from_false _ _ (no_more (may_run p l j) _
+      (λ j low within. none_from_false _ _ (and_false (may_run p l j) _
       (λ may. link_holds j found (runs j (omega (arith, within)) may) greatest none (link_piece p l i j) refl)))))
 
   link_breaks_there : (found : Option ℤ) → IsGreatest (IsNextWorth p table l i) found

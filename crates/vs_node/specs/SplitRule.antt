@@ -5,6 +5,7 @@ use Rattle.vs_types.specs.declared.numbers.TheConstants.{MAX_LAYERS}
 use Rattle.vs_types.specs.LayerSet.{Has, members}
 use Rattle.vs_instance.specs.Restriction.{set_of}
 use Rattle.vs_node.specs.declared.leads.Candidate.{Candidate}
+use Rattle.vs_node.specs.declared.leads.Leads.{Leads}
 
 -- trip i may be run in two layers or more
 abbrev pub HasChoice : List LayerSet → ℕ → Type 0
@@ -19,6 +20,11 @@ pub record IsLowest (P : ℕ → Type 0) (count i : ℕ) : Type 0 where
 -- of none of them it holds
 abbrev pub HoldsOfNone : (ℕ → Type 0) → ℕ → Type 0
 HoldsOfNone P count = (j : ℕ) → j < count → ¬ (P j)
+
+-- the leads have a place for each of these sets, and a share for each layer in one of them
+pub record AreLeadsFor (sets : List LayerSet) (leads : Leads) : Type 0 where
+  pub each_trip : leads.shares.trips ≡ length sets
+  pub layers : (i l : ℕ) → i < length sets → Has (set_of sets i) l → l < leads.shares.layers
 
 -- one of the first so many trips that may be run in two layers or more, and one of these layers
 pub record MaySplit (sets : List LayerSet) (count : ℕ) (candidate : Candidate) : Type 0 where

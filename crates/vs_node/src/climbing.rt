@@ -6,6 +6,7 @@ ghost use Rattle.vs_multi.specs.Rounds.{IsCase};
 ghost use Rattle.vs_prices.specs.Bounds.{IsWorthNoLess};
 ghost use Rattle.vs_prices.specs.Table.{Fits, HoldingTable};
 ghost use Rattle.vs_prices.specs.Worth.{IsWorth};
+ghost use Rattle.vs_node.specs.SplitRule.{AreLeadsFor};
 
 use crate::leads::Leads;
 use vs_bundle::{Aim, climb};
@@ -69,6 +70,7 @@ pub(crate) fn climb_on(
     ensures no_less { IsWorthNoLess case.now.instance.now case.now.sets.now table.new table.old }
     ensures worth { IfOk result (λ climb.
         IsWorth case.now.instance.now case.now.sets.now table.new climb.worth) }
+    ensures leads { IfOk result (λ climb. AreLeadsFor case.now.sets.now climb.leads) }
 {
     let mut multipliers = multipliers_of(case, table)?;
     let aim = aim_for(case, known)?;

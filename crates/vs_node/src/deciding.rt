@@ -2,7 +2,7 @@
 ghost use Rattle.std.specs.Prelude.{◌≡◌, ℕ, ◌<◌, ◌≤◌, length};
 ghost use Rattle.vs_instance.specs.declared.limits.TheConstants.{MAX_TRIPS};
 ghost use Rattle.vs_node.specs.NextSteps.{IsNextBy};
-ghost use Rattle.vs_node.specs.SplitRule.{HasChoice};
+ghost use Rattle.vs_node.specs.SplitRule.{AreLeadsFor, HasChoice};
 
 use crate::leads::Leads;
 use crate::splitting::{alone, split_trip};
@@ -21,6 +21,7 @@ pub(crate) fn next_of(
     leads: &Leads,
 ) -> Next
     requires few { length sets.now ≤ MAX_TRIPS }
+    requires leads { AreLeadsFor sets.now leads.now }
     requires choice { (i : ℕ) × (i < length sets.now) × HasChoice sets.now i }
     ensures { IsNextBy sets.now worth known plan.now result }
 {

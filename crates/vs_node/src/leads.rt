@@ -1,10 +1,11 @@
 //! By what a leaf is split: what its trips are paid for, and how much of each trip each layer runs after a climb.
 
-ghost use Rattle.std.specs.Prelude.{◌≡◌, ◌≢◌, ◌<◌, []};
+ghost use Rattle.std.specs.Prelude.{◌≡◌, ◌≢◌, ◌<◌, ℕ, [], vec_len};
 ghost use Rattle.vs_types.specs.LayerSet.{Has, members};
 ghost use Rattle.vs_types.specs.declared.numbers.TheConstants.{MAX_LAYERS};
+ghost use Rattle.vs_multi.specs.Multipliers.{AreWithin};
 
-use vs_bundle::WHOLE;
+use vs_bundle::{Shares, WHOLE};
 use vs_types::{LayerNo, LayerSet, MAX_LAYERS, TripNo};
 
 /// A trip counts as shared out where other layers than that of its greatest share run at least one part of it in so
@@ -19,8 +20,10 @@ const TWICE: i64 = WHOLE + WHOLE / 4;
 pub(crate) struct Leads {
     /// By trip, in 1/1000 of a cost unit.
     pub multipliers: Vec<i64>,
-    /// By layer, and within that by trip: how much of the trip the layer runs, in parts of `WHOLE`.
-    pub shares: Vec<u32>,
+    /// How much of each trip each layer runs.
+    pub shares: Shares,
+    ghost each_trip: { vec_len multipliers ≡ shares.trips },
+    ghost within: { AreWithin multipliers.items },
 }
 
 /// A trip by which a leaf may be split, and the layer that runs most of it.
@@ -49,7 +52,9 @@ impl Candidate {
 impl Leads {
     /// What there is to say of a trip that may be run in these layers.
     pub fn candidate(&self, set: LayerSet, trip: TripNo) -> Candidate
-        requires { members set ≢ [] }
+        requires some { members set ≢ [] }
+        requires layers { (l : ℕ) → Has set l → l < self.now.shares.layers }
+        requires trip { trip.0 < self.now.shares.trips }
         ensures trip { result.trip ≡ trip }
         ensures layer { Has set result.layer.0 }
         ensures few { result.layer.0 < MAX_LAYERS }
@@ -59,60 +64,44 @@ impl Leads {
             trip,
             layer,
             shared: self.shared(layer, trip),
-            multiplier: self.multiplier(trip),
+            multiplier: self.multipliers[trip.0 as usize],
         }
     }
 
     /// The layer of the set that runs most of a trip, the one with the lowest number on a tie.
     fn greatest(&self, set: LayerSet, trip: TripNo) -> LayerNo
-        requires { members set ≢ [] }
+        requires some { members set ≢ [] }
+        requires layers { (l : ℕ) → Has set l → l < self.now.shares.layers }
+        requires trip { trip.0 < self.now.shares.trips }
         ensures layer { Has set result.0 }
         ensures few { result.0 < MAX_LAYERS }
     {
         let mut greatest = set.lowest().unwrap();
         for k in 0..MAX_LAYERS {
             let l = LayerNo(k);
-            if set.has(l) && self.share(l, trip) > self.share(greatest, trip) {
+            if set.has(l) && self.shares.get(l, trip) > self.shares.get(greatest, trip) {
                 greatest = l;
             }
         }
         greatest
     }
 
-    /// How much of a trip a layer runs.
-    fn share(&self, l: LayerNo, trip: TripNo) -> u32 {
-        let row = (l.0 as usize).saturating_mul(self.multipliers.len());
-        let place = row.saturating_add(trip.0 as usize);
-        self.shares.get(place).copied().unwrap_or(0)
-    }
-
     /// How far a trip is shared out, of which this layer runs most: what it is paid for, times how much other layers
     /// run of it. Most of all where it is run twice, as may be a trip that is paid for by nothing: neither part of a
     /// split allows that.
-    fn shared(&self, greatest: LayerNo, trip: TripNo) -> i128 {
-        let share = i64::from(self.share(greatest, trip));
-        let total = self.total(trip);
-        let others = total.saturating_sub(share).min(share);
+    fn shared(&self, greatest: LayerNo, trip: TripNo) -> i128
+        requires layer { greatest.0 < self.now.shares.layers }
+        requires trip { trip.0 < self.now.shares.trips }
+    {
+        let share = i64::from(self.shares.get(greatest, trip));
+        let total = i64::from(self.shares.total(trip));
+        let others = (total - share).min(share);
         if others < WHOLE / PARTS {
             0
         } else if total >= TWICE {
             i128::MAX
         } else {
-            i128::from(self.multiplier(trip)).saturating_mul(i128::from(others))
+            i128::from(self.multipliers[trip.0 as usize]) * i128::from(others)
         }
-    }
-
-    /// How much of a trip all layers run.
-    fn total(&self, trip: TripNo) -> i64 {
-        let mut total: i64 = 0;
-        for k in 0..MAX_LAYERS {
-            total = total.saturating_add(i64::from(self.share(LayerNo(k), trip)));
-        }
-        total
-    }
-
-    /// What a trip is paid for.
-    fn multiplier(&self, trip: TripNo) -> i64 {
-        self.multipliers.get(trip.0 as usize).copied().unwrap_or(0)
     }
 }

@@ -8,7 +8,7 @@ ghost use Rattle.vs_tree.specs.declared.calls.Next.TheVariants.{Close};
 ghost use Rattle.vs_node.specs.ChosenLayers.{AreSingle};
 ghost use Rattle.vs_node.specs.NextSteps.{IsNextBy, IsOpen};
 ghost use Rattle.vs_node.specs.Outcomes.{HasPlan, IsAtHand, IsOutcome};
-ghost use Rattle.vs_node.specs.SplitRule.{HasChoice};
+ghost use Rattle.vs_node.specs.SplitRule.{AreLeadsFor, HasChoice};
 
 use crate::choosing::chosen_layers;
 use crate::deciding::next_of;
@@ -75,6 +75,7 @@ pub(crate) fn outcome_of(
 ) -> Result<Outcome, Memory>
     requires case { IsCase case.now.instance.now case.now.nets.now case.now.sets.now }
     requires fits { Fits case.now.instance.now table }
+    requires leads { AreLeadsFor case.now.sets.now leads.now }
     requires choice { (i : ℕ) × (i < length case.now.sets.now) × HasChoice case.now.sets.now i }
     ensures table { IfOk result (λ outcome. outcome.table ≡ table) }
     ensures plan { IfOk result (λ outcome.

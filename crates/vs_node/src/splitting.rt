@@ -4,7 +4,7 @@ ghost use Rattle.vs_instance.specs.declared.limits.TheConstants.{MAX_TRIPS};
 ghost use Rattle.vs_types.specs.LayerSet.{Has, members};
 ghost use Rattle.vs_types.specs.Parts.{IsProperPart};
 ghost use Rattle.vs_types.specs.declared.numbers.TheConstants.{MAX_LAYERS};
-ghost use Rattle.vs_node.specs.SplitRule.{HasChoice, HoldsOfNone, IsLayerAlone, IsLowest, MaySplit};
+ghost use Rattle.vs_node.specs.SplitRule.{AreLeadsFor, HasChoice, HoldsOfNone, IsLayerAlone, IsLowest, MaySplit};
 
 use crate::leads::{Candidate, Leads};
 use vs_types::{LayerNo, LayerSet, TripNo};
@@ -36,7 +36,8 @@ fn better_of(best: Option<Candidate>, next: Candidate) -> Candidate
 /// The trip by which a leaf is split: among those that may be run in two layers or more one that is shared out, where
 /// there is one, and of several the one that is paid for most. None exactly where no trip may be run in two layers.
 pub(crate) fn split_trip(sets: &[LayerSet], leads: &Leads) -> Option<Candidate>
-    requires { length sets.now ≤ MAX_TRIPS }
+    requires few { length sets.now ≤ MAX_TRIPS }
+    requires leads { AreLeadsFor sets.now leads.now }
     ensures { MatchOption result (HoldsOfNone (HasChoice sets.now) (length sets.now))
         (MaySplit sets.now (length sets.now)) }
 {

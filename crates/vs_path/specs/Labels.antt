@@ -7,7 +7,8 @@ use Rattle.vs_path.specs.declared.labels.Labels.{Labels}
 use Rattle.vs_path.specs.declared.labels.TheConstants.{NO_BOUND}
 use Rattle.vs_queue.specs.Keys.{Keys, IsBelow, IsEmpty, key_at}
 use Rattle.vs_queue.specs.NodeLists.{label_of}
-use Rattle.vs_path.specs.Residual.{ResidualNet, IsOpen, IsWithin, AllWithin, from_of, to_of, reduced, price_at}
+use Rattle.vs_path.specs.declared.residual.Way.{Way}
+use Rattle.vs_path.specs.Residual.{ResidualNet, IsOpen, IsWithin, AllWithin, from_of, to_of, reduced, price_at, step_along}
 
 -- by node: the least distance and the place in the order, where it is settled; the key, where it waits; and the last
 -- step of a path that was found; and the settled nodes in order
@@ -156,6 +157,15 @@ IsBound surplus l bound = bound <ℤ NO_BOUND → (w : ℕ) × Lacks surplus w �
 abbrev pub IsRelaxed : ResidualNet → List ℤ → List ℤ → Lists → ℕ → ℤ → Step → Type 0
 IsRelaxed r prices surplus l u distance s =
     IsOpen r s → from_of r s ≡ u → Serves surplus l (to_of r s) (distance +ℤ reduced r prices s)
+
+-- so are all steps that go this way from node u, and all that leave it
+pub record IsRelaxedAlong (r : ResidualNet) (prices surplus : List ℤ) (l : Lists) (u : ℕ) (distance : ℤ)
+    (way : Way) : Type 0 where
+  pub each : (k : ℕ) → IsRelaxed r prices surplus l u distance (step_along way k)
+
+pub record IsRelaxedFrom (r : ResidualNet) (prices surplus : List ℤ) (l : Lists) (u : ℕ) (distance : ℤ)
+    : Type 0 where
+  pub each : (s : Step) → IsRelaxed r prices surplus l u distance s
 
 -- the step is relaxed, from a node at this distance, and nothing is lost
 pub record Relaxes (r : ResidualNet) (prices surplus : List ℤ) (step : Step) (distance : ℤ)

@@ -4,9 +4,8 @@ ghost use Rattle.std.specs.Prelude.{◌≡◌, ℕ, ℤ, IfSome, ◌<◌, ◌≤
 ghost use Rattle.vs_path.specs.Residual.{IsResidual, HasSignRule, arc_no, from_of, price_at, reduced};
 ghost use Rattle.vs_queue.specs.declared.node_table.Settled.{Settled};
 ghost use Rattle.vs_queue.specs.declared.step.Step.{Step};
-ghost use Rattle.vs_queue.specs.declared.step.Step.TheVariants.{Forward, Back};
 ghost use Rattle.vs_queue.specs.Keys.{IsEmpty, IsLeast};
-ghost use Rattle.vs_path.specs.Labels.{AreLabels, AreFresh, AreListed, Covers, IsBetter, IsBound, IsFarthest, IsLowered, IsOver, IsReached, IsRelaxed, IsSettledAt, IsSmall, Lacks, Relaxes, lists_of, lowered, settle_in, settled_at, waiting_at};
+ghost use Rattle.vs_path.specs.Labels.{AreLabels, AreFresh, AreListed, Covers, IsBetter, IsBound, IsFarthest, IsLowered, IsOver, IsReached, IsRelaxed, IsRelaxedAlong, IsRelaxedFrom, IsSettledAt, IsSmall, Lacks, Relaxes, lists_of, lowered, settle_in, settled_at, waiting_at};
 
 use crate::residual::{MAX_SEARCH_NODES, Residual, Way};
 use std::alloc::Global;
@@ -16,9 +15,10 @@ use vs_types::Memory;
 /// More than the distance of any node: no node that lacks a unit was found.
 pub const NO_BOUND: i64 = i64::MAX;
 
-/// Where steps leave a settled node: its distance and its price.
+/// A settled node from which steps leave, with its distance and its price.
 #[derive(Clone, Copy)]
 struct Departure {
+    node: u32,
     distance: i64,
     price: i64,
 }
@@ -161,8 +161,12 @@ impl Labels {
         ensures order { self.new.order ≡ self.old.order }
         ensures residual { IsResidual residual.now }
     {
-        self.relax_forward(residual, prices, surplus, node, distance);
-        self.relax_back(residual, prices, surplus, node, distance);
+        let departure = Departure {
+            node,
+            distance,
+            price: prices[node as usize],
+        };
+        self.relax_from(residual, prices, surplus, departure);
     }
 
     /// Whether a node that lacks a unit was found that is no farther than this.
@@ -255,69 +259,66 @@ impl Labels {
         away - prices[residual.to(step) as usize]
     }
 
-    /// Relaxes the steps forward from a node that is settled at this distance, the farthest so far.
-    fn relax_forward(
+    /// Relaxes all steps from a settled node, the farthest so far.
+    #[tactic(auto, using(crate::proofs::labelling::Lowering::both_ways))]
+    #[inline(always)]
+    fn relax_from(
         &mut self,
         residual: &Residual,
         prices: &[i64],
         surplus: &[i64],
-        node: u32,
-        distance: i64,
+        departure: Departure,
     )
         requires small { IsSmall residual.now prices.now }
         requires sign_rule { HasSignRule residual.now prices.now }
         requires labels { AreLabels residual.now prices.now (lists_of self.old) }
-        requires node { node < residual.now.graph.nodes }
-        requires from { IsSettledAt (lists_of self.old) node distance }
-        requires farthest { IsFarthest (lists_of self.old) distance }
+        requires node { departure.node < residual.now.graph.nodes }
+        requires from { IsSettledAt (lists_of self.old) departure.node departure.distance }
+        requires price { departure.price ≡ price_at prices.now departure.node }
+        requires farthest { IsFarthest (lists_of self.old) departure.distance }
         requires each_node { length surplus.now ≡ residual.now.graph.nodes }
         requires bound { IsBound surplus.now (lists_of self.old) self.old.bound }
         ensures bound { IsBound surplus.now (lists_of self.new) self.new.bound }
         ensures labels { AreLabels residual.now prices.now (lists_of self.new) }
         ensures lowered { IsLowered (lists_of self.old) (lists_of self.new) }
-        ensures relaxed { (k : ℕ)
-            → IsRelaxed residual.now prices.now surplus.now (lists_of self.new) node distance
-            (Forward k) }
+        ensures relaxed { IsRelaxedFrom residual.now prices.now surplus.now (lists_of self.new)
+            departure.node departure.distance }
         ensures order { self.new.order ≡ self.old.order }
         ensures residual { IsResidual residual.now }
     {
-        let price = prices[node as usize];
-        let departure = Departure { distance, price };
-        for k in residual.open_along(Way::Forward, node) {
-            self.relax(residual, prices, surplus, departure, Step::Forward(*k));
-        }
+        self.relax_along(residual, prices, surplus, departure, Way::Forward);
+        self.relax_along(residual, prices, surplus, departure, Way::Back);
     }
 
-    /// Relaxes the steps back from a node that is settled at this distance, the farthest so far.
-    fn relax_back(
+    /// Relaxes the steps that go this way from a settled node, the farthest so far.
+    #[inline(always)]
+    fn relax_along(
         &mut self,
         residual: &Residual,
         prices: &[i64],
         surplus: &[i64],
-        node: u32,
-        distance: i64,
+        departure: Departure,
+        way: Way,
     )
         requires small { IsSmall residual.now prices.now }
         requires sign_rule { HasSignRule residual.now prices.now }
         requires labels { AreLabels residual.now prices.now (lists_of self.old) }
-        requires node { node < residual.now.graph.nodes }
-        requires from { IsSettledAt (lists_of self.old) node distance }
-        requires farthest { IsFarthest (lists_of self.old) distance }
+        requires node { departure.node < residual.now.graph.nodes }
+        requires from { IsSettledAt (lists_of self.old) departure.node departure.distance }
+        requires price { departure.price ≡ price_at prices.now departure.node }
+        requires farthest { IsFarthest (lists_of self.old) departure.distance }
         requires each_node { length surplus.now ≡ residual.now.graph.nodes }
         requires bound { IsBound surplus.now (lists_of self.old) self.old.bound }
         ensures bound { IsBound surplus.now (lists_of self.new) self.new.bound }
         ensures labels { AreLabels residual.now prices.now (lists_of self.new) }
         ensures lowered { IsLowered (lists_of self.old) (lists_of self.new) }
-        ensures relaxed { (k : ℕ)
-            → IsRelaxed residual.now prices.now surplus.now (lists_of self.new) node distance
-            (Back k) }
+        ensures relaxed { IsRelaxedAlong residual.now prices.now surplus.now (lists_of self.new)
+            departure.node departure.distance way }
         ensures order { self.new.order ≡ self.old.order }
         ensures residual { IsResidual residual.now }
     {
-        let price = prices[node as usize];
-        let departure = Departure { distance, price };
-        for k in residual.open_along(Way::Back, node) {
-            self.relax(residual, prices, surplus, departure, Step::Back(*k));
+        for k in residual.open_along(way, departure.node) {
+            self.relax(residual, prices, surplus, departure, way.step(*k));
         }
     }
 }

@@ -10,6 +10,7 @@ use Rattle.vs_types.specs.declared.numbers.LayerNo.{LayerNo}
 use Rattle.vs_instance.specs.Problem.{Problem}
 use Rattle.vs_instance.specs.Blocks.{IsBlock}
 use Rattle.vs_instance.specs.Plan.{IsPlan, LayerBlock, all_trips}
+use Rattle.vs_instance.proofs.CallerLemmas.{blocks-le-trips}
 use Rattle.vs_plan.specs.Blocks.{IsOfInstance, pairs_of}
 use Rattle.vs_plan.specs.CheckedPlan.{Checked}
 use Rattle.vs_plan.proofs.CallerLemmas.{plan_trips}
@@ -20,7 +21,6 @@ use Rattle.vs_prices.specs.Worth.{Reaches}
 use Rattle.vs_peakcheck.specs.Counting.{counting}
 use Rattle.vs_peakcheck.specs.CountingLaws.{CountsVehicles}
 use Rattle.vs_peakcheck.specs.Peak.{HasNoPeak, IsPeak}
-use Rattle.vs_peakcheck.proofs.CallerLemmas.{blocks_le}
 use Rattle.vs_peakcheck.specs.Claims.{CanBeChecked, IsClaimed, IsShort}
 use Rattle.vs_peakcheck.specs.HoldingClaims.{HoldingClaim, HoldingClaims, ProvePeaks}
 use Rattle.vs_peakcheck.specs.PeakRows.{IsCount}
@@ -41,7 +41,7 @@ module _ (p : Problem) (l : LayerNo) (law : CountsVehicles p l) (claimed : Claim
 
     few_blocks : length c.blocks ≤ 2000
     few_blocks =
-        let fewer = blocks_le c.blocks (λ k d at. (plan.each_block k d at).some_trip) in
+        let fewer = blocks-le-trips c.blocks (λ k d at. (plan.each_block k d at).some_trip) in
         omega (arith, trips, fewer, law.instance.few_trips)
 
     least_claimed : IsClaimed q claimed
@@ -120,7 +120,7 @@ pub few_in_least : (p : Problem) (l : LayerNo) → CountsVehicles p l → (c : C
 few_in_least p l law c table is =
     let q = counting p l.0 in
     let plan : IsPlan q c.blocks = subst (λ (x : Problem). IsPlan x c.blocks) is.problem is.checked.plan in
-    let fewer = blocks_le c.blocks (λ k d at. (plan.each_block k d at).some_trip) in
+    let fewer = blocks-le-trips c.blocks (λ k d at. (plan.each_block k d at).some_trip) in
     omega (arith, plan_trips q c.blocks plan, fewer, law.instance.few_trips)
 
 -- its cost as a number of 64 bits

@@ -1,17 +1,18 @@
 -- A least plan of the counting instance, and the ray where there is none, as peaks.
-use Rattle.std.proofs.Common.{◌≡◌, ℕ, zero, suc, ◌<◌, ◌≤◌, Bool, true, false, List, [], ◌∷◌, length, map, refl, sym, ap, ◌∙◌, subst, arith, MatchBool, ℤ, pos, ◌+ℤ◌, ◌-ℤ◌, ◌*ℤ◌, ◌≤ℤ◌}
+use Rattle.std.proofs.Common.{◌≡◌, ℕ, zero, suc, ◌<◌, ◌≤◌, Bool, true, false, List, [], ◌∷◌, length, map, refl, sym, ap, ◌∙◌, subst, arith, ℤ, pos, ◌+ℤ◌, ◌-ℤ◌, ◌*ℤ◌, ◌≤ℤ◌}
 use Rattle.std.specs.List.{range_with_len}
 use Rattle.std.proofs.lemmas.Bool.{MatchBool-at_true}
 use Rattle.std.proofs.lemmas.Int.{ints}
 use Rattle.std.proofs.lemmas.List.{length-map}
 use Rattle.vs_types.specs.declared.layer_set.LayerSet.{LayerSet}
 use Rattle.vs_types.specs.declared.numbers.LayerNo.{LayerNo}
+use Rattle.vs_types.proofs.CallerLemmas.{match_false, none_times}
 use Rattle.vs_instance.specs.Problem.{Problem}
 use Rattle.vs_instance.specs.Plan.{IsPlan, LayerBlock, plan_cost}
 use Rattle.vs_instance.specs.Lagrangian.{total}
 use Rattle.vs_instance.specs.Restriction.{permitted_sets}
 use Rattle.vs_instance.specs.Ways.{layer_of, no_trip}
-use Rattle.vs_instance.proofs.CallerLemmas.{none_times, permitted_sets-IsRestriction, plans_lie_within}
+use Rattle.vs_instance.proofs.CallerLemmas.{permitted_sets-IsRestriction, plans_lie_within}
 use Rattle.vs_plan.specs.CheckedPlan.{Checked}
 use Rattle.vs_prices.specs.declared.bound.Bound.TheVariants.{AtLeast, NoPlan}
 use Rattle.vs_prices.specs.declared.table.Table.{Table}
@@ -90,9 +91,6 @@ module _ (p : Problem) (l : LayerNo) (law : CountsVehicles p l) where
           ap (λ (n : ℕ). total (map (least_price q (permitted_sets q) table) (range_with_len 0 n))
           -ℤ total (map (fleet_price q table) (range_with_len 0 1))) none
           ∙ ap (λ (x : ℤ). pos 0 -ℤ (x +ℤ pos 0)) vehicles
-
-      match_false : (b : Bool) (P Q : Type 0) → b ≡ false → Q → MatchBool b P Q
-      match_false b P Q e h = subst (λ (x : Bool). MatchBool x P Q) (sym e) h
 
       zero_worth : AreZeros table → c.cost ≡ pos 0 → IsWorth q (permitted_sets q) table (AtLeast c.cost)
       zero_worth zeros free =

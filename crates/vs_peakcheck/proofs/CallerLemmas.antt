@@ -7,4 +7,4 @@ pub use Rattle.vs_peakcheck.proofs.ReadLayers.{layers_more}
 pub use Rattle.vs_peakcheck.proofs.RefusedOnce.{not_refused_claims, refused_once}
 pub use Rattle.vs_peakcheck.proofs.PermittedTrips.{all_permitted, all_within, few_permitted, has_number, own_once, place_in, placed}
 pub use Rattle.vs_peakcheck.proofs.CountedTrips.{count_is}
-pub use Rattle.vs_peakcheck.proofs.CountedLists.{blocks_le, counts_vehicles, least_costs}
+pub use Rattle.vs_peakcheck.proofs.CountedLists.{counts_vehicles, least_costs}

@@ -2,7 +2,7 @@
 use Rattle.std.proofs.Common.{◌≡◌, ℕ, zero, suc, ◌<◌, ◌≤◌, eqb, List, [], ◌∷◌, length, get_or, map, refl, sym, ap, ◌∙◌, subst, arith}
 use Rattle.std.specs.List.{All, sum_by}
 use Rattle.std.specs.Prelude.{Contains}
-use Rattle.std.proofs.lemmas.List.{length-append, length-map}
+use Rattle.std.proofs.lemmas.List.{length-map}
 use Rattle.std.proofs.lemmas.List.Elements.{All-head, All-map, All-tail, All-weaker}
 use Rattle.std.proofs.lemmas.List.Sums.{count_by-le-length, sum_by-cons}
 use Rattle.vs_types.specs.declared.numbers.LayerNo.{LayerNo}
@@ -12,7 +12,8 @@ use Rattle.vs_instance.specs.Problem.{Problem}
 use Rattle.vs_instance.specs.Instance.{IsInstance}
 use Rattle.vs_instance.specs.Ways.{layer_of}
 use Rattle.vs_instance.specs.Blocks.{IsBlock, block_cost}
-use Rattle.vs_instance.specs.Plan.{IsPlan, LayerBlock, all_trips, plan_cost, times_run, vehicles_used}
+use Rattle.vs_instance.specs.Plan.{IsPlan, LayerBlock, plan_cost, times_run, vehicles_used}
+use Rattle.vs_instance.proofs.CallerLemmas.{blocks-le-trips}
 use Rattle.vs_plan.proofs.CallerLemmas.{plan_trips}
 use Rattle.vs_peakcheck.specs.Counting.{counting, counting_with, numbered, own_blocks, own_number, own_trips, permitted_trips}
 use Rattle.vs_peakcheck.specs.CountingLaws.{CountsVehicles, IsALeastCost, IsLeastCost}
@@ -25,15 +26,6 @@ use Rattle.vs_peakcheck.proofs.CountedInstance.{counting-IsInstance}
 -- a layer below 1 is the only one
 only_layer : (m : LayerNo) → m.0 < 1 → m ≡ only
 only_layer m below = let none : m.0 ≡ 0 = omega arith in ap (λ (n : ℕ). record { 0 = n }) none
-
--- no more blocks than trips
-pub blocks_le : (blocks : List LayerBlock) → All (λ b. 0 < length b.1) blocks
-    → length blocks ≤ length (all_trips blocks)
-blocks_le [] some = omega arith
-blocks_le (b ∷ blocks) some =
-    let rest = blocks_le blocks (All-tail (λ (c : LayerBlock). 0 < length c.1) b blocks some) in
-    let here = All-head (λ (c : LayerBlock). 0 < length c.1) b blocks some in
-    omega (arith, rest, here, length-append b.1 (all_trips blocks))
 
 module _ (p : Problem) (l : LayerNo) where
   abbrev q : Problem
@@ -164,7 +156,7 @@ module _ (p : Problem) (l : LayerNo) where
     enough_vehicles instance =
         let plan = back_plan (length list) (omega arith) in
         let trips = plan_trips (counting_with (length list) p l.0) back plan in
-        let blocks = blocks_le back
+        let blocks = blocks-le-trips back
         (λ k d at. (plan.each_block k d at).some_trip) in
         omega (
           arith,

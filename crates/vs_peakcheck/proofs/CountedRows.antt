@@ -26,8 +26,10 @@ use Rattle.vs_instance.specs.declared.limits.TheConstants.{MAX_FLEET}
 use Rattle.vs_peakcheck.specs.PeakRows.{PartRow, PeakRow, block_rows}
 use Rattle.vs_peakcheck.specs.Places.{AtBlocks, MayRun, behind, may_run}
 use Rattle.vs_rows.specs.Standing.{IsNoBlock}
-use Rattle.vs_peakcheck.specs.Reading.{IsCountedBlock, ReadsBlocks, ReadsTo}
-use Rattle.vs_peakcheck.proofs.RefusedRows.{read_on, reads_none, reads_one}
+use Rattle.vs_peakcheck.specs.Reading.{IsCountedBlock, ReadsBlocks}
+use Rattle.vs_peakcheck.specs.PeakRefusals.{peaks}
+use Rattle.vs_rows.specs.RowReading.{ReadsTo}
+use Rattle.vs_rows.proofs.CallerLemmas.{read_on, reads_none, reads_one}
 
 module _ (p : Problem) (l : LayerNo) where
   -- the layer may run a trip, as a test
@@ -121,7 +123,7 @@ pub record BlocksSoFar (input : Input) (at : ℕ) (l : LayerNo) (count : Option 
     (blocks : List LayerBlock) : Type 0 where
   pub of_instance : All (IsOfInstance (counting input.instance l.0)) blocks
   pub few_trips : length (all_trips blocks) ≤ length (all_fields (take row input.rest))
-  pub reads : ReadsTo input at (AtBlocks l.0 count) (block_rows (own_blocks input.instance l blocks)) row
+  pub reads : ReadsTo peaks input at (AtBlocks l.0 count) (block_rows (own_blocks input.instance l blocks)) row
       (AtBlocks l.0 count)
 
 module _ (input : Input) (at : ℕ) (l : LayerNo) (count : Option ℕ) where
@@ -133,7 +135,7 @@ module _ (input : Input) (at : ℕ) (l : LayerNo) (count : Option ℕ) where
       (record {
         of_instance = All-nil (IsOfInstance (counting input.instance l.0));
         few_trips = omega arith;
-        reads = reads_none input at (AtBlocks l.0 count) within;
+        reads = reads_none peaks input at (AtBlocks l.0 count) within;
       })
 
   block_order : (n : Option ℕ) (b : LayerBlock) → IsSome n → MayRun input.instance l.0 b
@@ -169,10 +171,14 @@ module _ (input : Input) (at : ℕ) (l : LayerNo) (count : Option ℕ) where
       let same : own_pair ≡ b = λ i. (sym is.of_layer i, is.own_is i) in
       let own_of : LayerBlock → LayerBlock = λ c. (l, own_trips input.instance l.0 c.1) in
       let row_one : LayerBlock → PeakRow = λ c. PartRow (BlockRow c) in
-      let reads = read_on input at row (row + 1) (AtBlocks l.0 count) (AtBlocks l.0 count) (AtBlocks l.0 count)
+      let reads = read_on peaks input at row (row + 1) (AtBlocks l.0 count) (AtBlocks l.0 count) (AtBlocks l.0 count)
       (block_rows (own_blocks input.instance l blocks)) (PartRow (BlockRow b) ∷ []) so_far.reads
-      (reads_one input row lt (AtBlocks l.0 count) (PartRow (BlockRow b)) (λ e. cc) (tt, says) (AtBlocks l.0 count)
-      (block_order count b some (may_run_counted input.instance l b counted is)) tt) in
+      (reads_one peaks input row lt (AtBlocks l.0 count) (PartRow (BlockRow b)) (tt, says) (AtBlocks l.0 count)
+      (record {
+        suits = tt;
+        order = block_order count b some (may_run_counted input.instance l b counted is);
+        right = tt;
+      })) in
       let rows : block_rows (own_blocks input.instance l (blocks ++ counted ∷ []))
       ≡ block_rows (own_blocks input.instance l blocks) ++ PartRow (BlockRow b) ∷ [] =
       ap block_rows (map_push own_of blocks counted)
@@ -191,7 +197,7 @@ module _ (input : Input) (at : ℕ) (l : LayerNo) (count : Option ℕ) where
         of_instance = All-push (IsOfInstance (counting input.instance l.0)) blocks counted so_far.of_instance
             (counted_of_instance input.instance l b counted is says.form.some_trip);
         few_trips = omega (arith, so_far.few_trips, fields_more row lt, trips, size, fields);
-        reads = subst (λ (said : List PeakRow). ReadsTo input at (AtBlocks l.0 count) said (row + 1)
+        reads = subst (λ (said : List PeakRow). ReadsTo peaks input at (AtBlocks l.0 count) said (row + 1)
             (AtBlocks l.0 count)) (sym rows) reads;
       })
 

@@ -1,17 +1,17 @@
 -- What is claimed has no flaw exactly where it holds.
-use Rattle.std.proofs.Common.{◌≡◌, ℕ, ◌<◌, ◌^◌, false, not, List, [], ◌∷◌, length, get_or, map, refl, sym, ap, ◌∙◌, subst, arith, Option, Some, None as nothing, ℤ, pos, ◌≤ℤ◌}
-use Rattle.std.specs.Prelude.{IfSome, int_lt, option_map}
+use Rattle.std.proofs.Common.{◌≡◌, ℕ, not, List, [], ◌∷◌, length, get_or, map, refl, sym, ap, ◌∙◌, subst, arith, Option, Some, None as nothing, pos}
+use Rattle.std.specs.Prelude.{IfSome, option_map}
 use Rattle.std.specs.List.{All}
 use Rattle.std.proofs.lemmas.Bool.{eq-eqb, eqb-true, not-false}
-use Rattle.std.proofs.lemmas.Int.{ints}
 use Rattle.std.proofs.lemmas.List.{length-map}
 use Rattle.vs_types.specs.declared.numbers.LayerNo.{LayerNo}
+use Rattle.vs_types.proofs.CallerLemmas.{less_not, not_less}
 use Rattle.vs_instance.specs.Firsts.{first}
 use Rattle.vs_instance.specs.Problem.{Problem}
 use Rattle.vs_instance.specs.Plan.{IsPlan, LayerBlock}
 use Rattle.vs_instance.specs.Restriction.{permitted_sets}
 use Rattle.vs_instance.proofs.CallerLemmas.{None, both_none, each_none, false_from_none, none-append, none_each, none_from_false, none_from_first}
-use Rattle.vs_plan.specs.Blocks.{CanBeJudged, IsOfInstance, pair_of, pairs_of}
+use Rattle.vs_plan.specs.Blocks.{IsOfInstance, pair_of, pairs_of}
 use Rattle.vs_plan.specs.declared.block.Block.{Block}
 use Rattle.vs_plan.specs.PlanFaults.{faults_of}
 use Rattle.vs_plan.specs.declared.plan_fault.PlanFault.{PlanFault}
@@ -23,7 +23,6 @@ use Rattle.vs_prices.specs.declared.bound.Bound.TheVariants.{AtLeast, NoPlan}
 use Rattle.vs_prices.specs.declared.broken_at.BrokenAt.{BrokenAt}
 use Rattle.vs_prices.proofs.CallerLemmas.{holds_nowhere_broken, nowhere_broken, worth_is, worth_of-IsWorth}
 use Rattle.vs_peakcheck.specs.Counting.{counting}
-use Rattle.vs_peakcheck.proofs.CountedLists.{blocks_le}
 use Rattle.vs_peakcheck.specs.Claims.{AreClaimed, IsClaimed}
 use Rattle.vs_peakcheck.specs.Flaws.{blocks_flaws, broken_flaws, count_flaws, difference, flaws_in, flaws_of, layer_flaws, weakness}
 use Rattle.vs_peakcheck.specs.HoldingClaims.{HoldingClaim, HoldingClaims}
@@ -34,12 +33,6 @@ use Rattle.vs_peakcheck.specs.declared.flaw.PeakFlaw.TheVariants.{Blocks}
 broken_none : (at : Option BrokenAt) → None (broken_flaws at) → at ≡ nothing
 broken_none nothing none = refl
 broken_none (Some at) none = cc
-
-not_less : (n bound : ℤ) → int_lt n bound ≡ false → bound ≤ℤ n
-not_less n bound h = grind (arith, ints)
-
-less_not : (n bound : ℤ) → bound ≤ℤ n → int_lt n bound ≡ false
-less_not n bound h = grind (arith, ints)
 
 reaches_from_none : (worth : Bound) (count : Option ℕ) → None (weakness worth count)
     → Reaches worth (option_map pos count)
@@ -147,12 +140,6 @@ module _ (p : Problem) where
       let same : l ≡ j = omega (arith, is) in
       subst (λ (n : ℕ). None (layer_flaws p n (get_or claimed l d))) same
       (ap (map (at_layer l)) (none_in (counting p l) (get_or claimed l d) (holds l d within))))
-
--- blocks that can be judged are few, since each has a trip
-pub few_blocks : (q : Problem) (blocks : List Block) → CanBeJudged q (pairs_of blocks) → length blocks < 2 ^ 32
-few_blocks q blocks can =
-    let fewer = blocks_le (pairs_of blocks) (λ k d at. (can.of_instance k d at).some_trip) in
-    omega (arith, fewer, can.few_trips, length-map blocks pair_of)
 
 -- the verdict on blocks that are a plan
 pub plan_flaw : (q : Problem) (blocks : List Block) (n : ℕ) → IsPlan q (pairs_of blocks)

@@ -1,6 +1,5 @@
 pub mod LayerFlaws
 pub mod ProvenPeaks
-pub mod RefusedRows
 pub mod CountedRows
 pub mod PricedRows
 pub mod ReadLayers
@@ -17,6 +16,5 @@ pub mod CountedLists
 pub mod CountedInstance
 pub mod Gathering
 pub mod CountedParts
-pub mod PairOrder
 pub mod ListedDeadheads
 pub mod CallerLemmas

@@ -16,8 +16,8 @@ use Rattle.vs_instance.specs.declared.way.Way.{Way}
 use Rattle.vs_instance.specs.Instance.{IsDeadhead, IsInstance}
 use Rattle.vs_instance.specs.Misfits.{are_twins, deadheads_of}
 use Rattle.vs_instance.specs.Problem.{Problem, pair_cmp}
+use Rattle.vs_instance.proofs.CallerLemmas.{pair_cmp-IsAntisymmetric, pair_cmp-total, same_pair, tied_same}
 use Rattle.vs_peakcheck.specs.Listed.{AreAllDeadheads, AreDeadheadsBelow, IsGiven, deadhead, deadhead_given, place_of}
-use Rattle.vs_peakcheck.proofs.PairOrder.{pair_cmp-IsAntisymmetric, pair_cmp-total, same_pair, tied_pair}
 
 abbrev Map : Type 0
 Map = map.FinMap pair_cmp Way
@@ -193,7 +193,8 @@ module _ (p : Problem) where
   has_itself m d = (
     way_given d,
     map.get-insert pair_cmp-total m (pair_of d) (way_given d) (pair_of d)
-        ∙ ap (λ (b : Bool). cond b (Some (way_given d)) (map.get m (pair_of d))) (tied_pair (pair_of d)),
+        ∙ ap (λ (b : Bool). cond b (Some (way_given d)) (map.get m (pair_of d)))
+        (tied_same (pair_of d) (pair_of d) refl),
   )
 
   has_kept : (m : Map) (ds : List Deadhead) (q : ℕ × ℕ) → Has m q → Has (fold with_deadhead m ds) q

@@ -1,5 +1,5 @@
--- Rows that stand for what is claimed aren't refused.
-use Rattle.std.proofs.Common.{◌≡◌, ◌≢◌, ℕ, suc, ◌+◌, ◌<◌, Bool, cond, List, [], ◌∷◌, ◌++◌, length, get_or, refl, sym, ap, ◌∙◌, subst, inl, inr, ◌⊎◌, Some, None, Option, ℤ, pos, arith, codes}
+-- What a row says of a peak is one thing, and the rows of claims lead to the end.
+use Rattle.std.proofs.Common.{◌≡◌, ℕ, suc, ◌+◌, ◌<◌, Bool, cond, List, [], ◌∷◌, length, get_or, refl, sym, ap, ◌∙◌, subst, Some, None, Option, ℤ, pos, arith, codes}
 use Rattle.std.specs.Prelude.{IfNone, option_map}
 use Rattle.std.specs.Fmt.{signed_decimal}
 use Rattle.std.specs.List.{All}
@@ -18,34 +18,17 @@ use Rattle.vs_reader.specs.Names.{NameLists, name_of}
 use Rattle.vs_reader.specs.NameRules.{AreNames}
 use Rattle.vs_rows.specs.DocumentRows.{BlockRow, ClaimRow, CostRow, BoundRow, NodesRow, TableRow, SplitRow, LeafRow, DocumentRow, EndRow, FleetRow, IsWithin, PriceRow, Says, written_row}
 use Rattle.vs_rows.specs.declared.limits.TheConstants.{MAX_PRINTED_PRICE}
-use Rattle.vs_rows.proofs.CallerLemmas.{first_word, says_once, word_of}
+use Rattle.vs_rows.proofs.CallerLemmas.{LeadsTo, first_word, leads_on, says_once, word_of}
 use Rattle.vs_peakcheck.specs.Counting.{counting, own_blocks, own_trips, permitted_trips}
 use Rattle.vs_peakcheck.proofs.CountedTrips.{count_is}
 use Rattle.vs_peakcheck.specs.declared.claimed.Claimed.{Claimed}
-use Rattle.vs_peakcheck.specs.declared.refused.PeakWhy.{PeakWhy}
-use Rattle.vs_peakcheck.specs.declared.refused.PeakError.{PeakError}
-use Rattle.vs_peakcheck.specs.declared.refused.PeakError.TheVariants as error
-use Rattle.vs_peakcheck.specs.Claims.{AreClaimed, IsClaimed, PeakText}
-use Rattle.vs_peakcheck.specs.PeakRefusals.{AreRefused, AreRefusedFrom, IsAccepted, IsRefusal, IsRefusedError, IsRefusedRow, IsRefusedSaying}
-use Rattle.vs_peakcheck.specs.PeakRows.{CountRow, IsCount, IsCountRow, PartRow, PeakRow, SayAllSo, SaysSo, block_rows, count_field, count_row, head_row, layer_rows, layers_rows, peak_rows, price_rows}
-use Rattle.vs_peakcheck.specs.Places.{AtBlocks, AtEnd, AtLayer, HasPrices, MayRun, Place, behind, in_prices}
+use Rattle.vs_peakcheck.specs.Claims.{AreClaimed, IsClaimed}
+use Rattle.vs_peakcheck.specs.PeakRefusals.{peaks}
+use Rattle.vs_peakcheck.specs.PeakRows.{CountRow, IsCount, IsCountRow, PartRow, PeakRow, SaysSo, block_rows, count_field, count_row, layer_rows, layers_rows, peak_rows, price_rows}
+use Rattle.vs_peakcheck.specs.Places.{AtBlocks, AtEnd, AtLayer, MayRun, in_prices}
 use Rattle.vs_peakcheck.specs.Reading.{IsCountedBlock}
 use Rattle.vs_peakcheck.proofs.CountedRows.{may_run_counted}
 use Rattle.vs_peakcheck.proofs.PricedRows.{fleet_order, price_order}
-
-before_end : (p : Problem) (place next : Place) (said : PeakRow) → behind p place said ≡ Some next → place ≢ AtEnd
-before_end p place next said order e =
-    let P : Place → Type 0 = λ x. behind p x said ≡ Some next in
-    let none = subst P e order in absurd (cc)
-
--- what a refusal of some rows says at a place before the end
-pub refused_some : (p : Problem) (names : NameLists) (n : ℕ) (place : Place) (row : Row) (rows : List Row) (at : ℕ)
-    (why : PeakWhy) → place ≢ AtEnd → AreRefusedFrom p names n place (row ∷ rows) at why
-    → ((at ≡ n) × IsRefusedRow p names place row why)
-    ⊎ ((said : PeakRow) × (next : Place) × IsAccepted p names place row said next
-    × AreRefusedFrom p names (n + 1) next rows at why)
-refused_some p names n AtEnd row rows at why going is = absurd (going refl)
-refused_some p names n _ row rows at why going is = is
 
 module _ (names : NameLists) (row : Row) (layers : AreNames names.layers) (trips : AreNames names.trips) where
   -- two layers of one name are one
@@ -118,24 +101,11 @@ module _ (names : NameLists) (row : Row) (layers : AreNames names.layers) (trips
   says_so_once (PartRow said) (CountRow l n) a b = absurd (apart l n said b a.1)
   says_so_once (PartRow said) (PartRow other) a b = ap PartRow (says_once names row layers trips said other a.1 b.1)
 
--- what is said leads from one place to another
-abbrev LeadsTo : Problem → Place → List PeakRow → Place → Type 0
-LeadsTo p place [] last = place ≡ last
-LeadsTo p place (said ∷ more) last =
-    (next : Place) × (behind p place said ≡ Some next) × HasPrices said × LeadsTo p next more last
-
-leads_on : (p : Problem) (place next last : Place) (said more : List PeakRow) → LeadsTo p place said next
-    → LeadsTo p next more last → LeadsTo p place (said ++ more) last
-leads_on p place next last [] more one two =
-    let P : Place → Type 0 = λ x. LeadsTo p x more last in subst P (sym one) two
-leads_on p place next last (row ∷ said) more (behind_row, order, prices, one) two =
-    (behind_row, order, prices, leads_on p behind_row next last said more one two)
-
 module _ (p : Problem) where
   -- blocks beside a count
   leads_blocks : (l : LayerNo) (count : Option ℕ) (blocks : List LayerBlock)
       → All (IsOfInstance (counting p l.0)) blocks → (count ≡ None → blocks ≡ [])
-      → LeadsTo p (AtBlocks l.0 count) (block_rows (own_blocks p l blocks)) (AtBlocks l.0 count)
+      → LeadsTo peaks p (AtBlocks l.0 count) (block_rows (own_blocks p l blocks)) (AtBlocks l.0 count)
   leads_blocks l count [] are some = refl
   leads_blocks l None (b ∷ blocks) are some = let e = some refl in absurd (cc)
   leads_blocks l (Some n) (b ∷ blocks) are some =
@@ -150,15 +120,14 @@ module _ (p : Problem) where
       } in
       let may : MayRun p l.0 (l, own_trips p l.0 b.1) = may_run_counted p l (l, own_trips p l.0 b.1) b counted in (
         AtBlocks l.0 (Some n),
-        ap (λ (t : Bool). cond t (Some (AtBlocks l.0 (Some n))) None) may,
-        tt,
+        record { suits = tt; order = ap (λ (t : Bool). cond t (Some (AtBlocks l.0 (Some n))) None) may; right = tt },
         leads_blocks l (Some n) blocks (All-tail (IsOfInstance (counting p l.0)) b blocks are)
             (λ e. absurd (cc)),
       )
 
   leads_prices : (l : ℕ) (trips : List ℕ) (into from : List ℤ) → length into ≡ length trips
       → length from ≡ length trips → All IsPrice into → All IsPrice from
-      → LeadsTo p (in_prices l trips) (price_rows l trips into from) (AtLayer (l + 1))
+      → LeadsTo peaks p (in_prices l trips) (price_rows l trips into from) (AtLayer (l + 1))
   leads_prices l [] [] [] a b c d = refl
   leads_prices l [] [] (y ∷ from) a b c d = absurd (omega (arith, b))
   leads_prices l [] (x ∷ into) from a b c d = absurd (omega (arith, a))
@@ -166,8 +135,11 @@ module _ (p : Problem) where
   leads_prices l (i ∷ trips) (x ∷ into) [] a b c d = absurd (omega (arith, b))
   leads_prices l (i ∷ trips) (x ∷ into) (y ∷ from) a b c d = (
     in_prices l trips,
-    price_order p l i l i trips x y refl refl,
-    (All-head IsPrice x into c, All-head IsPrice y from d),
+    record {
+      suits = tt;
+      order = price_order p l i l i trips x y refl refl;
+      right = (All-head IsPrice x into c, All-head IsPrice y from d);
+    },
     leads_prices l trips into from (omega (arith, a)) (omega (arith, b)) (All-tail IsPrice x into c)
         (All-tail IsPrice y from d),
   )
@@ -178,7 +150,7 @@ module _ (p : Problem) where
 
   -- one layer
   leads_layer : (l : ℕ) (c : Claimed) → IsClaimed (counting p l) c
-      → LeadsTo p (AtLayer l) (layer_rows p l c) (AtLayer (l + 1))
+      → LeadsTo peaks p (AtLayer l) (layer_rows p l c) (AtLayer (l + 1))
   leads_layer l c is =
       let layer : LayerNo = record { 0 = l } in
       let blocks = pairs_of c.blocks.items in
@@ -188,32 +160,35 @@ module _ (p : Problem) where
       let prices = price_rows l trips c.table.into.items c.table.from.items in
       let size = count_is MAX_FLEET p l in
       let one_fleet : 0 < length c.table.fleet.items = let e = is.fits.fleet_size in omega arith in
-      let behind_blocks : LeadsTo p (AtBlocks l c.count) (PartRow (FleetRow l price) ∷ prices) (AtLayer (l + 1)) = (
+      let behind_blocks : LeadsTo peaks p (AtBlocks l c.count) (PartRow (FleetRow l price) ∷ prices)
+      (AtLayer (l + 1)) = (
         in_prices l trips,
-        fleet_order p l c.count l price refl,
-        is.fits.fleet 0 (pos 0) one_fleet,
+        record { suits = tt; order = fleet_order p l c.count l price refl; right = is.fits.fleet 0 (pos 0) one_fleet },
         leads_prices l trips c.table.into.items c.table.from.items
             (let e = is.fits.into_size in omega (arith, e, size)) (let e = is.fits.from_size in omega (arith, e, size))
             is.fits.into is.fits.from,
       ) in (
         AtBlocks l c.count,
-        ap (λ (b : Bool). cond b (Some (AtBlocks l c.count)) None) (eq-eqb l l refl),
-        tt,
-        leads_on p (AtBlocks l c.count) (AtBlocks l c.count) (AtLayer (l + 1)) rows
+        record {
+          suits = tt;
+          order = ap (λ (b : Bool). cond b (Some (AtBlocks l c.count)) None) (eq-eqb l l refl);
+          right = tt;
+        },
+        leads_on peaks p (AtBlocks l c.count) (AtBlocks l c.count) (AtLayer (l + 1)) rows
             (PartRow (FleetRow l price) ∷ prices)
             (leads_blocks layer c.count blocks is.blocks (none_given c.count blocks is.no_blocks)) behind_blocks,
       )
 
   leads_layers : (l : ℕ) (claimed : List Claimed)
       → ((k : ℕ) (d : Claimed) → k < length claimed → IsClaimed (counting p (l + k)) (get_or claimed k d))
-      → LeadsTo p (AtLayer l) (layers_rows p l claimed) (AtLayer (l + length claimed))
+      → LeadsTo peaks p (AtLayer l) (layers_rows p l claimed) (AtLayer (l + length claimed))
   leads_layers l [] each = let e : l ≡ l + 0 = omega arith in ap AtLayer e
   leads_layers l (c ∷ claimed) each =
       let here : l + 0 ≡ l = omega arith in
       let P : ℕ → Type 0 = λ n. IsClaimed (counting p n) c in
       let last : l + 1 + length claimed ≡ l + suc (length claimed) = omega arith in
-      let Q : ℕ → Type 0 = λ n. LeadsTo p (AtLayer (l + 1)) (layers_rows p (l + 1) claimed) (AtLayer n) in
-      leads_on p (AtLayer l) (AtLayer (l + 1)) (AtLayer (l + suc (length claimed))) (layer_rows p l c)
+      let Q : ℕ → Type 0 = λ n. LeadsTo peaks p (AtLayer (l + 1)) (layers_rows p (l + 1) claimed) (AtLayer n) in
+      leads_on peaks p (AtLayer l) (AtLayer (l + 1)) (AtLayer (l + suc (length claimed))) (layer_rows p l c)
       (layers_rows p (l + 1) claimed) (leads_layer l c (subst P here (each 0 c (omega arith))))
       (subst Q last (leads_layers (l + 1) claimed
       (λ k d within.
@@ -222,71 +197,22 @@ module _ (p : Problem) where
       subst R shift (each (suc k) d (omega (arith, within))))))
 
   -- all rows behind the first
-  leads_text : (claimed : List Claimed) → AreClaimed p claimed
-      → LeadsTo p (AtLayer 0) (peak_rows p claimed) AtEnd
+  pub leads_text : (claimed : List Claimed) → AreClaimed p claimed
+      → LeadsTo peaks p (AtLayer 0) (peak_rows p claimed) AtEnd
   leads_text claimed are =
       let last : 0 + length claimed ≡ length p.layers = omega (arith, are.each_layer) in
-      let Q : ℕ → Type 0 = λ n. LeadsTo p (AtLayer 0) (layers_rows p 0 claimed) (AtLayer n) in
-      leads_on p (AtLayer 0) (AtLayer (length p.layers)) AtEnd (layers_rows p 0 claimed) (PartRow EndRow ∷ [])
+      let Q : ℕ → Type 0 = λ n. LeadsTo peaks p (AtLayer 0) (layers_rows p 0 claimed) (AtLayer n) in
+      leads_on peaks p (AtLayer 0) (AtLayer (length p.layers)) AtEnd (layers_rows p 0 claimed) (PartRow EndRow ∷ [])
       (subst Q last (leads_layers 0 claimed
       (λ k d within.
       let shift : k ≡ 0 + k = omega arith in
       let R : ℕ → Type 0 = λ n. IsClaimed (counting p n) (get_or claimed k d) in
       subst R shift (are.each k d within)))) (
         AtEnd,
-        ap (λ (b : Bool). cond b (Some AtEnd) None) (eq-eqb (length p.layers) (length p.layers) refl),
-        tt,
+        record {
+          suits = tt;
+          order = ap (λ (b : Bool). cond b (Some AtEnd) None) (eq-eqb (length p.layers) (length p.layers) refl);
+          right = tt;
+        },
         refl,
       )
-
-  module _ (names : NameLists) (layers : AreNames names.layers) (trips : AreNames names.trips) where
-    pub one_place : (a b : Place) (x : Option Place) → x ≡ Some a → x ≡ Some b → a ≡ b
-    one_place a b x one two = let e : Some a ≡ Some b = sym one ∙ two in cc
-
-    -- what is accepted at a place isn't refused there
-    accepted_saying : (place next : Place) (said : PeakRow) (why : PeakWhy) → behind p place said ≡ Some next
-        → HasPrices said → IsRefusedSaying p place said why → ⊥
-    accepted_saying place next said why order prices (inl (none, is)) =
-        let e : None ≡ Some next = sym none ∙ order in absurd (cc)
-    accepted_saying place next said why order prices (inr (other, same, wrong, is)) = wrong prices
-
-    pub accepted_row : (place next : Place) (row : Row) (said : PeakRow) (why : PeakWhy) → SaysSo names row said
-        → behind p place said ≡ Some next → HasPrices said → IsRefusedRow p names place row why → ⊥
-    accepted_row place next row said why says order prices (inl (none, _)) = none said says
-    accepted_row place next row said why says order prices (inr (other, also, refused)) =
-        let same : other ≡ said = says_so_once names row layers trips other said also says in
-        let P : PeakRow → Type 0 = λ x. IsRefusedSaying p place x why in
-        accepted_saying place next said why order prices (subst P same refused)
-
-    -- rows that lead to behind the end aren't refused
-    not_refused : (rows : List Row) (said : List PeakRow) (n : ℕ) (place : Place) (at : ℕ) (why : PeakWhy)
-        → SayAllSo names rows said → LeadsTo p place said AtEnd → AreRefusedFrom p names n place rows at why → ⊥
-    not_refused [] [] n place at why say leads refused =
-        let P : Place → Type 0 = λ x. AreRefusedFrom p names n x [] at why in subst P leads refused
-    not_refused [] (row ∷ more) n place at why say leads refused = absurd say
-    not_refused (row ∷ rows) [] n place at why say leads refused = absurd say
-    not_refused (row ∷ rows) (said ∷ more) n place at why say (next, order, prices, leads) refused =
-        elim (refused_some p names n place row rows at why (before_end p place next said order) refused) [
-          | inl here ↦ accepted_row place next row said why say.0 order prices here.1
-          | inr later ↦
-              let same : later.0 ≡ said = says_so_once names row layers trips later.0 said later.2.says say.0 in
-              let B : PeakRow → Type 0 = λ x. behind p place x ≡ Some later.1 in
-              let place_is : later.1 ≡ next =
-              one_place later.1 next (behind p place said) (subst B same later.2.order) order in
-              let P : Place → Type 0 = λ x. AreRefusedFrom p names (n + 1) x rows at why in
-              not_refused rows more (n + 1) next at why say.1 leads (subst P place_is later.3)
-        ]
-
-    -- rows that are refused claim nothing
-    pub refusal_leaves_none : (before : ℕ) (rows : List Row) (e : PeakError) (claimed : List Claimed)
-        → IsRefusal p names before rows e → IsRefusedError e → PeakText p names rows claimed → ⊥
-    refusal_leaves_none before rows error.Memory claimed refused is text = absurd is
-    refusal_leaves_none before rows (error.Refused at why) claimed refused is text =
-        let P : List Row → Type 0 = λ rs. AreRefused p names before rs at why in
-        by_head (subst P text.rows_are refused)
-      where
-        by_head : AreRefused p names before (head_row ∷ text.behind_head) at why → ⊥
-        by_head (inl (other, _, _)) = other refl
-        by_head (inr (_, later)) =
-            not_refused text.behind_head (peak_rows p claimed) (before + 1 + 1) (AtLayer 0) at why text.say
-            (leads_text claimed text.claims) later

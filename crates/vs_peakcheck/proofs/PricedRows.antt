@@ -17,9 +17,11 @@ use Rattle.vs_peakcheck.specs.declared.refused.PeakWhy.TheVariants.{PriceRange}
 use Rattle.vs_peakcheck.specs.declared.refused.PeakError.{PeakError}
 use Rattle.vs_peakcheck.specs.declared.refused.PeakError.TheVariants as error
 use Rattle.vs_peakcheck.specs.PeakRows.{PartRow, PeakRow, price_rows}
-use Rattle.vs_peakcheck.specs.Places.{AtBlocks, AtLayer, AtPrices, behind, in_prices}
-use Rattle.vs_peakcheck.specs.Reading.{IsRefusedAt, ReadsTo}
-use Rattle.vs_peakcheck.proofs.RefusedRows.{no_prices, read_on, reads_none, reads_one}
+use Rattle.vs_peakcheck.specs.Places.{AtBlocks, AtLayer, AtPrices, Place, behind, in_prices}
+use Rattle.vs_peakcheck.specs.Reading.{IsRefusedAt}
+use Rattle.vs_peakcheck.specs.PeakRefusals.{peaks}
+use Rattle.vs_rows.specs.RowReading.{LeadTo, ReadsTo}
+use Rattle.vs_rows.proofs.CallerLemmas.{read_on, reads_none, reads_one, wrong_row}
 
 pub fleet_order : (p : Problem) (l : ℕ) (count : Option ℕ) (layer : ℕ) (price : ℤ) → layer ≡ l
     → behind p (AtBlocks l count) (PartRow (FleetRow layer price)) ≡ Some (in_prices l (permitted_trips p l))
@@ -32,22 +34,29 @@ price_order p l i layer trip later into from same_layer same_trip =
     ap (λ (b : Bool). cond (b && eqb trip i) (Some (in_prices l later)) None) (eq-eqb layer l same_layer)
     ∙ ap (λ (b : Bool). cond (true && b) (Some (in_prices l later)) None) (eq-eqb trip i same_trip)
 
+-- what an error tells of the rows behind others, it tells of those
+pub passes : (input : Input) {at to : ℕ} {place next : Place} (e : PeakError) → LeadTo peaks input at place to next
+    → IsRefusedAt input to next e → IsRefusedAt input at place e
+passes input (error.Refused row why) lead refused = lead.refused row why refused
+passes input error.Memory lead refused = tt
+
 module _ (input : Input) (row l : ℕ) where
   -- a vehicle's price, and a number that is none
   pub fleet_reads : (count : Option ℕ) (price : ℤ) → ReadsFleet input row l price
-      → ReadsTo input row (AtBlocks l count) (PartRow (FleetRow l price) ∷ []) (row + 1)
+      → ReadsTo peaks input row (AtBlocks l count) (PartRow (FleetRow l price) ∷ []) (row + 1)
       (in_prices l (permitted_trips input.instance l))
   fleet_reads count price r =
-      reads_one input row r.here (AtBlocks l count) (PartRow (FleetRow l price)) (λ e. cc) (tt, r.says)
-      (in_prices l (permitted_trips input.instance l)) (fleet_order input.instance l count l price refl) r.is_price
+      reads_one peaks input row r.here (AtBlocks l count) (PartRow (FleetRow l price)) (tt, r.says)
+      (in_prices l (permitted_trips input.instance l))
+      (record { suits = tt; order = fleet_order input.instance l count l price refl; right = r.is_price })
 
   fleet_refused : (count : Option ℕ) (said : DocumentRow) → IsThere input row (Vehicle l) said
       → ¬ (HasPrices said)
       → IsRefusedAt input row (AtBlocks l count) (error.Refused (input.before + 1 + row) PriceRange)
   fleet_refused count (FleetRow layer price) there none =
-      no_prices input row there.here (AtBlocks l count) (PartRow (FleetRow layer price)) (λ e. cc) (tt, there.says)
-      (in_prices l (permitted_trips input.instance l))
-      (fleet_order input.instance l count layer price there.is_of) none
+      wrong_row peaks input row there.here (AtBlocks l count) (PartRow (FleetRow layer price)) (tt, there.says) tt
+      (λ e. cc) (in_prices l (permitted_trips input.instance l)) PriceRange
+      (fleet_order input.instance l count layer price there.is_of) (none, refl)
   fleet_refused count _ there none = absurd there.is_of
 
   pub fleet_range : (count : Option ℕ) → IsWrong input row (Vehicle l) Range
@@ -57,19 +66,23 @@ module _ (input : Input) (row l : ℕ) where
   module _ (i : ℕ) (later : List ℕ) where
     -- a trip's prices, and a number that is none
     pub price_reads : (prices : ℤ × ℤ) → ReadsPrice input row l i prices
-        → ReadsTo input row (AtPrices l i later) (PartRow (PriceRow l i prices.0 prices.1) ∷ []) (row + 1)
+        → ReadsTo peaks input row (AtPrices l i later) (PartRow (PriceRow l i prices.0 prices.1) ∷ []) (row + 1)
         (in_prices l later)
     price_reads prices r =
-        reads_one input row r.here (AtPrices l i later) (PartRow (PriceRow l i prices.0 prices.1)) (λ e. cc)
-        (tt, r.says) (in_prices l later) (price_order input.instance l i l i later prices.0 prices.1 refl refl)
-        (r.into_price, r.from_price)
+        reads_one peaks input row r.here (AtPrices l i later) (PartRow (PriceRow l i prices.0 prices.1)) (tt, r.says)
+        (in_prices l later)
+        (record {
+          suits = tt;
+          order = price_order input.instance l i l i later prices.0 prices.1 refl refl;
+          right = (r.into_price, r.from_price);
+        })
 
     price_refused : (said : DocumentRow) → IsThere input row (Trip l i) said → ¬ (HasPrices said)
         → IsRefusedAt input row (AtPrices l i later) (error.Refused (input.before + 1 + row) PriceRange)
     price_refused (PriceRow layer trip into from) there none =
-        no_prices input row there.here (AtPrices l i later) (PartRow (PriceRow layer trip into from)) (λ e. cc)
-        (tt, there.says) (in_prices l later)
-        (price_order input.instance l i layer trip later into from there.is_of.0 there.is_of.1) none
+        wrong_row peaks input row there.here (AtPrices l i later) (PartRow (PriceRow layer trip into from))
+        (tt, there.says) tt (λ e. cc) (in_prices l later) PriceRange
+        (price_order input.instance l i layer trip later into from there.is_of.0 there.is_of.1) (none, refl)
     price_refused _ there none = absurd there.is_of
 
     pub price_range : IsWrong input row (Trip l i) Range
@@ -98,7 +111,7 @@ pub record PricesSoFar (input : Input) (at l k row : ℕ) (into from : List ℤ)
   pub from_size : length from ≡ k
   pub into_prices : All IsPrice into
   pub from_prices : All IsPrice from
-  pub reads : ReadsTo input at (in_prices l (permitted_trips input.instance l))
+  pub reads : ReadsTo peaks input at (in_prices l (permitted_trips input.instance l))
       (price_rows l (take k (permitted_trips input.instance l)) into from) row
       (in_prices l (drop k (permitted_trips input.instance l)))
 
@@ -120,7 +133,7 @@ module _ (input : Input) (at l : ℕ) where
         from_size = refl;
         into_prices = All-nil IsPrice;
         from_prices = All-nil IsPrice;
-        reads = reads_none input at (in_prices l ts) within;
+        reads = reads_none peaks input at (in_prices l ts) within;
       })))
 
   -- the trip at hand
@@ -137,7 +150,7 @@ module _ (input : Input) (at l : ℕ) where
   refused_at_trip k row i into from e so_far within is refused =
       let P : List ℕ → Type 0 = λ later. IsRefusedAt input row (in_prices l later) e in
       let Q : ℕ → Type 0 = λ j. IsRefusedAt input row (AtPrices l j (drop (k + 1) ts)) e in
-      so_far.reads.refused e
+      passes input e so_far.reads.lead
       (subst P (sym (drop_more ts k 0 within)) (subst Q is (refused (drop (k + 1) ts))))
 
   pub one_more_price : (k row i : ℕ) (into from new_into new_from : List ℤ) (x y : ℤ)
@@ -150,10 +163,10 @@ module _ (input : Input) (at l : ℕ) where
       let P : ℕ → Type 0 = λ j. ReadsPrice input row l j (x, y) in subst P is read in
       let next = price_reads input row l t (drop (k + 1) ts) (x, y) here in
       let P : List ℕ → Type 0 = λ later.
-      ReadsTo input row (in_prices l later) (PartRow (PriceRow l t x y) ∷ []) (row + 1)
+      ReadsTo peaks input row (in_prices l later) (PartRow (PriceRow l t x y) ∷ []) (row + 1)
       (in_prices l (drop (k + 1) ts)) in
       let one = subst P (sym (drop_more ts k 0 within)) next in
-      let both = read_on input at row (row + 1) (in_prices l ts) (in_prices l (drop k ts))
+      let both = read_on peaks input at row (row + 1) (in_prices l ts) (in_prices l (drop k ts))
       (in_prices l (drop (k + 1) ts)) (price_rows l (take k ts) into from) (PartRow (PriceRow l t x y) ∷ [])
       so_far.reads one in
       let taken : length (take k ts) ≡ k = omega (arith, within, length-take k ts) in
@@ -162,7 +175,7 @@ module _ (input : Input) (at l : ℕ) where
       ap (λ (trips : List ℕ). price_rows l trips (into ++ x ∷ []) (from ++ y ∷ [])) (take_more ts k 0 within)
       ∙ rows_more l (take k ts) into from t x y (omega (arith, so_far.into_size, taken))
       (omega (arith, so_far.from_size, taken)) in
-      let S : List PeakRow → Type 0 = λ said. ReadsTo input at (in_prices l ts) said (row + 1)
+      let S : List PeakRow → Type 0 = λ said. ReadsTo peaks input at (in_prices l ts) said (row + 1)
       (in_prices l (drop (k + 1) ts)) in
       let A : List ℤ → Type 0 = λ xs. PricesSoFar input at l (k + 1) (row + 1) xs new_from in
       let B : List ℤ → Type 0 = λ ys. PricesSoFar input at l (k + 1) (row + 1) (into ++ x ∷ []) ys in
@@ -179,12 +192,13 @@ module _ (input : Input) (at l : ℕ) where
 
   -- the prices of all trips are read
   pub all_prices : (k row : ℕ) (into from : List ℤ) → PricesSoFar input at l k row into from → length ts ≤ k
-      → ReadsTo input at (in_prices l ts) (price_rows l ts into from) (at + length ts) (AtLayer (l + 1))
+      → ReadsTo peaks input at (in_prices l ts) (price_rows l ts into from) (at + length ts) (AtLayer (l + 1))
   all_prices k row into from so_far past =
-      let P : List ℕ → Type 0 = λ trips. ReadsTo input at (in_prices l ts) (price_rows l trips into from) row
+      let P : List ℕ → Type 0 = λ trips. ReadsTo peaks input at (in_prices l ts) (price_rows l trips into from) row
       (in_prices l (drop k ts)) in
-      let Q : List ℕ → Type 0 = λ trips. ReadsTo input at (in_prices l ts) (price_rows l ts into from) row
+      let Q : List ℕ → Type 0 = λ trips. ReadsTo peaks input at (in_prices l ts) (price_rows l ts into from) row
       (in_prices l trips) in
-      let R : ℕ → Type 0 = λ n. ReadsTo input at (in_prices l ts) (price_rows l ts into from) n (AtLayer (l + 1)) in
+      let R : ℕ → Type 0 = λ n. ReadsTo peaks input at (in_prices l ts) (price_rows l ts into from) n
+      (AtLayer (l + 1)) in
       let end : row ≡ at + length ts = omega (arith, so_far.row_is, so_far.few, past) in
       subst R end (subst Q (drop_all k ts past) (subst P (take_all k ts past) so_far.reads))

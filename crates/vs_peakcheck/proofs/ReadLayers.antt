@@ -25,12 +25,13 @@ use Rattle.vs_peakcheck.specs.declared.refused.PeakError.{PeakError}
 use Rattle.vs_peakcheck.specs.declared.refused.PeakError.TheVariants as error
 use Rattle.vs_peakcheck.specs.declared.refused.PeakWhy.TheVariants.{NoPeak, RowsAfterEnd}
 use Rattle.vs_peakcheck.specs.Claims.{CanBeChecked, IsClaimed, IsShort, PeakText}
-use Rattle.vs_peakcheck.specs.PeakRefusals.{AreRefused, AreRefusedFrom}
+use Rattle.vs_peakcheck.specs.PeakRefusals.{AreRefused, peaks}
 use Rattle.vs_peakcheck.specs.PeakRows.{CountRow, IsCount, PartRow, PeakRow, SayAllSo, SaysPeak, block_rows, head_row, layer_rows, layers_rows, price_rows}
 use Rattle.vs_peakcheck.specs.Places.{AtBlocks, AtEnd, AtLayer, behind, in_prices}
-use Rattle.vs_peakcheck.specs.Reading.{IsLast, IsRefusalOf, IsRefusedAt, ReadsBlocks, ReadsCount, ReadsLayer, ReadsLayers, ReadsPrices, ReadsTo}
+use Rattle.vs_peakcheck.specs.Reading.{IsLast, IsRefusalOf, IsRefusedAt, ReadsBlocks, ReadsCount, ReadsLayer, ReadsLayers, ReadsPrices}
 use Rattle.vs_peakcheck.proofs.PricedRows.{fleet_reads}
-use Rattle.vs_peakcheck.proofs.RefusedRows.{read_on, reads_none, reads_one}
+use Rattle.vs_rows.specs.RowReading.{ReadsTo}
+use Rattle.vs_rows.proofs.CallerLemmas.{leads_one, read_on, reads_none, reads_one, refused_after_end}
 
 -- the row of a count
 module _ (input : Input) (row l : ℕ) (lt : row < length input.rest) (layer : ℕ) (count : Option ℕ)
@@ -44,8 +45,12 @@ module _ (input : Input) (row l : ℕ) (lt : row < length input.rest) (layer : �
       let P : ℕ → Type 0 = λ k. SaysPeak input row (CountRow k count) in
       record {
         few = says.count;
-        reads = reads_one input row lt (AtLayer l) (CountRow l count) (λ e. cc) (subst P same says)
-            (AtBlocks l count) (ap (λ (b : Bool). cond b (Some (AtBlocks l count)) None) (eq-eqb l l refl)) tt;
+        reads = reads_one peaks input row lt (AtLayer l) (CountRow l count) (subst P same says) (AtBlocks l count)
+            (record {
+              suits = tt;
+              order = ap (λ (b : Bool). cond b (Some (AtBlocks l count)) None) (eq-eqb l l refl);
+              right = tt;
+            });
       }
 
 -- no more fields than there are stand before a row
@@ -88,7 +93,7 @@ module _ (input : Input) (is_input : IsInput input) (at : ℕ) (l : LayerNo) (co
       ++ (PartRow (FleetRow l.0 (price_of fleets 0))
       ∷ price_rows l.0 (permitted_trips input.instance l.0) into from)
 
-  reads_rows : ReadsTo input at (AtLayer l.0) (layer_rows input.instance l.0 c)
+  reads_rows : ReadsTo peaks input at (AtLayer l.0) (layer_rows input.instance l.0 c)
       (fleet_at + 1 + length (permitted_trips input.instance l.0)) (AtLayer (l.0 + 1))
   reads_rows =
       let to = fleet_at + 1 + length (permitted_trips input.instance l.0) in
@@ -96,13 +101,13 @@ module _ (input : Input) (is_input : IsInput input) (at : ℕ) (l : LayerNo) (co
       let own = block_rows (own_blocks input.instance l (pairs_of c.blocks.items)) in
       let of_fleet : List PeakRow = PartRow (FleetRow l.0 price) ∷ [] in
       let of_prices = price_rows l.0 trips prices.into.items prices.from.items in
-      let last = read_on input fleet_at (fleet_at + 1) to (AtBlocks l.0 count) (in_prices l.0 trips)
+      let last = read_on peaks input fleet_at (fleet_at + 1) to (AtBlocks l.0 count) (in_prices l.0 trips)
       (AtLayer (l.0 + 1)) of_fleet of_prices (fleet_reads input fleet_at l.0 count price fleet) priced.reads in
-      let middle = read_on input (at + 1) fleet_at to (AtBlocks l.0 count) (AtBlocks l.0 count) (AtLayer (l.0 + 1)) own
-      (of_fleet ++ of_prices) blocks.reads last in
-      let all = read_on input at (at + 1) to (AtLayer l.0) (AtBlocks l.0 count) (AtLayer (l.0 + 1))
+      let middle = read_on peaks input (at + 1) fleet_at to (AtBlocks l.0 count) (AtBlocks l.0 count)
+      (AtLayer (l.0 + 1)) own (of_fleet ++ of_prices) blocks.reads last in
+      let all = read_on peaks input at (at + 1) to (AtLayer l.0) (AtBlocks l.0 count) (AtLayer (l.0 + 1))
       (CountRow l.0 count ∷ []) (own ++ (of_fleet ++ of_prices)) counted.reads middle in
-      let Reads : List PeakRow → Type 0 = λ said. ReadsTo input at (AtLayer l.0) said to (AtLayer (l.0 + 1)) in
+      let Reads : List PeakRow → Type 0 = λ said. ReadsTo peaks input at (AtLayer l.0) said to (AtLayer (l.0 + 1)) in
       subst Reads
       (λ i. rows_by (sym count_is' i) (sym into_is i) (sym from_is i) (sym fleet_is i))
       all
@@ -141,7 +146,7 @@ module _ (input : Input) where
         each_layer = refl;
         each = λ l d inside. absurd (omega (arith, inside));
         short = All-nil IsShort;
-        reads = reads_none input 1 (AtLayer 0) within;
+        reads = reads_none peaks input 1 (AtLayer 0) within;
       })
 
   pub one_more_layer : (l next to : ℕ) (claimed new : List Claimed) (c : Claimed) → ReadsLayers input l next claimed
@@ -153,9 +158,9 @@ module _ (input : Input) where
       ≡ layers_rows input.instance 0 claimed ++ layer_rows input.instance l c =
       layers_more input.instance 0 claimed c
       ∙ ap (λ (k : ℕ). layers_rows input.instance 0 claimed ++ layer_rows input.instance k c) at in
-      let both = read_on input 1 next to (AtLayer 0) (AtLayer l) (AtLayer (l + 1))
+      let both = read_on peaks input 1 next to (AtLayer 0) (AtLayer l) (AtLayer (l + 1))
       (layers_rows input.instance 0 claimed) (layer_rows input.instance l c) so_far.reads read.reads in
-      let S : List PeakRow → Type 0 = λ said. ReadsTo input 1 (AtLayer 0) said to (AtLayer (l + 1)) in
+      let S : List PeakRow → Type 0 = λ said. ReadsTo peaks input 1 (AtLayer 0) said to (AtLayer (l + 1)) in
       subst P (sym pushed)
       (record {
         each_layer = omega (arith, length_push claimed c, so_far.each_layer);
@@ -184,12 +189,9 @@ module _ (input : Input) where
       → IsRefusedAt input row (AtLayer (length input.instance.layers))
       (error.Refused (input.before + 1 + (row + 1)) RowsAfterEnd)
   rows_behind_end row more says =
-      let reads = reads_one input row (omega arith) (AtLayer (length input.instance.layers)) (PartRow EndRow) (λ e. cc)
-      says AtEnd end_order tt in
-      let P : List Row → Type 0 = λ rows. AreRefusedFrom input.instance input.names
-      (input.before + 1 + (row + 1)) AtEnd rows (input.before + 1 + (row + 1)) RowsAfterEnd in
-      reads.refused (error.Refused (input.before + 1 + (row + 1)) RowsAfterEnd)
-      (subst P (sym (drop_more input.rest (row + 1) [] more)) (refl, refl))
+      let lead = leads_one peaks input row (omega arith) (AtLayer (length input.instance.layers)) (PartRow EndRow) says
+      AtEnd (record { suits = tt; order = end_order; right = tt }) in
+      lead.refused (input.before + 1 + (row + 1)) RowsAfterEnd (refused_after_end peaks input (row + 1) more)
 
   last_says : (row : ℕ) → IsLast input row → SayAllSo input.names (drop row input.rest) (PartRow EndRow ∷ [])
   last_says row last =
@@ -213,7 +215,7 @@ module _ (input : Input) where
     claims = record { each_layer = read.each_layer; each = read.each };
     behind_head = drop 1 input.rest;
     rows_are = head_and_rest some is;
-    say = read.reads.say (PartRow EndRow ∷ []) (last_says to last);
+    say = read.reads.say.say (PartRow EndRow ∷ []) (last_says to last);
   }
 
   pub can_be_checked : (to : ℕ) (claimed : List Claimed) → ReadsLayers input (length input.instance.layers) to claimed

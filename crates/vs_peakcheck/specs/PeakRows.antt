@@ -1,5 +1,6 @@
 -- The rows of a text that claims peaks: what each says, and how it is written.
 use Rattle.std.specs.Prelude.{◌≡◌, ℕ, ◌+◌, ◌<◌, ◌≤◌, List, [], ◌∷◌, ◌++◌, length, map, codes, decimal, ℤ, Option, Some, None, IfSome}
+use Rattle.std.specs.List.{AllZip}
 use Rattle.vs_instance.specs.Problem.{Problem}
 use Rattle.vs_instance.specs.HoldingTable.{price_of}
 use Rattle.vs_instance.specs.Plan.{LayerBlock}
@@ -57,9 +58,7 @@ SaysPeak input k said = SaysSo input.names (row_of input.rest k) said
 
 -- the rows say these, one by one
 abbrev pub SayAllSo : NameLists → List Row → List PeakRow → Type 0
-SayAllSo names [] [] = Unit {0}
-SayAllSo names (row ∷ rows) (said ∷ more) = SaysSo names row said × SayAllSo names rows more
-SayAllSo names _ _ = ⊥
+SayAllSo names rows said = AllZip (SaysSo names) rows said
 
 -- how a row is written
 abbrev pub written_peak : NameLists → PeakRow → Row

@@ -7,30 +7,31 @@ use std::alloc::Global;
 use vs_instance::{Instance, TWO_DAYS};
 use vs_types::{Memory, TripNo};
 
-/// How many trips are under way at each minute of the two days.
-pub(crate) fn under_way(alloc: Global, instance: &Instance) -> Result<Vec<u32>, Memory>
+/// How many trips are under way at each minute of the two days. No sum comes to a limit of its type, since there are at
+/// most `MAX_TRIPS` trips.
+pub(crate) fn under_way(alloc: Global, instance: &Instance) -> Result<Vec<i32>, Memory>
     ensures { IfOk result (λ counts. length counts.items ≡ TWO_DAYS) }
 {
     let mut counts = changes(alloc, instance)?;
-    let mut running: u32 = 0;
+    let mut running: i32 = 0;
     for minute in 0..TWO_DAYS as usize {
-        running = running.wrapping_add(counts[minute]);
+        running = running.saturating_add(counts[minute]);
         counts[minute] = running;
     }
     Ok(counts)
 }
 
-/// How many more trips are under way at each minute than at the one before. Where there are fewer, the number wraps.
-fn changes(alloc: Global, instance: &Instance) -> Result<Vec<u32>, Memory>
+/// How many more trips are under way at each minute than at the one before; below 0 where there are fewer.
+fn changes(alloc: Global, instance: &Instance) -> Result<Vec<i32>, Memory>
     ensures { IfOk result (λ changes. length changes.items ≡ TWO_DAYS) }
 {
-    let mut changes = vec![in alloc; 0_u32; TWO_DAYS as usize]?;
+    let mut changes = vec![in alloc; 0_i32; TWO_DAYS as usize]?;
     for i in 0..instance.trips() {
         let trip = instance.trip(TripNo(i));
         let begins = trip.start as usize;
         let ends = trip.end as usize;
-        changes[begins] = changes[begins].wrapping_add(1);
-        changes[ends] = changes[ends].wrapping_sub(1);
+        changes[begins] = changes[begins].saturating_add(1);
+        changes[ends] = changes[ends].saturating_sub(1);
     }
     Ok(changes)
 }

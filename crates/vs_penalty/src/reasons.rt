@@ -105,7 +105,7 @@ fn one_minute(case: &Case<'_>, work: &mut Work) -> Result<Option<Table>, Memory>
 }
 
 /// By trip, how many are under way as it starts.
-fn count_all(alloc: Global, instance: &Instance, counts: &mut [u32]) -> Result<(), Memory>
+fn count_all(alloc: Global, instance: &Instance, counts: &mut [i32]) -> Result<(), Memory>
     requires { length counts.old ≡ length instance.now.trips }
     ensures { length counts.new ≡ length counts.old }
 {
@@ -117,7 +117,7 @@ fn count_all(alloc: Global, instance: &Instance, counts: &mut [u32]) -> Result<(
 }
 
 /// The minute at which most are under way, by these counts.
-fn fullest(instance: &Instance, counts: &[u32]) -> u32
+fn fullest(instance: &Instance, counts: &[i32]) -> u32
     requires { length counts.now ≡ length instance.now.trips }
 {
     let (mut minute, mut most) = (0, 0);
@@ -131,7 +131,7 @@ fn fullest(instance: &Instance, counts: &[u32]) -> u32
 }
 
 /// Leaves this minute out from now on.
-fn leave_out(instance: &Instance, minute: u32, counts: &mut [u32])
+fn leave_out(instance: &Instance, minute: u32, counts: &mut [i32])
     requires { length counts.old ≡ length instance.now.trips }
 {
     for i in 0..instance.trips() {

@@ -2,7 +2,7 @@
 use Rattle.std.proofs.Common.{◌≡◌, ◌≢◌, ℕ, ◌<◌, Bool, false, eqb, List, length, get_or, map, ◌⊎◌, refl, sym, ap, ◌∙◌, subst, arith}
 use Rattle.std.specs.List.{All, AllPairs, Contains, IsDistinct}
 use Rattle.std.specs.List.Sorted.{IsPermutation, IsSorted}
-use Rattle.std.specs.Cmp.{IsTotalOrder, IsStrictWeakOrder, nat_cmp_total, then_total, on_total}
+use Rattle.std.specs.Cmp.{IsStrictWeakOrder}
 use Rattle.std.specs.Ordering.{is_lt}
 use Rattle.std.proofs.lemmas.Bool.{eqb-false, ne_eqb}
 use Rattle.std.proofs.lemmas.Bool.Decides.{nat_tests}
@@ -13,6 +13,7 @@ use Rattle.std.proofs.lemmas.Map.Keys.{apart_from_distinct, IsDistinct-from_apar
 use Rattle.vs_types.specs.declared.numbers.TripNo.{TripNo}
 use Rattle.vs_instance.specs.Problem.{Problem, pair_cmp}
 use Rattle.vs_instance.specs.Ways.{trip_of}
+use Rattle.vs_instance.proofs.CallerLemmas.{pair_cmp-total}
 use Rattle.vs_plan.specs.Greedy.{IsOrder, TakenBefore}
 
 -- the trip of a start and a number
@@ -23,9 +24,6 @@ trip_at t = record { 0 = t.1 }
 pub record AreStarts (p : Problem) (n : ℕ) (xs : List (ℕ × ℕ)) : Type 0 where
   pub size : length xs ≡ n
   pub each : (k : ℕ) (d : ℕ × ℕ) → k < n → get_or xs k d ≡ ((trip_of p k).start, k)
-
-pair_cmp-total : IsTotalOrder pair_cmp
-pair_cmp-total = then_total (on_total (λ (x : ℕ × ℕ). x.0) nat_cmp_total) (on_total (λ (x : ℕ × ℕ). x.1) nat_cmp_total)
 
 order : IsStrictWeakOrder (λ (x y : ℕ × ℕ). is_lt (pair_cmp x y))
 order = ranks_by pair_cmp-total (λ (x : ℕ × ℕ). x)

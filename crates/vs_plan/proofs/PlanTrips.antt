@@ -1,7 +1,7 @@
 -- A plan has as many trips as its instance.
 use Rattle.std.proofs.Common.{◌≡◌, ℕ, zero, suc, ◌+◌, ◌<◌, Bool, cond, eqb, ltb, eq-eqb, ne_eqb, lt-ltb, le-ltb, List, [], ◌∷◌, length, count_by, refl, sym, ap, ◌∙◌, inl, inr, arith, All}
 use Rattle.std.proofs.lemmas.Bool.{cases_order}
-use Rattle.std.proofs.lemmas.List.Elements.{All-head, All-tail, All-weaker, All-nil, All-append}
+use Rattle.std.proofs.lemmas.List.Elements.{All-head, All-tail, All-weaker}
 use Rattle.std.specs.Prelude.{slice_index}
 use Rattle.std.proofs.lemmas.List.{ext_get_or}
 use Rattle.std.proofs.lemmas.List.FromFn.{get_or-map-range_with_len, length-map-range_with_len}
@@ -9,6 +9,7 @@ use Rattle.std.proofs.lemmas.List.Sums.{sum_by-cons}
 use Rattle.vs_types.specs.declared.numbers.TripNo.{TripNo}
 use Rattle.vs_instance.specs.Problem.{Problem}
 use Rattle.vs_instance.specs.Blocks.{IsBlock}
+use Rattle.vs_instance.proofs.CallerLemmas.{All-all_trips}
 use Rattle.vs_plan.specs.PlanFaults.{times_of}
 use Rattle.vs_instance.specs.Plan.{IsPlan, LayerBlock, all_trips, times_run}
 
@@ -68,18 +69,10 @@ each_once zero trips once = below_none trips
 each_once (suc n) trips once =
     omega (arith, below_more n trips, each_once n trips (λ i lt. once i (omega arith)), once n (omega arith))
 
--- what holds of each trip of each block holds of all trips
-all_trips-All : (P : TripNo → Type 0) (blocks : List LayerBlock) → All (λ b. All P b.1) blocks
-    → All P (all_trips blocks)
-all_trips-All P [] each = All-nil P
-all_trips-All P (b ∷ bs) each =
-    All-append P b.1 (all_trips bs) (All-head (λ (x : LayerBlock). All P x.1) b bs each)
-    (all_trips-All P bs (All-tail (λ (x : LayerBlock). All P x.1) b bs each))
-
 -- a plan has as many trips as its instance
 pub plan_trips : (p : Problem) (blocks : List LayerBlock) → IsPlan p blocks → length (all_trips blocks) ≡ length p.trips
 plan_trips p blocks plan =
-    let within = all_trips-All (λ (t : TripNo). t.0 < length p.trips) blocks
+    let within = All-all_trips (λ (t : TripNo). t.0 < length p.trips) blocks
     (All-weaker (λ (b : LayerBlock). IsBlock p b.0 b.1)
     (λ (b : LayerBlock). All (λ (t : TripNo). t.0 < length p.trips) b.1)
     (λ b is. is.of_instance) blocks plan.each_block) in

@@ -1,13 +1,13 @@
 -- Blocks taken one by one.
-use Rattle.std.proofs.Common.{◌≡◌, ℕ, ◌+◌, ◌<◌, ◌≤◌, ◌==◌, ◌^◌, List, [], ◌∷◌, ◌++◌, length, get_or, take, All, refl, sym, ap, ◌∙◌, subst, arith, count_by, cond, length-append}
+use Rattle.std.proofs.Common.{◌≡◌, ℕ, ◌+◌, ◌<◌, ◌≤◌, ◌==◌, ◌^◌, List, [], ◌∷◌, ◌++◌, length, get_or, take, refl, sym, ap, ◌∙◌, subst, arith, count_by, cond, length-append}
 use Rattle.std.specs.Prelude.{sum_by}
 use Rattle.std.proofs.lemmas.Grind.{flat_map-append}
 use Rattle.std.proofs.lemmas.List.{take_all, take_more, append-nil, get_or-map, length-map}
-use Rattle.std.proofs.lemmas.List.Elements.{All-head, All-tail}
 use Rattle.std.proofs.lemmas.List.Sums.{sum_by-cons, sum_by-append, sum_by_more, sum_by_more_le, count_by-le-length}
 use Rattle.vs_instance.specs.Blocks.{block_cost}
 use Rattle.vs_instance.specs.Plan.{LayerBlock, all_trips, plan_cost, times_run}
 use Rattle.vs_instance.specs.Problem.{Problem}
+use Rattle.vs_instance.proofs.CallerLemmas.{blocks-le-trips}
 use Rattle.vs_plan.specs.Blocks.{CanBeJudged, pair_of, pairs_of}
 use Rattle.vs_plan.specs.declared.block.Block.{Block}
 
@@ -29,14 +29,6 @@ length-all_trips [] = refl
 length-all_trips (b ∷ bs) =
     length-append b.1 (all_trips bs)
     ∙ (ap (λ n. length b.1 + n) (length-all_trips bs) ∙ sym (sum_by-cons (λ (x : LayerBlock). length x.1) b bs))
-
-blocks-le-trips : (bs : List LayerBlock) → All (λ b. 0 < length b.1) bs → length bs ≤ length (all_trips bs)
-blocks-le-trips [] some = omega arith
-blocks-le-trips (b ∷ bs) some =
-    let here = All-head (λ (x : LayerBlock). 0 < length x.1) b bs some in
-    let rest = blocks-le-trips bs (All-tail (λ (x : LayerBlock). 0 < length x.1) b bs some) in
-    let size = length-append b.1 (all_trips bs) in
-    omega arith
 
 -- one more block
 pub record OneMore (p : Problem) (bs : List LayerBlock) (i : ℕ) (b : LayerBlock) : Type 0 where

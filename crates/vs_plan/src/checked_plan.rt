@@ -3,7 +3,7 @@
 ghost use Rattle.std.specs.Prelude.{◌≡◌, IfOk, IfErr};
 ghost use Rattle.vs_plan.specs.Blocks.{CanBeJudged, blocks_of};
 ghost use Rattle.vs_connect.specs.Cost.{lesser_of};
-ghost use Rattle.vs_plan.specs.CheckedPlan.{IsCheaperOf, IsChecked, cost_of};
+ghost use Rattle.vs_plan.specs.CheckedPlan.{IsCheaperOf, IsChecked, IsNoDearer, cost_of};
 ghost use Rattle.vs_plan.specs.PlanFaults.{IsFault, IsFirstFault};
 ghost use Rattle.vs_instance.specs.Plan.{IsPlan};
 
@@ -131,6 +131,7 @@ pub fn cost_of(plan: &Option<CheckedPlan>) -> Option<i64>
 /// The cheaper of two plans, where there are both, else the one that there is; the first of two that cost the same.
 pub fn cheaper(first: Option<CheckedPlan>, second: Option<CheckedPlan>) -> Option<CheckedPlan>
     ensures cheaper { IsCheaperOf result first second }
+    ensures first { IsNoDearer first second → result ≡ first }
     ensures cost { cost_of result ≡ lesser_of (cost_of first) (cost_of second) }
 {
     match (first, second) {

@@ -1,7 +1,9 @@
 -- Prices that hold bound every plan.
-use Rattle.std.proofs.Common.{◌≡◌, ℕ, zero, suc, ◌<◌, Bool, true, false, List, [], ◌∷◌, length, get_or, map, subst, arith, ℤ, pos, ◌≤ℤ◌, ◌<ℤ◌, MatchBool}
+use Rattle.std.proofs.Common.{◌≡◌, ◌≢◌, ℕ, zero, suc, ◌<◌, Bool, true, false, List, [], ◌∷◌, length, get_or, map, refl, subst, arith, ℤ, pos, ◌≤ℤ◌, ◌<ℤ◌, MatchBool}
 use Rattle.std.specs.Prelude.{Contains}
+use Rattle.std.specs.List.{All}
 use Rattle.std.proofs.lemmas.Int.{ints, clamps}
+use Rattle.std.proofs.lemmas.List.Elements.{All-head, All-tail}
 use Rattle.vs_types.specs.LayerSet.{Has, members}
 use Rattle.vs_types.specs.declared.layer_set.LayerSet.{LayerSet}
 use Rattle.vs_types.specs.declared.numbers.TripNo.{TripNo}
@@ -34,6 +36,15 @@ least-le f (j ∷ i ∷ rest) k (zero, within, is) =
 least-le f (j ∷ i ∷ rest) k (suc n, within, is) =
     let after = least-le f (i ∷ rest) k (n, omega arith, is) in
     omega (arith, ints, clamps)
+
+-- what is no more than any of some numbers is no more than their least
+pub least_above : (f : ℕ → ℤ) (v : ℤ) (ks : List ℕ) → ks ≢ [] → All (λ k. v ≤ℤ f k) ks → v ≤ℤ least (map f ks)
+least_above f v [] some each = absurd (some refl)
+least_above f v (k ∷ []) some each = All-head (λ (j : ℕ). v ≤ℤ f j) k [] each
+least_above f v (k ∷ j ∷ rest) some each =
+    let here = All-head (λ (i : ℕ). v ≤ℤ f i) k (j ∷ rest) each in
+    let after = least_above f v (j ∷ rest) (λ e. cc) (All-tail (λ (i : ℕ). v ≤ℤ f i) k (j ∷ rest) each) in
+    omega (arith, ints, clamps, here, after)
 
 module _ (p : Problem) (instance : IsInstance p) (sets : List LayerSet) (table : Table) where
   abbrev least_of : ℕ → ℤ

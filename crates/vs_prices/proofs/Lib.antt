@@ -1,4 +1,5 @@
 pub mod PlanPrices
+pub mod BoundOrder
 pub mod Duality
 pub mod PriceNumbers
 pub mod PricePlaces

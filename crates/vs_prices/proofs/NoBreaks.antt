@@ -1,10 +1,11 @@
 -- A table breaks nowhere exactly where it holds.
 use Rattle.std.proofs.Common.{◌≡◌, ℕ, ◌<◌, ◌↔◌, Bool, true, false, cond, ◌&&◌, eqb, List, [], length, refl, sym, ap, ◌∙◌, arith, Option, Some, None as nothing, IsNone, ℤ, pos, ◌+ℤ◌, ◌≤ℤ◌}
-use Rattle.std.specs.Prelude.{IfSome, int_lt, flat_map}
+use Rattle.std.specs.Prelude.{IfSome, flat_map}
 use Rattle.std.specs.List.{range_with_len}
 use Rattle.std.proofs.lemmas.Bool.{eqb-true, eq-eqb, false_from_ne_true, false≢true}
 use Rattle.std.proofs.lemmas.Int.{ints}
 use Rattle.std.proofs.lemmas.Option.{IfSome_then, none-some}
+use Rattle.vs_types.proofs.CallerLemmas.{and_false, less_not, not_less}
 use Rattle.vs_instance.specs.Firsts.{first}
 use Rattle.vs_instance.specs.Problem.{Problem}
 use Rattle.vs_instance.specs.Ways.{Permitted}
@@ -21,12 +22,6 @@ pub same_test : (b : Bool) (n : ℕ) → ((b ≡ true) ↔ (n ≡ 1)) → b ≡ 
 same_test true n has = sym (eq-eqb n 1 (has.0 refl))
 same_test false n has = sym (false_from_ne_true (eqb n 1) (λ e. false≢true (has.1 (eqb-true n 1 e))))
 
-not_below : (a b : ℤ) → int_lt a b ≡ false → b ≤ℤ a
-not_below a b h = grind (arith, ints)
-
-below_no : (a b : ℤ) → b ≤ℤ a → int_lt a b ≡ false
-below_no a b h = grind (arith, ints)
-
 module _ (price other : ℤ) (ray : Bool) where
   -- the move costs no less than it is worth
   abbrev Costs : Option ℕ → Type 0
@@ -34,11 +29,11 @@ module _ (price other : ℤ) (ray : Bool) where
 
   within_cost : (piece : Option ℕ) → exceeds price other ray piece ≡ false → Costs piece
   within_cost nothing fails = tt
-  within_cost (Some c) fails = not_below (other +ℤ scaled ray c) price fails
+  within_cost (Some c) fails = not_less (other +ℤ scaled ray c) price fails
 
   no_excess : (piece : Option ℕ) → Costs piece → exceeds price other ray piece ≡ false
   no_excess nothing costs = refl
-  no_excess (Some c) costs = below_no (other +ℤ scaled ray c) price costs
+  no_excess (Some c) costs = less_not (other +ℤ scaled ray c) price costs
 
 swapped : (price x y : ℤ) → price ≤ℤ (x +ℤ y) → price ≤ℤ (y +ℤ x)
 swapped price x y h = omega (arith, ints)
@@ -46,10 +41,6 @@ swapped price x y h = omega (arith, ints)
 and_second : (a b : Bool) → (a && b) ≡ false → a ≡ true → b ≡ false
 and_second true b fails is = fails
 and_second false b fails is = absurd (false≢true is)
-
-and_false : (a b : Bool) → (a ≡ true → b ≡ false) → (a && b) ≡ false
-and_false true b fails = fails refl
-and_false false b fails = refl
 
 if_none : (b : Bool) (xs : List BrokenAt) → None (cond b xs []) → b ≡ true → None xs
 if_none true xs none is = none
@@ -76,7 +67,7 @@ module _ (p : Problem) (table : Table) (l : ℕ) where
 
   pub holds_from_none : None (layer_breaks p table l) → HoldsHere
   holds_from_none none = record {
-    vehicle = not_below (vehicle_price table l) (pos 0) (false_from_none _ _ (both_none _ _ none).0);
+    vehicle = not_less (vehicle_price table l) (pos 0) (false_from_none _ _ (both_none _ _ none).0);
     outs = λ i inside permitted.
         let first_two = (both_none _ _ (moves_none none i inside permitted)).0 in
         IfSome_then (out_piece p l i)
@@ -109,7 +100,7 @@ module _ (p : Problem) (table : Table) (l : ℕ) where
 
   pub none_from_holds : HoldsHere → None (layer_breaks p table l)
   none_from_holds holds =
-      none-append _ _ (none_from_false _ _ (below_no (vehicle_price table l) (pos 0) holds.vehicle))
+      none-append _ _ (none_from_false _ _ (less_not (vehicle_price table l) (pos 0) holds.vehicle))
       (none_numbers (trip_breaks p table l) 0 (length p.trips) (λ i from within.
       let inside : i < length p.trips = omega arith in
       none_if (may_run p l i) (move_breaks p table l i) (λ runs. none_from_moves holds i inside (eqb-true _ 1 runs))))

@@ -5,6 +5,7 @@ use Rattle.std.proofs.lemmas.Int.{ints}
 use Rattle.std.proofs.lemmas.List.Elements.{All-head, All-tail, All-nil, All-append}
 use Rattle.std.proofs.lemmas.List.Sums.{sum_by-cons}
 use Rattle.vs_types.specs.declared.numbers.TripNo.{TripNo}
+use Rattle.vs_types.proofs.CallerLemmas.{times_le, times_one}
 use Rattle.vs_instance.specs.Problem.{Problem}
 use Rattle.vs_instance.specs.Instance.{IsInstance}
 use Rattle.vs_instance.specs.Lagrangian.{total}
@@ -15,7 +16,7 @@ use Rattle.vs_instance.specs.Ways.{layer_of}
 use Rattle.vs_prices.specs.declared.table.Table.{Table}
 use Rattle.vs_prices.specs.Table.{HoldingTable, prices_in, vehicle_price}
 use Rattle.vs_prices.specs.Worth.{fleet_price, trip_price}
-use Rattle.vs_instance.proofs.CallerLemmas.{total-by_count, total-map_append, total-range_le, times_le, times_one, block_pays, scaled-add, scaled-none}
+use Rattle.vs_instance.proofs.CallerLemmas.{total-by_count, total-map_append, total-range_le, block_pays, scaled-add, scaled-none}
 
 abbrev IsBlockOf : Problem → LayerBlock → Type 0
 IsBlockOf p b = IsBlock p b.0 b.1

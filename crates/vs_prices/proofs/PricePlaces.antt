@@ -1,6 +1,5 @@
 -- The price of a trip in a layer, where it stands in the table, and prices that are all 0.
-use Rattle.std.proofs.Common.{◌≡◌, ℕ, ◌+◌, ◌-◌, ◌*◌, ◌<◌, ◌≤◌, false, ◌⊎◌, inl, inr, List, length, get_or, take, drop, sym, ap, ◌∙◌, subst, arith, w64, Option, Some, None, ℤ, pos, to_z, of_z}
-use Rattle.std.specs.Prelude.{IfSome}
+use Rattle.std.proofs.Common.{◌≡◌, ℕ, ◌+◌, ◌-◌, ◌*◌, ◌<◌, ◌≤◌, false, ◌⊎◌, inl, inr, List, length, get_or, take, drop, sym, ap, ◌∙◌, subst, arith, w64, ℤ, pos, to_z, of_z}
 use Rattle.std.specs.List.{All}
 use Rattle.std.proofs.Math.Nat.{add-mul}
 use Rattle.std.proofs.lemmas.Bool.{cases_lt}
@@ -8,6 +7,7 @@ use Rattle.std.proofs.lemmas.Int.{ints}
 use Rattle.std.proofs.lemmas.List.{get_or-take, get_or-drop, get_or_past, get_or_default}
 use Rattle.std.proofs.lemmas.List.Elements.{All-take, All-drop}
 use Rattle.std.proofs.lemmas.Nat.{mul-le}
+use Rattle.vs_types.proofs.CallerLemmas.{each_some}
 use Rattle.vs_instance.specs.Problem.{Problem}
 use Rattle.vs_instance.specs.Pieces.{out_piece, link_piece, in_piece}
 use Rattle.vs_instance.specs.HoldingTable.{HoldsInLayer, price_of}
@@ -49,10 +49,6 @@ zero_prices_in : (p : Problem) (prices : List ℤ) (l i : ℕ) → All (λ n. n 
 zero_prices_in p prices l i zeros =
     zero_at (prices_in p l prices) i
     (All-take (λ (n : ℤ). n ≡ pos 0) _ _ (All-drop (λ (n : ℤ). n ≡ pos 0) _ prices zeros))
-
-each_some : (o : Option ℕ) (P : ℕ → Type 0) → ((c : ℕ) → P c) → IfSome o P
-each_some None P each = tt
-each_some (Some c) P each = each c
 
 -- prices of 0 hold in every layer
 pub zeros_hold : (p : Problem) (into from fleet : List ℤ) → All (λ n. n ≡ pos 0) into → All (λ n. n ≡ pos 0) from

@@ -21,11 +21,6 @@ pub total-push : (xs : List ℤ) (x : ℤ) → total (xs ++ x ∷ []) ≡ total 
 total-push [] x = omega (arith, ints)
 total-push (y ∷ ys) x = ap (λ (t : ℤ). y +ℤ t) (total-push ys x) ∙ omega (arith, ints)
 
-pub total-map_more : (f : ℕ → ℤ) (n : ℕ)
-    → total (map f (range_with_len 0 (n + 1))) ≡ total (map f (range_with_len 0 n)) +ℤ f n
-total-map_more f n =
-    ap total (map-range_with_len_more f 0 n n (omega arith)) ∙ total-push (map f (range_with_len 0 n)) (f n)
-
 int_min_assoc : (x y z : ℤ) → int_min x (int_min y z) ≡ int_min (int_min x y) z
 int_min_assoc x y z = omega (arith, ints, clamps)
 

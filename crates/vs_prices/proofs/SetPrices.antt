@@ -1,18 +1,15 @@
 -- What a trip pays in the layers of a set.
-use Rattle.std.proofs.Common.{◌≡◌, ℕ, ◌+◌, ◌-◌, ◌<◌, ◌≤◌, Bool, false, eqb, List, [], ◌∷◌, ◌++◌, map, refl, sym, ap, ◌∙◌, arith, ℤ}
+use Rattle.std.proofs.Common.{◌≡◌, ℕ, ◌+◌, ◌-◌, ◌<◌, ◌≤◌, Bool, false, eqb, List, [], ◌∷◌, ◌++◌, map, sym, ap, ◌∙◌, arith, ℤ}
 use Rattle.std.specs.Int.{bit_at}
 use Rattle.std.specs.List.{range_with_len, filter}
 use Rattle.std.proofs.lemmas.Bool.{false_from_ne_true, eqb-true, eq-eqb}
-use Rattle.vs_types.specs.LayerSet.{Has, members, layer_numbers}
+use Rattle.vs_types.specs.LayerSet.{Has, members}
 use Rattle.vs_types.specs.declared.layer_set.LayerSet.{LayerSet}
+use Rattle.vs_types.proofs.CallerLemmas.{layer_numbers-range}
 use Rattle.vs_instance.specs.Problem.{Problem}
 use Rattle.vs_prices.specs.declared.table.Table.{Table}
 use Rattle.vs_prices.specs.Worth.{trip_price}
 use Rattle.vs_prices.proofs.RunningTotals.{prices_more_yes, prices_more_no, filter_range_past}
-
-layer_numbers-range : layer_numbers ≡ range_with_len 0 16
-unfolding layer_numbers
-layer_numbers-range = refl
 
 abbrev stands : LayerSet → ℕ → Bool
 stands set k = eqb (bit_at set.0 k) 1

@@ -4,6 +4,7 @@ use Rattle.std.proofs.Common.{◌≡◌, Bool, true, false, cond, subst, List, r
 use Rattle.std.proofs.lemmas.Bool.{false≢true}
 use Rattle.std.proofs.lemmas.Int.{ints}
 use Rattle.vs_types.specs.declared.layer_set.LayerSet.{LayerSet}
+use Rattle.vs_types.proofs.CallerLemmas.{match_false}
 use Rattle.vs_instance.specs.Problem.{Problem}
 use Rattle.vs_prices.specs.declared.bound.Bound.{Bound}
 use Rattle.vs_prices.specs.declared.bound.Bound.TheVariants.{AtLeast, NoPlan}
@@ -13,9 +14,6 @@ use Rattle.vs_prices.proofs.Rounding.{rounded_once, rounded_up-IsRoundedUp}
 
 match_true : (b : Bool) (P Q : Type 0) → b ≡ true → P → MatchBool b P Q
 match_true b P Q e h = subst (λ (x : Bool). MatchBool x P Q) (sym e) h
-
-match_false : (b : Bool) (P Q : Type 0) → b ≡ false → Q → MatchBool b P Q
-match_false b P Q e h = subst (λ (x : Bool). MatchBool x P Q) (sym e) h
 
 positive : (v : ℤ) → int_lt (pos 0) v ≡ true → pos 0 <ℤ v
 positive v h = grind (arith, ints)

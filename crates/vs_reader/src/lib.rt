@@ -23,7 +23,7 @@ mod version;
 pub use fields::{name, number, time};
 pub use input::{Input, Timetable};
 pub use kind::{Kind, is_text};
-pub use laws::{instance_texts_are_not_refused, texts_stand_for_one_instance};
+pub use laws::{instance_texts_are_not_refused, limits_are_fixed, texts_stand_for_one_instance};
 pub use limits::MAX_BYTES;
 pub use names::Names;
 pub use reading::{read, read_instance};

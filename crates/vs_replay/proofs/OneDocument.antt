@@ -14,6 +14,7 @@ use Rattle.vs_plan.specs.Blocks.{blocks_of}
 use Rattle.vs_prices.specs.Claims.{claim_found}
 use Rattle.vs_prices.specs.Tree.{Tree, Leaf, Split, right_of, with_set}
 use Rattle.vs_prices.specs.declared.claim.Claim.{Claim}
+use Rattle.vs_prices.proofs.CallerLemmas.{no_less-both}
 use Rattle.vs_cert.specs.StateDocument.{IsDocumentOf, IsRenumbered, first_times, tables_named}
 use Rattle.vs_cert.specs.TreeText.{prices_rows}
 use Rattle.vs_cert.proofs.CallerLemmas.{tables_rows-prices}
@@ -29,7 +30,7 @@ use Rattle.vs_tree.specs.History.{Opening, Place, State, is_inner}
 use Rattle.vs_tree.specs.Prices.{Prices, prices_of}
 use Rattle.vs_tree.specs.Report.{IsReport, bound_of}
 use Rattle.vs_tree.specs.StateTree.{IsTreeAt}
-use Rattle.vs_tree.proofs.CallerLemmas.{lesser-no_less, no_less-both, same_bound}
+use Rattle.vs_tree.proofs.CallerLemmas.{lesser-no_less, same_bound}
 
 module _ (p : Problem) (s : State) where
   -- a state has one report

@@ -1,17 +1,12 @@
 -- Prices widened place by place.
 use Rattle.std.proofs.Common.{◌≡◌, ◌≢◌, ℕ, ◌+◌, ◌-◌, ◌*◌, ◌<◌, ◌≤◌, inl, inr, List, length, set, sym, ◌∙◌, subst, arith, ℤ, pos}
-use Rattle.std.proofs.Math.Nat.{add-mul}
 use Rattle.std.proofs.lemmas.Bool.{cases_eq, cases_lt}
 use Rattle.std.proofs.lemmas.List.{get_or-set_other, get_or-set_same}
-use Rattle.std.proofs.lemmas.Nat.{mul-le}
+use Rattle.vs_types.proofs.CallerLemmas.{row_inside}
 use Rattle.vs_types.specs.declared.layer_set.LayerSet.{LayerSet}
 use Rattle.vs_instance.specs.HoldingTable.{price_of}
 use Rattle.vs_instance.specs.Problem.{Problem}
 use Rattle.vs_resume.specs.Widened.{IsLayerWidened, IsSettled, place_of}
-
--- a layer's prices lie within those of so many layers
-pub row_inside : (n l layers : ℕ) → l < layers → l * n + n ≤ layers * n
-row_inside n l layers less = omega (arith, mul-le (l + 1) n layers n (omega arith) (omega arith), add-mul l 1 n)
 
 -- trips of different layers have different places
 apart : (n k l j i : ℕ) → k ≢ l → j < n → i < n → k * n + j ≢ l * n + i

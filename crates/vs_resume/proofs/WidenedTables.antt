@@ -1,5 +1,5 @@
 -- A table that holds in a part holds, widened, in the instance.
-use Rattle.std.proofs.Common.{◌≡◌, ℕ, ◌*◌, ◌+◌, ◌<◌, ◌≤◌, Bool, true, false, ◌⊎◌, inl, inr, List, length, sym, ap, ◌∙◌, subst, arith, Option, Some, None, ℤ, pos, ◌+ℤ◌, ◌≤ℤ◌}
+use Rattle.std.proofs.Common.{◌≡◌, ℕ, ◌*◌, ◌+◌, ◌<◌, ◌≤◌, Bool, true, false, ◌⊎◌, inl, inr, List, length, sym, ap, ◌∙◌, subst, arith, Option, ℤ, pos, ◌+ℤ◌, ◌≤ℤ◌}
 use Rattle.std.specs.Prelude.{IfSome, slice_range}
 use Rattle.std.specs.List.{All}
 use Rattle.std.proofs.lemmas.Bool.{cases_lt}
@@ -8,6 +8,7 @@ use Rattle.std.proofs.lemmas.List.{get_or_past}
 use Rattle.std.proofs.lemmas.List.Elements.{All-take, All-drop}
 use Rattle.vs_types.specs.LayerSet.{Has}
 use Rattle.vs_types.specs.declared.layer_set.LayerSet.{LayerSet}
+use Rattle.vs_types.proofs.CallerLemmas.{each_some}
 use Rattle.vs_instance.specs.HoldingTable.{HoldsInLayer, price_of, scaled}
 use Rattle.vs_instance.specs.Narrowed.{narrowed}
 use Rattle.vs_instance.specs.Pieces.{in_piece, link_piece, out_piece}
@@ -34,10 +35,6 @@ read_price prices each i = by_place (cases_lt i (length prices))
 scaled_up : (ray : Bool) (c : ℕ) → pos 0 ≤ℤ scaled ray c
 scaled_up true c = omega (arith, ints)
 scaled_up false c = omega (arith, ints)
-
-each_some : (o : Option ℕ) (P : ℕ → Type 0) → ((c : ℕ) → P c) → IfSome o P
-each_some None P each = tt
-each_some (Some c) P each = each c
 
 -- a move: its piece of cost, the prices into and from its trips, and that of a vehicle
 record Move : Type 0 where

@@ -14,7 +14,7 @@ use Rattle.vs_instance.specs.Problem.{Problem}
 use Rattle.vs_instance.specs.Restriction.{IsRestriction, set_of}
 use Rattle.vs_instance.specs.Ways.{layer_of, no_trip}
 use Rattle.vs_instance.specs.declared.trip.Trip.{Trip}
-use Rattle.vs_instance.proofs.CallerLemmas.{length-narrowed, trip_of-narrowed}
+use Rattle.vs_instance.proofs.CallerLemmas.{length-narrowed, same_totals, trip_of-narrowed}
 use Rattle.vs_prices.specs.Table.{from_price, into_price}
 use Rattle.vs_prices.specs.Worth.{IsRoundedUp, IsWorth, fleet_price, least, least_price, table_value, trip_price, trips_pay, vehicles_pay}
 use Rattle.vs_prices.specs.declared.bound.Bound.{Bound}
@@ -23,7 +23,7 @@ use Rattle.vs_prices.specs.declared.table.Table.{Table}
 use Rattle.vs_resume.specs.Widened.{IsLeftOut, IsWidened}
 use Rattle.vs_resume.proofs.Pieces.{trip_same}
 use Rattle.vs_resume.proofs.WidenedTables.{price_in_part}
-use Rattle.vs_check.proofs.CallerLemmas.{same_totals, same_map}
+use Rattle.vs_check.proofs.CallerLemmas.{same_map}
 
 module _ (p : Problem) (sets inner : List LayerSet) (old new : Table) (is : IsInstance p)
     (restricts : IsRestriction p sets) (within_part : IsRestriction (narrowed p sets) inner)

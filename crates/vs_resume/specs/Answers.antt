@@ -8,7 +8,7 @@ use Rattle.vs_rows.specs.declared.document.Document.{Document}
 use Rattle.vs_rows.specs.declared.document.Shape.{Shape}
 use Rattle.vs_rows.specs.declared.document.Shape.TheVariants as shape
 use Rattle.vs_check.specs.HoldingDocument.{HoldingDocument}
-use Rattle.vs_cert.specs.Answers.{AreNamedInOrder, AreWorths, IsBoundOf, places_of}
+use Rattle.vs_cert.specs.Answers.{AreNamedInOrder, AreWorths, IsBoundOf, leaf_places}
 use Rattle.vs_resume.specs.declared.resuming.TheConstants.{MAX_RESUMED_ENTRIES}
 use Rattle.vs_resume.specs.Standing.{IsPrinted, IsWrittenFor, Standing}
 use Rattle.vs_resume.specs.Turns.{AreTurns, Turned, nodes_of}
@@ -39,9 +39,9 @@ pub record IsCarriedOn (p : Problem) (budget : ℕ) (d e : Document) : Type 0 wh
 pub record ResumeAnswer (p : Problem) (budget : ℕ) (d e : Document) : Type 0 where
   pub has_text : HasText p e
   pub holds : HoldingDocument p e
-  pub in_order : AreNamedInOrder 0 (places_of p e holds) (length e.tables.items)
+  pub in_order : AreNamedInOrder 0 (leaf_places p e holds) (length e.tables.items)
   pub worths : List Bound
-  pub are_worths : AreWorths p e (places_of p e holds) worths
+  pub are_worths : AreWorths p e (leaf_places p e holds) worths
   pub bound : IsBoundOf e.cost worths e.bound
   pub within_budget : e.nodes ≤ budget
   pub still_open : e.claim ≡ StillOpen → e.nodes ≡ budget

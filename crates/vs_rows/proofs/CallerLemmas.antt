@@ -1,6 +1,12 @@
 -- What crates above may cite of these proofs.
 pub use Rattle.vs_rows.proofs.rows.SplitLayers.{some_member}
 pub use Rattle.vs_rows.proofs.rows.SaysOnce.{first_word, none_is_no_number, says_once, word_of}
+pub use Rattle.vs_rows.proofs.refused.RefusedOnce.{AreClear, LeadsTo, leads_on, not_refused, once_from}
+pub use Rattle.vs_rows.proofs.refused.RefusedRows.{bad_row, lead_on, leads_one, out_of_order, read_on, reads_none}
+pub use Rattle.vs_rows.proofs.refused.RefusedRows.{reads_one, refused_after_end, refused_at, refused_at_the_end}
+pub use Rattle.vs_rows.proofs.refused.RefusedRows.{say_on, says_one, wrong_row}
+pub use Rattle.vs_rows.proofs.refused.SamePlaces.{AreSameFor, same_place}
+pub use Rattle.vs_rows.proofs.refused.WrongPrices.{wrong_prices}
 pub use Rattle.vs_rows.proofs.tables.ErrorsPass.{err_passes, err_weaker, ok_weaker}
 pub use Rattle.vs_rows.proofs.tables.PriceRows.{as_word}
 pub use Rattle.vs_rows.proofs.tables.Standing.{stand_on, stand_within, wrong_within}

@@ -2,7 +2,7 @@
 use Rattle.std.specs.Prelude.{◌≡◌, ◌≢◌, ℕ, ◌+◌, ◌<◌, ◌≤◌, Bool, if◌then◌else◌, List, [], ◌∷◌, ◌++◌, length, map, filter, flat_map, All, AllPairs, Contains, codes, decimal, ◌==◌, ◌↔◌, ℤ, pos, neg_ℤ, ◌≤ℤ◌, Option, Some, None, IfSome}
 use Rattle.std.specs.Fmt.{signed_decimal}
 use Rattle.std.specs.Int.{bit_at}
-use Rattle.std.specs.List.{enumerate_from, range_with_len}
+use Rattle.std.specs.List.{AllZip, enumerate_from, range_with_len}
 use Rattle.vs_types.specs.LayerSet.{Has, members}
 use Rattle.vs_types.specs.declared.layer_set.LayerSet.{LayerSet}
 use Rattle.vs_types.specs.declared.numbers.TripNo.{TripNo}
@@ -120,9 +120,7 @@ pub record Says (names : NameLists) (row : Row) (said : DocumentRow) : Type 0 wh
 
 -- the rows say these, one by one
 abbrev pub SayAll : NameLists → List Row → List DocumentRow → Type 0
-SayAll names [] [] = Unit {0}
-SayAll names (row ∷ rows) (said ∷ more) = Says names row said × SayAll names rows more
-SayAll names _ _ = ⊥
+SayAll names rows said = AllZip (Says names) rows said
 
 -- the numbers of the trips that layer l may run, in order
 abbrev pub permitted_trips : Problem → ℕ → List ℕ

@@ -1,5 +1,7 @@
 pub mod Fields
 pub mod Shapes
+pub mod RowRules
+pub mod RowReading
 pub mod DocumentRows
 pub mod DocumentText
 pub mod PriceOrder

@@ -16,7 +16,7 @@ mod wrong;
 
 pub use document::{Document, Shape};
 pub use fields::{begins_as, is_of_kind, is_text};
-pub use laws::written_rows_stand_for_their_document;
+pub use laws::{limits_are_fixed, written_rows_stand_for_their_document};
 pub use limits::{MAX_BOUND, MAX_COST, MAX_FINISHED, MAX_NUMBER, MAX_PRINTED_PRICE};
 pub use names::{Likely, layer_named, trip_named};
 pub use numbers::between;

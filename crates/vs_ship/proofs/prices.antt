@@ -1,4 +1,3 @@
-pub mod Pushed
 pub mod Overwritten
 pub mod Found
 pub mod Between

@@ -4,7 +4,6 @@ pub mod WrittenSteps
 pub mod SaidRows
 pub mod SaidSteps
 pub mod MadeTraces
-pub mod RefusedRows
 pub mod PricePlaces
 pub mod AcceptedRows
 pub mod ReadThrough

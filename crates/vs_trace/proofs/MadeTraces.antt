@@ -2,26 +2,19 @@
 use Rattle.std.proofs.Common.{◌≡◌, ℕ, ◌+◌, ◌<◌, ◌≤◌, ◌^◌, List, [], ◌∷◌, ◌++◌, length, refl, sym, ap, ◌∙◌, subst, arith, append-nil, length-append, Option, Some, None, IfSome, ℤ}
 use Rattle.std.specs.Prelude.{flat_map}
 use Rattle.std.specs.List.{All}
-use Rattle.std.specs.declared.alloc.Global.{Global}
-use Rattle.std.specs.declared.vec.Vec.{Vec}
-use Rattle.std.proofs.lemmas.List.{length-map}
-use Rattle.std.proofs.lemmas.List.Elements.{All-cons, All-head, All-nil, All-tail, All-weaker}
-use Rattle.vs_types.specs.declared.numbers.TripNo.{TripNo}
-use Rattle.vs_instance.specs.Blocks.{IsBlock}
+use Rattle.std.proofs.lemmas.List.Elements.{All-cons, All-nil}
 use Rattle.vs_instance.specs.Instance.{IsInstance}
-use Rattle.vs_instance.specs.Plan.{IsPlan, LayerBlock, all_trips}
+use Rattle.vs_instance.specs.Plan.{IsPlan, LayerBlock}
 use Rattle.vs_instance.specs.Problem.{Problem}
-use Rattle.vs_plan.specs.Blocks.{blocks_of, pair_of, pairs_of}
 use Rattle.vs_plan.specs.CheckedPlan.{Checked}
-use Rattle.vs_plan.specs.declared.block.Block.{Block}
 use Rattle.vs_plan.specs.declared.block.Plan.{Plan}
-use Rattle.vs_plan.proofs.CallerLemmas.{plan_trips}
 use Rattle.vs_reader.specs.Names.{HaveCounts, NameLists}
 use Rattle.vs_rows.specs.DocumentRows.{EndRow}
 use Rattle.vs_tree.specs.History as full
-use Rattle.vs_tree.specs.History.{FullStep, Opening, State, IsHistory, MayCome, MayFollow, after, first_state, plans_of}
+use Rattle.vs_tree.specs.History.{FullStep, Opening, State, IsHistory, MayFollow, after, first_state, plans_of}
 use Rattle.vs_tree.specs.Prices.{Prices, prices_of}
 use Rattle.vs_tree.specs.Sound.{IsOpening, IsPlanOf}
+use Rattle.vs_cert.proofs.CallerLemmas.{make_plan, vec-items, vec_of}
 use Rattle.vs_trace.specs.Told.{Tells, WrittenTracesStand, told_of}
 use Rattle.vs_trace.specs.TraceRows.{IsOpeningForm, PartRow, SayAllSo, TraceRow, first_rows, opening_rows, step_rows, trace_rows, trace_text}
 use Rattle.vs_trace.specs.Traces.{HasFitting, TraceText, first_plans, steps_from, told_first, told_opening, told_plan, told_steps}
@@ -29,75 +22,13 @@ use Rattle.vs_trace.specs.declared.trace.Full.{Full}
 use Rattle.vs_trace.specs.declared.trace.Full.TheVariants.{Took, Split, Closed, Offered, GaveBack}
 use Rattle.vs_trace.specs.declared.trace.Trace.{Trace}
 use Rattle.vs_trace.proofs.SaidSteps.{accepted_is, trace_says}
-use denote.RawPtr.{null_ptr}
-
--- a vector of these elements
-vec_of : {X : Type 0} (xs : List X) → length xs < 2 ^ 63 → Vec X Global
-vec_of xs few = record {
-  ptr = null_ptr;
-  len = length xs;
-  cap = length xs;
-  alloc = record { memory = record { seal = tt } };
-  items = xs;
-  ok = (refl, omega arith);
-  small = few;
-}
-
-vec-items : {X : Type 0} (xs : List X) (few : length xs < 2 ^ 63) → (vec_of xs few).items ≡ xs
-unfolding vec_of
-vec-items xs few = refl
-
--- no block has more trips than all have together, and there are no more blocks than trips
-each_short : (n : ℕ) (blocks : List LayerBlock) → length (all_trips blocks) ≤ n → All (λ b. length b.1 ≤ n) blocks
-each_short n [] few = All-nil (λ (b : LayerBlock). length b.1 ≤ n)
-each_short n (b ∷ blocks) few =
-    let both = length-append b.1 (all_trips blocks) in
-    All-cons (λ (x : LayerBlock). length x.1 ≤ n) b blocks (omega (arith, few, both))
-    (each_short n blocks (omega (arith, few, both)))
-
-few_blocks : (blocks : List LayerBlock) → All (λ b. 0 < length b.1) blocks → length blocks ≤ length (all_trips blocks)
-few_blocks [] some = omega arith
-few_blocks (b ∷ blocks) some =
-    omega (
-      arith,
-      All-head (λ (x : LayerBlock). 0 < length x.1) b blocks some,
-      few_blocks blocks (All-tail (λ (x : LayerBlock). 0 < length x.1) b blocks some),
-      length-append b.1 (all_trips blocks),
-    )
-
--- blocks with vectors of trips
-make_blocks : (blocks : List LayerBlock) → All (λ b. length b.1 < 2 ^ 63) blocks
-    → (made : List Block) × (pairs_of made ≡ blocks)
-make_blocks [] short = ([], refl)
-make_blocks (b ∷ blocks) short =
-    let few : length b.1 < 2 ^ 63 = All-head (λ (x : LayerBlock). length x.1 < 2 ^ 63) b blocks short in
-    let rest = make_blocks blocks (All-tail (λ (x : LayerBlock). length x.1 < 2 ^ 63) b blocks short) in (
-      record { layer = b.0; trips = vec_of b.1 few } ∷ rest.0,
-      ap (λ (trips : List TripNo). (b.0, trips) ∷ pairs_of rest.0) (vec-items b.1 few)
-          ∙ ap (λ (bs : List LayerBlock). b ∷ bs) rest.1,
-    )
 
 module _ (p : Problem) (instance : IsInstance p) where
-  -- the blocks of a plan, as a plan that isn't judged
-  make_plan : (blocks : List LayerBlock) → IsPlan p blocks → (plan : Plan) × (blocks_of plan ≡ blocks)
-  make_plan blocks is =
-      let size = plan_trips p blocks is in
-      let short = All-weaker (λ (b : LayerBlock). length b.1 ≤ length p.trips) (λ (b : LayerBlock). length b.1 < 2 ^ 63)
-      (λ b few. omega (arith, few, instance.few_trips)) blocks
-      (each_short (length p.trips) blocks (omega (arith, size))) in
-      let made = make_blocks blocks short in
-      let some = All-weaker (λ (b : LayerBlock). IsBlock p b.0 b.1) (λ (b : LayerBlock). 0 < length b.1)
-      (λ b block. block.some_trip) blocks is.each_block in
-      let count : length made.0 ≡ length blocks =
-      sym (length-map made.0 pair_of) ∙ ap (λ (bs : List LayerBlock). length bs) made.1 in
-      let few : length made.0 < 2 ^ 63 = omega (arith, count, few_blocks blocks some, size, instance.few_trips) in
-      (record { blocks = vec_of made.0 few }, ap pairs_of (vec-items made.0 few) ∙ made.1)
-
   -- a plan of the instance, as it is told
   made_plan : (plan : Checked) → IsPlanOf p plan → (made : Plan) × (told_plan p plan.cost made ≡ plan)
   made_plan plan is =
       let blocks : IsPlan p plan.blocks = subst (λ (q : Problem). IsPlan q plan.blocks) is.1 is.0.plan in
-      let made = make_plan plan.blocks blocks in (
+      let made = make_plan p instance plan.blocks blocks in (
         made.0,
         ap (λ (bs : List LayerBlock). record { problem = p; blocks = bs; cost = plan.cost }) made.1
             ∙ ap (λ (q : Problem). record { problem = q; blocks = plan.blocks; cost = plan.cost }) (sym is.1),

@@ -18,10 +18,12 @@ use Rattle.vs_rows.specs.TableReading.{ReadsTable}
 use Rattle.vs_tree.specs.Prices.{prices_of}
 use Rattle.vs_trace.specs.TraceRows.{FirstRow, block_rows, priced_rows}
 use Rattle.vs_trace.specs.Places.{AtBlocks, AtFirst, AtTable, InTable, behind}
-use Rattle.vs_trace.specs.Reading.{ReadsCost, ReadsFirst, ReadsTo, behind_cost}
+use Rattle.vs_trace.specs.Reading.{ReadsCost, ReadsFirst, behind_cost}
 use Rattle.vs_trace.proofs.AcceptedRows.{leads_blocks, leads_table}
 use Rattle.vs_trace.proofs.ReadThrough.{reads_through, stand_further}
-use Rattle.vs_trace.proofs.RefusedRows.{lead_on, read_on}
+use Rattle.vs_rows.specs.RowReading.{ReadsTo}
+use Rattle.vs_rows.proofs.CallerLemmas.{lead_on, read_on}
+use Rattle.vs_trace.specs.TraceRefusals.{traces}
 use Rattle.vs_trace.proofs.SamePlaces.{blocks_end}
 
 -- where blocks stand behind the first cost, or not
@@ -64,13 +66,13 @@ module _ (input : Input) where
     }
 
     -- behind blocks a step comes, or the end
-    pub blocks_read : (n : ℕ) → ReadsTo input at (AtBlocks n) (block_rows blocks) to (InTable n [])
+    pub blocks_read : (n : ℕ) → ReadsTo traces input at (AtBlocks n) (block_rows blocks) to (InTable n [])
     blocks_read n =
         let read = reads_through input (map BlockRow blocks) (AtBlocks n) (AtBlocks n) at to
         (leads_blocks input.instance n blocks) are.stand in
         record {
           say = read.say;
-          lead = lead_on input at to to (AtBlocks n) (AtBlocks n) (InTable n []) read.lead
+          lead = lead_on traces input at to to (AtBlocks n) (AtBlocks n) (InTable n []) read.lead
               (blocks_end input to n are.ends);
         }
 
@@ -83,12 +85,13 @@ module _ (input : Input) where
   first_some cost plan to is told blocks = record {
     can_judge = blocks_judged 3 to (blocks_of plan) blocks is;
     further = stand_further input (map BlockRow (blocks_of plan)) 3 to blocks.stand;
-    reads = read_on input 2 3 to AtFirst (AtBlocks 0) (InTable 0 []) (FirstRow (Some cost) ∷ [])
+    reads = read_on traces input 2 3 to AtFirst (AtBlocks 0) (InTable 0 []) (FirstRow (Some cost) ∷ [])
         (block_rows (blocks_of plan)) told (blocks_read 3 to (blocks_of plan) blocks 0);
   }
 
   pub table_read : (at n to : ℕ) (table : Table) → ReadsTable input at n to table
-      → ReadsTo input at (AtTable n) (priced_rows input.instance (n + 1) (prices_of table)) to (InTable (n + 1) [])
+      → ReadsTo traces input at (AtTable n) (priced_rows input.instance (n + 1) (prices_of table)) to
+      (InTable (n + 1) [])
   table_read at n to table is =
       reads_through input (table_rows input.instance (n + 1, table)) (AtTable n) (InTable (n + 1) []) at to
       (leads_table input.instance table n is.fits) is.stand

@@ -1,5 +1,5 @@
 -- The rows of prices, each in its place, and tables that are refused.
-use Rattle.std.proofs.Common.{◌≡◌, ◌≢◌, ℕ, ◌+◌, Bool, true, cond, List, [], ◌∷◌, refl, sym, ap, ◌∙◌, subst, inl, inr, ◌⊎◌, ℤ, eqb, Some, None}
+use Rattle.std.proofs.Common.{◌≡◌, ◌≢◌, ℕ, ◌+◌, Bool, true, cond, List, ◌∷◌, refl, sym, ap, ◌∙◌, inl, inr, ◌⊎◌, ℤ, eqb, Some, None}
 use Rattle.std.specs.Prelude.{◌&&◌}
 use Rattle.std.proofs.lemmas.Bool.{cases_eq, eq-eqb, ne_eqb}
 use Rattle.vs_instance.specs.Problem.{Problem}
@@ -7,7 +7,7 @@ use Rattle.vs_reader.specs.Names.{NameLists}
 use Rattle.vs_reader.specs.Rows.{Row}
 use Rattle.vs_reader.specs.declared.input.Input.{Input}
 use Rattle.vs_rows.specs.DocumentRows.{DocumentRow, FleetRow, PriceRow, TableRow, Says}
-use Rattle.vs_rows.specs.PriceOrder.{IsOf, PriceOf, Trip, Vehicle, prices_of}
+use Rattle.vs_rows.specs.PriceOrder.{HasPrices, IsOf, PriceOf, Trip, Vehicle, prices_of}
 use Rattle.vs_rows.specs.TableReading.{AreWrongFrom, HasAnotherNumber, IsWrong, ReadsKind}
 use Rattle.vs_rows.specs.declared.wrong.PriceWhy.{PriceWhy}
 use Rattle.vs_rows.specs.declared.wrong.PriceWhy.TheVariants.{Range}
@@ -17,7 +17,10 @@ use Rattle.vs_trace.specs.Reading.{IsRefusedAt}
 use Rattle.vs_trace.specs.declared.refused.TraceWhy.TheVariants.{PriceRange, TableNumber}
 use Rattle.vs_trace.specs.declared.refused.TraceError.{TraceError}
 use Rattle.vs_trace.specs.declared.refused.TraceError.TheVariants as error
-use Rattle.vs_trace.proofs.RefusedRows.{leads_one, no_prices, wrong_number}
+use Rattle.vs_rows.specs.RowRules.{Leads}
+use Rattle.vs_rows.proofs.CallerLemmas.{leads_one, wrong_prices, wrong_row}
+use Rattle.vs_trace.specs.TraceRefusals.{traces}
+use Rattle.vs_trace.proofs.ReadThrough.{passes}
 use Rattle.vs_document.proofs.CallerLemmas.{neither}
 
 another_trip : (p : Problem) (n l i layer trip : ℕ) (later : List PriceOf) (into from : ℤ)
@@ -38,7 +41,7 @@ price_part (Trip l i) _ is = absurd is
 
 module _ (p : Problem) (n : ℕ) where
   -- the row of prices that has to come leads to the next, and no other does
-  pub price_order : (price : PriceOf) (later : List PriceOf) (said : DocumentRow) → IsOf price said
+  price_order : (price : PriceOf) (later : List PriceOf) (said : DocumentRow) → IsOf price said
       → behind p (InTable n (price ∷ later)) (PartRow said) ≡ Some (InTable n later)
   price_order (Vehicle l) later (FleetRow layer price) is =
       ap (λ (b : Bool). cond b (Some (InTable n later)) None) (eq-eqb l layer (sym is))
@@ -54,6 +57,14 @@ module _ (p : Problem) (n : ℕ) where
   price_number (Trip l i) later (PriceRow layer trip into from) is = tt
   price_number (Vehicle l) later _ is = absurd is
   price_number (Trip l i) later _ is = absurd is
+
+  pub price_leads : (price : PriceOf) (later : List PriceOf) (said : DocumentRow) → IsOf price said → HasPrices said
+      → Leads traces p (InTable n (price ∷ later)) (PartRow said) (InTable n later)
+  price_leads price later said is prices = record {
+    suits = tt;
+    order = price_order price later said is;
+    right = (price_number price later said is, prices);
+  }
 
   price_elsewhere : (price : PriceOf) (later : List PriceOf) (said : DocumentRow) → ¬ (IsOf price said)
       → behind p (InTable n (price ∷ later)) (PartRow said) ≡ None
@@ -86,28 +97,10 @@ module _ (input : Input) (n row : ℕ) where
   pub price_range : (price : PriceOf) (later : List PriceOf) → IsWrong input row price Range
       → IsRefusedAt input row (InTable n (price ∷ later)) (error.Refused (input.before + 1 + row) PriceRange)
   price_range price later (said, there, none) =
-      no_prices input row there.here (InTable n (price ∷ later)) (PartRow said) (λ e. cc)
-      (price_part price said there.is_of, there.says) (InTable n later)
+      wrong_row traces input row there.here (InTable n (price ∷ later)) (PartRow said)
+      (price_part price said there.is_of, there.says) tt (λ e. cc) (InTable n later) PriceRange
       (price_order input.instance n price later said there.is_of)
-      (price_number input.instance n price later said there.is_of) none
-
-  module _ (why : PriceWhy) (e : TraceError)
-      (refused : (price : PriceOf) (later : List PriceOf) → IsWrong input row price why
-      → IsRefusedAt input row (InTable n (price ∷ later)) e) where
-    -- where the first row that is wrong is refused, all are
-    prices_refused : (prices : List PriceOf) (at : ℕ) → AreWrongFrom input at prices row why
-        → IsRefusedAt input at (InTable n prices) e
-    prices_refused [] at wrong = absurd wrong
-    prices_refused (price ∷ prices) at (inl (same, wrong)) =
-        let P : ℕ → Type 0 = λ k. IsRefusedAt input k (InTable n (price ∷ prices)) e in
-        let Q : ℕ → Type 0 = λ k. IsWrong input k price why in
-        subst P same (refused price prices (subst Q (sym same) wrong))
-    prices_refused (price ∷ prices) at (inr (said, right, wrong)) =
-        (leads_one input at right.there.here (InTable n (price ∷ prices)) (PartRow said) (λ e. cc)
-        (price_part price said right.there.is_of, right.there.says) (InTable n prices)
-        (price_order input.instance n price prices said right.there.is_of)
-        (price_number input.instance n price prices said right.there.is_of) right.prices).refused e
-        (prices_refused prices (at + 1) wrong)
+      (inr (price_number input.instance n price later said there.is_of, none, refl))
 
 -- a table is refused where a row of its prices is
 pub table_refused : (input : Input) (at n row : ℕ) (why : PriceWhy) (ray : Bool) (e : TraceError)
@@ -115,13 +108,17 @@ pub table_refused : (input : Input) (at n row : ℕ) (why : PriceWhy) (ray : Boo
     → ((price : PriceOf) (later : List PriceOf) → IsWrong input row price why
     → IsRefusedAt input row (InTable (n + 1) (price ∷ later)) e) → IsRefusedAt input at (AtTable n) e
 table_refused input at n row why ray e kind wrong refused =
-    (leads_one input at kind.here (AtTable n) (PartRow (TableRow (n + 1) ray)) (λ e. cc) (tt, kind.says)
-    (InTable (n + 1) (prices_of input.instance)) refl refl tt).refused e
-    (prices_refused input (n + 1) row why e refused (prices_of input.instance) (at + 1) wrong)
+    let p = input.instance in
+    let kind_leads = leads_one traces input at kind.here (AtTable n) (PartRow (TableRow (n + 1) ray)) (tt, kind.says)
+    (InTable (n + 1) (prices_of p)) (record { suits = tt; order = refl; right = (refl, tt) }) in
+    let found = wrong_prices traces input (InTable (n + 1)) PartRow
+    (λ r price said is says. (price_part price said is, says)) (price_leads p (n + 1)) (prices_of p) (at + 1) row why
+    wrong in
+    passes input e kind_leads (passes input e found.3 (refused found.0 found.1 found.2))
 
 -- and where it hasn't the next number
 pub number_refused : (input : Input) (at n : ℕ) → HasAnotherNumber input at n
     → IsRefusedAt input at (AtTable n) (error.Refused (input.before + 1 + at) TableNumber)
 number_refused input at n other =
-    wrong_number input at other.here (AtTable n) (PartRow (TableRow other.number other.ray)) (λ e. cc)
-    (tt, other.says) (InTable (n + 1) (prices_of input.instance)) refl other.another
+    wrong_row traces input at other.here (AtTable n) (PartRow (TableRow other.number other.ray)) (tt, other.says) tt
+    (λ e. cc) (InTable (n + 1) (prices_of input.instance)) TableNumber refl (inl (other.another, refl))

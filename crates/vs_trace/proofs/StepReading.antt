@@ -23,13 +23,15 @@ use Rattle.vs_trace.specs.Traces.{IsReadStep, plans_behind, steps_from, tables_b
 use Rattle.vs_trace.specs.declared.trace.Full.{Full}
 use Rattle.vs_trace.specs.declared.trace.Full.TheVariants.{Took, Split, Closed, Offered, GaveBack}
 use Rattle.vs_trace.specs.Places.{AtBlocks, AtTable, InTable}
-use Rattle.vs_trace.specs.Reading.{IsBlankStep, IsEnd, IsRefusedAt, LeadTo, ReadsOne, ReadsSteps, SayTo, StandsThere, steps_rows}
+use Rattle.vs_trace.specs.Reading.{IsBlankStep, IsEnd, IsRefusedAt, ReadsOne, ReadsSteps, StandsThere, steps_rows}
 use Rattle.vs_trace.specs.declared.refused.TraceError.{TraceError}
 use Rattle.vs_trace.specs.declared.refused.TraceError.TheVariants as error
 use Rattle.vs_trace.specs.declared.refused.TraceWhy.TheVariants.{EndsEarly}
 use Rattle.vs_trace.proofs.PartReading.{blocks_judged, blocks_read, table_read}
-use Rattle.vs_trace.proofs.ReadThrough.{stand_further}
-use Rattle.vs_trace.proofs.RefusedRows.{lead_on, leads_one, read_on, reads_none, reads_one, refused_at_the_end, say_on}
+use Rattle.vs_trace.proofs.ReadThrough.{passes, stand_further}
+use Rattle.vs_rows.specs.RowReading.{LeadTo, SayTo}
+use Rattle.vs_rows.proofs.CallerLemmas.{lead_on, leads_one, read_on, reads_none, reads_one, refused_at_the_end, say_on}
+use Rattle.vs_trace.specs.TraceRefusals.{traces}
 
 -- how many tables and accepted plans there are behind some steps
 abbrev pub tables_after : ℕ → List Full → ℕ
@@ -74,8 +76,8 @@ pub record StepsSoFar (input : Input) (at row before : ℕ) (steps : List Full) 
   pub within : row ≤ length input.rest
   pub few_tables : before ≤ MAX_NUMBER
   pub tables_are : before + 1 ≡ tables_after 1 steps
-  pub say : (plans : ℕ) → SayTo input at (steps_rows input 1 plans steps) row
-  pub lead : LeadTo input at (InTable 0 []) row (InTable before [])
+  pub say : (plans : ℕ) → SayTo traces input at (steps_rows input 1 plans steps) row
+  pub lead : LeadTo traces input at (InTable 0 []) row (InTable before [])
 
 module _ (input : Input) (at : ℕ) where
   pub steps_none : at ≤ length input.rest → StepsSoFar input at at 0 []
@@ -86,8 +88,8 @@ module _ (input : Input) (at : ℕ) where
     within = within;
     few_tables = omega arith;
     tables_are = refl;
-    say = λ plans. (reads_none input at (InTable 0 []) within).say;
-    lead = (reads_none input at (InTable 0 []) within).lead;
+    say = λ plans. (reads_none traces input at (InTable 0 []) within).say;
+    lead = (reads_none traces input at (InTable 0 []) within).lead;
   }
 
   pub steps_more : (row before next tables : ℕ) (steps new : List Full) (step : Full)
@@ -105,13 +107,13 @@ module _ (input : Input) (at : ℕ) where
             ∙ sym (tables_push 1 steps step);
         say = λ plans.
             let P : ℕ → Type 0 = λ n.
-            SayTo input row (step_rows p (told_step p n (plans_after plans steps) step)) next in
+            SayTo traces input row (step_rows p (told_step p n (plans_after plans steps) step)) next in
             let here = subst P s.tables_are (one.reads (plans_after plans steps)).say in
-            let Q : List TraceRow → Type 0 = λ said. SayTo input at said next in
+            let Q : List TraceRow → Type 0 = λ said. SayTo traces input at said next in
             subst Q (sym (rows_push input 1 plans steps step))
-            (say_on input at row next (steps_rows input 1 plans steps)
+            (say_on traces input at row next (steps_rows input 1 plans steps)
             (step_rows p (told_step p (tables_after 1 steps) (plans_after plans steps) step)) (s.say plans) here);
-        lead = lead_on input at row next (InTable 0 []) (InTable before []) (InTable tables []) s.lead
+        lead = lead_on traces input at row next (InTable 0 []) (InTable before []) (InTable tables []) s.lead
             (one.reads 0).lead;
       })
 
@@ -132,8 +134,8 @@ module _ (input : Input) (at : ℕ) where
       → length input.rest ≤ row
       → IsRefusedAt input at (InTable 0 []) (error.Refused (input.before + 1 + row) EndsEarly)
   steps_end_early row before steps s past =
-      s.lead.refused (error.Refused (input.before + 1 + row) EndsEarly)
-      (refused_at_the_end input row past s.within (InTable before []) (λ e. cc))
+      s.lead.refused (input.before + 1 + row) EndsEarly
+      (refused_at_the_end traces input row past (InTable before []) (λ e. cc))
 
 module _ (input : Input) (row n : ℕ) (few : n ≤ MAX_NUMBER) where
   -- a step of one row
@@ -145,8 +147,8 @@ module _ (input : Input) (row n : ℕ) (few : n ≤ MAX_NUMBER) where
     further = omega arith;
     few_tables = few;
     tables_are = refl;
-    reads = λ plans. reads_one input row says.0 (InTable n []) (TookRow worker spot) (λ e. cc) says.1 (InTable n [])
-        refl tt tt;
+    reads = λ plans. reads_one traces input row says.0 (InTable n []) (TookRow worker spot) says.1 (InTable n [])
+        (record { suits = tt; order = refl; right = (tt, tt) });
   }
 
   pub read_gave_back : (worker spot : ℕ) → StandsThere input row (GaveBackRow worker spot)
@@ -157,8 +159,8 @@ module _ (input : Input) (row n : ℕ) (few : n ≤ MAX_NUMBER) where
     further = omega arith;
     few_tables = few;
     tables_are = refl;
-    reads = λ plans. reads_one input row says.0 (InTable n []) (GaveBackRow worker spot) (λ e. cc) says.1
-        (InTable n []) refl tt tt;
+    reads = λ plans. reads_one traces input row says.0 (InTable n []) (GaveBackRow worker spot) says.1 (InTable n [])
+        (record { suits = tt; order = refl; right = (tt, tt) });
   }
 
   -- an offer, with the blocks behind it
@@ -171,9 +173,10 @@ module _ (input : Input) (row n : ℕ) (few : n ≤ MAX_NUMBER) where
     further = omega (arith, stand_further input (map BlockRow (blocks_of plan)) (row + 1) to blocks.stand);
     few_tables = few;
     tables_are = refl;
-    reads = λ plans. read_on input row (row + 1) to (InTable n []) (AtBlocks n) (InTable n [])
+    reads = λ plans. read_on traces input row (row + 1) to (InTable n []) (AtBlocks n) (InTable n [])
         (OfferedRow worker cost ∷ []) (block_rows (blocks_of plan))
-        (reads_one input row says.0 (InTable n []) (OfferedRow worker cost) (λ e. cc) says.1 (AtBlocks n) refl tt tt)
+        (reads_one traces input row says.0 (InTable n []) (OfferedRow worker cost) says.1 (AtBlocks n)
+        (record { suits = tt; order = refl; right = (tt, tt) }))
         (blocks_read input (row + 1) to (blocks_of plan) blocks n);
   }
 
@@ -186,9 +189,10 @@ module _ (input : Input) (row n : ℕ) (few : n ≤ MAX_NUMBER) where
     further = omega (arith, is.further);
     few_tables = is.number;
     tables_are = refl;
-    reads = λ plans. read_on input row (row + 1) to (InTable n []) (AtTable n) (InTable (n + 1) [])
+    reads = λ plans. read_on traces input row (row + 1) to (InTable n []) (AtTable n) (InTable (n + 1) [])
         (ClosedRow worker spot ∷ []) (priced_rows input.instance (n + 1) (prices_of table))
-        (reads_one input row says.0 (InTable n []) (ClosedRow worker spot) (λ e. cc) says.1 (AtTable n) refl tt tt)
+        (reads_one traces input row says.0 (InTable n []) (ClosedRow worker spot) says.1 (AtTable n)
+        (record { suits = tt; order = refl; right = (tt, tt) }))
         (table_read input (row + 1) n to table is);
   }
 
@@ -201,10 +205,10 @@ module _ (input : Input) (row n : ℕ) (few : n ≤ MAX_NUMBER) where
     further = omega (arith, is.further);
     few_tables = is.number;
     tables_are = refl;
-    reads = λ plans. read_on input row (row + 1) to (InTable n []) (AtTable n) (InTable (n + 1) [])
+    reads = λ plans. read_on traces input row (row + 1) to (InTable n []) (AtTable n) (InTable (n + 1) [])
         (SplitRow worker spot trip left ∷ []) (priced_rows input.instance (n + 1) (prices_of table))
-        (reads_one input row says.0 (InTable n []) (SplitRow worker spot trip left) (λ e. cc) says.1 (AtTable n) refl
-        tt tt)
+        (reads_one traces input row says.0 (InTable n []) (SplitRow worker spot trip left) says.1 (AtTable n)
+        (record { suits = tt; order = refl; right = (tt, tt) }))
         (table_read input (row + 1) n to table is);
   }
 
@@ -212,12 +216,13 @@ module _ (input : Input) (row n : ℕ) (few : n ≤ MAX_NUMBER) where
   pub refused_closed : (worker spot : ℕ) (e : TraceError) → StandsThere input row (ClosedRow worker spot)
       → IsRefusedAt input (row + 1) (AtTable n) e → IsRefusedAt input row (InTable n []) e
   refused_closed worker spot e says =
-      (leads_one input row says.0 (InTable n []) (ClosedRow worker spot) (λ e. cc) says.1 (AtTable n) refl tt
-      tt).refused e
+      passes input e (leads_one traces input row says.0 (InTable n []) (ClosedRow worker spot) says.1 (AtTable n)
+      (record { suits = tt; order = refl; right = (tt, tt) }))
 
   pub refused_split : (worker spot : ℕ) (trip : TripNo) (left : LayerSet) (e : TraceError)
       → StandsThere input row (SplitRow worker spot trip left) → IsRefusedAt input (row + 1) (AtTable n) e
       → IsRefusedAt input row (InTable n []) e
   refused_split worker spot trip left e says =
-      (leads_one input row says.0 (InTable n []) (SplitRow worker spot trip left) (λ e. cc) says.1 (AtTable n) refl
-      tt tt).refused e
+      passes input e
+      (leads_one traces input row says.0 (InTable n []) (SplitRow worker spot trip left) says.1 (AtTable n)
+      (record { suits = tt; order = refl; right = (tt, tt) }))

@@ -18,9 +18,11 @@ use Rattle.vs_trace.specs.declared.refused.TraceWhy.TheVariants.{NoTrace, RowsAf
 use Rattle.vs_trace.specs.declared.refused.TraceError.{TraceError}
 use Rattle.vs_trace.specs.declared.refused.TraceError.TheVariants as error
 use Rattle.vs_trace.specs.Places.{AtEnd, AtOpening, InTable}
-use Rattle.vs_trace.specs.TraceRefusals.{AreRefused, AreRefusedFrom}
+use Rattle.vs_trace.specs.TraceRefusals.{AreRefused, traces}
 use Rattle.vs_trace.specs.Reading.{IsEnd, IsRefusalOf, IsRefusedAt, IsTraceOf, ReadsFirst, ReadsOpening, ReadsSteps}
-use Rattle.vs_trace.proofs.RefusedRows.{leads_one}
+use Rattle.vs_rows.specs.RowRules.{AreRefusedFrom}
+use Rattle.vs_rows.proofs.CallerLemmas.{leads_one, refused_after_end}
+use Rattle.vs_trace.proofs.ReadThrough.{passes}
 
 -- the first row is another one, or there is none
 pub no_trace : (input : Input) → ¬ ((0 < length input.rest) × (row_of input.rest 0 ≡ head_row))
@@ -39,7 +41,7 @@ behind_the_head input error.Memory some head refused = tt
 behind_the_head input (error.Refused at why) some head refused = by_rows input.rest some head refused
   where
     by_rows : (rows : List Row) → 0 < length rows → row_of rows 0 ≡ head_row
-        → AreRefusedFrom input.instance input.names (input.before + 1 + 1) AtOpening (drop 1 rows) at why
+        → AreRefusedFrom traces input.instance input.names (input.before + 1 + 1) AtOpening (drop 1 rows) at why
         → AreRefused input.instance input.names input.before rows at why
     by_rows [] less is refused = absurd (omega (arith, less))
     by_rows (row ∷ rows) less is refused = inr (is, refused)
@@ -48,12 +50,9 @@ behind_the_head input (error.Refused at why) some head refused = by_rows input.r
 pub after_end : (input : Input) (end tables : ℕ) → IsEnd input end → end + 1 < length input.rest
     → IsRefusedAt input end (InTable tables []) (error.Refused (input.before + 1 + (end + 1)) RowsAfterEnd)
 after_end input end tables ends more =
-    let lead = leads_one input end ends.says.0 (InTable tables []) (PartRow EndRow) (λ e. cc) ends.says.1 AtEnd refl tt
-    tt in
-    let P : List Row → Type 0 = λ rows. AreRefusedFrom input.instance input.names (input.before + 1 + (end + 1)) AtEnd
-    rows (input.before + 1 + (end + 1)) RowsAfterEnd in
-    lead.refused (error.Refused (input.before + 1 + (end + 1)) RowsAfterEnd)
-    (subst P (sym (drop_more input.rest (end + 1) [] more)) (refl, refl))
+    let lead = leads_one traces input end ends.says.0 (InTable tables []) (PartRow EndRow) ends.says.1 AtEnd
+    (record { suits = tt; order = refl; right = (tt, tt) }) in
+    lead.refused (input.before + 1 + (end + 1)) RowsAfterEnd (refused_after_end traces input (end + 1) more)
 
 fitting : (p : Problem) (step : Full) → IsReadStep p step → HasFitting p step
 fitting p (Took worker spot) is = tt
@@ -112,5 +111,6 @@ pub behind_end : (input : Input) (at end budget workers : ℕ) (first : Option (
     → IsRefusalOf input (error.Refused (input.before + 1 + (end + 1)) RowsAfterEnd)
 behind_end input at end budget workers first steps some head opening firsts are more =
     let e : TraceError = error.Refused (input.before + 1 + (end + 1)) RowsAfterEnd in
-    behind_the_head input e some head (opening.reads.lead.refused e (firsts.reads.lead.refused e
-    (are.lead.refused e (after_end input end are.tables are.ends more))))
+    behind_the_head input e some head
+    (passes input e opening.reads.lead (passes input e firsts.reads.lead
+    (passes input e are.lead (after_end input end are.tables are.ends more))))

@@ -1,6 +1,7 @@
 -- The rows of a trace: what each says, and how it is written.
 use Rattle.std.specs.Prelude.{◌≡◌, ◌≢◌, ℕ, ◌+◌, ◌<◌, ◌≤◌, List, [], ◌∷◌, ◌++◌, length, map, flat_map, codes, decimal, ℤ, pos, Option, Some, None, IfSome}
 use Rattle.std.specs.Fmt.{signed_decimal}
+use Rattle.std.specs.List.{AllZip}
 use Rattle.vs_types.specs.LayerSet.{Has, members}
 use Rattle.vs_types.specs.declared.layer_set.LayerSet.{LayerSet}
 use Rattle.vs_types.specs.declared.numbers.TripNo.{TripNo}
@@ -127,9 +128,7 @@ SaysTrace input k said = SaysSo input.names (row_of input.rest k) said
 
 -- the rows say these, one by one
 abbrev pub SayAllSo : NameLists → List Row → List TraceRow → Type 0
-SayAllSo names [] [] = Unit {0}
-SayAllSo names (row ∷ rows) (said ∷ more) = SaysSo names row said × SayAllSo names rows more
-SayAllSo names _ _ = ⊥
+SayAllSo names rows said = AllZip (SaysSo names) rows said
 
 abbrev pub part_row : DocumentRow → TraceRow
 part_row said = PartRow said

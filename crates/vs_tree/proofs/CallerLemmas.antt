@@ -15,7 +15,6 @@ pub use Rattle.vs_tree.proofs.sound.Relabelled.{held-before, leaves-kept, prices
 pub use Rattle.vs_tree.proofs.sound.Relabelled.{spot-there}
 pub use Rattle.vs_tree.proofs.trees.Histories.{states_are_trees}
 pub use Rattle.vs_tree.proofs.trees.Parts.{times-cons}
-pub use Rattle.vs_tree.proofs.BoundOrder.{no_less-both, no_less-refl, no_less-trans, reaches-more, same_bound}
-pub use Rattle.vs_tree.proofs.BoundOrder.{lesser-no_less}
+pub use Rattle.vs_tree.proofs.BoundOrder.{lesser-no_less, same_bound}
 pub use Rattle.vs_tree.proofs.SetMembers.{member}
 pub use Rattle.vs_tree.proofs.NarrowerSets.{narrower-no_less}

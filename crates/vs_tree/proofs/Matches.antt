@@ -2,9 +2,9 @@
 use Rattle.std.proofs.Common.{◌≡◌, ◌≢◌, ℕ, zero, suc, ◌+◌, ◌-◌, ◌*◌, ◌/◌, ◌<◌, ◌≤◌, length, set, drop, refl, sym, ◌∙◌, ap, subst, arith, inl, inr, Option, Some, None}
 use Rattle.std.proofs.lemmas.Bool.{cases_eq, cases_lt}
 use Rattle.std.proofs.lemmas.List.{get_or-set_same, get_or-set_other, get_or-drop, get_or_past}
+use Rattle.vs_prices.proofs.CallerLemmas.{no_less-refl, no_less-trans}
 use Rattle.vs_tree.specs.declared.entry.Entry.{Entry}
 use Rattle.vs_tree.specs.Free.{Entries, IsEmpty, IsFirst, IsFirstOf, IsNotAfter, IsPlayed, IsTournament, entry_at}
-use Rattle.vs_tree.proofs.BoundOrder.{no_less-refl, no_less-trans}
 
 not_after-refl : (a : Option Entry) → IsNotAfter a a
 not_after-refl None = tt

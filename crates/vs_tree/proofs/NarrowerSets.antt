@@ -1,8 +1,6 @@
 -- A table is worth no less where trips have fewer layers.
-use Rattle.std.proofs.Common.{◌≡◌, ◌≢◌, ℕ, ◌<◌, Bool, true, false, List, [], ◌∷◌, length, map, get_or, refl, arith, ℤ, pos, ◌≤ℤ◌, ◌<ℤ◌, MatchBool}
-use Rattle.std.specs.List.{All}
-use Rattle.std.proofs.lemmas.Int.{ints, clamps}
-use Rattle.std.proofs.lemmas.List.Elements.{All-head, All-tail}
+use Rattle.std.proofs.Common.{◌≡◌, ℕ, ◌<◌, Bool, true, false, List, length, get_or, arith, ℤ, pos, ◌≤ℤ◌, ◌<ℤ◌, MatchBool}
+use Rattle.std.proofs.lemmas.Int.{ints}
 use Rattle.vs_types.specs.LayerSet.{Has, members}
 use Rattle.vs_types.specs.declared.layer_set.LayerSet.{LayerSet}
 use Rattle.vs_instance.specs.Problem.{Problem}
@@ -13,28 +11,16 @@ use Rattle.vs_prices.specs.declared.bound.Bound.TheVariants.{AtLeast, NoPlan}
 use Rattle.vs_prices.specs.declared.table.Table.{Table}
 use Rattle.vs_prices.specs.Bounds.{IsNoLess}
 use Rattle.vs_prices.specs.Worth.{IsRoundedUp, IsWorth, least, least_price, table_value, trip_price}
-use Rattle.vs_prices.proofs.CallerLemmas.{least-le}
+use Rattle.vs_prices.proofs.CallerLemmas.{least-le, least_above}
 use Rattle.vs_types.proofs.CallerLemmas.{Contains-members_below}
 use Rattle.vs_tree.proofs.SetMembers.{member}
-
--- what is no more than each of some numbers is no more than the least of them
-least-above : (f : ℕ → ℤ) (x : ℤ) (k : ℕ) (ks : List ℕ) → All (λ j. x ≤ℤ f j) (k ∷ ks) → x ≤ℤ least (map f (k ∷ ks))
-least-above f x k [] each = All-head (λ (j : ℕ). x ≤ℤ f j) k [] each
-least-above f x k (j ∷ ks) each =
-    let here = All-head (λ (i : ℕ). x ≤ℤ f i) k (j ∷ ks) each in
-    let rest = least-above f x j ks (All-tail (λ (i : ℕ). x ≤ℤ f i) k (j ∷ ks) each) in
-    omega (arith, ints, clamps, here, rest)
-
-least-all : (f : ℕ → ℤ) (x : ℤ) (ks : List ℕ) → ks ≢ [] → All (λ j. x ≤ℤ f j) ks → x ≤ℤ least (map f ks)
-least-all f x [] some each = absurd (some refl)
-least-all f x (k ∷ ks) some each = least-above f x k ks each
 
 module _ (p : Problem) (wide narrow : List LayerSet) (restriction : IsRestriction p narrow)
     (within : (i l : ℕ) → Has (set_of narrow i) l → Has (set_of wide i) l) (table : Table) where
   -- a trip pays no less in the cheapest of fewer layers
   pays_more : (i : ℕ) → i < length p.trips → least_price p wide table i ≤ℤ least_price p narrow table i
   pays_more i inside =
-      least-all (trip_price p table i) (least_price p wide table i) (members (set_of narrow i))
+      least_above (trip_price p table i) (least_price p wide table i) (members (set_of narrow i))
       (restriction.some_layer i inside)
       (λ k d at. let one = member (set_of narrow i) k d at in
       let l = get_or (members (set_of narrow i)) k d in

@@ -1,5 +1,5 @@
 -- What sets of layers have.
-use Rattle.std.proofs.Common.{◌≡◌, ℕ, ◌<◌, eqb, length, get_or, refl, sym, subst, arith}
+use Rattle.std.proofs.Common.{ℕ, ◌<◌, eqb, length, get_or, sym, subst, arith}
 use Rattle.std.specs.Int.{bit_at}
 use Rattle.std.specs.List.{All, range_with_len}
 use Rattle.std.proofs.lemmas.Bool.{eqb-true}
@@ -7,10 +7,7 @@ use Rattle.std.proofs.lemmas.List.Elements.{All-filter, All-from_get_or, filter_
 use Rattle.std.proofs.lemmas.List.FromFn.{get_or-range_with_len, length-range_with_len}
 use Rattle.vs_types.specs.LayerSet.{Has, members, layer_numbers}
 use Rattle.vs_types.specs.declared.layer_set.LayerSet.{LayerSet}
-
-layer_numbers-range : layer_numbers ≡ range_with_len 0 16
-unfolding layer_numbers
-layer_numbers-range = refl
+use Rattle.vs_types.proofs.CallerLemmas.{layer_numbers-range}
 
 layer_numbers-below : All (λ l. l < 16) layer_numbers
 layer_numbers-below =

@@ -22,6 +22,11 @@ abbrev pub next_in : Finish → Next
 next_in (Closing worth) = Close
 next_in (Splitting parting) = Split parting.trip parting.left
 
+-- the layers that are left in memory once a leaf with these was finished: those of the upper part, where it was split
+abbrev pub sets_after : List LayerSet → Finish → List LayerSet
+sets_after sets (Closing worth) = sets
+sets_after sets (Splitting parting) = with_set sets parting.trip parting.right
+
 -- the parts of a leaf with these layers, and what the prices are worth in them
 pub record IsParting (p : Problem) (sets : List LayerSet) (prices : Prices) (parting : Parting) : Type 0 where
   pub right : parting.right ≡ right_of sets parting.trip parting.left

@@ -6,7 +6,7 @@ ghost use Rattle.vs_instance.specs.Restriction.{IsRestriction, set_of};
 ghost use Rattle.vs_prices.specs.Table.{Fits};
 ghost use Rattle.vs_prices.specs.Worth.{IsWorth};
 ghost use Rattle.vs_prices.specs.Tree.{right_of, with_set};
-ghost use Rattle.vs_tree.specs.Finishes.{AreWorths, IsNextIn, next_in};
+ghost use Rattle.vs_tree.specs.Finishes.{AreWorths, IsNextIn, next_in, sets_after};
 ghost use Rattle.vs_tree.specs.Prices.{prices_of};
 
 use crate::calls::Next;
@@ -38,13 +38,14 @@ pub struct Parting {
 
 impl Finish {
     /// How a leaf with these layers is finished by a table that fits: one sum over all trips where it is closed, and
-    /// two where it is split. The layers are in the end those of the upper part.
+    /// two where it is split. The layers are in the end those of the upper part; where it is closed they stay.
     pub fn of(instance: &Instance, sets: &mut [LayerSet], table: &Table, next: Next) -> Finish
         requires fits { Fits instance.now table.now }
         requires restriction { IsRestriction instance.now sets.old }
         requires next { IsNextIn instance.now sets.old next }
         ensures next { next_in result ≡ next }
         ensures worths { AreWorths instance.now sets.old (prices_of table.now) result }
+        ensures sets { sets.new ≡ sets_after sets.old result }
         ensures size { length sets.new ≡ length sets.old }
     {
         match next {
@@ -77,6 +78,7 @@ fn parted(
     ensures lower { IsWorth instance.now (with_set sets.old trip left) table.now result.lower }
     ensures upper { IsWorth instance.now (with_set sets.old trip (right_of sets.old trip left)) table.now
         result.upper }
+    ensures sets { sets.new ≡ with_set sets.old trip result.right }
     ensures size { length sets.new ≡ length sets.old }
 {
     let i = trip.0 as usize;

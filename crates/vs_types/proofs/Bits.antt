@@ -8,6 +8,7 @@ use Rattle.std.proofs.lemmas.Nat.{pow_pos}
 use Rattle.vs_types.specs.LayerSet.{layer_numbers}
 use Rattle.vs_types.proofs.Members as members
 use Rattle.vs_types.proofs.Members.{numbers_from, layer_numbers-is}
+use Rattle.vs_types.proofs.Tests.{no-matter}
 
 two_suc : (k : ℕ) → 2 ^ suc k ≡ 2 * 2 ^ k
 two_suc k = grind arith
@@ -20,10 +21,6 @@ regroup m x = grind arith
 
 spread : (a b x : ℕ) → (a + b) * x ≡ a * x + b * x
 spread a b x = grind arith
-
-nothing : (b : Bool) → ◌≡◌ {A = ℕ} (cond b 0 0) 0
-nothing true = refl
-nothing false = refl
 
 module _ (p : ℕ → Bool) where
   abbrev power : ℕ → ℕ
@@ -77,7 +74,7 @@ module _ (p : ℕ → Bool) where
         | inl same ↦ rw (eq-eqb i k same, same) (bit_at-pow_same k)
         | inr other ↦ rw (ne_eqb i k other) (bit_at-pow_other k i other)
       ]
-      by_test false = bit_at-zero i ∙ sym (nothing (eqb i k))
+      by_test false = bit_at-zero i ∙ sym (no-matter (eqb i k))
 
   -- a number's bit is there where the number passes
   bit_at-powers : (k d i : ℕ) → k ≤ i → i < k + d → bit_at (powers k d) i ≡ bit i

@@ -1,6 +1,10 @@
+pub mod Tests
+pub mod Lists
+pub mod Places
+pub mod Pushed
+pub mod Products
 pub mod Members
 pub mod Bits
 pub mod Rests
 pub mod ProperParts
-pub mod MembersFrom
 pub mod CallerLemmas

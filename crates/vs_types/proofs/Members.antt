@@ -2,6 +2,7 @@
 use Rattle.std.proofs.Common.{◌≡◌, ◌≢◌, ℕ, zero, suc, ◌+◌, ◌-◌, ◌*◌, ◌/◌, ◌%◌, ◌^◌, ◌<◌, ◌≤◌, ◌↔◌, ◌⊎◌, inl, inr, Bool, true, false, cond, eqb, List, [], ◌∷◌, length, get_or, refl, sym, ap, ◌∙◌, subst, arith, rules, bit_and, bit_or, w16, lit<, add-one, IsTrue, not, nat_eq}
 use Rattle.std.specs.Prelude.{Contains, filter}
 use Rattle.std.specs.Int.{bit_at, trailing_zeros}
+use Rattle.std.specs.List.{range_with_len}
 use Rattle.std.specs.Int.Count.{ones, ones_in, ones_step}
 use Rattle.std.specs.List.Sorted.{IsStrictlyIncreasing}
 use Rattle.std.proofs.Math.Nat.{div-one}
@@ -38,6 +39,10 @@ get_or-numbers_from k (suc d) (suc i) x within =
 pub layer_numbers-is : layer_numbers ≡ numbers_from 0 16
 unfolding layer_numbers numbers_from
 layer_numbers-is = refl
+
+pub layer_numbers-range : layer_numbers ≡ range_with_len 0 16
+unfolding layer_numbers
+layer_numbers-range = refl
 
 length-layer_numbers : length layer_numbers ≡ 16
 unfolding layer_numbers

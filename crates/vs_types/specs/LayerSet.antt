@@ -1,5 +1,5 @@
 -- A set of layers, read as the numbers below 16 whose bit is set.
-use Rattle.std.specs.Prelude.{◌≡◌, ℕ, ◌+◌, ◌==◌, ◌≤◌, ◌<◌, nat_le, List, [], ◌∷◌, filter}
+use Rattle.std.specs.Prelude.{◌≡◌, ℕ, ◌==◌, List, [], ◌∷◌, filter}
 use Rattle.std.specs.Int.{bit_at}
 use Rattle.vs_types.specs.declared.layer_set.LayerSet.{LayerSet}
 
@@ -14,15 +14,3 @@ layer_numbers = 0 ∷ 1 ∷ 2 ∷ 3 ∷ 4 ∷ 5 ∷ 6 ∷ 7 ∷ 8 ∷ 9 ∷ 10 �
 -- the members of the set, in order
 abbrev pub members : LayerSet → List ℕ
 members set = filter (λ l. bit_at set.0 l == 1) layer_numbers
-
--- those of them from this number on
-abbrev pub members_from : LayerSet → ℕ → List ℕ
-members_from set from = filter (λ l. nat_le from l) (members set)
-
--- l is the least of them
-pub record IsNextFrom (set : LayerSet) (from l : ℕ) : Type 0 where
-  pub reached : from ≤ l
-  pub member : Has set l
-  pub first : (k : ℕ) → from ≤ k → k < l → ¬ (Has set k)
-  -- and the others are those behind it
-  pub others : members_from set from ≡ l ∷ members_from set (l + 1)

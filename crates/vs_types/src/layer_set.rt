@@ -1,7 +1,7 @@
 //! Sets of layers: what has, adds, takes away, counts and goes over their members.
 
 ghost use Rattle.std.specs.Prelude.{◌≡◌, ℕ, ◌<◌, ◌≢◌, ◌↔◌, ◌⊎◌, length, IsTrue, MatchOption, IfSome, []};
-ghost use Rattle.vs_types.specs.LayerSet.{Has, IsNextFrom, members, members_from};
+ghost use Rattle.vs_types.specs.LayerSet.{Has, members};
 ghost use Rattle.vs_types.specs.Parts.{IsProperPart, is_proper_part, rest_of};
 ghost use Rattle.vs_types.specs.declared.numbers.TheConstants.{MAX_LAYERS};
 
@@ -62,21 +62,6 @@ impl LayerSet {
         } else {
             Some(LayerNo(self.0.trailing_zeros()))
         }
-    }
-
-    /// The layer of the least number from this one on. None exactly where there is none. Asked from 0 and
-    /// then from behind each answer, it goes over the members in order.
-    pub fn next_from(self, from: u32) -> Option<LayerNo>
-        ensures next { MatchOption result (members_from self from ≡ [])
-            (λ l. IsNextFrom self from l.0) }
-        ensures named { IfSome result (λ l. l.0 < MAX_LAYERS) }
-    {
-        for l in from..MAX_LAYERS {
-            if self.has(LayerNo(l)) {
-                return Some(LayerNo(l));
-            }
-        }
-        None
     }
 
     /// What another set leaves of this one.

@@ -7,4 +7,4 @@ mod numbers;
 
 pub use layer_set::LayerSet;
 pub use memory::Memory;
-pub use numbers::{LayerNo, MAX_LAYERS, SCALE, StopNo, TripNo};
+pub use numbers::{LayerNo, MAX_LAYERS, SCALE, StopNo, TripNo, limits_are_fixed};

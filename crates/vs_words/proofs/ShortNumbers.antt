@@ -1,16 +1,12 @@
 -- Numbers as words write them.
-use Rattle.std.proofs.Common.{◌≡◌, ℕ, ◌^◌, ◌<◌, length, get_or, Result, Ok, arith}
+use Rattle.std.proofs.Common.{◌≡◌, ℕ, ◌^◌, ◌<◌, Result, Ok, arith}
 use Rattle.std.specs.Char.{IsAsciiDigit}
-use Rattle.std.specs.Int.{IsInRange}
 use Rattle.std.specs.Str.Parse.{ParsesUnsigned, digits_value}
 use Rattle.std.proofs.lemmas.List.Elements.{All-get_or}
-use Rattle.std.proofs.lemmas.Str.Parse.{IsNumeralModel, numerals_by_value, parse_gives, tells_by_index}
+use Rattle.std.proofs.lemmas.Str.Parse.{parse_gives}
 use Rattle.vs_reader.specs.Numbers.{AreDigits}
-use Rattle.vs_reader.proofs.CallerLemmas.{digits_short}
+use Rattle.vs_reader.proofs.CallerLemmas.{digits_short, numerals}
 use Rattle.vs_words.specs.Words.{Word}
-
-numerals : IsNumeralModel (λ ds. (i : ℕ) → i < length ds → IsInRange 48 57 (get_or ds i 0)) (digits_value 10)
-numerals = numerals_by_value (λ ds. (i : ℕ) → i < length ds → IsInRange 48 57 (get_or ds i 0)) tells_by_index
 
 -- what is read from few digits is the number that they write
 pub parses_number : {E : Type 0} (word : Word) (r : Result ℕ E) → AreDigits word 6 → ParsesUnsigned 32 10 word r

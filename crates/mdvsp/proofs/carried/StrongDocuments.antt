@@ -22,7 +22,7 @@ use Rattle.vs_rows.proofs.CallerLemmas.{tree_once}
 use Rattle.vs_check.specs.HoldingDocument.{HoldingDocument, IsStrongLeaf, ProvesItsClaim}
 use Rattle.vs_tree.specs.Prices.{Prices, no_prices, prices_of}
 use Rattle.vs_cert.specs.StateDocument.{IsRenumbered, first_times, tables_named}
-use Rattle.vs_cert.specs.Answers.{AreWorths, IsAmong, IsBoundOf, places_of}
+use Rattle.vs_cert.specs.Answers.{AreWorths, IsAmong, IsBoundOf, leaf_places}
 use Rattle.vs_resume.specs.Standing.{IsPrinted, IsWrittenFor, Standing, leaves_of}
 use Rattle.mdvsp.proofs.carried.Strong.{AreStrong, IsStrong, reaches_by}
 use Rattle.mdvsp.proofs.carried.StrongTurns.{all-left, all-right}
@@ -110,12 +110,12 @@ printed_strong p d s holds printed =
 
 -- and one that holds and is written for strong leaves
 pub written_reaches : (p : Problem) (bound : Option ℤ) (s : Standing) (e : Document) (worths : List Bound)
-    (holds : HoldingDocument p e) → IsWrittenFor s e → AreWorths p e (places_of p e holds) worths
+    (holds : HoldingDocument p e) → IsWrittenFor s e → AreWorths p e (leaf_places p e holds) worths
     → AreStrong p bound s.tables (leaves_of p s) → All (λ worth. Reaches worth bound) worths
 written_reaches p bound s e worths holds written are strong =
     let tree : written.shape ≡ holds.tree.tree =
     tree_once written.shape holds.tree.tree (sym written.rows ∙ holds.tree.shape_is) in
-    worths_reach p bound e (places_of p e holds) worths are
+    worths_reach p bound e (leaf_places p e holds) worths are
     (subst (λ (t : Tree). All (ReachesIfNamed p bound e.tables.items) (leaves (permitted_sets p) t)) tree
     (renumbered_reaches p bound s.tables e.tables.items (first_times (tables_named s.tree)) (permitted_sets p) s.tree
     written.shape written.tables written.renumbered strong))

@@ -25,7 +25,7 @@ use Rattle.vs_reply.proofs.CallerLemmas.{owed_so}
 use Rattle.vs_words.specs.declared.command.Effort.{Effort}
 use Rattle.mdvsp.specs.Answered.{IsResumed}
 use Rattle.mdvsp.specs.Budgets.{resumed_budget}
-use Rattle.mdvsp.specs.Resuming.{IsStart}
+use Rattle.mdvsp.specs.Resuming.{BeginsResuming}
 use Rattle.mdvsp.specs.declared.resuming.Start.TheVariants.{Not}
 use Rattle.mdvsp.specs.Owed.{OwesResumed, ResumeOwes}
 
@@ -95,7 +95,7 @@ module _ (effort : Effort) (bytes : List ℕ) (p : Problem) (names : NameLists) 
 
 -- what is answered where a search isn't carried on is owed
 pub no_start_owed : (effort : Effort) (bytes : List ℕ) (case : Case) (a : Answer)
-    → CheckText bytes case.input.instance case.input.names case.document → IsStart effort case (Not a)
+    → CheckText bytes case.input.instance case.input.names case.document → BeginsResuming effort case (Not a)
     → IsTextOf (ResumeOwes effort bytes) a
 no_start_owed effort bytes case a text (inl large) =
     resume_too_large_owed effort bytes case.input.instance case.input.names case.document text a large.too_large

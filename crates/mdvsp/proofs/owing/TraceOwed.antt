@@ -14,7 +14,7 @@ use Rattle.vs_reply.specs.Status.{status_of}
 use Rattle.vs_reply.proofs.CallerLemmas.{owed_so}
 use Rattle.vs_trace.specs.TraceRows.{trace_text}
 use Rattle.vs_words.specs.declared.command.Effort.{Effort}
-use Rattle.mdvsp.specs.Answered.{IsTraceOf}
+use Rattle.mdvsp.specs.Answered.{AnswersTrace}
 use Rattle.mdvsp.specs.Budgets.{budget_of}
 use Rattle.mdvsp.specs.Owed.{OwesTrace, TraceOwes}
 use Rattle.mdvsp.specs.Searching.{IsNoSearch}
@@ -34,7 +34,7 @@ trace_owes effort bytes StillOpen rows o = o
 
 pub trace_owed : (effort : Effort) (bytes : List ℕ) (p : Problem) (names : NameLists) (budget : ℕ)
     (r : Result Answer Memory) → SolveText bytes p names → budget_of p effort.nodes ≡ Some budget
-    → IfOk r (IsTraceOf p names budget effort.workers) → IfOk r (IsTextOf (TraceOwes effort bytes))
+    → IfOk r (AnswersTrace p names budget effort.workers) → IfOk r (IsTextOf (TraceOwes effort bytes))
 trace_owed effort bytes p names budget (Ok a) text budget_is t =
     owed_so (TraceOwes effort bytes) a (status_of t.report.claim) (trace_text names t.opening t.steps)
     (trace_owes effort bytes t.report.claim (trace_text names t.opening t.steps) (record {

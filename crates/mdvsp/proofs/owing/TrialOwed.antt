@@ -22,7 +22,7 @@ use Rattle.vs_reply.specs.declared.answer.Answer.{Answer}
 use Rattle.vs_reply.specs.Answered.{IsNoCase, IsTextOf}
 use Rattle.vs_reply.specs.Status.{status_of}
 use Rattle.vs_reply.proofs.CallerLemmas.{case_refused, owed_so, same_case}
-use Rattle.mdvsp.specs.Answered.{AreWritten, IsDocumentOf, IsReadOf, IsWritten}
+use Rattle.mdvsp.specs.Answered.{AreWritten, AnswersDocument, IsReadOf, AreTextsOf}
 use Rattle.vs_reply.specs.Cases.{CheckText}
 use Rattle.mdvsp.specs.Owed.{OwesTrial, TrialOwes, trial_row}
 
@@ -55,7 +55,7 @@ all_before made p names whole =
     subst (HasRows made) (sym all) whole.stands.has_rows
 
 module _ (made written : List ℕ) (p : Problem) (names : NameLists) (d : Document)
-    (is : IsWritten made written p names d) where
+    (is : AreTextsOf made written p names d) where
   -- behind it the document is read
   pub written_case : CheckText (made ++ written) p names d
   written_case =
@@ -82,8 +82,8 @@ module _ (made written : List ℕ) (p : Problem) (names : NameLists) (d : Docume
 
 -- the document that was planned was written
 written_so : (made : List ℕ) (p : Problem) (names : NameLists) (answer : Answer) → IsWholeText made p names
-    → (planned : IsDocumentOf p names 20 1 answer)
-    → IsWritten made answer.text.items p names planned.document
+    → (planned : AnswersDocument p names 20 1 answer)
+    → AreTextsOf made answer.text.items p names planned.document
 written_so made p names answer whole planned = record {
   whole = whole;
   has_text = planned.solves.has_text;
@@ -92,7 +92,7 @@ written_so made p names answer whole planned = record {
 }
 
 pub planned_written : (made : List ℕ) (p : Problem) (names : NameLists) (answer : Answer) → IsWholeText made p names
-    → IsDocumentOf p names 20 1 answer → AreWritten made answer.text.items
+    → AnswersDocument p names 20 1 answer → AreWritten made answer.text.items
 planned_written made p names answer whole planned =
     (p, names, planned.document, written_so made p names answer whole planned)
 
@@ -117,7 +117,7 @@ trial_owes n StillOpen rows owed = owed
 -- the row of the document that was read is owed
 pub trial_owed : (n : ℕ) (made : List ℕ) (p : Problem) (names : NameLists) (planned answer : Answer)
     (e : Document) → made ≡ lines (make_rows n) → IsWholeText made p names
-    → IsDocumentOf p names 20 1 planned → IsReadOf made planned.text.items e
+    → AnswersDocument p names 20 1 planned → IsReadOf made planned.text.items e
     → answer.status ≡ planned.status → answer.text.items ≡ lines (trial_row n e ∷ [])
     → IsTextOf (TrialOwes n) answer
 trial_owed n made p names planned answer e made_is whole by read status_is text_is =

@@ -8,7 +8,7 @@ use Rattle.std.proofs.lemmas.List.Elements.{filter-append}
 use Rattle.std.proofs.lemmas.List.Folds.{list_any_none}
 use Rattle.std.proofs.lemmas.List.Sums.{sum_by-set}
 use Rattle.std.proofs.lemmas.Option.{slice_get-get_or}
-use Rattle.vs_cert.specs.Numbering.{ArePlaces, place_in, with_number}
+use Rattle.vs_cert.specs.Numbering.{ArePlacesOf, place_in, with_number}
 use Rattle.vs_cert.specs.StateDocument.{first_times}
 
 -- a number that stands at a place is among the numbers
@@ -59,7 +59,7 @@ stands-more numbers n k m stands =
 abbrev one_if_some : Option ℕ → ℕ
 one_if_some o = cond (is_some o) 1 0
 
-module _ (places : List (Option ℕ)) (numbers : List ℕ) (n : ℕ) (are : ArePlaces places numbers) where
+module _ (places : List (Option ℕ)) (numbers : List ℕ) (n : ℕ) (are : ArePlacesOf places numbers) where
   -- a number with a place came before
   pub known_before : (k : ℕ) → place_in places n ≡ Some k → with_number numbers n ≡ numbers
   known_before k at =
@@ -79,7 +79,7 @@ module _ (places : List (Option ℕ)) (numbers : List ℕ) (n : ℕ) (are : AreP
   abbrev pub grown : List (Option ℕ)
   grown = set places n (Some (length numbers))
 
-  pub grown_places : n < length places → place_in places n ≡ None → ArePlaces grown (numbers ++ n ∷ [])
+  pub grown_places : n < length places → place_in places n ≡ None → ArePlacesOf grown (numbers ++ n ∷ [])
   grown_places within none = record {
     count =
         let one = sum_by-set one_if_some places n (Some (length numbers)) None within in

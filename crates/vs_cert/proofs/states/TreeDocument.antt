@@ -12,7 +12,6 @@ use Rattle.vs_instance.specs.Restriction.{permitted_sets}
 use Rattle.vs_instance.proofs.CallerLemmas.{permitted_sets-IsRestriction}
 use Rattle.vs_plan.specs.Blocks.{IsOfInstance, blocks_of}
 use Rattle.vs_plan.specs.declared.block.Plan.{Plan}
-use Rattle.vs_prices.specs.declared.table.Table.{Table}
 use Rattle.vs_tree.specs.History.{Opening, State, incumbent, known}
 use Rattle.vs_tree.specs.Prices.{Prices, prices_of}
 use Rattle.vs_tree.specs.Report.{IsReport}
@@ -33,8 +32,8 @@ use Rattle.vs_cert.proofs.states.TreeShapes.{rows_of_instance}
 use Rattle.vs_cert.proofs.states.TreeTables.{HasTables, numbers_within, some_tables, tables_rows-prices}
 use denote.RawPtr.{null_ptr}
 
--- a vector of these tables
-pub vec_of : (xs : List Table) → length xs < 2 ^ 63 → Vec Table Global
+-- a vector of these elements
+pub vec_of : {X : Type 0} (xs : List X) → length xs < 2 ^ 63 → Vec X Global
 vec_of xs few = record {
   ptr = null_ptr;
   len = length xs;
@@ -45,7 +44,7 @@ vec_of xs few = record {
   small = few;
 }
 
-pub vec-items : (xs : List Table) (few : length xs < 2 ^ 63) → (vec_of xs few).items ≡ xs
+pub vec-items : {X : Type 0} (xs : List X) (few : length xs < 2 ^ 63) → (vec_of xs few).items ≡ xs
 unfolding vec_of
 vec-items xs few = refl
 

@@ -14,14 +14,14 @@ use Rattle.vs_tree.proofs.CallerLemmas.{leaf_within}
 use Rattle.vs_cert.specs.Numbering.{with_number}
 use Rattle.vs_rows.specs.Shapes.{preorder}
 use Rattle.vs_cert.specs.StateDocument.{first_times}
-use Rattle.vs_cert.specs.TreeRows.{AreRowsOf, IsLeafRow, IsRowAt, IsSplitRow}
+use Rattle.vs_cert.specs.TreeRows.{AreRowsOf, IsLeafRow, IsRowAt, IsRowOfSplit}
 use Rattle.vs_rows.specs.declared.document.Shape.{Shape}
 use Rattle.vs_rows.specs.declared.document.Shape.TheVariants as shape
 use Rattle.vs_cert.proofs.states.Numberings.{first_times-more, stands-more}
 use Rattle.vs_cert.proofs.states.Renumbering.{ArePlacedRows, IsPlacedRow, named_in, named_in-leaf, named_in-preorder, named_in-split, placed-kept, placed-push, placed_tree}
 
 -- a tree has one leaf more than splits
-preorder-length : (t : Tree) → length (preorder t) ≡ 2 * splits t + 1
+pub preorder-length : (t : Tree) → length (preorder t) ≡ 2 * splits t + 1
 preorder-length (Leaf table) = refl
 preorder-length (Split trip left lower upper) =
     let size = length-append (preorder lower) (preorder upper) in
@@ -243,7 +243,7 @@ module _ (o : Opening) (s : State) where
           → are.ahead ≡ shape.Split trip left ∷ (preorder t ++ preorder u) ++ behind
           → AreAwaited s.places waiting behind → AreUnderway o s after more (rows ++ row ∷ [])
       split_next trip left t u lower upper sets below spots others_at behind inner is_lower is_upper rows_are others =
-          let is : IsSplitRow (shape.Split trip left) lower upper waiting after numbers more row =
+          let is : IsRowOfSplit (shape.Split trip left) lower upper waiting after numbers more row =
           subst (λ (spot : Spot). IsRowAt spot waiting after numbers more row) inner is_row in
           let both =
           awaited-push s.places (waiting ++ upper ∷ []) lower t sets spots (preorder u ++ behind)

@@ -1,9 +1,8 @@
 -- What units cost, arc by arc.
-use Rattle.std.proofs.Common.{◌≡◌, ℕ, ◌+◌, ◌*◌, ◌<◌, ◌∙◌, List, [], ◌∷◌, length, map, get_or, refl, ap, arith, ℤ, pos, ◌+ℤ◌, ◌*ℤ◌, ◌≤ℤ◌, ◌++◌, sym, subst, rules, to_z, of_z, FitsSigned}
+use Rattle.std.proofs.Common.{◌≡◌, ℕ, ◌*◌, ◌<◌, ◌∙◌, List, [], ◌∷◌, length, map, get_or, refl, ap, arith, ℤ, pos, ◌+ℤ◌, ◌*ℤ◌, ◌≤ℤ◌, sym, subst, rules, to_z, of_z, FitsSigned}
 use Rattle.std.specs.List.{range_with_len}
 use mir.Syntax.{w128}
 use Rattle.std.proofs.lemmas.Int.{ints, to_z-of_z}
-use Rattle.std.proofs.lemmas.List.FromFn.{map-range_with_len_more}
 use Rattle.vs_layer.specs.declared.arc.Arc.{Arc}
 use Rattle.vs_layer.specs.Ends.{arc_at}
 use Rattle.vs_layer.specs.Circulation.{cost_of_units}
@@ -22,18 +21,6 @@ cost-in_order (a ∷ arcs) (n ∷ units) sized =
     let rest = cost-in_order arcs units (omega arith) in
     let shifted = total-range_suc (cost_on (a ∷ arcs) (n ∷ units)) 0 (length arcs) in
     omega (arith, ints, rest, shifted)
-
--- one more
-pub total-range_next : (f : ℕ → ℤ) (k : ℕ)
-    → total (map f (range_with_len 0 (k + 1))) ≡ total (map f (range_with_len 0 k)) +ℤ f k
-total-range_next f k =
-    let same = ap total (map-range_with_len_more f 0 k k (omega arith)) in
-    let both = total-append (map f (range_with_len 0 k)) (f k ∷ []) in
-    omega (arith, ints, same, both)
-  where
-    total-append : (xs ys : List ℤ) → total (xs ++ ys) ≡ total xs +ℤ total ys
-    total-append [] ys = omega (arith, ints)
-    total-append (x ∷ xs) ys = let rest = total-append xs ys in omega (arith, ints, rest)
 
 -- what is added to costs of few arcs is a number of 128 bits, and so is the sum
 pub sum-fits : (bits k : ℕ) (z : ℤ) → k < 4294967296 → pos 0 ≤ℤ to_z w128 bits

@@ -1,14 +1,15 @@
 -- A circulation at which nobody gains, and which runs exactly the trips that have to run, is a least one that does so.
 use Rattle.std.proofs.Common.{◌≡◌, ℕ, ◌<◌, ◌≤◌, Bool, true, false, cond, List, length, get_or, refl, ap, ◌∙◌, subst, arith, inl, inr, ℤ, pos, ◌*ℤ◌, ◌≤ℤ◌}
 use Rattle.std.specs.Prelude.{slice_index}
-use Rattle.std.proofs.lemmas.Bool.{cases_lt, false≢true}
+use Rattle.std.proofs.lemmas.Bool.{cases_lt, cond-false, false_from_ne_true, false≢true}
 use Rattle.std.proofs.lemmas.Int.{ints}
+use Rattle.vs_types.proofs.CallerLemmas.{times_none, times_one}
 use Rattle.vs_layer.specs.Circulation.{flow_cost}
 use Rattle.vs_types.specs.declared.numbers.LayerNo.{LayerNo}
 use Rattle.vs_instance.specs.Problem.{Problem}
 use Rattle.vs_instance.specs.Ways.{layer_of}
 use Rattle.vs_instance.specs.Plan.{LayerBlock}
-use Rattle.vs_instance.proofs.CallerLemmas.{times_none, times_one, total-range_le}
+use Rattle.vs_instance.proofs.CallerLemmas.{total-range_le}
 use Rattle.vs_match.specs.Decomposition.{Decompose}
 use Rattle.vs_match.specs.LawfulNets.{IsLawful}
 use Rattle.vs_match.specs.LayerGraph.{LayerGraph}
@@ -57,11 +58,6 @@ met_must false arc trip u few less runs only =
           omega (arith, ints, never)
     ]
 
--- what doesn't have to run pays nothing
-pub nothing_due : (must : Bool) (x : ℤ) → ¬ (must ≡ true) → cond must x (pos 0) ≡ pos 0
-nothing_due true x not = absurd (not refl)
-nothing_due false x not = refl
-
 module _ (p : Problem) (l : LayerNo) (n : LayerGraph) (must : List Bool) (prices : List ℤ) (units : List ℕ)
     (given : LayerPrices) (lawful : IsLawful p l.0 n) (cover : CoverExactly n must units)
     (flow : IsPricedFlow n units prices) (pays : PaysNoLess n (length p.trips) prices given) where
@@ -91,8 +87,8 @@ module _ (p : Problem) (l : LayerNo) (n : LayerGraph) (must : List Bool) (prices
             omega (arith, ints, pay, met)
         | inr none ↦
             let pay = at_trip-none n.kinds (arc_pays_units n units prices) i none in
-            let nothing = nothing_due (get_or must i false) (trip_pays p l.0 false given i)
-            (λ has. let run = cover.each i has in none run.0 run.1) in
+            let nothing = cond-false (get_or must i false) (trip_pays p l.0 false given i) (pos 0)
+            (false_from_ne_true (get_or must i false) (λ has. let run = cover.each i has in none run.0 run.1)) in
             omega (arith, ints, pay, nothing)
       ]
 

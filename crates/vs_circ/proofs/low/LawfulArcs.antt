@@ -1,22 +1,16 @@
 -- What the arcs of a lawful net are.
-use Rattle.std.proofs.Common.{◌≡◌, ◌≢◌, ℕ, zero, suc, ◌<◌, List, length, refl, subst, arith}
+use Rattle.std.proofs.Common.{◌≡◌, ◌≢◌, ℕ, ◌<◌, length, refl, subst, arith}
 use Rattle.vs_layer.specs.declared.arc.Arc.{Arc}
 use Rattle.vs_layer.specs.Graph.{arc_of}
 use Rattle.vs_types.specs.declared.numbers.LayerNo.{LayerNo}
 use Rattle.vs_instance.specs.Problem.{Problem}
-use Rattle.vs_match.specs.declared.event.Point.{Point}
 use Rattle.vs_match.specs.declared.arc_kind.ArcKind.{ArcKind}
 use Rattle.vs_match.specs.declared.arc_kind.ArcKind.TheVariants.{Trip, Waiting, Deadhead, PullOut, PullIn, RestIn, RestWait, RestOut, Return}
-use Rattle.vs_match.specs.Events.{HasPoint}
 use Rattle.vs_match.specs.NetArcs.{IsReturnArc, IsTripArc}
 use Rattle.vs_match.specs.LawfulNets.{IsLawful, IsLawfulArc}
 use Rattle.vs_match.specs.LayerGraph.{IsArcOfTrip, LayerGraph, kind_of}
+use Rattle.vs_match.proofs.CallerLemmas.{no_point_at_first}
 use Rattle.vs_circ.specs.PricedFlows.{end_node, last_arc}
-
--- node 0 stands for no point
-no_point_at_first : (points : List Point) (v : ℕ) (x : Point) → v ≡ 0 → HasPoint points v x → ⊥
-no_point_at_first points zero x first has = cc
-no_point_at_first points (suc v) x first has = omega arith
 
 module _ (p : Problem) (l : LayerNo) (n : LayerGraph) (lawful : IsLawful p l.0 n) where
   -- a trip's arc goes from its departure to its arrival

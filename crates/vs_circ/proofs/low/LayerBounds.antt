@@ -8,12 +8,13 @@ use Rattle.std.proofs.lemmas.List.Elements.{All-head, All-tail}
 use Rattle.std.proofs.lemmas.List.Sums.{sum_by-cons}
 use Rattle.vs_types.specs.declared.numbers.LayerNo.{LayerNo}
 use Rattle.vs_types.specs.declared.numbers.TripNo.{TripNo}
+use Rattle.vs_types.proofs.CallerLemmas.{times_none, times_one}
 use Rattle.vs_instance.specs.Problem.{Problem}
 use Rattle.vs_instance.specs.Instance.{IsInstance}
 use Rattle.vs_instance.specs.HoldingTable.{HoldsInLayer, scaled}
 use Rattle.vs_instance.specs.Lagrangian.{AreBlocksOf, multiplier_of, paid_for, reduced_cost, total}
 use Rattle.vs_instance.specs.Plan.{LayerBlock, all_trips, plan_cost, times_run}
-use Rattle.vs_instance.proofs.CallerLemmas.{blocks_pay, trips_inside, times_none, times_one, total-by_count, total-map_sub, total-range_le}
+use Rattle.vs_instance.proofs.CallerLemmas.{blocks_pay, trips_inside, total-by_count, total-map_sub, total-range_le}
 use Rattle.vs_circ.specs.declared.circ.LayerPrices.{LayerPrices}
 use Rattle.vs_circ.specs.Offers.{IsOffered, MustRun, multipliers_of, offer_of, paid}
 use Rattle.vs_circ.specs.LayerPrices.{pays_at, shown_of_offers, shown_of_trips, trip_pays}

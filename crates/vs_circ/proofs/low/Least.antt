@@ -3,6 +3,7 @@ use Rattle.std.proofs.Common.{◌≡◌, ℕ, zero, suc, ◌<◌, ◌≤◌, fal
 use Rattle.std.specs.Prelude.{IsSome, slice_index}
 use Rattle.std.specs.List.{range_with_len}
 use Rattle.std.proofs.lemmas.Int.{ints, clamps}
+use Rattle.vs_types.proofs.CallerLemmas.{times_none, times_one}
 use Rattle.vs_layer.specs.Circulation.{IsCirculation, flow_cost}
 use Rattle.vs_types.specs.declared.numbers.LayerNo.{LayerNo}
 use Rattle.vs_instance.specs.Problem.{Problem}
@@ -11,7 +12,7 @@ use Rattle.vs_instance.specs.Ways.{layer_of}
 use Rattle.vs_instance.specs.HoldingTable.{HoldsInLayer}
 use Rattle.vs_instance.specs.Lagrangian.{IsLowOf, reduced_cost}
 use Rattle.vs_instance.specs.Plan.{LayerBlock}
-use Rattle.vs_instance.proofs.CallerLemmas.{times_none, times_one, total-map_sub, total-range_le}
+use Rattle.vs_instance.proofs.CallerLemmas.{total-map_sub, total-range_le}
 use Rattle.vs_match.specs.declared.arc_kind.ArcKind.{ArcKind}
 use Rattle.vs_match.specs.Decomposition.{Decompose}
 use Rattle.vs_match.specs.LawfulNets.{IsLawful}
@@ -29,10 +30,6 @@ use Rattle.vs_circ.proofs.low.Slackness.{cost_by_trips}
 use Rattle.vs_circ.proofs.low.TripArcs.{arc_or_none, at_trip, at_trip-arc, at_trip-none, total-by_trip}
 use Rattle.vs_circ.proofs.low.TripPays.{trip_pays_no_less}
 use Rattle.vs_circ.proofs.low.UnitBlocks.{are_blocks, arcs_inside, paid_by_trips, paid_the_same}
-
--- what is offered is offered for one multiplier
-offered_for : (offer : Option ℤ) (m : ℤ) → offer ≡ Some m → IsSome offer
-offered_for offer m is = subst (λ (o : Option ℤ). IsSome o) (sym is) refl
 
 -- a trip that runs where its offer meets what its arc pays, and else rests, gains no less by its offer than by its run
 met_offer : (offer : Option ℤ) (arc trip : ℤ) (u : ℕ) → u ≤ 1 → arc ≤ℤ trip
@@ -128,7 +125,7 @@ module _ (p : Problem) (l : LayerNo) (n : LayerGraph) (offers : List (Option ℤ
   run_offered : (i : ℕ) → RunTrip n units i → IsOffered offers i
   run_offered i run =
       let offer = keeps.runs i run.0 run.1 run.2 in
-      offered_for (offer_of offers i) offer.0 offer.1
+      subst (λ (o : Option ℤ). IsSome o) (sym offer.1) refl
 
   module _ (blocks : List LayerBlock) (parts : Decompose p l n units blocks) where
     -- the blocks of the circulation have no more than its value

@@ -4,7 +4,7 @@ use Rattle.std.specs.List.{range_with_len}
 use Rattle.std.proofs.lemmas.Bool.{cases_eq}
 use Rattle.std.proofs.lemmas.Int.{ints}
 use Rattle.vs_instance.specs.Lagrangian.{total}
-use Rattle.vs_instance.proofs.CallerLemmas.{total-map_add}
+use Rattle.vs_instance.proofs.CallerLemmas.{total-map_add, total-nothing}
 
 -- a function of each number from a on, so many of them, added up
 abbrev pub over_range : (ℕ → ℤ) → ℕ → ℕ → ℤ
@@ -18,11 +18,6 @@ total-same f g a (suc n) same =
     let here = same a (omega arith) (omega arith) in
     let rest = total-same f g (a + 1) n (λ k from within. same k (omega arith) (omega arith)) in
     omega (arith, ints, here, rest)
-
--- nothing is nothing in all
-pub total-nothing : {A : Type 0} (xs : List A) → total (map (λ x. pos 0) xs) ≡ pos 0
-total-nothing [] = refl
-total-nothing (x ∷ xs) = let rest = total-nothing xs in omega (arith, ints)
 
 -- where no number counts, the total is nothing
 pub total-none : (f : ℕ → ℤ) (a n : ℕ) → ((k : ℕ) → a ≤ k → k < a + n → f k ≡ pos 0) → over_range f a n ≡ pos 0

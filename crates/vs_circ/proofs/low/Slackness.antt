@@ -5,11 +5,12 @@ use Rattle.std.specs.Int.{int_max}
 use Rattle.std.specs.List.{range_with_len}
 use Rattle.std.proofs.lemmas.Bool.{cases_lt}
 use Rattle.std.proofs.lemmas.Int.{ints, clamps}
+use Rattle.vs_types.proofs.CallerLemmas.{none_times, times_none, times_sub}
 use Rattle.vs_layer.specs.Circulation.{flow_cost}
 use Rattle.vs_types.specs.declared.numbers.LayerNo.{LayerNo}
 use Rattle.vs_instance.specs.Problem.{Problem}
 use Rattle.vs_instance.specs.Ways.{layer_of}
-use Rattle.vs_instance.proofs.CallerLemmas.{none_times, times_none, times_sub, total-map_add}
+use Rattle.vs_instance.proofs.CallerLemmas.{total-map_add}
 use Rattle.vs_match.specs.declared.arc_kind.ArcKind.{ArcKind}
 use Rattle.vs_match.specs.declared.arc_kind.ArcKind.TheVariants.{Trip, Waiting, Deadhead, PullOut, PullIn, RestIn, RestWait, RestOut, Return}
 use Rattle.vs_match.specs.Decomposition.{vehicles_of}

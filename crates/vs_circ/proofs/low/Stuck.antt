@@ -1,12 +1,14 @@
 -- Where units are stuck, no circulation runs exactly the trips that have to run.
 use Rattle.std.proofs.Common.{◌≡◌, ℕ, zero, suc, ◌<◌, Bool, true, false, cond, List, [], ◌∷◌, length, map, get_or, refl, sym, ap, ◌∙◌, subst, arith, inl, inr, ℤ, pos, ◌-ℤ◌, ◌*ℤ◌, ◌≤ℤ◌, ◌<ℤ◌}
+use Rattle.std.proofs.lemmas.Bool.{cond-false, false_from_ne_true}
 use Rattle.std.proofs.lemmas.Int.{ints}
 use Rattle.std.proofs.lemmas.List.{length-map}
+use Rattle.vs_types.proofs.CallerLemmas.{times_none, times_one}
 use Rattle.vs_layer.specs.Graph.{arc_of}
 use Rattle.vs_types.specs.declared.numbers.LayerNo.{LayerNo}
 use Rattle.vs_instance.specs.Problem.{Problem}
 use Rattle.vs_instance.specs.Ways.{layer_of}
-use Rattle.vs_instance.proofs.CallerLemmas.{times_none, times_one, total-range_le}
+use Rattle.vs_instance.proofs.CallerLemmas.{total-range_le}
 use Rattle.vs_match.specs.declared.arc_kind.ArcKind.{ArcKind}
 use Rattle.vs_match.specs.declared.arc_kind.ArcKind.TheVariants.{Trip, Waiting, Deadhead, PullOut, PullIn, RestIn, RestWait, RestOut, Return}
 use Rattle.vs_match.specs.LawfulNets.{IsLawful}
@@ -20,7 +22,7 @@ use Rattle.vs_circ.specs.Laws.{StuckTrips}
 use Rattle.vs_circ.specs.Offers.{AreMust}
 use Rattle.vs_circ.specs.PricedFlows.{IsStuckAt, PaysNoLess, must_on, must_units, vehicle_price}
 use Rattle.vs_circ.proofs.low.ArcTotals.{lost_by_arcs, lost_on_units}
-use Rattle.vs_circ.proofs.low.Covered.{nothing_due, run_exactly}
+use Rattle.vs_circ.proofs.low.Covered.{run_exactly}
 use Rattle.vs_circ.proofs.low.LayerBounds.{trips_bound}
 use Rattle.vs_circ.proofs.low.Reindexing.{over_range, total-same}
 use Rattle.vs_circ.proofs.low.LawfulArcs.{return_arc}
@@ -80,8 +82,9 @@ module _ (p : Problem) (l : LayerNo) (n : LayerGraph) (must : List Bool) (prices
             omega (arith, ints, here, met)
         | inr none ↦
             let here = at_trip-none n.kinds lost i none in
-            let nothing = nothing_due (get_or must i false) (trip_pays p l.0 true given i)
-            (λ has. let arc = lawful.each_trip i (inside, are.permitted i has) in none arc.0 arc.1) in
+            let nothing = cond-false (get_or must i false) (trip_pays p l.0 true given i) (pos 0)
+            (false_from_ne_true (get_or must i false)
+            (λ has. let arc = lawful.each_trip i (inside, are.permitted i has) in none arc.0 arc.1)) in
             omega (arith, ints, here, nothing)
       ]
 

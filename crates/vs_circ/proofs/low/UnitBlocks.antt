@@ -5,13 +5,14 @@ use Rattle.std.specs.List.{All}
 use Rattle.std.proofs.lemmas.Bool.{eq-eqb}
 use Rattle.std.proofs.lemmas.List.Elements.{All-head, All-tail, All-nil, All-append}
 use Rattle.std.proofs.lemmas.List.Sums.{sum_by-cons}
+use Rattle.vs_types.proofs.CallerLemmas.{none_times, times_none}
 use Rattle.vs_layer.specs.Circulation.{IsCirculation}
 use Rattle.vs_types.specs.declared.numbers.LayerNo.{LayerNo}
 use Rattle.vs_types.specs.declared.numbers.TripNo.{TripNo}
 use Rattle.vs_instance.specs.Problem.{Problem}
 use Rattle.vs_instance.specs.Lagrangian.{AreBlocksOf, multiplier_of, paid_for}
 use Rattle.vs_instance.specs.Plan.{LayerBlock, all_trips, times_run}
-use Rattle.vs_instance.proofs.CallerLemmas.{IsOwnBlock, trips_inside, none_times, times_none, total-by_count}
+use Rattle.vs_instance.proofs.CallerLemmas.{IsOwnBlock, trips_inside, total-by_count}
 use Rattle.vs_match.specs.declared.arc_kind.ArcKind.{ArcKind}
 use Rattle.vs_match.specs.declared.arc_kind.ArcKind.TheVariants.{Trip, Waiting, Deadhead, PullOut, PullIn, RestIn, RestWait, RestOut, Return}
 use Rattle.vs_match.specs.Decomposition.{Decompose}

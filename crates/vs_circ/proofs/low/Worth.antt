@@ -4,11 +4,12 @@ use Rattle.std.specs.List.{range_with_len}
 use Rattle.std.specs.Prelude.{slice_index}
 use Rattle.std.proofs.lemmas.Nat.{mul-le}
 use Rattle.std.proofs.lemmas.Int.{ints}
+use Rattle.vs_types.proofs.CallerLemmas.{times_sub}
 use Rattle.vs_layer.specs.declared.arc.Arc.{Arc}
 use Rattle.vs_layer.specs.Ends.{no_arc}
 use Rattle.vs_layer.specs.Graph.{arc_of}
 use Rattle.vs_layer.specs.Circulation.{cost_of_units, flow_cost}
-use Rattle.vs_instance.proofs.CallerLemmas.{times_sub, total-map_sub}
+use Rattle.vs_instance.proofs.CallerLemmas.{total-map_sub}
 use Rattle.vs_match.specs.declared.arc_kind.ArcKind.{ArcKind}
 use Rattle.vs_match.specs.declared.arc_kind.ArcKind.TheVariants.{Trip, Waiting, Deadhead, PullOut, PullIn, RestIn, RestWait, RestOut, Return}
 use Rattle.vs_match.specs.LayerGraph.{LayerGraph, IsLabelled, kind_of}

@@ -1,9 +1,9 @@
 -- What the units leave at the nodes once an arc carries another number of them.
 use Rattle.std.proofs.Common.{◌≡◌, ◌∙◌, ◌<◌, ◌≤◌, ◌*◌, ℕ, ℤ, List, length, get_or, set, ap, arith, pos, ◌+ℤ◌, ◌-ℤ◌, ◌*ℤ◌, length-set}
 use Rattle.std.proofs.lemmas.Int.{ints}
+use Rattle.vs_types.proofs.CallerLemmas.{times_sub}
 use Rattle.vs_layer.specs.declared.arc.Arc.{Arc}
 use Rattle.vs_layer.specs.Graph.{Graph, IsNet, arc_of}
-use Rattle.vs_instance.proofs.CallerLemmas.{times_sub}
 use Rattle.vs_path.specs.Residual.{price_at}
 use Rattle.vs_ship.specs.Balance.{gained, weighed}
 use Rattle.vs_ship.specs.Leaving.{IsLeftBy, passed_along}

@@ -3,12 +3,12 @@ use Rattle.std.proofs.Common.{◌≡◌, ℕ, suc, ◌+◌, ◌<◌, ◌^◌, Li
 use Rattle.std.proofs.lemmas.Int.{ints}
 use Rattle.std.proofs.lemmas.Nat.{mul-le}
 use Rattle.vs_types.specs.declared.numbers.LayerNo.{LayerNo}
+use Rattle.vs_instance.proofs.CallerLemmas.{total-range_next}
 use Rattle.vs_layer.specs.Circulation.{flow_cost}
 use Rattle.vs_instance.specs.Problem.{Problem}
 use Rattle.vs_match.specs.LawfulNets.{IsLawful}
 use Rattle.vs_match.specs.LayerGraph.{LayerGraph, IsArcOfTrip}
 use Rattle.vs_path.specs.Residual.{IsWithin}
-use Rattle.vs_ship.proofs.CallerLemmas.{total-more}
 use Rattle.vs_circ.specs.declared.costing.TheConstants.{MAX_PAID}
 use Rattle.vs_circ.specs.PricedFlows.{IsPricedFlow, last_arc}
 use Rattle.vs_circ.specs.shipping.Costing.{IsPaidByTrip, units_pay}
@@ -36,7 +36,7 @@ module _ (n : LayerGraph) (units : List ℕ) (prices : List ℤ) where
   pub paid-more : (i : ℕ) (pays : ℤ) → ((j k m : ℕ) → IsArcOfTrip n.kinds j k → IsArcOfTrip n.kinds j m → k ≡ m)
       → IsPaidByTrip n units prices i pays → paid_before (i + 1) ≡ paid_before i +ℤ pays
   paid-more i pays one is =
-      let next = total-more (at_trip n.kinds (units_pay n units prices)) i in
+      let next = total-range_next (at_trip n.kinds (units_pay n units prices)) i in
       elim (arc_or_none n.kinds i) [
         | inl found ↦
             let k = found.0 in

@@ -13,7 +13,8 @@ use Rattle.vs_document.specs.Places.{AtBlocks, InTable}
 use Rattle.vs_document.specs.Reading.{ReadsBlocks}
 use Rattle.vs_document.proofs.rows.AcceptedRows.{leads_blocks}
 use Rattle.vs_document.proofs.rows.ReadThrough.{reads_through}
-use Rattle.vs_document.proofs.rows.RefusedRows.{lead_on, reads_none}
+use Rattle.vs_document.specs.DocumentRefusals.{documents}
+use Rattle.vs_rows.proofs.CallerLemmas.{lead_on, reads_none}
 use Rattle.vs_document.proofs.parts.SamePlaces.{blocks_end}
 
 beside : (blocks : List LayerBlock) (cost : Option ℤ) → is_some cost ≡ true → IfNone cost (blocks ≡ [])
@@ -36,7 +37,7 @@ module _ (input : Input) (at : ℕ) (cost : Option ℤ) where
         no_blocks = none;
         reads = record {
           say = read.say;
-          lead = lead_on input at to to (AtBlocks cost) (AtBlocks cost) (InTable 0 []) read.lead
+          lead = lead_on documents input at to to (AtBlocks cost) (AtBlocks cost) (InTable 0 []) read.lead
               (blocks_end input to cost (λ _. b.ends));
         };
       }
@@ -44,7 +45,7 @@ module _ (input : Input) (at : ℕ) (cost : Option ℤ) where
   -- where there is no cost there are no blocks
   pub blocks_without_cost : is_some cost ≡ false → at ≤ length input.rest → ReadsBlocks input at cost at []
   blocks_without_cost none within =
-      let read = reads_none input at (AtBlocks cost) within in
+      let read = reads_none documents input at (AtBlocks cost) within in
       record {
         of_instance = All-nil (IsOfInstance input.instance);
         no_blocks = none_beside [] cost refl;

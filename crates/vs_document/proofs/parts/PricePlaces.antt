@@ -1,5 +1,5 @@
 -- The rows of prices, each in its place.
-use Rattle.std.proofs.Common.{◌≡◌, ◌≢◌, ℕ, ◌+◌, Bool, true, false, cond, List, [], ◌∷◌, refl, sym, ap, ◌∙◌, subst, inl, inr, ◌⊎◌, ℤ, eqb, Some, None, Option}
+use Rattle.std.proofs.Common.{◌≡◌, ◌≢◌, ℕ, ◌+◌, Bool, true, false, cond, List, [], ◌∷◌, refl, sym, ap, ◌∙◌, inl, inr, ◌⊎◌, ℤ, eqb, Some, None, Option}
 use Rattle.std.specs.Prelude.{◌&&◌}
 use Rattle.std.proofs.lemmas.Bool.{cases_eq, eq-eqb, ne_eqb}
 use Rattle.vs_instance.specs.Problem.{Problem}
@@ -10,11 +10,14 @@ use Rattle.vs_document.specs.declared.refused.DocError.TheVariants as error
 use Rattle.vs_rows.specs.declared.wrong.PriceWhy.{PriceWhy}
 use Rattle.vs_rows.specs.declared.wrong.PriceWhy.TheVariants.{Range}
 use Rattle.vs_rows.specs.DocumentRows.{DocumentRow, FleetRow, PriceRow, TableRow}
-use Rattle.vs_rows.specs.PriceOrder.{IsOf, PriceOf, Trip, Vehicle, prices_of}
+use Rattle.vs_rows.specs.PriceOrder.{HasPrices, IsOf, PriceOf, Trip, Vehicle, prices_of}
 use Rattle.vs_rows.specs.TableReading.{AreWrongFrom, IsWrong, ReadsKind}
 use Rattle.vs_document.specs.Places.{HasNumber, InTable, behind}
 use Rattle.vs_document.specs.Reading.{IsRefusedAt}
-use Rattle.vs_document.proofs.rows.RefusedRows.{leads_one, no_prices}
+use Rattle.vs_document.specs.DocumentRefusals.{documents}
+use Rattle.vs_rows.proofs.CallerLemmas.{leads_one, wrong_prices, wrong_row}
+use Rattle.vs_document.proofs.rows.ReadThrough.{passes}
+use Rattle.vs_rows.specs.RowRules.{Leads}
 
 pub neither : {T : Type 0} (b : Bool) (x : Option T) → cond (b && false) x None ≡ None
 neither true x = refl
@@ -30,7 +33,7 @@ another_trip p n l i layer trip later into from (inr other) =
 
 module _ (p : Problem) (n : ℕ) where
   -- the row of prices that has to come leads to the next, and no other does
-  pub price_order : (price : PriceOf) (later : List PriceOf) (said : DocumentRow) → IsOf price said
+  price_order : (price : PriceOf) (later : List PriceOf) (said : DocumentRow) → IsOf price said
       → behind p (InTable n (price ∷ later)) said ≡ Some (InTable n later)
   price_order (Vehicle l) later (FleetRow layer price) is =
       ap (λ (b : Bool). cond b (Some (InTable n later)) None) (eq-eqb l layer (sym is))
@@ -40,12 +43,20 @@ module _ (p : Problem) (n : ℕ) where
   price_order (Vehicle l) later _ is = absurd is
   price_order (Trip l i) later _ is = absurd is
 
-  pub price_number : (price : PriceOf) (later : List PriceOf) (said : DocumentRow) → IsOf price said
+  price_number : (price : PriceOf) (later : List PriceOf) (said : DocumentRow) → IsOf price said
       → HasNumber (InTable n (price ∷ later)) said
   price_number (Vehicle l) later (FleetRow layer price) is = tt
   price_number (Trip l i) later (PriceRow layer trip into from) is = tt
   price_number (Vehicle l) later _ is = absurd is
   price_number (Trip l i) later _ is = absurd is
+
+  pub price_leads : (price : PriceOf) (later : List PriceOf) (said : DocumentRow) → IsOf price said → HasPrices said
+      → Leads documents p (InTable n (price ∷ later)) said (InTable n later)
+  price_leads price later said is prices = record {
+    suits = tt;
+    order = price_order price later said is;
+    right = (price_number price later said is, prices);
+  }
 
   pub price_elsewhere : (price : PriceOf) (later : List PriceOf) (said : DocumentRow) → ¬ (IsOf price said)
       → behind p (InTable n (price ∷ later)) said ≡ None
@@ -63,26 +74,9 @@ module _ (input : Input) (n row : ℕ) where
   pub price_range : (price : PriceOf) (later : List PriceOf) → IsWrong input row price Range
       → IsRefusedAt input row (InTable n (price ∷ later)) (error.Refused (input.before + 1 + row) PriceRange)
   price_range price later (said, there, none) =
-      no_prices input row there.here (InTable n (price ∷ later)) said (λ e. cc) there.says tt (InTable n later)
-      (price_order input.instance n price later said there.is_of)
-      (price_number input.instance n price later said there.is_of) none
-
-  module _ (why : PriceWhy) (e : DocError)
-      (refused : (price : PriceOf) (later : List PriceOf) → IsWrong input row price why
-      → IsRefusedAt input row (InTable n (price ∷ later)) e) where
-    -- where the first row that is wrong is refused, all are
-    pub prices_refused : (prices : List PriceOf) (at : ℕ) → AreWrongFrom input at prices row why
-        → IsRefusedAt input at (InTable n prices) e
-    prices_refused [] at wrong = absurd wrong
-    prices_refused (price ∷ prices) at (inl (same, wrong)) =
-        let P : ℕ → Type 0 = λ k. IsRefusedAt input k (InTable n (price ∷ prices)) e in
-        let Q : ℕ → Type 0 = λ k. IsWrong input k price why in
-        subst P same (refused price prices (subst Q (sym same) wrong))
-    prices_refused (price ∷ prices) at (inr (said, right, wrong)) =
-        (leads_one input at right.there.here (InTable n (price ∷ prices)) said (λ e. cc) right.there.says tt
-        (InTable n prices) (price_order input.instance n price prices said right.there.is_of)
-        (price_number input.instance n price prices said right.there.is_of) right.prices).refused e
-        (prices_refused prices (at + 1) wrong)
+      wrong_row documents input row there.here (InTable n (price ∷ later)) said there.says tt (λ e. cc)
+      (InTable n later) PriceRange (price_order input.instance n price later said there.is_of)
+      (inr (price_number input.instance n price later said there.is_of, none, refl))
 
 -- a table is refused where a row of its prices is
 pub table_refused : (input : Input) (at n row : ℕ) (why : PriceWhy) (ray : Bool) (e : DocError)
@@ -91,6 +85,9 @@ pub table_refused : (input : Input) (at n row : ℕ) (why : PriceWhy) (ray : Boo
     → IsRefusedAt input row (InTable (n + 1) (price ∷ later)) e)
     → IsRefusedAt input at (InTable n []) e
 table_refused input at n row why ray e kind wrong refused =
-    (leads_one input at kind.here (InTable n []) (TableRow (n + 1) ray) (λ e. cc) kind.says tt
-    (InTable (n + 1) (prices_of input.instance)) refl refl tt).refused e
-    (prices_refused input (n + 1) row why e refused (prices_of input.instance) (at + 1) wrong)
+    let p = input.instance in
+    let kind_leads = leads_one documents input at kind.here (InTable n []) (TableRow (n + 1) ray) kind.says
+    (InTable (n + 1) (prices_of p)) (record { suits = tt; order = refl; right = (refl, tt) }) in
+    let found = wrong_prices documents input (InTable (n + 1)) (λ said. said) (λ r price said is says. says)
+    (price_leads p (n + 1)) (prices_of p) (at + 1) row why wrong in
+    passes input e kind_leads (passes input e found.3 (refused found.0 found.1 found.2))

@@ -14,11 +14,13 @@ use Rattle.vs_rows.specs.DocumentText.{IsBlankElsewhere}
 use Rattle.vs_rows.specs.DocumentRows.{DocumentRow, table_rows, tables_rows}
 use Rattle.vs_rows.specs.TableReading.{ReadsTable}
 use Rattle.vs_document.specs.Places.{InTable, InTree}
-use Rattle.vs_document.specs.Reading.{ReadsTables, ReadsTo}
+use Rattle.vs_document.specs.DocumentRefusals.{documents}
+use Rattle.vs_document.specs.Reading.{ReadsTables}
+use Rattle.vs_rows.specs.RowReading.{ReadsTo}
 use Rattle.vs_rows.specs.RowForms.{IsOfKind}
 use Rattle.vs_document.proofs.rows.AcceptedRows.{leads_table}
 use Rattle.vs_document.proofs.rows.ReadThrough.{reads_through}
-use Rattle.vs_document.proofs.rows.RefusedRows.{lead_on, read_on, reads_none}
+use Rattle.vs_rows.proofs.CallerLemmas.{lead_on, read_on, reads_none}
 use Rattle.vs_document.proofs.parts.SamePlaces.{tables_end}
 
 enumerate-push : {X : Type 0} (n : ℕ) (xs : List X) (x : X)
@@ -45,7 +47,8 @@ pub record TablesSoFar (input : Input) (at row : ℕ) (tables : List Table) : Ty
   pub fits : All (Fits input.instance) tables
   pub blank : All (IsBlankElsewhere input.instance) tables
   pub number : length tables ≤ MAX_NUMBER
-  pub reads : ReadsTo input at (InTable 0 []) (tables_rows input.instance tables) row (InTable (length tables) [])
+  pub reads : ReadsTo documents input at (InTable 0 []) (tables_rows input.instance tables) row
+      (InTable (length tables) [])
 
 module _ (input : Input) (at : ℕ) where
   pub tables_none : at ≤ length input.rest → TablesSoFar input at at []
@@ -53,7 +56,7 @@ module _ (input : Input) (at : ℕ) where
     fits = All-nil (Fits input.instance);
     blank = All-nil (IsBlankElsewhere input.instance);
     number = omega arith;
-    reads = reads_none input at (InTable 0 []) within;
+    reads = reads_none documents input at (InTable 0 []) within;
   }
 
   pub tables_more : (row next n : ℕ) (tables : List Table) (table : Table) → TablesSoFar input at row tables
@@ -62,18 +65,18 @@ module _ (input : Input) (at : ℕ) where
       let R : ℕ → Type 0 = λ k. ReadsTable input row k next table in
       let r = subst R is read in
       let size : length tables + 1 ≡ length (tables ++ table ∷ []) = omega (arith, length_push tables table) in
-      let N : ℕ → Type 0 = λ k. ReadsTo input at (InTable 0 []) (tables_rows input.instance (tables ++ table ∷ [])) next
-      (InTable k []) in
-      let P : List DocumentRow → Type 0 = λ said. ReadsTo input at (InTable 0 []) said next (InTable
-      (length tables + 1) []) in
+      let N : ℕ → Type 0 = λ k. ReadsTo documents input at (InTable 0 [])
+      (tables_rows input.instance (tables ++ table ∷ [])) next (InTable k []) in
+      let P : List DocumentRow → Type 0 = λ said. ReadsTo documents input at (InTable 0 []) said next
+      (InTable (length tables + 1) []) in
       record {
         fits = All-push (Fits input.instance) tables table s.fits r.fits;
         blank = All-push (IsBlankElsewhere input.instance) tables table s.blank r.blank;
         number = omega (arith, r.number, length_push tables table);
         reads = subst N size
             (subst P (sym (tables_rows-push input.instance tables table))
-            (read_on input at row next (InTable 0 []) (InTable (length tables) []) (InTable (length tables + 1) [])
-            (tables_rows input.instance tables) (table_rows input.instance
+            (read_on documents input at row next (InTable 0 []) (InTable (length tables) [])
+            (InTable (length tables + 1) []) (tables_rows input.instance tables) (table_rows input.instance
             (length tables + 1, table)) s.reads
             (reads_through input (table_rows input.instance (length tables + 1, table)) (InTable (length tables) [])
             (InTable (length tables + 1) []) row next (leads_table input.instance (length tables) table r.fits)
@@ -88,7 +91,7 @@ module _ (input : Input) (at : ℕ) where
     number = s.number;
     reads = record {
       say = s.reads.say;
-      lead = lead_on input at row row (InTable 0 []) (InTable (length tables) []) (InTree
+      lead = lead_on documents input at row row (InTable 0 []) (InTable (length tables) []) (InTree
           (length tables) 1) s.reads.lead
           (tables_end input row (length tables) none);
     };

@@ -1,29 +1,31 @@
 -- A tree that is read part by part.
 use Rattle.std.proofs.Common.{◌≡◌, ℕ, zero, suc, ◌+◌, ◌-◌, ◌<◌, ◌≤◌, List, [], ◌∷◌, ◌++◌, length, map, flat_map, refl, sym, ap, ◌∙◌, subst, arith, All, append_assoc, append-nil}
-use Rattle.std.proofs.lemmas.List.{drop_more, map_push}
+use Rattle.std.proofs.lemmas.List.{map_push}
 use Rattle.std.proofs.lemmas.List.Elements.{All-push, All-nil}
 use Rattle.vs_types.specs.declared.layer_set.LayerSet.{LayerSet}
 use Rattle.vs_types.specs.declared.numbers.TripNo.{TripNo}
 use Rattle.vs_prices.specs.Tree.{Tree, Leaf, Split}
-use Rattle.vs_reader.specs.Rows.{Row, row_of}
+use Rattle.vs_reader.specs.Rows.{row_of}
 use Rattle.vs_reader.specs.Names.{HaveCounts}
 use Rattle.vs_reader.specs.declared.input.Input.{Input}
-use Rattle.vs_document.specs.declared.refused.DocWhy.TheVariants.{EndsEarly, RowsAfterEnd}
+use Rattle.vs_document.specs.declared.refused.DocWhy.TheVariants.{EndsEarly}
 use Rattle.vs_document.specs.declared.refused.DocError.{DocError}
 use Rattle.vs_document.specs.declared.refused.DocError.TheVariants as error
 use Rattle.vs_rows.specs.declared.document.Shape.{Shape}
 use Rattle.vs_rows.specs.declared.document.Shape.TheVariants as shape
-use Rattle.vs_document.specs.DocumentRefusals.{AreRefusedFrom}
+use Rattle.vs_document.specs.DocumentRefusals.{documents}
+use Rattle.vs_rows.specs.RowReading.{ReadsTo, SayTo}
 use Rattle.vs_rows.specs.DocumentRows.{DocumentRow, HasForm, LeafRow, Says, SplitRow, shape_row}
-use Rattle.vs_document.specs.Places.{AtEnd, InTree}
-use Rattle.vs_document.specs.Reading.{IsRefusedAt, ReadsPart, ReadsTo, ReadsTree, SayTo, parts_behind}
+use Rattle.vs_document.specs.Places.{InTree}
+use Rattle.vs_document.specs.Reading.{IsRefusedAt, ReadsPart, ReadsTree, parts_behind}
 use Rattle.vs_rows.specs.Shapes.{AreTree, IsShapeOf, preorder}
-use Rattle.vs_document.proofs.rows.RefusedRows.{leads_one, read_on, reads_none, refused_at_the_end, says_one}
+use Rattle.vs_document.proofs.rows.ReadThrough.{passes}
+use Rattle.vs_rows.proofs.CallerLemmas.{leads_one, read_on, reads_none, refused_at_the_end, says_one}
 
 -- the parts that are read, of a tree of which so many are still to come
 pub record TreeSoFar (input : Input) (at tables row parts : ℕ) (shapes : List Shape) : Type 0 where
   pub is_part : All (IsShapeOf input.instance tables) shapes
-  pub reads : ReadsTo input at (InTree tables 1) (map shape_row shapes) row (InTree tables parts)
+  pub reads : ReadsTo documents input at (InTree tables 1) (map shape_row shapes) row (InTree tables parts)
   pub tree : (trees : List Tree) → length trees ≡ parts → AreTree (shapes ++ flat_map preorder trees)
   pub few : parts + at ≤ row + 1
 
@@ -61,7 +63,7 @@ module _ (input : Input) (at tables : ℕ) where
   pub tree_none : at ≤ length input.rest → TreeSoFar input at tables at 1 []
   tree_none within = record {
     is_part = All-nil (IsShapeOf input.instance tables);
-    reads = reads_none input at (InTree tables 1) within;
+    reads = reads_none documents input at (InTree tables 1) within;
     tree = one_tree;
     few = omega arith;
   }
@@ -70,12 +72,12 @@ module _ (input : Input) (at tables : ℕ) where
       → ReadsPart input row tables part → TreeSoFar input at tables (row + 1) (parts_behind q part) (shapes
       ++ part ∷ [])
   more row q shapes part s r =
-      let P : List DocumentRow → Type 0 = λ said. ReadsTo input at (InTree tables 1) said (row + 1)
+      let P : List DocumentRow → Type 0 = λ said. ReadsTo documents input at (InTree tables 1) said (row + 1)
       (InTree tables (parts_behind q part)) in
       record {
         is_part = All-push (IsShapeOf input.instance tables) shapes part s.is_part r.is_part;
         reads = subst P (sym (map_push shape_row shapes part))
-            (read_on input at row (row + 1) (InTree tables 1) (InTree tables (suc q)) (InTree tables
+            (read_on documents input at row (row + 1) (InTree tables 1) (InTree tables (suc q)) (InTree tables
             (parts_behind q part))
             (map shape_row shapes) (shape_row part ∷ []) s.reads (record { say = r.say; lead = r.lead q }));
         tree = grows part shapes q s.tree;
@@ -105,7 +107,7 @@ module _ (input : Input) (at tables : ℕ) where
       → ¬ (parts ≡ 0) → ((q : ℕ) → IsRefusedAt input row (InTree tables (suc q)) e)
       → IsRefusedAt input at (InTree tables 1) e
   tree_refused row zero shapes e s some refused = absurd (some refl)
-  tree_refused row (suc q) shapes e s some refused = s.reads.lead.refused e (refused q)
+  tree_refused row (suc q) shapes e s some refused = passes input e s.reads.lead (refused q)
 
   -- as where no row is left
   pub tree_ends_early : (row len parts : ℕ) (shapes : List Shape) → TreeSoFar input at tables row parts shapes
@@ -115,15 +117,7 @@ module _ (input : Input) (at tables : ℕ) where
   tree_ends_early row len parts shapes s some at_len is =
       let P : ℕ → Type 0 = λ n. TreeSoFar input at tables n parts shapes in
       tree_refused len parts shapes (error.Refused (input.before + 1 + len) EndsEarly) (subst P at_len s) (omega arith)
-      (λ q. refused_at_the_end input len (omega arith) (omega arith) (InTree tables (suc q)) (λ e. cc))
-
--- a row behind the last one
-pub behind_end : (input : Input) (at : ℕ) → at < length input.rest
-    → IsRefusedAt input at AtEnd (error.Refused (input.before + 1 + at) RowsAfterEnd)
-behind_end input at lt =
-    let P : List Row → Type 0 = λ rows. AreRefusedFrom input.instance input.names (input.before + 1 + at) AtEnd rows
-    (input.before + 1 + at) RowsAfterEnd in
-    subst P (sym (drop_more input.rest at [] lt)) (refl, refl)
+      (λ q. refused_at_the_end documents input len (omega arith) (InTree tables (suc q)) (λ e. cc))
 
 -- a row of a split, and one of a leaf whose number is that of a table
 pub split_part : (input : Input) (trip : TripNo) (left : LayerSet) → HaveCounts input.instance input.names
@@ -136,10 +130,10 @@ pub leaf_part : (input : Input) (row tables number : ℕ) → row < length input
     → ReadsPart input row tables (shape.Leaf (number - 1))
 leaf_part input row tables number within says some few =
     let back : number ≡ number - 1 + 1 = omega arith in
-    let P : ℕ → Type 0 = λ n. SayTo input row (LeafRow n ∷ []) (row + 1) in
+    let P : ℕ → Type 0 = λ n. SayTo documents input row (LeafRow n ∷ []) (row + 1) in
     record {
       is_part = omega arith;
-      say = subst P back (says_one input row within (InTree tables 1) (LeafRow number) (λ e. cc) says tt);
-      lead = λ parts. leads_one input row within (InTree tables (suc parts)) (LeafRow number) (λ e. cc) says tt
-          (InTree tables parts) refl (omega arith, few) tt;
+      say = subst P back (says_one documents input row within (InTree tables 1) (LeafRow number) says);
+      lead = λ parts. leads_one documents input row within (InTree tables (suc parts)) (LeafRow number) says
+          (InTree tables parts) (record { suits = tt; order = refl; right = ((omega arith, few), tt) });
     }

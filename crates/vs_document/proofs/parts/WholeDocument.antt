@@ -10,7 +10,13 @@ use Rattle.vs_reader.specs.declared.input.Input.{Input}
 use Rattle.vs_rows.specs.declared.document.Shape.{Shape}
 use Rattle.vs_rows.specs.DocumentRows.{DocumentRow, BlockRow, EndRow, SayAll, Says, shape_row}
 use Rattle.vs_rows.specs.RowForms.{IsInput}
-use Rattle.vs_document.specs.Reading.{IsLast, ReadsTree, SayTo}
+use Rattle.vs_document.specs.declared.refused.DocError.{DocError}
+use Rattle.vs_document.specs.declared.refused.DocError.TheVariants as error
+use Rattle.vs_document.specs.Places.{AtClaim, InTree}
+use Rattle.vs_document.specs.Reading.{IsLast, IsRefusalOf, IsRefusedAt, ReadsTree}
+use Rattle.vs_rows.specs.RowRules.{AreRefusedFrom}
+use Rattle.vs_document.specs.DocumentRefusals.{AreRefused, documents}
+use Rattle.vs_rows.specs.RowReading.{SayTo}
 
 -- the last row says `end`
 ends : (input : Input) (at : ℕ) → IsLast input at → SayAll input.names (drop at input.rest) (EndRow ∷ [])
@@ -22,8 +28,9 @@ ends input at last =
     subst P (sym (drop_more input.rest at [] lt)) (subst Q (sym none) (last.says, tt))
 
 -- the rows of all parts, one after another
-pub all_say : (input : Input) (a b c : ℕ) (head blocks tables shapes : List DocumentRow) → SayTo input 0 head 4
-    → SayTo input 4 blocks a → SayTo input a tables b → SayTo input b shapes c → IsLast input c
+pub all_say : (input : Input) (a b c : ℕ) (head blocks tables shapes : List DocumentRow)
+    → SayTo documents input 0 head 4 → SayTo documents input 4 blocks a → SayTo documents input a tables b
+    → SayTo documents input b shapes c → IsLast input c
     → SayAll input.names input.rest (head ++ blocks ++ tables ++ shapes ++ EndRow ∷ [])
 all_say input a b c head blocks tables shapes one two three four last =
     let P : List DocumentRow → Type 0 = λ said. SayAll input.names input.rest said in
@@ -113,3 +120,24 @@ pub tree_of : (input : Input) (at n m to : ℕ) (shapes : List Shape) → n ≡ 
     → ReadsTree input at m to shapes
 tree_of input at n m to shapes same tree =
     let P : ℕ → Type 0 = λ k. ReadsTree input at k to shapes in subst P same tree
+
+-- what is refused from the first row on, if there is one
+pub whole_refused : (input : Input) (e : DocError) → 0 < length input.rest → IsRefusedAt input 0 AtClaim e
+    → IsRefusalOf input e
+whole_refused input error.Memory some refused = tt
+whole_refused input (error.Refused at why) some refused = by_rows input.rest some refused
+  where
+    by_rows : (rows : List Row) → 0 < length rows
+        → AreRefusedFrom documents input.instance input.names (input.before + 1 + 0) AtClaim (drop 0 rows) at why
+        → AreRefused input.instance input.names input.before rows at why
+    by_rows [] less is = absurd (omega (arith, less))
+    by_rows (row ∷ rows) less is =
+        let P : ℕ → Type 0 = λ n. AreRefusedFrom documents input.instance input.names n AtClaim (row ∷ rows) at why in
+        let first : input.before + 1 + 0 ≡ input.before + 1 = omega arith in
+        subst P first is
+
+-- and what is refused in a tree behind as many tables
+pub tree_refused_at : (input : Input) (at n m : ℕ) (e : DocError) → n ≡ m → IsRefusedAt input at (InTree n 1) e
+    → IsRefusedAt input at (InTree m 1) e
+tree_refused_at input at n m e same refused =
+    let P : ℕ → Type 0 = λ k. IsRefusedAt input at (InTree k 1) e in subst P same refused

@@ -8,21 +8,21 @@ use Rattle.vs_reader.specs.declared.input.Input.{Input}
 use Rattle.vs_document.specs.declared.refused.DocWhy.TheVariants.{BadRow}
 use Rattle.vs_document.specs.declared.refused.DocError.TheVariants as error
 use Rattle.vs_rows.specs.DocumentRows.{DocumentRow, BoundRow, Says}
-use Rattle.vs_document.specs.DocumentRefusals.{SaysAt}
+use Rattle.vs_rows.specs.RowRules.{SaysAt}
+use Rattle.vs_document.specs.DocumentRefusals.{documents}
 use Rattle.vs_document.specs.Places.{AtBound, SuitsCost}
 use Rattle.vs_document.specs.Reading.{IsRefusedAt}
-use Rattle.vs_document.proofs.rows.RefusedRows.{refused_at}
-use Rattle.vs_rows.proofs.CallerLemmas.{first_word, none_is_no_number, word_of}
+use Rattle.vs_rows.proofs.CallerLemmas.{first_word, none_is_no_number, refused_at, word_of}
 
 -- a row that says that there is no bound says nothing else
 only_none : (names : NameLists) (row : Row) (cost : ℤ) → Says names row (BoundRow None) → (said : DocumentRow)
-    → ¬ (SaysAt names (AtBound (Some cost)) row said)
-only_none names row cost says (BoundRow None) is = is.suits
+    → ¬ (SaysAt documents names (AtBound (Some cost)) row said)
+only_none names row cost says (BoundRow None) is = is.1
 only_none names row cost says (BoundRow (Some n)) is =
-    none_is_no_number n is.says.form (ap (λ (r : Row). get_or r 1 []) (sym says.written ∙ is.says.written))
+    none_is_no_number n is.0.form (ap (λ (r : Row). get_or r 1 []) (sym says.written ∙ is.0.written))
 only_none names row cost says said is =
     let e : word_of (BoundRow None) ≡ word_of said =
-    sym (first_word names row (BoundRow None) says) ∙ first_word names row said is.says in
+    sym (first_word names row (BoundRow None) says) ∙ first_word names row said is.0 in
     omega (arith, ap (λ (bs : List ℕ). get_or bs 0 0) e, ap (λ (bs : List ℕ). get_or bs 1 0) e)
 
 pub no_bound : (input : Input) (cost bound : Option ℤ) → 2 < length input.rest → true ≡ is_some cost
@@ -30,7 +30,7 @@ pub no_bound : (input : Input) (cost bound : Option ℤ) → 2 < length input.re
     → Says input.names (row_of input.rest 2) (BoundRow bound)
     → IsRefusedAt input 2 (AtBound cost) (error.Refused (input.before + 1 + 2) BadRow)
 no_bound input (Some cost) None lt some none says =
-    refused_at input 2 lt (AtBound (Some cost)) BadRow (λ e. cc)
+    refused_at documents input 2 lt (AtBound (Some cost)) BadRow (λ e. cc)
     (inl (only_none input.names (row_of input.rest 2) cost says, refl))
 no_bound input (Some cost) (Some n) lt some none says = absurd (false≢true (sym none))
 no_bound input None bound lt some none says = absurd (false≢true (sym some))

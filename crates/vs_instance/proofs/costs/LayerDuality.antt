@@ -7,6 +7,7 @@ use Rattle.std.proofs.lemmas.List.Elements.{All-head, All-tail, All-nil, All-app
 use Rattle.std.proofs.lemmas.List.Sums.{sum_by-cons}
 use Rattle.vs_types.specs.declared.numbers.LayerNo.{LayerNo}
 use Rattle.vs_types.specs.declared.numbers.TripNo.{TripNo}
+use Rattle.vs_types.proofs.CallerLemmas.{times_le, times_more, times_none}
 use Rattle.vs_instance.specs.Problem.{Problem}
 use Rattle.vs_instance.specs.Instance.{IsInstance}
 use Rattle.vs_instance.specs.Lagrangian.{AreBlocksOf, total}
@@ -19,7 +20,7 @@ use Rattle.vs_instance.specs.Plan.{LayerBlock, all_trips, plan_cost, times_run}
 use Rattle.vs_instance.proofs.costs.PieceLemmas.{out_taken, in_taken}
 use Rattle.vs_instance.proofs.costs.Links.{link_taken}
 use Rattle.vs_instance.proofs.costs.BlockPieces.{IsChain, chain_of_block, first_of_chain, last_of_chain, last_trip, last_of-is, trips_cost, links_cost, blocks_cost_their_pieces}
-use Rattle.vs_instance.proofs.costs.Totals.{times_le, times_more, times_none, total-by_count, total-map_append}
+use Rattle.vs_instance.proofs.costs.Totals.{total-by_count, total-map_append}
 
 -- costs are added before or after they are scaled
 pub scaled-add : (ray : Bool) (a b : ℕ) → scaled ray (a + b) ≡ scaled ray a +ℤ scaled ray b

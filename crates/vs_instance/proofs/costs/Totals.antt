@@ -1,14 +1,14 @@
 -- Totals of prices, and the same prices put in another order.
-use Rattle.std.proofs.Common.{◌≡◌, ◌≢◌, ℕ, zero, suc, ◌+◌, ◌<◌, ◌≤◌, ◌==◌, Bool, cond, eqb, List, [], ◌∷◌, ◌++◌, map, count_by, refl, sym, ap, ◌∙◌, arith, inl, inr, ℤ, pos, negsuc, ◌+ℤ◌, ◌-ℤ◌, ◌*ℤ◌, ◌≤ℤ◌}
+use Rattle.std.proofs.Common.{◌≡◌, ◌≢◌, ℕ, zero, suc, ◌+◌, ◌<◌, ◌≤◌, ◌==◌, Bool, cond, eqb, List, [], ◌∷◌, ◌++◌, map, count_by, refl, sym, ap, ◌∙◌, arith, inl, inr, ℤ, pos, ◌+ℤ◌, ◌-ℤ◌, ◌*ℤ◌, ◌≤ℤ◌}
 use Rattle.std.specs.List.{All, range_with_len}
-use Rattle.std.proofs.Math.Nat.{mul-add}
 use Rattle.std.proofs.lemmas.Bool.{cases_eq, eq-eqb, ne_eqb}
 use Rattle.std.proofs.lemmas.Int.{ints}
-use Rattle.std.proofs.lemmas.Nat.{mul-le}
 use Rattle.std.proofs.lemmas.List.Elements.{All-head, All-tail}
 use Rattle.std.proofs.lemmas.List.Sums.{sum_by-cons}
+use Rattle.vs_types.proofs.CallerLemmas.{range_more, times_more, times_none}
 use Rattle.vs_instance.specs.Lagrangian.{total}
 
+-- the total of two lists is the sum of their totals
 pub total-map_append : {A : Type 0} (f : A → ℤ) (xs ys : List A)
     → total (map f (xs ++ ys)) ≡ total (map f xs) +ℤ total (map f ys)
 total-map_append f [] ys = omega (arith, ints)
@@ -43,47 +43,27 @@ pub total-map_sub : {A : Type 0} (f g : A → ℤ) (xs : List A)
 total-map_sub f g [] = omega (arith, ints)
 total-map_sub f g (x ∷ xs) = let rest = total-map_sub f g xs in omega (arith, ints)
 
--- a product with a whole number
-pub times_none : (x : ℤ) → x *ℤ pos 0 ≡ pos 0
-times_none (pos m) = omega (arith, ints)
-times_none (negsuc m) = omega (arith, ints)
+-- nothing for each comes to nothing
+pub total-nothing : {A : Type 0} (xs : List A) → total (map (λ x. pos 0) xs) ≡ pos 0
+total-nothing [] = refl
+total-nothing (x ∷ xs) = let rest = total-nothing xs in omega (arith, ints, rest)
 
-pub times_one : (x : ℤ) → x *ℤ pos 1 ≡ x
-times_one (pos m) = omega (arith, ints)
-times_one (negsuc m) = omega (arith, ints)
+-- numbers in order that give the same have the same total
+pub same_totals : (f g : ℕ → ℤ) (a n : ℕ) → ((k : ℕ) → a ≤ k → k < a + n → f k ≡ g k)
+    → total (map f (range_with_len a n)) ≡ total (map g (range_with_len a n))
+same_totals f g a zero same = refl
+same_totals f g a (suc n) same =
+    let here = same a (omega arith) (omega arith) in
+    let rest = same_totals f g (a + 1) n (λ k from within. same k (omega arith) (omega arith)) in
+    omega (arith, ints, here, rest)
 
-pub none_times : (n : ℕ) → pos 0 *ℤ pos n ≡ pos 0
-none_times n = omega (arith, ints)
-
-pub times_more : (x : ℤ) (n : ℕ) → x *ℤ pos (n + 1) ≡ x *ℤ pos n +ℤ x
-times_more (pos m) n = let product = mul-add m n 1 in omega (arith, ints)
-times_more (negsuc m) n = let product = mul-add (suc m) n 1 in omega (arith, ints)
-
--- sums and differences are multiplied term by term
-pub times_add : (x y : ℤ) (n : ℕ) → (x +ℤ y) *ℤ pos n ≡ x *ℤ pos n +ℤ y *ℤ pos n
-times_add x y zero =
-    let both = times_none (x +ℤ y) in
-    let first = times_none x in
-    let second = times_none y in
-    omega (arith, ints, both, first, second)
-times_add x y (suc n) =
-    let rest = times_add x y n in
-    let both = times_more (x +ℤ y) n in
-    let first = times_more x n in
-    let second = times_more y n in
-    omega (arith, ints, rest, both, first, second)
-
-pub times_sub : (x y : ℤ) (n : ℕ) → (x -ℤ y) *ℤ pos n ≡ x *ℤ pos n -ℤ y *ℤ pos n
-times_sub x y n =
-    let is : (x -ℤ y) +ℤ y ≡ x = omega (arith, ints) in
-    let sum = times_add (x -ℤ y) y n in
-    let whole = ap (λ (z : ℤ). z *ℤ pos n) is in
-    omega (arith, ints, sum, whole)
-
--- more vehicles pay more, where a vehicle pays 0 or more
-pub times_le : (x : ℤ) (m n : ℕ) → pos 0 ≤ℤ x → m ≤ n → (x *ℤ pos m) ≤ℤ (x *ℤ pos n)
-times_le (pos k) m n some le = let product = mul-le k m k n (omega arith) le in omega (arith, ints)
-times_le (negsuc k) m n some le = absurd (omega (arith, ints))
+-- the total over one number more
+pub total-range_next : (f : ℕ → ℤ) (k : ℕ)
+    → total (map f (range_with_len 0 (k + 1))) ≡ total (map f (range_with_len 0 k)) +ℤ f k
+total-range_next f k =
+    let more = ap (λ (ks : List ℕ). total (map f ks)) (range_more 0 k k (omega arith)) in
+    let both = total-map_append f (range_with_len 0 k) (k ∷ []) in
+    omega (arith, ints, more, both)
 
 module _ (g : ℕ → ℤ) (counts more : ℕ → ℕ) where
   abbrev by_counts : (ℕ → ℕ) → ℕ → ℕ → ℤ

@@ -9,17 +9,18 @@ use Rattle.vs_instance.specs.Problem.{pair_cmp}
 pub pair_cmp-total : IsTotalOrder pair_cmp
 pair_cmp-total = then_total (on_total (λ (x : ℕ × ℕ). x.0) nat_cmp_total) (on_total (λ (x : ℕ × ℕ). x.1) nat_cmp_total)
 
-both_equal : (a b : ℕ × ℕ) → is_eq (pair_cmp a b) ≡ true → (eqb a.0 b.0 && eqb a.1 b.1) ≡ true
-both_equal a b e =
+-- pairs that tie are equal
+pub same_pair : (a b : ℕ × ℕ) → eq_by_cmp pair_cmp a b ≡ true → a ≡ b
+same_pair a b e =
+    let both : (eqb a.0 b.0 && eqb a.1 b.1) ≡ true =
     both_tied (eqb a.0 b.0) (eqb a.1 b.1) (nat_cmp a.0 b.0) (nat_cmp a.1 b.1) (unsigned_ties a.0 b.0)
-    (unsigned_ties a.1 b.1) ∙ e
-
-pub pair_cmp-IsAntisymmetric : IsAntisymmetric pair_cmp
-pair_cmp-IsAntisymmetric a b e =
-    let both = both_equal a b (ap is_eq e) in
+    (unsigned_ties a.1 b.1) ∙ e in
     let first : a.0 ≡ b.0 = eqb-true a.0 b.0 (first_so (eqb a.0 b.0) (eqb a.1 b.1) both) in
     let second : a.1 ≡ b.1 = eqb-true a.1 b.1 (second_so (eqb a.0 b.0) (eqb a.1 b.1) both) in
     λ i. (first i, second i)
+
+pub pair_cmp-IsAntisymmetric : IsAntisymmetric pair_cmp
+pair_cmp-IsAntisymmetric a b e = same_pair a b (ap is_eq e)
 
 pub tied_same : (a b : ℕ × ℕ) → a ≡ b → eq_by_cmp pair_cmp a b ≡ true
 tied_same a b e = subst (λ (c : ℕ × ℕ). eq_by_cmp pair_cmp a c ≡ true) e (ap is_eq (tied_itself pair_cmp-total a))

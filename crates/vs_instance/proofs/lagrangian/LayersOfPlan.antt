@@ -4,20 +4,22 @@ use Rattle.std.specs.Prelude.{filter}
 use Rattle.std.specs.List.{All, range_with_len}
 use Rattle.std.proofs.lemmas.Bool.{cases_eq, eq-eqb, eqb-true, ne_eqb}
 use Rattle.std.proofs.lemmas.Int.{ints}
-use Rattle.std.proofs.lemmas.List.Elements.{All-append, All-filter, All-head, All-nil, All-tail, filter_passes}
+use Rattle.std.proofs.lemmas.List.Elements.{All-filter, All-head, All-tail, filter_passes}
 use Rattle.std.proofs.lemmas.List.FromFn.{fill_by_all}
 use Rattle.std.proofs.lemmas.List.Sums.{length-filter, sum_by-append, sum_by-cons}
 use Rattle.vs_types.specs.LayerSet.{Has}
 use Rattle.vs_types.specs.declared.layer_set.LayerSet.{LayerSet}
 use Rattle.vs_types.specs.declared.numbers.LayerNo.{LayerNo}
 use Rattle.vs_types.specs.declared.numbers.TripNo.{TripNo}
+use Rattle.vs_types.proofs.CallerLemmas.{times_one}
 use Rattle.vs_instance.specs.Problem.{Problem}
 use Rattle.vs_instance.specs.Blocks.{IsBlock, block_cost}
 use Rattle.vs_instance.specs.Lagrangian.{AreBlocksOf, IsLagrangianValue, multiplier_of, paid_for, reduced_cost, total}
 use Rattle.vs_instance.specs.Laws.{LagrangianValuesBoundPlans}
 use Rattle.vs_instance.specs.Plan.{LayerBlock, IsPlan, all_trips, times_run}
 use Rattle.vs_instance.specs.Restriction.{IsWithin, set_of}
-use Rattle.vs_instance.proofs.costs.Totals.{times_one, total-by_count, total-range_le}
+use Rattle.vs_instance.proofs.costs.Totals.{total-by_count, total-nothing, total-range_le}
+use Rattle.vs_instance.proofs.costs.TripsOfBlocks.{All-all_trips}
 
 abbrev IsBlockOf : Problem → LayerBlock → Type 0
 IsBlockOf p b = IsBlock p b.0 b.1
@@ -49,11 +51,6 @@ module _ (f more : ℕ → ℤ) (k : ℕ) (rise : ℤ) (here : more k ≡ f k +�
             omega (arith, ints, first, rest)
       ]
 
--- nothing for each comes to nothing
-none_at_all : {A : Type 0} (xs : List A) → total (map (λ x. pos 0) xs) ≡ pos 0
-none_at_all [] = refl
-none_at_all (x ∷ xs) = let rest = none_at_all xs in omega (arith, ints, rest)
-
 -- a total, by a key that each element has
 module _ {A : Type 0} (f : A → ℤ) (key : A → ℕ) where
   -- the part of one key
@@ -63,7 +60,7 @@ module _ {A : Type 0} (f : A → ℤ) (key : A → ℕ) where
   -- the parts of all keys come to the total
   shared_out : (n : ℕ) (xs : List A) → All (λ x. key x < n) xs
       → total (map (share xs) (range_with_len 0 n)) ≡ total (map f xs)
-  shared_out n [] within = none_at_all (range_with_len 0 n)
+  shared_out n [] within = total-nothing (range_with_len 0 n)
   shared_out n (x ∷ xs) within =
       let inside = All-head (λ (y : A). key y < n) x xs within in
       let rest = shared_out n xs (All-tail (λ (y : A). key y < n) x xs within) in
@@ -93,14 +90,6 @@ kept_run test (b ∷ blocks) i = either (test b) (kept_run test blocks i)
     either false rest =
         let all = sum_by-append (λ (j : TripNo). cond (j.0 == i) 1 0) b.1 (all_trips blocks) in
         omega (arith, rest, all)
-
--- what holds of the trips of each block holds of all trips
-All-all_trips : (P : TripNo → Type 0) (blocks : List LayerBlock) → All (λ b. All P b.1) blocks
-    → All P (all_trips blocks)
-All-all_trips P [] each = All-nil P
-All-all_trips P (b ∷ blocks) each =
-    All-append P b.1 (all_trips blocks) (All-head (λ (c : LayerBlock). All P c.1) b blocks each)
-    (All-all_trips P blocks (All-tail (λ (c : LayerBlock). All P c.1) b blocks each))
 
 module _ (p : Problem) (multipliers : List ℤ) where
   -- the cost of a block, less the multipliers of its trips

@@ -15,20 +15,20 @@ use Rattle.vs_match.specs.LayerGraph.{LayerGraph, kind_of}
 use Rattle.vs_match.proofs.composition.Takings.{IsForward}
 
 -- the first node stands for no point
-not_first : (points : List Point) (v : ℕ) (x : Point) → v ≡ 0 → HasPoint points v x → ⊥
-not_first points v x first at = none-some x (subst (λ (u : ℕ). HasPoint points u x) first at)
+pub no_point_at_first : (points : List Point) (v : ℕ) (x : Point) → v ≡ 0 → HasPoint points v x → ⊥
+no_point_at_first points v x first at = none-some x (subst (λ (u : ℕ). HasPoint points u x) first at)
 
 -- an arc that leads to the first node is the return arc
 return_of_end : (p : Problem) (l : ℕ) (points : List Point) (a : Arc) (t : ArcKind) → IsLawfulArc p l points t a
     → a.to ≡ 0 → t ≡ Return
-return_of_end p l points a (Trip i) is first = absurd (not_first points a.to _ first is.to)
-return_of_end p l points a Waiting is first = absurd (not_first points a.to _ first is.1.1)
-return_of_end p l points a Deadhead is first = absurd (not_first points a.to _ first is.1.1)
-return_of_end p l points a PullOut is first = absurd (not_first points a.to _ first is.1.1)
+return_of_end p l points a (Trip i) is first = absurd (no_point_at_first points a.to _ first is.to)
+return_of_end p l points a Waiting is first = absurd (no_point_at_first points a.to _ first is.1.1)
+return_of_end p l points a Deadhead is first = absurd (no_point_at_first points a.to _ first is.1.1)
+return_of_end p l points a PullOut is first = absurd (no_point_at_first points a.to _ first is.1.1)
 return_of_end p l points a PullIn is first = absurd (omega (arith, is.1, first))
-return_of_end p l points a RestIn is first = absurd (not_first points a.to _ first is.1.1)
-return_of_end p l points a RestWait is first = absurd (not_first points a.to _ first is.1.1)
-return_of_end p l points a RestOut is first = absurd (not_first points a.to _ first is.1.1)
+return_of_end p l points a RestIn is first = absurd (no_point_at_first points a.to _ first is.1.1)
+return_of_end p l points a RestWait is first = absurd (no_point_at_first points a.to _ first is.1.1)
+return_of_end p l points a RestOut is first = absurd (no_point_at_first points a.to _ first is.1.1)
 return_of_end p l points a Return is first = refl
 
 module _ (p : Problem) (l : ℕ) (n : LayerGraph) (lawful : IsLawful p l n) where

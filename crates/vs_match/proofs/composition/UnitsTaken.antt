@@ -1,14 +1,14 @@
 -- Arcs in a row that come back to where they began, as a circulation: each arc carries a unit for each time that it is
 -- taken.
-use Rattle.std.proofs.Common.{◌≡◌, ℕ, zero, suc, ◌+◌, ◌<◌, ◌≤◌, Bool, true, false, cond, eqb, sum_by, filter, List, [], ◌∷◌, length, map, refl, sym, ap, ◌∙◌, arith, inl, inr, ℤ, pos, negsuc, ◌+ℤ◌, ◌*ℤ◌}
+use Rattle.std.proofs.Common.{◌≡◌, ℕ, zero, suc, ◌+◌, ◌<◌, ◌≤◌, Bool, true, false, cond, eqb, sum_by, filter, List, [], ◌∷◌, length, map, refl, sym, ap, ◌∙◌, arith, inl, inr, ℤ, pos, ◌+ℤ◌, ◌*ℤ◌}
 use Rattle.std.specs.List.{range_with_len}
 use Rattle.std.specs.Prelude.{slice_index}
-use Rattle.std.proofs.Math.Nat.{mul-add}
 use Rattle.std.proofs.lemmas.Bool.{cases_eq, cases_lt}
 use Rattle.std.proofs.lemmas.Int.{ints}
 use Rattle.std.proofs.lemmas.List.{get_or_past}
 use Rattle.std.proofs.lemmas.List.FromFn.{length-map-range_with_len, get_or-map-range_with_len}
 use Rattle.std.proofs.lemmas.List.Sums.{sum_by-cons}
+use Rattle.vs_types.proofs.CallerLemmas.{no-matter, times_none, times_one, times_sum}
 use Rattle.vs_layer.specs.declared.arc.Arc.{Arc}
 use Rattle.vs_layer.specs.declared.arc.End.{End}
 use Rattle.vs_layer.specs.declared.arc.End.TheVariants.{From, To}
@@ -39,11 +39,6 @@ sum_by-kept : (f : ℕ → ℕ) (x : ℕ) (xs : List ℕ) (passes : Bool)
     → sum_by f (cond passes (x ∷ xs) xs) ≡ cond passes (f x) 0 + sum_by f xs
 sum_by-kept f x xs true = sum_by-cons f x xs
 sum_by-kept f x xs false = omega arith
-
--- nothing, whatever the test says
-no-matter : (b : Bool) → ◌≡◌ {A = ℕ} (cond b 0 0) 0
-no-matter true = refl
-no-matter false = refl
 
 module _ (test : ℕ → Bool) (j : ℕ) where
   -- how often j is among n numbers from a on that pass
@@ -77,21 +72,6 @@ module _ (test : ℕ → Bool) (j : ℕ) where
             omega (arith, found-more a n, here, no-matter (test a), found-once (a + 1) n (omega arith) (omega arith))
       ]
 
--- a product with a sum
-times-add : (x : ℤ) (m n : ℕ) → x *ℤ pos (m + n) ≡ x *ℤ pos m +ℤ x *ℤ pos n
-times-add (pos k) m n = let product = mul-add k m n in omega (arith, ints)
-times-add (negsuc k) m n = let product = mul-add (suc k) m n in omega (arith, ints)
-
--- a product with nothing
-times-none : (x : ℤ) → x *ℤ pos 0 ≡ pos 0
-times-none (pos k) = omega (arith, ints)
-times-none (negsuc k) = omega (arith, ints)
-
--- a product with one
-times-one : (x : ℤ) → x *ℤ pos 1 ≡ x
-times-one (pos k) = omega (arith, ints)
-times-one (negsuc k) = omega (arith, ints)
-
 -- what units cost that are given by the numbers of the arcs, which count from a on
 abbrev costs : List Arc → ℕ → (ℕ → ℕ) → ℤ
 costs arcs a f = cost_of_units arcs (map f (range_with_len a (length arcs)))
@@ -101,25 +81,25 @@ costs-add : (arcs : List Arc) (a : ℕ) (f g h : ℕ → ℕ) → ((k : ℕ) →
     → costs arcs a f ≡ costs arcs a g +ℤ costs arcs a h
 costs-add [] a f g h is = omega (arith, ints)
 costs-add (x ∷ arcs) a f g h is =
-    let here = ap (λ (m : ℕ). x.cost *ℤ pos m) (is a) ∙ times-add x.cost (g a) (h a) in
+    let here = ap (λ (m : ℕ). x.cost *ℤ pos m) (is a) ∙ times_sum x.cost (g a) (h a) in
     omega (arith, ints, here, costs-add arcs (a + 1) f g h is)
 
 -- no units
 costs-none : (arcs : List Arc) (a : ℕ) (f : ℕ → ℕ) → ((k : ℕ) → a ≤ k → f k ≡ 0) → costs arcs a f ≡ pos 0
 costs-none [] a f none = refl
 costs-none (x ∷ arcs) a f none =
-    let here = ap (λ (m : ℕ). x.cost *ℤ pos m) (none a (omega arith)) ∙ times-none x.cost in
+    let here = ap (λ (m : ℕ). x.cost *ℤ pos m) (none a (omega arith)) ∙ times_none x.cost in
     omega (arith, ints, here, costs-none arcs (a + 1) f (λ k from. none k (omega arith)))
 
 -- one unit on arc i
 costs-one : (arcs : List Arc) (a j i : ℕ) → j ≡ a + i → i < length arcs → costs arcs a (one j) ≡ (arc_at arcs i).cost
 costs-one [] a j i is within = absurd (omega arith)
 costs-one (x ∷ arcs) a j zero is within =
-    let here = ap (λ (m : ℕ). x.cost *ℤ pos m) (one-same j a (omega arith)) ∙ times-one x.cost in
+    let here = ap (λ (m : ℕ). x.cost *ℤ pos m) (one-same j a (omega arith)) ∙ times_one x.cost in
     let rest = costs-none arcs (a + 1) (one j) (λ k from. one-apart j k (λ same. omega arith)) in
     omega (arith, ints, here, rest)
 costs-one (x ∷ arcs) a j (suc i) is within =
-    let here = ap (λ (m : ℕ). x.cost *ℤ pos m) (one-apart j a (λ same. omega arith)) ∙ times-none x.cost in
+    let here = ap (λ (m : ℕ). x.cost *ℤ pos m) (one-apart j a (λ same. omega arith)) ∙ times_none x.cost in
     omega (arith, ints, here, costs-one arcs (a + 1) j i (omega arith) (omega arith))
 
 -- the units of arcs in a row

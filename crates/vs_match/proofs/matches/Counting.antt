@@ -1,18 +1,12 @@
 -- Counts of kinds and of connections, one by one.
-use Rattle.std.proofs.Common.{◌≡◌, ℕ, zero, suc, ◌+◌, ◌*◌, ◌≤◌, Bool, cond, List, [], ◌∷◌, ◌++◌, length, Option, Some, None, refl, sym, ap, ◌∙◌, arith, add-one}
+use Rattle.std.proofs.Common.{◌≡◌, ℕ, zero, suc, ◌+◌, ◌*◌, ◌≤◌, Bool, cond, List, [], ◌∷◌, length, Option, Some, None, refl, sym, ap, ◌∙◌, arith, add-one}
 use Rattle.std.specs.Prelude.{count_by, sum_by, is_some, is_none}
 use Rattle.std.specs.List.{range_with_len}
 use Rattle.std.proofs.lemmas.List.Sums.{sum_by-append, sum_by-cons}
 use Rattle.vs_types.specs.declared.numbers.StopNo.{StopNo}
+use Rattle.vs_types.proofs.CallerLemmas.{range_more}
 use Rattle.vs_match.specs.declared.event.Point.{Point}
 use Rattle.vs_match.specs.Sizes.{stop_points, line_points}
-
--- the numbers from a on, with one more at their end
-range_more : (a n j : ℕ) → a + n ≡ j → range_with_len a (n + 1) ≡ range_with_len a n ++ j ∷ []
-range_more a zero j e = let same : a ≡ j = omega arith in ap (λ (x : ℕ). x ∷ []) same
-range_more a (suc n) j e =
-    let up : suc n + 1 ≡ suc (n + 1) = omega arith in
-    rw up (ap (λ (xs : List ℕ). a ∷ xs) (range_more (a + 1) n j (omega arith)))
 
 -- one number more is added
 pub sum_by-next : (f : ℕ → ℕ) (n : ℕ) → sum_by f (range_with_len 0 (n + 1)) ≡ sum_by f (range_with_len 0 n) + f n

@@ -1,4 +1,4 @@
--- The arcs by which vehicles rest, by the nodes of arrivals, of the depot line and of departures.
+-- The arcs by which vehicles rest, by the nodes of the depot line.
 use Rattle.std.proofs.Common.{◌≡◌, ℕ, ◌+◌, ◌-◌, ◌<◌, ◌≤◌, List, length, get_or, inl, inr, arith, sym, ap, ◌∙◌, refl, subst}
 use Rattle.std.specs.Prelude.{AllPairs, Contains}
 use Rattle.std.proofs.lemmas.Bool.{cases_lt, cases_order}
@@ -8,16 +8,16 @@ use Rattle.vs_instance.specs.Ways.{layer_of}
 use Rattle.vs_match.specs.declared.event.Point.{Point}
 use Rattle.vs_match.specs.declared.stop_node.StopNode.{StopNode}
 use Rattle.vs_match.specs.declared.arc_kind.LayerArc.{LayerArc}
-use Rattle.vs_match.specs.Events.{DepartsAt, ArrivesAt, IsBefore, IsLineMinute, ArePoints, HasPlace, HasLine, line_point}
+use Rattle.vs_match.specs.Events.{ArrivesAt, IsBefore, IsLineMinute, ArePoints, HasPlace, HasLine, line_point}
 use Rattle.vs_match.specs.ArcsOf.{rest_in_of, rest_wait_of, rest_out_of}
-use Rattle.vs_match.specs.RestMoves.{IsRestInFrom, IsRestOutTo}
-use Rattle.vs_match.specs.StopNodes.{IsRising, event_of, AreStopNodes, AreLineNodes}
+use Rattle.vs_match.specs.DepotDrives.{IsRestInFrom, IsRestOutTo}
+use Rattle.vs_match.specs.StopNodes.{IsRising, event_of, AreLineNodes}
 use Rattle.vs_match.specs.Sweep.{IsFirstFrom}
 use Rattle.vs_match.specs.Adds.{Adds}
-use Rattle.vs_match.specs.Parts.{IsRestIn, IsRestWait, IsRestOut}
+use Rattle.vs_match.specs.Parts.{IsRestIn, IsRestWait}
 use Rattle.vs_match.proofs.events.Adding.{Upto, adds-as}
 use Rattle.vs_match.proofs.events.Places.{placed, has_node, same_node}
-use Rattle.vs_match.proofs.matches.PulledOut.{AtPlace, same_at, at_place}
+use Rattle.vs_match.proofs.matches.WaitedAt.{AtPlace, same_at, at_place}
 use Rattle.vs_match.proofs.matches.Sweeping.{same_departure}
 use Rattle.vs_match.proofs.walks.ClosedWays.{some-same}
 
@@ -48,19 +48,6 @@ only_rest_out p l points ordered until x y of of' =
     of.is ∙ ap (λ (w : Way). rest_out_of p l w of.since until) by
     ∙ ap (λ (v : ℕ). rest_out_of p l of'.by v until) since ∙ sym of'.is
 
--- the way in from arrival k
-pub record OfRestIn (p : Problem) (l : ℕ) (line stop_nodes : List StopNode) (k : ℕ) (x : LayerArc) : Type 0 where
-  pub since : StopNode
-  pub at : AtPlace stop_nodes k since
-  pub of : IsRestInFrom p l line since x
-
--- the way out to departure k
-pub record OfRestOut (p : Problem) (l : ℕ) (points : List Point) (stop_nodes : List StopNode) (k : ℕ)
-    (x : LayerArc) : Type 0 where
-  pub until : StopNode
-  pub at : AtPlace stop_nodes k until
-  pub of : IsRestOutTo p l points until x
-
 -- the rest up to node k of the depot line
 pub record OfRestWait (p : Problem) (l : ℕ) (line : List StopNode) (k : ℕ) (x : LayerArc) : Type 0 where
   pub since : StopNode
@@ -70,21 +57,6 @@ pub record OfRestWait (p : Problem) (l : ℕ) (line : List StopNode) (k : ℕ) (
   pub at : AtPlace line first since
   pub at_next : AtPlace line k until
   pub is : x ≡ rest_wait_of p l since until
-
--- by the node at place k there is one of each
-pub only_in_at : (p : Problem) (l : ℕ) (line stop_nodes : List StopNode) → IsRising line → (k : ℕ) (s : StopNode)
-    → AtPlace stop_nodes k s → (x : LayerArc) → IsRestInFrom p l line s x → (y : LayerArc)
-    → OfRestIn p l line stop_nodes k y → x ≡ y
-only_in_at p l line stop_nodes rising k s at x of y of' =
-    let P : StopNode → Type 0 = λ t. IsRestInFrom p l line t y in
-    only_rest_in p l line rising s x y of (subst P (same_at stop_nodes k of'.since s of'.at at) of'.of)
-
-pub only_out_at : (p : Problem) (l : ℕ) (points : List Point) (stop_nodes : List StopNode) → AllPairs IsBefore points
-    → (k : ℕ) (s : StopNode) → AtPlace stop_nodes k s → (x : LayerArc) → IsRestOutTo p l points s x → (y : LayerArc)
-    → OfRestOut p l points stop_nodes k y → x ≡ y
-only_out_at p l points stop_nodes ordered k s at x of y of' =
-    let P : StopNode → Type 0 = λ t. IsRestOutTo p l points t y in
-    only_rest_out p l points ordered s x y of (subst P (same_at stop_nodes k of'.until s of'.at at) of'.of)
 
 pub only_wait_at : (p : Problem) (l : ℕ) (line : List StopNode) (k : ℕ) (x y : LayerArc) → OfRestWait p l line k x
     → OfRestWait p l line k y → x ≡ y
@@ -115,69 +87,48 @@ module _ (p : Problem) (l : ℕ) (points : List Point) (are_points : ArePoints p
       → Contains line (record { stop = (layer_of p l).depot; minute = minute; node = v })
   line_at_node minute v at = are_line.every (record { stop = (layer_of p l).depot; minute = minute; node = v }) at refl
 
-  module _ (stop_nodes : List StopNode) (are : AreStopNodes points (ArrivesAt p l) stop_nodes) where
-    to_rest_in : (k : ℕ) (x : LayerArc) → OfRestIn p l line stop_nodes k x → IsRestIn p l points x
-    to_rest_in k x rest =
-        let since = rest.since in
-        let of = rest.of in
-        let s = are.only since (k, rest.at.0, rest.at.1) in
-        let u = (are_line.only of.until of.first.departs).0 in
-        let P : ℕ → Type 0 = λ v. HasPlace points v (event_of since) in
-        let Q : ℕ → Type 0 = λ v. HasLine points v of.until.minute in (
-          ap (λ (y : LayerArc). y.kind) of.is,
-          record {
-            since = event_of since;
-            by = of.by;
-            stay = of.stay;
-            until = of.until.minute;
-            from = subst P (sym (ap (λ (y : LayerArc). y.from) of.is)) s.0;
-            to = subst Q (sym (ap (λ (y : LayerArc). y.to) of.is)) u;
-            arrives = s.1;
-            way_is = of.way_is;
-            stay_is = of.stay_is;
-            rested = of.first.in_time;
-            first = λ minute is late.
-                let c = line_node minute is in
-                omega (arith, c.2, of.first.first c.0 c.1 (omega (arith, c.2, late)));
-            cost = ap (λ (y : LayerArc). y.cost) of.is;
-            room = ap (λ (y : LayerArc). y.room) of.is;
-          },
-        )
+  -- the ways in
+  pub to_rest_in : (since : StopNode) → HasPlace points since.node (event_of since) × ArrivesAt p l (event_of since)
+      → (x : LayerArc) → IsRestInFrom p l line since x → IsRestIn p l points x
+  to_rest_in since (place, arrives) x of =
+      let u = (are_line.only of.until of.first.departs).0 in
+      let P : ℕ → Type 0 = λ v. HasPlace points v (event_of since) in
+      let Q : ℕ → Type 0 = λ v. HasLine points v of.until.minute in (
+        ap (λ (y : LayerArc). y.kind) of.is,
+        record {
+          since = event_of since;
+          by = of.by;
+          stay = of.stay;
+          until = of.until.minute;
+          from = subst P (sym (ap (λ (y : LayerArc). y.from) of.is)) place;
+          to = subst Q (sym (ap (λ (y : LayerArc). y.to) of.is)) u;
+          arrives = arrives;
+          way_is = of.way_is;
+          stay_is = of.stay_is;
+          rested = of.first.in_time;
+          first = λ minute is late.
+              let c = line_node minute is in
+              omega (arith, c.2, of.first.first c.0 c.1 (omega (arith, c.2, late)));
+          cost = ap (λ (y : LayerArc). y.cost) of.is;
+          room = ap (λ (y : LayerArc). y.room) of.is;
+        },
+      )
 
-    from_rest_in : (x : LayerArc) → IsRestIn p l points x
-        → Upto (OfRestIn p l line stop_nodes) (length stop_nodes) x
-    from_rest_in x (kind, arc) =
-        let s : StopNode = record { stop = arc.since.stop; minute = arc.since.minute; node = x.from } in
-        let has = are.every s arc.from arc.arrives in
-        let until : StopNode = record { stop = (layer_of p l).depot; minute = arc.until; node = x.to } in (
-          has.0,
-          has.1,
-          record {
-            since = s;
-            at = (has.1, has.2);
-            of = record {
-              stay = arc.stay;
-              by = arc.by;
-              until = until;
-              stay_is = arc.stay_is;
-              way_is = arc.way_is;
-              first = record {
-                departs = line_at_node arc.until x.to arc.to;
-                in_time = arc.rested;
-                first = λ c has_c late.
-                    arc.first c.minute (is_line c.minute c.node (are_line.only c has_c).0) late;
-              };
-              is = λ i. record { from = x.from; to = x.to; kind = kind i; cost = arc.cost i; room = arc.room i };
-            };
-          },
-        )
-
-    pub rest_ins_are : (old new : List LayerArc)
-        → Adds (Upto (OfRestIn p l line stop_nodes) (length stop_nodes)) old new
-        → Adds (IsRestIn p l points) old new
-    rest_ins_are old new adds =
-        adds-as (Upto (OfRestIn p l line stop_nodes) (length stop_nodes)) (IsRestIn p l points) old new adds
-        (λ x (k, within, of). to_rest_in k x of) from_rest_in
+  pub from_rest_in : (x : LayerArc) (is : IsRestIn p l points x)
+      → IsRestInFrom p l line (record { stop = is.1.since.stop; minute = is.1.since.minute; node = x.from }) x
+  from_rest_in x (kind, arc) = record {
+    stay = arc.stay;
+    by = arc.by;
+    until = record { stop = (layer_of p l).depot; minute = arc.until; node = x.to };
+    stay_is = arc.stay_is;
+    way_is = arc.way_is;
+    first = record {
+      departs = line_at_node arc.until x.to arc.to;
+      in_time = arc.rested;
+      first = λ c has_c late. arc.first c.minute (is_line c.minute c.node (are_line.only c has_c).0) late;
+    };
+    is = λ i. record { from = x.from; to = x.to; kind = kind i; cost = arc.cost i; room = arc.room i };
+  }
 
   at_line : (k : ℕ) (s : StopNode) → AtPlace line k s → HasLine points s.node s.minute
   at_line k s at = (are_line.only s (k, at.0, at.1)).0
@@ -280,44 +231,3 @@ rests_past p l line n old new past adds =
 
 pub no_rest_before : (p : Problem) (l : ℕ) (line : List StopNode) (x : LayerArc) → ¬ (OfRestWait p l line 0 x)
 no_rest_before p l line x of = omega (arith, of.follows)
-
-pub rest_outs_are : (p : Problem) (l : ℕ) (points : List Point) (stop_nodes : List StopNode)
-    → AreStopNodes points (DepartsAt p l) stop_nodes → (old new : List LayerArc)
-    → Adds (Upto (OfRestOut p l points stop_nodes) (length stop_nodes)) old new → Adds (IsRestOut p l points) old new
-rest_outs_are p l points stop_nodes are old new adds =
-    adds-as (Upto (OfRestOut p l points stop_nodes) (length stop_nodes)) (IsRestOut p l points) old new adds
-    (λ x (k, within, rest).
-    let of = rest.of in
-    let until = rest.until in
-    let s = are.only until (k, within, rest.at.1) in
-    let P : ℕ → Type 0 = λ v. HasPlace points v (event_of until) in
-    let Q : ℕ → Type 0 = λ v. HasLine points v (until.minute - of.by.minutes) in (
-      ap (λ (y : LayerArc). y.kind) of.is,
-      record {
-        until = event_of until;
-        by = of.by;
-        from = subst Q (sym (ap (λ (y : LayerArc). y.from) of.is)) of.leaves;
-        to = subst P (sym (ap (λ (y : LayerArc). y.to) of.is)) s.0;
-        departs = s.1;
-        after = of.after;
-        cost = ap (λ (y : LayerArc). y.cost) of.is;
-        room = ap (λ (y : LayerArc). y.room) of.is;
-      },
-    ))
-    (λ x (kind, arc).
-    let s : StopNode = record { stop = arc.until.stop; minute = arc.until.minute; node = x.to } in
-    let has = are.every s arc.to arc.departs in (
-      has.0,
-      has.1,
-      record {
-        until = s;
-        at = (has.1, has.2);
-        of = record {
-          by = arc.by;
-          since = x.from;
-          after = arc.after;
-          leaves = arc.from;
-          is = λ i. record { from = x.from; to = x.to; kind = kind i; cost = arc.cost i; room = arc.room i };
-        };
-      },
-    ))

@@ -41,7 +41,8 @@ index_other kinds n index is other = record {
   ];
 }
 
-trip_number-is : (a b : TripNo) → Trip a ≡ Trip b → a.0 ≡ b.0
+-- trips that have the same arc kind have the same number
+pub trip_number-is : (a b : TripNo) → Trip a ≡ Trip b → a.0 ≡ b.0
 trip_number-is a b e = let same : a ≡ b = cc in ap (λ (t : TripNo). t.0) same
 
 -- the arc of trip i

@@ -1,6 +1,7 @@
 -- Waiting arcs are between nodes that follow each other at a stop.
 use Rattle.std.proofs.Common.{◌≡◌, ℕ, ◌+◌, ◌<◌, ◌≤◌, List, length, get_or, inl, inr, arith, sym, ap, ◌∙◌, refl, subst}
 use Rattle.std.proofs.lemmas.Bool.{cases_lt, cases_eq, cases_order}
+use Rattle.std.proofs.lemmas.List.{get_or_default}
 use Rattle.vs_types.specs.declared.numbers.StopNo.{StopNo}
 use Rattle.vs_instance.specs.Problem.{Problem}
 use Rattle.vs_match.specs.declared.event.Event.{Event}
@@ -14,9 +15,20 @@ use Rattle.vs_match.specs.Adds.{Adds}
 use Rattle.vs_match.specs.Parts.{IsWaiting}
 use Rattle.vs_match.proofs.events.Adding.{Upto, adds-as}
 use Rattle.vs_match.proofs.events.Places.{has_node, placed}
-use Rattle.vs_match.proofs.matches.PulledOut.{AtPlace, same_at, at_place}
 use Rattle.vs_match.proofs.walks.WaitingChains.{same_stop}
 use Rattle.vs_match.specs.Events.{ArePoints}
+
+-- the node at a place
+abbrev pub AtPlace : List StopNode → ℕ → StopNode → Type 0
+AtPlace stop_nodes k s = (k < length stop_nodes) × (get_or stop_nodes k s ≡ s)
+
+pub same_at : (stop_nodes : List StopNode) (k : ℕ) (a b : StopNode) → AtPlace stop_nodes k a
+    → AtPlace stop_nodes k b → a ≡ b
+same_at stop_nodes k a b at at' = sym at.1 ∙ get_or_default stop_nodes k a b at.0 ∙ at'.1
+
+pub at_place : (stop_nodes : List StopNode) (k : ℕ) (d : StopNode) → k < length stop_nodes
+    → AtPlace stop_nodes k (get_or stop_nodes k d)
+at_place stop_nodes k d within = (within, get_or_default stop_nodes k _ d within)
 
 -- the waiting up to node k, where the node before it is at its stop
 pub record OfNeighbours (p : Problem) (l : ℕ) (stop_nodes : List StopNode) (k : ℕ) (x : LayerArc) : Type 0 where

@@ -14,7 +14,7 @@ use Rattle.vs_instance.specs.declared.way.Way.{Way}
 use Rattle.vs_instance.specs.Problem.{Problem}
 use Rattle.vs_instance.specs.Ways.{way, layer_of, no_trip}
 use Rattle.vs_instance.specs.Instance.{IsInstance, IsStay, IsDeadhead as IsWay}
-use Rattle.vs_instance.proofs.CallerLemmas.{layer_of-IsLayer}
+use Rattle.vs_instance.proofs.CallerLemmas.{layer_of-IsLayer, way-other}
 use Rattle.vs_match.specs.declared.event.Point.{Point}
 use Rattle.vs_match.specs.declared.arc_kind.ArcKind.{ArcKind}
 use Rattle.vs_match.specs.declared.arc_kind.ArcKind.TheVariants.{Trip, Waiting, Deadhead, PullOut, PullIn, RestIn, RestWait, RestOut, Return}
@@ -25,21 +25,22 @@ use Rattle.vs_match.specs.NetArcs.{IsArcOf, IsArcBefore, rank, trip_number}
 use Rattle.vs_match.specs.Adds.{Adds, AreArcs, arc_in}
 use Rattle.vs_match.specs.ArcsOf.{return_of}
 use Rattle.vs_match.specs.LayerGraph.{LayerGraph, IsNetOf, kind_at}
-use Rattle.vs_match.specs.Parts.{IsTrip, IsWaiting, IsDeadhead, IsPullOut, IsPullIn, IsRestIn, IsRestWait, IsRestOut, IsReturn}
+use Rattle.vs_match.specs.Parts.{IsTrip, IsWaiting, IsDeadhead, IsRestWait, IsReturn}
+use Rattle.vs_match.specs.declared.depot_drives.DepotDrive.TheVariants as drive
+use Rattle.vs_match.specs.DepotDrives.{IsDepotDrive}
 use Rattle.vs_match.specs.TripIndex.{IsBelow}
 use Rattle.vs_match.proofs.events.Adding.{adds-both, adds-one, contains-none}
 use Rattle.vs_match.proofs.order.ArcOrder.{arc_cmp, arc_before}
 use Rattle.vs_match.proofs.events.Places.{placed, nodes_in_order}
-use Rattle.vs_match.proofs.walks.ClosedWays.{some-same, way-apart}
+use Rattle.vs_match.proofs.walks.ClosedWays.{some-same}
 use Rattle.vs_match.proofs.walks.WalkBounds.{first_of_match}
 
 module _ (p : Problem) (l : ℕ) (matching : Matching) (points : List Point) where
   -- an arc of any kind
   abbrev pub IsAny : LayerArc → Type 0
   IsAny x =
-      (((((((IsTrip p l points x ⊎ IsWaiting p l points x) ⊎ IsDeadhead p l matching points x)
-      ⊎ IsPullOut p l points x) ⊎ IsPullIn p l points x)
-      ⊎ IsRestIn p l points x) ⊎ IsRestWait p l points x) ⊎ IsRestOut p l points x)
+      ((((IsTrip p l points x ⊎ IsWaiting p l points x) ⊎ IsDeadhead p l matching points x)
+      ⊎ IsDepotDrive p l points x) ⊎ IsRestWait p l points x)
       ⊎ IsReturn p l points x
 
   abbrev IsOne : LayerArc → Type 0
@@ -49,25 +50,25 @@ module _ (p : Problem) (l : ℕ) (matching : Matching) (points : List Point) whe
   of_kind x kind is arc = subst (λ (t : ArcKind). IsArcOf p l matching points t (arc_in x)) (sym is) arc
 
   one_of_any : (x : LayerArc) → IsAny x → IsOne x
-  one_of_any x (inl (inl (inl (inl (inl (inl (inl (inl (i, kind, arc))))))))) = of_kind x (Trip i) kind arc
-  one_of_any x (inl (inl (inl (inl (inl (inl (inl (inr (kind, arc))))))))) = of_kind x Waiting kind arc
-  one_of_any x (inl (inl (inl (inl (inl (inl (inr (kind, arc)))))))) = of_kind x Deadhead kind arc
-  one_of_any x (inl (inl (inl (inl (inl (inr (kind, arc))))))) = of_kind x PullOut kind arc
-  one_of_any x (inl (inl (inl (inl (inr (kind, arc)))))) = of_kind x PullIn kind arc
-  one_of_any x (inl (inl (inl (inr (kind, arc))))) = of_kind x RestIn kind arc
-  one_of_any x (inl (inl (inr (kind, arc)))) = of_kind x RestWait kind arc
-  one_of_any x (inl (inr (kind, arc))) = of_kind x RestOut kind arc
+  one_of_any x (inl (inl (inl (inl (inl (i, kind, arc)))))) = of_kind x (Trip i) kind arc
+  one_of_any x (inl (inl (inl (inl (inr (kind, arc)))))) = of_kind x Waiting kind arc
+  one_of_any x (inl (inl (inl (inr (kind, arc))))) = of_kind x Deadhead kind arc
+  one_of_any x (inl (inl (inr (drive.PullOut, (kind, arc))))) = of_kind x PullOut kind arc
+  one_of_any x (inl (inl (inr (drive.PullIn, (kind, arc))))) = of_kind x PullIn kind arc
+  one_of_any x (inl (inl (inr (drive.RestIn, (kind, arc))))) = of_kind x RestIn kind arc
+  one_of_any x (inl (inl (inr (drive.RestOut, (kind, arc))))) = of_kind x RestOut kind arc
+  one_of_any x (inl (inr (kind, arc))) = of_kind x RestWait kind arc
   one_of_any x (inr (kind, arc)) = of_kind x Return kind arc
 
   any_of_kind : (x : LayerArc) (kind : ArcKind) → x.kind ≡ kind → IsArcOf p l matching points kind (arc_in x) → IsAny x
-  any_of_kind x (Trip i) is arc = inl (inl (inl (inl (inl (inl (inl (inl (i, is, arc))))))))
-  any_of_kind x Waiting is arc = inl (inl (inl (inl (inl (inl (inl (inr (is, arc))))))))
-  any_of_kind x Deadhead is arc = inl (inl (inl (inl (inl (inl (inr (is, arc)))))))
-  any_of_kind x PullOut is arc = inl (inl (inl (inl (inl (inr (is, arc))))))
-  any_of_kind x PullIn is arc = inl (inl (inl (inl (inr (is, arc)))))
-  any_of_kind x RestIn is arc = inl (inl (inl (inr (is, arc))))
-  any_of_kind x RestWait is arc = inl (inl (inr (is, arc)))
-  any_of_kind x RestOut is arc = inl (inr (is, arc))
+  any_of_kind x (Trip i) is arc = inl (inl (inl (inl (inl (i, is, arc)))))
+  any_of_kind x Waiting is arc = inl (inl (inl (inl (inr (is, arc)))))
+  any_of_kind x Deadhead is arc = inl (inl (inl (inr (is, arc))))
+  any_of_kind x PullOut is arc = inl (inl (inr (drive.PullOut, (is, arc))))
+  any_of_kind x PullIn is arc = inl (inl (inr (drive.PullIn, (is, arc))))
+  any_of_kind x RestIn is arc = inl (inl (inr (drive.RestIn, (is, arc))))
+  any_of_kind x RestWait is arc = inl (inr (is, arc))
+  any_of_kind x RestOut is arc = inl (inl (inr (drive.RestOut, (is, arc))))
   any_of_kind x Return is arc = inr (is, arc)
 
   pub adds_return : (arcs : List LayerArc)
@@ -84,30 +85,21 @@ module _ (p : Problem) (l : ℕ) (matching : Matching) (points : List Point) whe
         room = sym arc.room i;
       })
 
-  -- nine times more arcs, and all are there
-  pub adds_all : (a b c d e f g h i : List LayerArc) → Adds (IsTrip p l points) [] a → Adds (IsWaiting p l points) a b
-      → Adds (IsDeadhead p l matching points) b c
-      → Adds (IsPullOut p l points) c d → Adds (IsPullIn p l points) d e → Adds (IsRestIn p l points) e f
-      → Adds (IsRestWait p l points) f g → Adds (IsRestOut p l points) g h → Adds (IsReturn p l points) h i
-      → Adds IsAny [] i
-  adds_all a b c d e f g h i trips waiting deadheads outs ins rest_ins rest_waits rest_outs back =
+  -- six times more arcs, and all are there
+  pub adds_all : (a b c d e f : List LayerArc) → Adds (IsTrip p l points) [] a → Adds (IsWaiting p l points) a b
+      → Adds (IsDeadhead p l matching points) b c → Adds (IsDepotDrive p l points) c d
+      → Adds (IsRestWait p l points) d e → Adds (IsReturn p l points) e f → Adds IsAny [] f
+  adds_all a b c d e f trips waiting deadheads drives rest_waits back =
       let T = IsTrip p l points in
       let W = IsWaiting p l points in
       let D = IsDeadhead p l matching points in
-      let O = IsPullOut p l points in
-      let I = IsPullIn p l points in
+      let O = IsDepotDrive p l points in
+      let R = IsRestWait p l points in
       let one = adds-both T W [] a b trips waiting in
       let two = adds-both (λ x. T x ⊎ W x) D [] b c one deadheads in
-      let three = adds-both (λ x. (T x ⊎ W x) ⊎ D x) O [] c d two outs in
-      let four = adds-both (λ x. ((T x ⊎ W x) ⊎ D x) ⊎ O x) I [] d e three ins in
-      let A = λ (x : LayerArc). (((T x ⊎ W x) ⊎ D x) ⊎ O x) ⊎ I x in
-      let R = IsRestIn p l points in
-      let S = IsRestWait p l points in
-      let U = IsRestOut p l points in
-      let five = adds-both A R [] e f four rest_ins in
-      let six = adds-both (λ x. A x ⊎ R x) S [] f g five rest_waits in
-      let seven = adds-both (λ x. (A x ⊎ R x) ⊎ S x) U [] g h six rest_outs in
-      adds-both (λ x. ((A x ⊎ R x) ⊎ S x) ⊎ U x) (IsReturn p l points) [] h i seven back
+      let three = adds-both (λ x. (T x ⊎ W x) ⊎ D x) O [] c d two drives in
+      let four = adds-both (λ x. ((T x ⊎ W x) ⊎ D x) ⊎ O x) R [] d e three rest_waits in
+      adds-both (λ x. (((T x ⊎ W x) ⊎ D x) ⊎ O x) ⊎ R x) (IsReturn p l points) [] e f four back
 
   pub are_arcs : (found arcs : List LayerArc) → Adds IsAny [] found
       → ((x : LayerArc) → Contains arcs x ↔ Contains found x)
@@ -136,7 +128,7 @@ Lies points kind a =
 -- deadheads take a minute at least
 takes_time : (p : Problem) → IsInstance p → (k s : ℕ) (w : Way) → ¬ (k ≡ s) → way p k s ≡ Some w → 1 ≤ w.minutes
 takes_time p is k s w apart way_is =
-    (MatchOption-at_some _ (IsWay p k s) w (sym (way-apart p k s apart) ∙ way_is) (is.deadheads k s)).some_minutes
+    (MatchOption-at_some _ (IsWay p k s) w (sym (way-other p k s apart) ∙ way_is) (is.deadheads k s)).some_minutes
 
 below_last : (points : List Point) (v : ℕ) (x : Point) → HasPoint points v x → (0 < v) × (v < last_node points)
 below_last points v y at = let x = placed points v y at in (omega (arith, x.node), omega (arith, x.node, x.within))

@@ -1,21 +1,19 @@
 -- Ways that follow each other, under closed deadheads.
-use Rattle.std.proofs.Common.{◌≡◌, ◌≢◌, ℕ, ◌+◌, ◌≤◌, if◌then◌else◌, Option, Some, None, refl, sym, ap, ◌∙◌, inl, inr, arith}
+use Rattle.std.proofs.Common.{◌≡◌, ℕ, ◌+◌, ◌≤◌, if◌then◌else◌, Option, Some, None, refl, sym, ap, ◌∙◌, inl, inr, arith}
 use Rattle.std.specs.Prelude.{IsSomeAnd, unwrap_or}
 use Rattle.std.specs.FinMap as map
-use Rattle.std.proofs.lemmas.Bool.{cases_eq, eq-eqb, ne_eqb}
+use Rattle.std.proofs.lemmas.Bool.{cases_eq, eq-eqb}
 use Rattle.vs_instance.specs.declared.way.Way.{Way}
 use Rattle.vs_instance.specs.Problem.{Problem}
 use Rattle.vs_instance.specs.Ways.{way, no_way}
 use Rattle.vs_instance.specs.Instance.{IsInstance, IsNoLonger}
+use Rattle.vs_instance.proofs.CallerLemmas.{way-other}
 
 pub some-same : {X : Type 0} (x y : X) → ◌≡◌ {A = Option X} (Some x) (Some y) → x ≡ y
 some-same x y e = ap (λ o. unwrap_or o x) e
 
 pub way-own : (p : Problem) (k : ℕ) → way p k k ≡ Some no_way
 way-own p k = ap (λ b. if b then Some no_way else map.get p.deadheads (k, k)) (eq-eqb k k refl)
-
-pub way-apart : (p : Problem) (k s : ℕ) → k ≢ s → way p k s ≡ map.get p.deadheads (k, s)
-way-apart p k s apart = ap (λ b. if b then Some no_way else map.get p.deadheads (k, s)) (ne_eqb k s apart)
 
 -- a way that is no longer than these two together
 pub record IsThrough (p : Problem) (k t : ℕ) (a b : Way) : Type 0 where
@@ -61,8 +59,8 @@ way-through p is k s t a b first second =
                     omega arith;
                 metres = omega arith;
               }
-          | inr round ↦ from_closure p k t a b (map.get p.deadheads (k, t)) (way-apart p k t round)
-              (is.closed k s t a b round (sym (way-apart p k s apart) ∙ first) (sym (way-apart p s t apart') ∙ second))
+          | inr round ↦ from_closure p k t a b (map.get p.deadheads (k, t)) (way-other p k t round)
+              (is.closed k s t a b round (sym (way-other p k s apart) ∙ first) (sym (way-other p s t apart') ∙ second))
         ]
       ]
     ]

@@ -1,10 +1,12 @@
 -- Layers that are done, one after another, and what all of them show.
-use Rattle.std.proofs.Common.{◌≡◌, ℕ, ◌+◌, ◌*◌, ◌<◌, Bool, false, List, ◌++◌, length, sym, ap, ◌∙◌, subst, arith, inl, inr, MatchBool, Some, ℤ, pos, ◌≤ℤ◌}
+use Rattle.std.proofs.Common.{◌≡◌, ℕ, ◌+◌, ◌*◌, ◌<◌, false, List, ◌++◌, length, sym, ap, ◌∙◌, subst, arith, inl, inr, Some, ℤ, pos, ◌≤ℤ◌}
 use Rattle.std.proofs.lemmas.Bool.{cases_lt}
 use Rattle.std.proofs.lemmas.Int.{ints}
 use Rattle.std.proofs.lemmas.List.Sums.{sum_by-append}
 use Rattle.vs_types.specs.declared.layer_set.LayerSet.{LayerSet}
 use Rattle.vs_types.specs.declared.numbers.LayerNo.{LayerNo}
+use Rattle.vs_types.proofs.CallerLemmas.{match_false}
+use Rattle.vs_instance.proofs.CallerLemmas.{total-range_next}
 use Rattle.vs_layer.specs.declared.net.Flow.{Flow}
 use Rattle.vs_instance.specs.Problem.{Problem}
 use Rattle.vs_instance.specs.Instance.{IsInstance}
@@ -19,7 +21,7 @@ use Rattle.vs_prices.specs.declared.bound.Bound.TheVariants.{AtLeast}
 use Rattle.vs_prices.specs.declared.table.Table.{Table}
 use Rattle.vs_prices.specs.Table.{Fits}
 use Rattle.vs_prices.specs.Worth.{IsRoundedUp, IsWorth, rounded_up, table_value}
-use Rattle.vs_prices.proofs.CallerLemmas.{bounds_plans, rounded_up-IsRoundedUp, total-map_more}
+use Rattle.vs_prices.proofs.CallerLemmas.{bounds_plans, rounded_up-IsRoundedUp}
 use Rattle.vs_circ.specs.declared.circ.LayerPrices.{LayerPrices}
 use Rattle.vs_circ.proofs.CallerLemmas.{run_exactly}
 use Rattle.vs_circ.proofs.CallerLemmas.{over_range, total-same}
@@ -61,7 +63,7 @@ module _ (p : Problem) (sets : List LayerSet) (restriction : IsRestriction p set
   new_cost : pos (1000 * plan_cost p (before ++ added))
       ≤ℤ over_range (layer_value p sets new) 0 (l.0 + 1)
   new_cost =
-      let more = total-map_more (layer_value p sets new) l.0 in
+      let more = total-range_next (layer_value p sets new) l.0 in
       let same = total-same (layer_value p sets new) (layer_value p sets old) 0 l.0
       (λ k from within. layer_value-same p sets old new k
       (same_before p l.0 old new prices done.prices behind k (omega (arith, within)))) in
@@ -95,9 +97,6 @@ all_layers-fit p table all = record {
   from = all.from;
   fleet = all.fleet;
 }
-
-match_false : (b : Bool) (P Q : Type 0) → b ≡ false → Q → MatchBool b P Q
-match_false b P Q e h = subst (λ (x : Bool). MatchBool x P Q) (sym e) h
 
 -- a bound that no plan falls below, rounded up from no less than a plan costs, is just that
 same_cost : (value bound : ℤ) (cost : ℕ) → IsRoundedUp value bound → pos (1000 * cost) ≤ℤ value → bound ≤ℤ pos cost

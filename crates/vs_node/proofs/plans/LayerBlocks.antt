@@ -15,6 +15,7 @@ use Rattle.vs_instance.specs.Ways.{layer_of}
 use Rattle.vs_instance.specs.Blocks.{IsBlock}
 use Rattle.vs_instance.specs.Plan.{LayerBlock, IsPlan, all_trips, times_run, vehicles_used}
 use Rattle.vs_instance.specs.Restriction.{IsRestriction, IsWithin, set_of}
+use Rattle.vs_instance.proofs.CallerLemmas.{All-all_trips}
 use Rattle.vs_circ.specs.Circulations.{RunExactly}
 use Rattle.vs_circ.specs.Offers.{MustRun}
 use Rattle.vs_circ.proofs.CallerLemmas.{not_run}
@@ -37,14 +38,6 @@ in_each_block P [] all = All-nil (λ (b : LayerBlock). All P b.1)
 in_each_block P (b ∷ blocks) all =
     All-cons (λ (c : LayerBlock). All P c.1) b blocks (All-left P b.1 (all_trips blocks) all)
     (in_each_block P blocks (All-right P b.1 (all_trips blocks) all))
-
--- and the other way round
-in_all_trips : (P : TripNo → Type 0) (blocks : List LayerBlock) → All (λ b. All P b.1) blocks
-    → All P (all_trips blocks)
-in_all_trips P [] each = All-nil P
-in_all_trips P (b ∷ blocks) each =
-    All-append P b.1 (all_trips blocks) (All-head (λ (c : LayerBlock). All P c.1) b blocks each)
-    (in_all_trips P blocks (All-tail (λ (c : LayerBlock). All P c.1) b blocks each))
 
 -- how often a trip stands in two lists of blocks
 times_run-append : (xs ys : List LayerBlock) (i : ℕ) → times_run (xs ++ ys) i ≡ times_run xs i + times_run ys i
@@ -87,7 +80,7 @@ module _ (p : Problem) (sets : List LayerSet) (restriction : IsRestriction p set
 
   old_earlier : All (λ i. Earlier i.0) (all_trips old)
   old_earlier =
-      in_all_trips (λ (i : TripNo). Earlier i.0) old
+      All-all_trips (λ (i : TripNo). Earlier i.0) old
       (λ k d inside j e at. ((get_or old k d).0.0, before.first k d inside, before.within k d inside j e at))
 
   run_once_each : (i m : ℕ) → i < length p.trips → Has (set_of sets i) m → m < l.0 + 1 → times_run (old ++ new) i ≡ 1

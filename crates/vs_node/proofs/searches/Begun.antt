@@ -2,13 +2,12 @@
 use Rattle.std.proofs.Common.{◌≡◌, refl, ℕ, ◌<◌, Bool, true, false, List, length, get_or, sym, ap, ◌∙◌, subst, arith, inl, inr, ℤ, pos, ◌≤ℤ◌}
 use Rattle.std.proofs.lemmas.Int.{ints}
 use Rattle.std.proofs.lemmas.List.{ext_get_or}
-use Rattle.std.proofs.lemmas.List.FromFn.{fill_by_all}
 use Rattle.vs_types.specs.LayerSet.{Has}
 use Rattle.vs_types.specs.declared.layer_set.LayerSet.{LayerSet}
 use Rattle.vs_types.specs.declared.numbers.LayerNo.{LayerNo}
 use Rattle.vs_types.specs.declared.numbers.TripNo.{TripNo}
 use Rattle.vs_instance.specs.Problem.{Problem}
-use Rattle.vs_instance.specs.Lagrangian.{AreBlocksOf, IsLagrangianValue, IsStart, total}
+use Rattle.vs_instance.specs.Lagrangian.{AreBlocksOf, IsLagrangianValue, IsStart}
 use Rattle.vs_instance.specs.Plan.{LayerBlock, all_trips}
 use Rattle.vs_instance.specs.Restriction.{IsRestriction, permitted_sets, set_of}
 use Rattle.vs_instance.proofs.CallerLemmas.{total-range_le, trips_inside, set_of-permitted_sets, values_exist}
@@ -17,6 +16,7 @@ use Rattle.vs_prices.specs.declared.bound.Bound.TheVariants.{AtLeast, NoPlan}
 use Rattle.vs_prices.specs.declared.table.Table.{Table}
 use Rattle.vs_prices.specs.Bounds.{ReachesLagrangian, ReachesValue}
 use Rattle.vs_circ.proofs.CallerLemmas.{over_range}
+use Rattle.vs_multi.proofs.CallerLemmas.{total-by_place}
 use Rattle.vs_multi.specs.Multipliers.{AreOfTable, AreStarts}
 use Rattle.vs_node.specs.WorkedStep.{AreBegunWith, IsWorked, ReachesStart}
 
@@ -67,11 +67,6 @@ pub begun-each_trip : (p : Problem) (root : Bool) (sets : List LayerSet) (table 
     → AreBegunWith p root sets table multipliers → length multipliers ≡ length p.trips
 begun-each_trip p true sets table multipliers begun = begun.each_trip
 begun-each_trip p false sets table multipliers begun = begun.each_trip
-
--- a list's total, by the places of the list
-total-by_place : (xs : List ℤ) (n : ℕ) → length xs ≡ n → total xs ≡ over_range (λ k. get_or xs k (pos 0)) 0 n
-total-by_place xs n long =
-    ap total (fill_by_all (λ (k : ℕ). get_or xs k (pos 0)) xs n (pos 0) long (λ k inside. refl))
 
 -- blocks of trips that may still be run in a layer are ones of trips that it may run
 permitted_blocks : (p : Problem) (sets : List LayerSet) (l : LayerNo) (blocks : List LayerBlock)

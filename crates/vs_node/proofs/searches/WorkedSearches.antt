@@ -11,14 +11,14 @@ use Rattle.vs_prices.specs.Bounds.{ReachesValue}
 use Rattle.vs_prices.specs.Worth.{IsWorth, worth_of}
 use Rattle.vs_prices.specs.declared.bound.Bound.{Bound}
 use Rattle.vs_prices.specs.declared.table.Table.{Table}
-use Rattle.vs_prices.proofs.CallerLemmas.{worth_of-IsWorth, left-restricts, right-restricts, set_of-other, set_of-same}
+use Rattle.vs_prices.proofs.CallerLemmas.{worth_of-IsWorth, left-restricts, right-restricts, set_of-other, set_of-same, reaches_more}
 use Rattle.vs_tree.specs.declared.spot.Spot.{Spot}
 use Rattle.vs_tree.specs.declared.spot.Spot.TheVariants.{Inner, Free, Held, Closed as ClosedSpot}
 use Rattle.vs_tree.specs.Prices.{AreLawful, AreWorth, Prices, no_prices, prices_of}
 use Rattle.vs_tree.specs.Sound.{IsOpening, IsSound}
 use Rattle.vs_prices.specs.Tree.{right_of, with_set}
 use Rattle.vs_tree.specs.History.{FullStep, Opening, Place, State, Took, Split, Closed, Offered, GaveBack, IsLeaf, IsLeafWorth, MayCome, MayFollow, MayGive, MaySplit, after, first_state, is_inner, left_part, place_at, prices_at, right_part, sets_at, spot_at, state_after, table_of, with_spot}
-use Rattle.vs_tree.proofs.CallerLemmas.{lawful_worth, leaf_within, last-prices, split, other, lower, upper, nowhere, where_is, split-here, split-lower, split-nowhere, split-other, split-upper, first_sound, step_sound, leaves-kept, prices-kept, same-worth, sets-kept, spot-here, spot-there, reaches-more, narrower-no_less}
+use Rattle.vs_tree.proofs.CallerLemmas.{lawful_worth, leaf_within, last-prices, split, other, lower, upper, nowhere, where_is, split-here, split-lower, split-nowhere, split-other, split-upper, first_sound, step_sound, leaves-kept, prices-kept, same-worth, sets-kept, spot-here, spot-there, narrower-no_less}
 use Rattle.vs_types.proofs.CallerLemmas.{rest-within}
 use Rattle.vs_node.specs.Laws.{WorkedSearchesReachTheStart}
 use Rattle.vs_node.specs.WorkedHistory.{AreWorkedFrom, AreWorkedPrices, IsWorkedStep}
@@ -118,7 +118,7 @@ module _ (o : Opening) (opening : IsOpening o) (value : ℤ) (start : IsStarting
     later_work : 1 ≤ s.finished → (worth : Bound) → AreWorth p (sets_at s leaf) prices worth → ReachesValue worth value
     later_work some worth is_worth =
         let before = lawful_worth p (sets_at s leaf) (prices_at s leaf) lawful_before in
-        reaches-more worth before.0 value (gives.no_less worth before.0 is_worth before.1)
+        reaches_more worth before.0 value (gives.no_less worth before.0 is_worth before.1)
         (begun.reach some leaf before.0 is_leaf before.1)
 
     work_reaches : (t : Table) (worth : Bound) → prices_of t ≡ prices → IsWorth p (sets_at s leaf) t worth
@@ -213,7 +213,7 @@ module _ (o : Opening) (opening : IsOpening o) (value : ℤ) (start : IsStarting
         let is_whole = worth_of-IsWorth p sets t in
         let reached = work_reaches s leaf table prices split_was may.gives worked sound begun t whole is_worth.listed
         is_whole in
-        reaches-more worth whole value
+        reaches_more worth whole value
         (narrower-no_less p sets (with_set sets trip layers) restricts
         (with_set-within sets trip layers inside part) t worth whole is_worth.worth is_whole) reached
 

@@ -6,8 +6,7 @@ use Rattle.vs_prices.specs.declared.bound.Bound.{Bound}
 use Rattle.vs_prices.specs.declared.table.Table.{Table}
 use Rattle.vs_prices.specs.Bounds.{IsNoLess, IsWorthNoLess, ReachesLagrangian}
 use Rattle.vs_prices.specs.Worth.{IsWorth, worth_of}
-use Rattle.vs_prices.proofs.CallerLemmas.{worth_of-IsWorth, worth_once}
-use Rattle.vs_tree.proofs.CallerLemmas.{no_less-refl, no_less-trans, reaches-more}
+use Rattle.vs_prices.proofs.CallerLemmas.{no_less-refl, no_less-trans, reaches_more, worth_of-IsWorth, worth_once}
 
 module _ (p : Problem) (sets : List LayerSet) where
   -- a table with a worth that is no less than another's is worth no less
@@ -35,5 +34,5 @@ module _ (p : Problem) (sets : List LayerSet) where
       → ReachesLagrangian p sets multipliers old → ReachesLagrangian p sets multipliers new
   lagrangian-kept new old multipliers more reaches w value is_w is_value =
       let before = worth_of-IsWorth p sets old in
-      reaches-more w (worth_of p sets old) value (more w (worth_of p sets old) is_w before)
+      reaches_more w (worth_of p sets old) value (more w (worth_of p sets old) is_w before)
       (reaches (worth_of p sets old) value before is_value)

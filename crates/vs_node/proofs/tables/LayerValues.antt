@@ -1,8 +1,10 @@
 -- What a table is worth where each trip has one layer, layer by layer.
 use Rattle.std.proofs.Common.{◌≡◌, ℕ, ◌<◌, Bool, true, false, cond, List, length, get_or, map, refl, sym, ap, ◌∙◌, subst, arith, ℤ, pos, ◌+ℤ◌, ◌-ℤ◌, ◌*ℤ◌}
 use Rattle.std.specs.List.{range_with_len}
+use Rattle.std.proofs.lemmas.Bool.{cond-false, false_from_ne_true}
 use Rattle.std.proofs.lemmas.Int.{ints}
 use Rattle.vs_types.specs.declared.layer_set.LayerSet.{LayerSet}
+use Rattle.vs_types.proofs.CallerLemmas.{none_times}
 use Rattle.vs_instance.specs.Problem.{Problem}
 use Rattle.vs_instance.specs.Instance.{IsInstance}
 use Rattle.vs_instance.specs.Ways.{layer_of}
@@ -10,7 +12,7 @@ use Rattle.vs_instance.specs.Pieces.{trip_piece}
 use Rattle.vs_instance.specs.HoldingTable.{price_of, scaled}
 use Rattle.vs_instance.specs.Lagrangian.{total}
 use Rattle.vs_instance.specs.Restriction.{IsRestriction, set_of}
-use Rattle.vs_instance.proofs.CallerLemmas.{none_times, total-map_sub}
+use Rattle.vs_instance.proofs.CallerLemmas.{total-map_sub}
 use Rattle.vs_prices.specs.declared.table.Table.{Table}
 use Rattle.vs_prices.specs.Table.{prices_in, vehicle_price}
 use Rattle.vs_prices.specs.Worth.{fleet_price, least, least_price, table_value, trip_price}
@@ -79,10 +81,6 @@ no_prices-shown p l must prices none =
 taken : (must : Bool) (x : ℤ) → must ≡ true → cond must x (pos 0) ≡ x
 taken must x is = ap (λ (b : Bool). cond b x (pos 0)) is
 
-left_out : (must : Bool) (x : ℤ) → ¬ (must ≡ true) → cond must x (pos 0) ≡ pos 0
-left_out true x not = absurd (not refl)
-left_out false x not = refl
-
 module _ (p : Problem) (sets : List LayerSet) (table : Table) (instance : IsInstance p)
     (restriction : IsRestriction p sets) (single : AreSingle sets) where
   -- what a trip pays in the one layer of its set, among all layers
@@ -97,8 +95,9 @@ module _ (p : Problem) (sets : List LayerSet) (table : Table) (instance : IsInst
       (members_alone (set_of sets i) l (omega (arith, only.1, instance.few_layers)) only.2) in
       let here = taken (get_or (must_in sets l) i false) (trip_price p table i l) (has_must sets l i stands has) in
       let all = total-only (λ k. due p sets table k i) l 0 (length p.layers) (omega arith) (omega (arith, only.1))
-      (λ k within other. left_out (get_or (must_in sets k) i false) (trip_price p table i k)
-      (λ must. other ((only.2 k).0 (must_has sets k i must)))) in
+      (λ k within other. cond-false (get_or (must_in sets k) i false) (trip_price p table i k) (pos 0)
+      (false_from_ne_true (get_or (must_in sets k) i false)
+      (λ must. other ((only.2 k).0 (must_has sets k i must))))) in
       alone ∙ sym here ∙ sym all
 
   -- the table's value is that of its layers together

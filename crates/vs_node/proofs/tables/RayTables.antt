@@ -1,9 +1,9 @@
 -- Rays with the prices of one layer, and zeros in all others.
-use Rattle.std.proofs.Common.{◌≡◌, ◌≢◌, ℕ, ◌+◌, ◌<◌, true, List, length, sym, ◌∙◌, subst, arith, inl, inr, Option, Some, None, pos, ◌+ℤ◌, ◌≤ℤ◌, ◌<ℤ◌}
-use Rattle.std.specs.Prelude.{IfSome}
+use Rattle.std.proofs.Common.{◌≡◌, ◌≢◌, ℕ, ◌+◌, ◌<◌, true, List, length, sym, ◌∙◌, subst, arith, inl, inr, pos, ◌+ℤ◌, ◌≤ℤ◌, ◌<ℤ◌}
 use Rattle.std.proofs.lemmas.Bool.{cases_eq, cases_lt}
 use Rattle.std.proofs.lemmas.Int.{ints}
 use Rattle.vs_types.specs.declared.layer_set.LayerSet.{LayerSet}
+use Rattle.vs_types.proofs.CallerLemmas.{each_some}
 use Rattle.vs_instance.specs.Problem.{Problem}
 use Rattle.vs_instance.specs.Instance.{IsInstance}
 use Rattle.vs_instance.specs.HoldingTable.{HoldsInLayer, price_of, scaled}
@@ -22,10 +22,6 @@ use Rattle.vs_node.specs.LayersDone.{AreNoPrices, AreSized, IsOfFirst, StandAt, 
 use Rattle.vs_node.proofs.tables.LayerValues.{layer_value-shown, no_prices-shown, value_by_layer}
 use Rattle.vs_node.proofs.tables.TablePrices.{AreSameAt, holds-stand, of_first-more, same_before, stand_last}
 
-for_all : (o : Option ℕ) (P : ℕ → Type 0) → ((c : ℕ) → P c) → IfSome o P
-for_all None P all = tt
-for_all (Some c) P all = all c
-
 -- prices of 0 hold where costs count nothing
 no_prices-hold : (p : Problem) (l : ℕ) (prices : LayerPrices) → AreNoPrices prices
     → HoldsInLayer p l true prices.into.items prices.from.items prices.fleet
@@ -34,15 +30,15 @@ no_prices-hold p l prices none =
     record {
       vehicle = omega (arith, ints, fleet);
       outs = λ i inside permitted.
-          for_all (out_piece p l i) (λ c. price_of prices.into.items i ≤ℤ (scaled true c +ℤ prices.fleet))
+          each_some (out_piece p l i) (λ c. price_of prices.into.items i ≤ℤ (scaled true c +ℤ prices.fleet))
           (λ c. let zero = zero_at prices.into.items i none.into in omega (arith, ints, zero, fleet));
       links = λ i j inside too permitted also.
-          for_all (link_piece p l i j)
+          each_some (link_piece p l i j)
           (λ c. price_of prices.into.items j ≤ℤ (price_of prices.from.items i +ℤ scaled true c))
           (λ c. let first = zero_at prices.into.items j none.into in
           let second = zero_at prices.from.items i none.from in omega (arith, ints, first, second));
       ins = λ i inside permitted.
-          for_all (in_piece p l i) (λ c. pos 0 ≤ℤ (price_of prices.from.items i +ℤ scaled true c))
+          each_some (in_piece p l i) (λ c. pos 0 ≤ℤ (price_of prices.from.items i +ℤ scaled true c))
           (λ c. let zero = zero_at prices.from.items i none.from in omega (arith, ints, zero));
     }
 

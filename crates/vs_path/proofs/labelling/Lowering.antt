@@ -7,12 +7,13 @@ use Rattle.vs_queue.specs.declared.step.Step.{Step}
 use Rattle.vs_queue.specs.declared.step.Step.TheVariants.{Forward, Back}
 use Rattle.vs_path.specs.declared.labels.TheConstants.{NO_BOUND}
 use Rattle.vs_path.specs.declared.residual.TheConstants.{MAX_STEP_COST}
+use Rattle.vs_path.specs.declared.residual.Way.TheVariants as way
 use Rattle.vs_queue.specs.declared.node_table.Settled.{Settled}
 use Rattle.vs_queue.specs.Keys.{IsBelow}
 use Rattle.vs_path.specs.Residual.{ResidualNet, IsOpen, IsWithin, AllWithin, HasSignRule, from_of, to_of, cost_of, price_at, reduced}
 use Rattle.vs_path.proofs.labelling.Settling.{order-≤}
 use Rattle.vs_queue.specs.NodeLists.{label_of}
-use Rattle.vs_path.specs.Labels.{Lists, AreLabels, IsArrival, Covers, IsBetter, IsBound, IsFarthest, IsLowered, IsNear, IsRelaxed, IsSettledAt, IsSmall, Relaxes, label_at, lowered, settled_at, source_of, step_at, waiting_at}
+use Rattle.vs_path.specs.Labels.{Lists, AreLabels, IsArrival, Covers, IsBetter, IsBound, IsFarthest, IsLowered, IsNear, IsRelaxed, IsRelaxedAlong, IsRelaxedFrom, IsSettledAt, IsSmall, Relaxes, label_at, lowered, settled_at, source_of, step_at, waiting_at}
 
 -- where a number isn't less than one that may be there, that one is there, and no greater
 pub not-less : (known : Option ℤ) (label : ℤ) → (((key : ℤ) → known ≡ Some key → label <ℤ key) → ⊥)
@@ -310,12 +311,14 @@ lowered-relaxed r prices surplus old after u distance s low relaxed is_open from
     }
 
 -- the steps that go either way are all
-pub both-ways : (r : ResidualNet) (prices surplus : List ℤ) (l : Lists) (u : ℕ) (distance : ℤ)
-    → ((k : ℕ) → IsRelaxed r prices surplus l u distance (Forward k))
-    → ((k : ℕ) → IsRelaxed r prices surplus l u distance (Back k))
-    → (s : Step) → IsRelaxed r prices surplus l u distance s
-both-ways r prices surplus l u distance forward back (Forward k) = forward k
-both-ways r prices surplus l u distance forward back (Back k) = back k
+pub both_ways : (r : ResidualNet) (prices surplus : List ℤ) (half new : Lists) (u : ℕ) (distance : ℤ)
+    → IsRelaxedAlong r prices surplus half u distance way.Forward → IsLowered half new
+    → IsRelaxedAlong r prices surplus new u distance way.Back → IsRelaxedFrom r prices surplus new u distance
+both_ways r prices surplus half new u distance forward lowered back = record { each = each }
+  where
+    each : (s : Step) → IsRelaxed r prices surplus new u distance s
+    each (Forward k) = lowered-relaxed r prices surplus half new u distance (Forward k) lowered (forward.each k)
+    each (Back k) = back.each k
 
 -- a read of what may be there
 pub read_at : {X : Type 0} (xs : List (Option X)) (i : ℕ) (o : Option X) → i < length xs → o ≡ get_or xs i o

@@ -1,5 +1,5 @@
 -- Entries of a heap: which there are once one was put in or taken out, and which comes first.
-use Rattle.std.proofs.Common.{◌≡◌, ℕ, zero, suc, ◌⊎◌, List, ◌∷◌, refl, sym, subst, arith, inl, inr, ℤ, ◌≤ℤ◌, ◌<ℤ◌, Bool, true, false}
+use Rattle.std.proofs.Common.{◌≡◌, ℕ, suc, List, ◌∷◌, refl, sym, subst, arith, inr, ℤ, ◌≤ℤ◌, ◌<ℤ◌, Bool, true, false}
 use Rattle.std.proofs.lemmas.Cmp.{int_ranked}
 use Rattle.std.proofs.lemmas.Int.{ints}
 use Rattle.std.proofs.lemmas.List.Elements.{All-contains, All-from_recursion}
@@ -10,13 +10,9 @@ use Rattle.std.specs.List.Sorted.{IsPermutation}
 use Rattle.std.specs.declared.cmp.Ordering.{Ordering}
 use Rattle.std.specs.declared.cmp.Ordering.TheVariants.{Less, Equal, Greater}
 use Rattle.std.specs.Ordering.{MatchOrdering, int_cmp, is_lt, ordering_then}
+use Rattle.vs_types.proofs.CallerLemmas.{Contains-cons_cases}
 use Rattle.vs_queue.specs.declared.queue.Entry.{Entry}
 use Rattle.vs_queue.specs.Queues.{ArePut, entry, entry_cmp}
-
--- what a list with one more in front contains
-pub in-cons : {X : Type 0} (x : X) (xs : List X) (e : X) → Contains (x ∷ xs) e → (x ≡ e) ⊎ Contains xs e
-in-cons x xs e (zero, within, is) = inl is
-in-cons x xs e (suc k, within, is) = inr (k, omega arith, is)
 
 pub cons-in : {X : Type 0} (x : X) (xs : List X) (e : X) → Contains xs e → Contains (x ∷ xs) e
 cons-in x xs e (k, within, is) = (suc k, omega arith, is)
@@ -31,7 +27,7 @@ put-in old new v key same order = record {
   order = order;
   kept = λ e is. Contains-permutation (entry key v ∷ old) new e same (cons-in (entry key v) old e is);
   only = λ e is.
-      in-cons (entry key v) old e
+      Contains-cons_cases (entry key v) old e
       (Contains-permutation new (entry key v ∷ old) e (IsPermutation-sym (entry key v ∷ old) new same) is);
   was = λ e. e;
   put = λ e. Contains-permutation (entry key v ∷ old) new (entry key v) same (first-in (entry key v) old);

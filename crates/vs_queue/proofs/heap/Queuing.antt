@@ -7,11 +7,12 @@ use Rattle.std.proofs.lemmas.List.Sorted.{Contains-permutation, IsPermutation-sy
 use Rattle.std.specs.BinaryHeap.{PopsGreatest, heap_items}
 use Rattle.std.specs.List.{Contains}
 use Rattle.std.specs.List.Sorted.{IsPermutation}
+use Rattle.vs_types.proofs.CallerLemmas.{Contains-cons_cases}
 use Rattle.vs_queue.specs.declared.queue.Entry.{Entry}
 use Rattle.vs_queue.specs.declared.queue.Queue.{Queue}
 use Rattle.vs_queue.specs.Keys.{Keys, IsBelow, IsEmpty, IsLeast, key_at}
 use Rattle.vs_queue.specs.Queues.{AreEntriesForgotten, AreForgotten, ArePut, AreQueued, IsLeastUpTo, IsLesser, IsOn, IsPut, IsQueue, entry, entry_cmp}
-use Rattle.vs_queue.proofs.heap.Entries.{cons-in, first-in, first-least, in-cons}
+use Rattle.vs_queue.proofs.heap.Entries.{cons-in, first-in, first-least}
 use Rattle.vs_queue.proofs.heap.Stacked.{on-left, on-top, on-either, apart-left, apart-top, apart-push}
 
 -- a node with a key is one of those that there are
@@ -153,7 +154,7 @@ taken-near keys rest floor far complete v q =
 module _ (keys : Keys) (floor : ℤ) (far rest : List Entry) (x : Entry) (q : AreQueued keys [] floor far true)
     (same : IsPermutation far (x ∷ rest)) (pops : PopsGreatest entry_cmp far x rest) where
   in-rest : (e : Entry) → Contains far e → (x ≡ e) ⊎ Contains rest e
-  in-rest e is = in-cons x rest e (Contains-permutation far (x ∷ rest) e same is)
+  in-rest e is = Contains-cons_cases x rest e (Contains-permutation far (x ∷ rest) e same is)
 
   back : (e : Entry) → Contains (x ∷ rest) e → Contains far e
   back e is = Contains-permutation (x ∷ rest) far e (IsPermutation-sym far (x ∷ rest) same) is

@@ -1,5 +1,5 @@
 -- Records of nodes, and the lists that they are by node.
-use Rattle.std.proofs.Common.{◌≡◌, ℕ, zero, suc, ◌<◌, ◌∙◌, List, ◌∷◌, length, get_or, set, map, replicate, refl, sym, ap, arith, Option, Some, None, ℤ}
+use Rattle.std.proofs.Common.{◌≡◌, ℕ, ◌<◌, ◌∙◌, List, length, get_or, set, map, sym, ap, arith, Option, Some, None, ℤ}
 use Rattle.std.proofs.lemmas.List.{get_or-map, length-map, map-set, set-get_or}
 use Rattle.vs_queue.specs.declared.node_table.Settled.{Settled}
 use Rattle.vs_queue.specs.declared.node_table.Mark.TheVariants.{Waits, Placed}
@@ -7,11 +7,6 @@ use Rattle.vs_queue.specs.declared.node_table.NodeRecord.{NodeRecord}
 use Rattle.vs_queue.specs.declared.step.Step.{Step}
 use Rattle.vs_queue.specs.Keys.{Keys, key_at}
 use Rattle.vs_queue.specs.NodeLists.{NodeLists, key_of, label_of, lists_by_node, settled_of, step_of}
-
--- a list of one value, mapped
-pub map-replicate : {X Y : Type 0} (f : X → Y) (n : ℕ) (x : X) → map f (replicate n x) ≡ replicate n (f x)
-map-replicate f zero x = refl
-map-replicate f (suc n) x = ap (λ ys. f x ∷ ys) (map-replicate f n x)
 
 -- three lists of which each is the same are the same
 same-by : (a b : NodeLists) → a.settled ≡ b.settled → a.waiting ≡ b.waiting → a.steps ≡ b.steps → a ≡ b

@@ -11,13 +11,14 @@ use Rattle.std.proofs.lemmas.Str.{IsUtf8-from_ascii}
 use Rattle.vs_reader.specs.Rows.{Field}
 use Rattle.vs_reader.specs.Names.{IsName, IsNameByte, Names}
 
-small_byte : (b : ℕ) → IsNameByte b → b < 128
-small_byte b h = grind arith
+-- a byte of a name is one of ASCII
+pub name_byte_below : (b : ℕ) → IsNameByte b → b < 128
+name_byte_below b h = grind arith
 
 -- a name is text
 pub IsUtf8-name : (field : Field) → All IsNameByte field → IsUtf8 field
 IsUtf8-name field bytes = IsUtf8-from_ascii field (λ i. elim (cases_lt i (length field)) [
-  | inl within ↦ small_byte _ (All-get_or IsNameByte field i 0 within bytes)
+  | inl within ↦ name_byte_below _ (All-get_or IsNameByte field i 0 within bytes)
   | inr past ↦ let none = get_or_past field i 0 past in omega (arith, none)
 ])
 

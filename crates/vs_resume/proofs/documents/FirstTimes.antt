@@ -1,9 +1,8 @@
 -- Numbers once each, in the order in which they first come.
-use Rattle.std.proofs.Common.{◌≡◌, ℕ, ◌≤◌, ◌==◌, not, Bool, true, false, List, [], ◌∷◌, length, filter, sym, ap, arith}
+use Rattle.std.proofs.Common.{◌≡◌, ℕ, ◌==◌, not, Bool, true, false, List, [], ◌∷◌, filter, sym, ap, arith}
 use Rattle.std.proofs.lemmas.Bool.{eq-eqb}
 use Rattle.std.proofs.lemmas.List.Elements.{All-weaker, filter_passes}
 use Rattle.std.proofs.lemmas.List.Kept.{AllPairs-cons, AllPairs-filter}
-use Rattle.std.proofs.lemmas.List.Sums.{count_by-le-length, length-filter}
 use Rattle.vs_cert.specs.StateDocument.{first_times}
 use Rattle.vs_resume.specs.Writing.{IsOnce}
 
@@ -25,12 +24,3 @@ first_times_once (n ∷ xs) =
     (All-weaker (λ (m : ℕ). others n m ≡ true) (Differ n) (is_other n) (filter (others n) (first_times xs))
     (filter_passes (others n) (first_times xs)))
     (AllPairs-filter Differ (others n) (first_times xs) (first_times_once xs))
-
--- and there are no more than before
-pub first_times_few : (xs : List ℕ) → length (first_times xs) ≤ length xs
-first_times_few [] = omega arith
-first_times_few (n ∷ xs) =
-    let rest = first_times_few xs in
-    let kept = length-filter (others n) (first_times xs) in
-    let fewer = count_by-le-length (others n) (first_times xs) in
-    omega (arith, rest, kept, fewer)

@@ -31,7 +31,7 @@ use Rattle.vs_check.specs.HoldingDocument.{HasPlan, HoldingDocument}
 use Rattle.vs_tree.specs.Prices.{Prices, no_prices, prices_of}
 use Rattle.vs_tree.specs.Report.{bound_of}
 use Rattle.vs_cert.specs.StateDocument.{first_times, tables_named}
-use Rattle.vs_cert.proofs.CallerLemmas.{rows_of_instance, lesser_is_bound, named_in_order, not_open, renumbered_good, first_times-All}
+use Rattle.vs_cert.proofs.CallerLemmas.{rows_of_instance, lesser_is_bound, named_in_order, not_open, renumbered_good, first_times-All, first_times_few}
 use Rattle.vs_cert.specs.Answers.{AreNamedInOrder, AreWorths, IsBoundOf}
 use Rattle.vs_resume.specs.declared.cases.Case.{Case}
 use Rattle.vs_resume.specs.declared.course.Course.{Course}
@@ -43,7 +43,6 @@ use Rattle.vs_resume.specs.InPlace.{count_leaves}
 use Rattle.vs_resume.specs.Order.{IsLeastWith, worths_in}
 use Rattle.vs_resume.specs.Standing.{IsWrittenFor, Standing}
 use Rattle.vs_resume.specs.Writing.{IsPrintedOf}
-use Rattle.vs_resume.proofs.documents.FirstTimes.{first_times_few}
 use Rattle.vs_resume.proofs.trees.Growth.{few_leaves, turns_leaves}
 use Rattle.vs_resume.proofs.trees.InPlace.{leaf_rows, leaf_rows-preorder}
 use Rattle.vs_resume.proofs.documents.Naming.{named_within}

@@ -24,7 +24,7 @@ use Rattle.vs_prices.specs.Worth.{IsWorth}
 use Rattle.vs_prices.specs.declared.bound.Bound.{Bound}
 use Rattle.vs_prices.specs.declared.table.Table.{Table}
 use Rattle.vs_prices.specs.Tree.{IsGoodTree, LeafPlace, Tree, leaves, splits}
-use Rattle.vs_prices.proofs.CallerLemmas.{leaves_restrict}
+use Rattle.vs_prices.proofs.CallerLemmas.{leaves_restrict, no_less-trans, reaches_more}
 use Rattle.vs_rows.specs.DocumentRows.{IsBetween}
 use Rattle.vs_rows.specs.declared.limits.TheConstants.{MAX_COST}
 use Rattle.vs_rows.proofs.CallerLemmas.{all_at}
@@ -33,7 +33,7 @@ use Rattle.vs_tree.specs.History.{IsCheaper, IsHistory, State, count_spots, incu
 use Rattle.vs_tree.specs.Prices.{AreLawful, Prices, no_prices, prices_of}
 use Rattle.vs_tree.specs.Search.{Search, state}
 use Rattle.vs_tree.specs.Sound.{IsOpening, IsPlanOf, IsSound}
-use Rattle.vs_tree.proofs.CallerLemmas.{histories_are_sound, last-is, no_less-trans, reaches-more, narrower-no_less}
+use Rattle.vs_tree.proofs.CallerLemmas.{histories_are_sound, last-is, narrower-no_less}
 use Rattle.vs_cert.proofs.CallerLemmas.{named_within, AreSpotWorths, closed_leaves, renumbered_good, renumbered_splits}
 use Rattle.vs_cert.specs.Answers.{count_not_below}
 use Rattle.vs_resume.specs.declared.cases.Case.{Case}
@@ -91,7 +91,7 @@ all_reach value [] (w ∷ worths) no_less reach = absurd no_less
 all_reach value (m ∷ more) [] no_less reach = absurd no_less
 all_reach value (m ∷ more) (w ∷ worths) no_less reach =
     let Reaches : Bound → Type 0 = λ worth. ReachesValue worth value in
-    All-cons Reaches m more (reaches-more m w value no_less.0 (All-head Reaches w worths reach))
+    All-cons Reaches m more (reaches_more m w value no_less.0 (All-head Reaches w worths reach))
     (all_reach value more worths no_less.1 (All-tail Reaches w worths reach))
 
 module _ (p : Problem) (is : IsInstance p) (left nodes k : ℕ) (t : Search) (old mid new : Course)

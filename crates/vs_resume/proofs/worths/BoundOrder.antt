@@ -1,18 +1,9 @@
 -- Bounds in their order.
-use Rattle.std.proofs.Common.{arith, ℤ, ◌≤ℤ◌, Option, Some, None}
+use Rattle.std.proofs.Common.{arith, ℤ, Option, Some, None}
 use Rattle.std.proofs.lemmas.Int.{ints}
 use Rattle.vs_prices.specs.Bounds.{IsBelow, IsNoLess}
 use Rattle.vs_prices.specs.declared.bound.Bound.{Bound}
 use Rattle.vs_prices.specs.declared.bound.Bound.TheVariants.{AtLeast, NoPlan}
-
--- of two bounds one is no less than the other
-pub no_less-or : (a b : Bound) → ¬ (IsNoLess a b) → IsNoLess b a
-no_less-or NoPlan b not = absurd (not tt)
-no_less-or (AtLeast x) NoPlan not = tt
-no_less-or (AtLeast x) (AtLeast y) not = by_order
-  where
-    by_order : x ≤ℤ y
-    by_order = grind (arith, ints)
 
 -- a bound that is no less than one that isn't below a cost isn't either
 pub not_below : (a b : Bound) (cost : Option ℤ) → IsNoLess a b → ¬ (IsBelow b cost) → ¬ (IsBelow a cost)

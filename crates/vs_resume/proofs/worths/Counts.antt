@@ -6,11 +6,11 @@ use Rattle.std.proofs.lemmas.List.Sums.{sum_by-append, sum_by-cons}
 use Rattle.vs_prices.specs.Bounds.{IsBelow, IsNoLess}
 use Rattle.vs_prices.specs.declared.bound.Bound.{Bound}
 use Rattle.vs_prices.specs.declared.bound.Bound.TheVariants.{AtLeast, NoPlan}
+use Rattle.vs_prices.proofs.CallerLemmas.{no_less-refl}
 use Rattle.vs_cert.specs.Answers.{count_not_below, is_below}
 use Rattle.vs_resume.specs.InPlace.{in_place}
 use Rattle.vs_resume.proofs.trees.InPlace.{in_place-cons}
 use Rattle.vs_resume.proofs.worths.Settled.{AreNoLess, IsNoMore}
-use Rattle.vs_tree.proofs.CallerLemmas.{no_less-refl}
 
 abbrev out : Option ℤ → Bound → ℕ
 out cost worth = cond (not (is_below cost worth)) 1 0

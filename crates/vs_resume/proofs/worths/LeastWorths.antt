@@ -9,12 +9,12 @@ use Rattle.std.proofs.lemmas.Option.{get_or_from_slice_get, slice_get-get_or, sl
 use Rattle.vs_prices.specs.Bounds.{IsBelow, IsNoLess}
 use Rattle.vs_prices.specs.declared.bound.Bound.{Bound}
 use Rattle.vs_prices.specs.declared.bound.Bound.TheVariants.{NoPlan}
+use Rattle.vs_prices.proofs.CallerLemmas.{else_no_less, no_less-refl, no_less-trans}
 use Rattle.vs_tree.specs.Report.{bound_of}
-use Rattle.vs_tree.proofs.CallerLemmas.{no_less-refl, no_less-trans}
 use Rattle.vs_resume.specs.declared.cases.Case.{Case}
 use Rattle.vs_resume.specs.Order.{IsFirstLeast, IsLeastWith, worth_at, worths_in}
 use Rattle.vs_resume.specs.Turns.{IsNextIn}
-use Rattle.vs_resume.proofs.worths.BoundOrder.{no_less-or, not_below}
+use Rattle.vs_resume.proofs.worths.BoundOrder.{not_below}
 
 module _ (worths : List Bound) where
   pub first_alone : IsFirstLeast worths 1 0
@@ -35,7 +35,7 @@ module _ (worths : List Bound) where
           (no_less-refl (worth_at worths i))
       | inr other ↦ no_less-trans (worth_at worths j) (worth_at worths best) (worth_at worths i)
           (is.least j (omega (arith, low, other)))
-          (no_less-or (worth_at worths i) (worth_at worths best) lesser)
+          (else_no_less (worth_at worths i) (worth_at worths best) lesser)
     ];
     first = λ j low no_less. elim (cases_eq j i) [
       | inl same ↦ omega (arith, same)

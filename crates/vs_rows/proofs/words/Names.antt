@@ -7,13 +7,11 @@ use Rattle.std.proofs.lemmas.List.Elements.{All-push, All-head, All-tail}
 use Rattle.std.proofs.lemmas.Str.{IsUtf8-from_ascii}
 use Rattle.vs_types.specs.declared.numbers.TripNo.{TripNo}
 use Rattle.vs_reader.specs.Rows.{Field}
-use Rattle.vs_reader.specs.Names.{IsName, IsNameByte}
+use Rattle.vs_reader.specs.Names.{IsName}
 use Rattle.vs_reader.specs.NameRules.{AreNames}
 use Rattle.vs_reader.specs.Names.{name_of}
+use Rattle.vs_reader.proofs.CallerLemmas.{name_byte_below}
 use Rattle.vs_rows.specs.RowForms.{NameTrips}
-
-name_byte_below : (b : ℕ) → IsNameByte b → b < 128
-name_byte_below b h = omega (arith, h)
 
 ascii_name : (field : Field) → IsName field → IsAscii field
 ascii_name field name i = elim (cases_lt i (length field)) [

@@ -3,12 +3,13 @@ use Rattle.std.proofs.Common.{◌≡◌, ◌<◌, ◌≤◌, ◌-◌, ◌==◌, 
 use Rattle.std.specs.List.{range_with_len}
 use Rattle.std.proofs.lemmas.Int.{ints}
 use Rattle.std.proofs.lemmas.Bool.{cases_lt, leb-true, leb-false, le-leb, lt-leb}
+use Rattle.vs_instance.proofs.CallerLemmas.{total-map_sub}
 use Rattle.vs_layer.specs.Graph.{Graph, IsNet, arc_of}
 use Rattle.vs_layer.specs.Circulation.{units_in, units_out}
 use Rattle.vs_ship.specs.Balance.{gained}
 use Rattle.vs_ship.proofs.balance.Numbers.{total-range_same}
 use Rattle.vs_ship.proofs.balance.AtMost.{gained_on, gained-two_more}
-use Rattle.vs_ship.proofs.balance.InOrder.{gained-in_order, sum-filtered, total-map_sub}
+use Rattle.vs_ship.proofs.balance.InOrder.{gained-in_order, sum-filtered}
 use Rattle.vs_ship.proofs.balance.Weights.{one_where, passed, passed-is}
 
 -- what comes to a node less what goes, of the units of one arc

@@ -1,10 +1,10 @@
 -- The weight that units gain along arcs.
 use Rattle.std.proofs.Common.{◌≡◌, ℕ, zero, suc, ◌+◌, ◌-◌, ◌<◌, List, [], ◌∷◌, length, set, get_or, ap, arith, ℤ, pos, ◌+ℤ◌, ◌-ℤ◌, ◌*ℤ◌}
 use Rattle.std.proofs.lemmas.Int.{ints}
+use Rattle.vs_types.proofs.CallerLemmas.{times_more}
 use Rattle.vs_layer.specs.declared.arc.Arc.{Arc}
 use Rattle.vs_layer.specs.Ends.{arc_at}
 use Rattle.vs_ship.specs.Balance.{gained}
-use Rattle.vs_ship.proofs.balance.Numbers.{times_more}
 
 abbrev pub arc_gain : (ℕ → ℤ) → Arc → ℤ
 arc_gain weight a = weight a.to -ℤ weight a.from

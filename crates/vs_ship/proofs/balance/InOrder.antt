@@ -1,5 +1,5 @@
 -- What units gain, counted over the numbers of the arcs.
-use Rattle.std.proofs.Common.{◌≡◌, ◌+◌, ℕ, zero, suc, Bool, true, false, cond, List, [], ◌∷◌, length, map, filter, sum_by, refl, ap, arith, ℤ, pos, ◌+ℤ◌, ◌-ℤ◌}
+use Rattle.std.proofs.Common.{◌≡◌, ◌+◌, ℕ, zero, suc, Bool, true, false, cond, List, [], ◌∷◌, length, map, filter, sum_by, refl, ap, arith, ℤ, pos, ◌+ℤ◌}
 use Rattle.std.specs.List.{range_with_len}
 use Rattle.std.proofs.lemmas.Int.{ints}
 use Rattle.std.proofs.lemmas.List.Sums.{sum_by-cons}
@@ -38,9 +38,3 @@ pub sum-filtered : (f : ℕ → ℕ) (test : ℕ → Bool) (a n : ℕ) → pos (
 sum-filtered f test a zero = refl
 sum-filtered f test a (suc n) =
     sum-filtered_cons f (test a) a (filter test (range_with_len (a + 1) n)) _ (sum-filtered f test (a + 1) n)
-
--- totals are taken off one by one
-pub total-map_sub : {A : Type 0} (f g : A → ℤ) (xs : List A)
-    → total (map (λ x. f x -ℤ g x) xs) ≡ total (map f xs) -ℤ total (map g xs)
-total-map_sub f g [] = omega (arith, ints)
-total-map_sub f g (x ∷ xs) = let rest = total-map_sub f g xs in omega (arith, ints, rest)

@@ -1,20 +1,20 @@
 -- What units leave at the nodes, arc by arc.
-use Rattle.std.proofs.Common.{◌≡◌, ◌≢◌, ◌<◌, ◌≤◌, ◌+◌, ◌*◌, ◌∙◌, ℕ, zero, suc, List, [], ◌∷◌, ◌++◌, length, map, set, refl, ap, arith, inl, inr, ℤ, pos, ◌+ℤ◌, ◌-ℤ◌, ◌*ℤ◌, length-set}
+use Rattle.std.proofs.Common.{◌≡◌, ◌≢◌, ◌<◌, ◌+◌, ◌*◌, ◌∙◌, ℕ, zero, suc, List, length, map, set, ap, arith, inl, inr, ℤ, pos, ◌+ℤ◌, ◌-ℤ◌, ◌*ℤ◌, length-set}
 use Rattle.std.specs.List.{range_with_len}
 use Rattle.std.proofs.lemmas.Int.{ints}
 use Rattle.std.proofs.lemmas.Bool.{cases_eq}
 use Rattle.std.proofs.lemmas.List.{get_or-set_same, get_or-set_other}
-use Rattle.std.proofs.lemmas.List.FromFn.{map-range_with_len_more}
+use Rattle.vs_types.proofs.CallerLemmas.{times_more, times_none, times_sub}
+use Rattle.vs_instance.proofs.CallerLemmas.{same_totals, total-range_next}
 use Rattle.vs_layer.specs.declared.arc.Arc.{Arc}
 use Rattle.vs_layer.specs.Ends.{arc_at}
 use Rattle.vs_instance.specs.Lagrangian.{total}
-use Rattle.vs_instance.proofs.CallerLemmas.{times_sub}
 use Rattle.vs_path.specs.Residual.{AllWithin, IsWithin, price_at}
 use Rattle.vs_ship.specs.Balance.{weighed}
 use Rattle.vs_ship.specs.Leaving.{passed_along}
 use Rattle.vs_ship.proofs.balance.AtMost.{gained_on}
 use Rattle.vs_ship.proofs.balance.Gained.{arc_gain}
-use Rattle.vs_ship.proofs.balance.Numbers.{times_more, times_none, times_suc, total-set}
+use Rattle.vs_ship.proofs.balance.Numbers.{times_suc, total-set}
 use Rattle.vs_ship.proofs.balance.Weighed.{weighed-set}
 
 -- a product with so many more
@@ -114,39 +114,16 @@ passed-as surplus a n x y first second =
     ap (λ (z : ℤ). set (set surplus a.from z) a.to y) first
     ∙ ap (λ (z : ℤ). set (set surplus a.from (price_at surplus a.from -ℤ pos n)) a.to z) second
 
--- one number more
-pub total-more : (f : ℕ → ℤ) (k : ℕ)
-    → total (map f (range_with_len 0 (k + 1))) ≡ total (map f (range_with_len 0 k)) +ℤ f k
-total-more f k =
-    let split = map-range_with_len_more f 0 k k (omega arith) in
-    let same = ap total split in
-    let both = total-append (map f (range_with_len 0 k)) (f k ∷ []) in
-    omega (arith, ints, same, both)
-  where
-    total-append : (xs ys : List ℤ) → total (xs ++ ys) ≡ total xs +ℤ total ys
-    total-append [] ys = omega (arith, ints)
-    total-append (x ∷ xs) ys = let rest = total-append xs ys in omega (arith, ints, rest)
-
--- the same numbers have the same total
-total-same : (f g : ℕ → ℤ) (a n : ℕ) → ((j : ℕ) → a ≤ j → j < a + n → f j ≡ g j)
-    → total (map f (range_with_len a n)) ≡ total (map g (range_with_len a n))
-total-same f g a zero each = refl
-total-same f g a (suc n) each =
-    let here = each a (omega arith) (omega arith) in
-    let rest =
-    total-same f g (a + 1) n (λ j from below. each j (omega (arith, from)) (omega (arith, below))) in
-    omega (arith, ints, here, rest)
-
 -- what the first arcs gain, with so many units on the next one
 pub gained-set : (weight : ℕ → ℤ) (arcs : List Arc) (units : List ℕ) (k n : ℕ) → k < length units
     → total (map (gained_on weight arcs (set units k n)) (range_with_len 0 (k + 1)))
     ≡ total (map (gained_on weight arcs units) (range_with_len 0 k)) +ℤ (arc_gain weight (arc_at arcs k) *ℤ pos n)
 gained-set weight arcs units k n within =
-    let more = total-more (gained_on weight arcs (set units k n)) k in
+    let more = total-range_next (gained_on weight arcs (set units k n)) k in
     let here =
     ap (λ (m : ℕ). arc_gain weight (arc_at arcs k) *ℤ pos m) (get_or-set_same units k n 0 within) in
     let before =
-    total-same (gained_on weight arcs (set units k n)) (gained_on weight arcs units) 0 k
+    same_totals (gained_on weight arcs (set units k n)) (gained_on weight arcs units) 0 k
     (λ j from below.
     let other : j ≢ k = λ e. omega (arith, below) in
     ap (λ (m : ℕ). arc_gain weight (arc_at arcs j) *ℤ pos m) (get_or-set_other units k j n 0 (λ e. other e))) in

@@ -1,21 +1,13 @@
 -- Products and totals of whole numbers, once a number of them changes.
-use Rattle.std.proofs.Common.{◌≡◌, ◌≢◌, ℕ, zero, suc, ◌+◌, ◌<◌, ◌≤◌, List, [], ◌∷◌, ◌++◌, map, length, set, refl, sym, ap, ◌∙◌, arith, inl, inr, ℤ, pos, negsuc, ◌+ℤ◌, ◌-ℤ◌, ◌*ℤ◌, ◌≤ℤ◌}
+use Rattle.std.proofs.Common.{◌≡◌, ◌≢◌, ℕ, zero, suc, ◌+◌, ◌<◌, ◌≤◌, List, [], ◌∷◌, map, length, set, refl, sym, ap, ◌∙◌, arith, inl, inr, ℤ, pos, negsuc, ◌+ℤ◌, ◌-ℤ◌, ◌*ℤ◌, ◌≤ℤ◌}
 use Rattle.std.specs.List.{range_with_len}
 use Rattle.std.specs.Int.{int_max}
 use Rattle.std.proofs.Math.Nat.{mul-add}
 use Rattle.std.proofs.lemmas.Bool.{cases_eq}
 use Rattle.std.proofs.lemmas.Int.{ints, clamps}
+use Rattle.vs_types.proofs.CallerLemmas.{times_more}
 use Rattle.vs_instance.specs.Lagrangian.{total}
 use Rattle.vs_path.specs.Residual.{price_at}
-
--- a product with one more
-pub times_more : (x : ℤ) (n : ℕ) → x *ℤ pos (n + 1) ≡ x *ℤ pos n +ℤ x
-times_more (pos m) n = let product = mul-add m n 1 in omega (arith, ints)
-times_more (negsuc m) n = let product = mul-add (suc m) n 1 in omega (arith, ints)
-
-pub times_none : (x : ℤ) → x *ℤ pos 0 ≡ pos 0
-times_none (pos m) = omega (arith, ints)
-times_none (negsuc m) = omega (arith, ints)
 
 -- the same where the other factor is below 0
 times_less : (x : ℤ) (n : ℕ) → x *ℤ negsuc (suc n) +ℤ x ≡ x *ℤ negsuc n
@@ -43,11 +35,6 @@ times_pred x z =
     let product = ap (λ (y : ℤ). x *ℤ y) back in
     let more = times_suc x (z -ℤ pos 1) in
     omega (arith, ints, product, more)
-
-pub total-map_append : {A : Type 0} (f : A → ℤ) (xs ys : List A)
-    → total (map f (xs ++ ys)) ≡ total (map f xs) +ℤ total (map f ys)
-total-map_append f [] ys = omega (arith, ints)
-total-map_append f (x ∷ xs) ys = let rest = total-map_append f xs ys in omega (arith, ints)
 
 -- the total of numbers, one of which changes
 pub total-set : (xs : List ℤ) (i : ℕ) (y : ℤ) → i < length xs

@@ -3,6 +3,7 @@ use Rattle.std.proofs.Common.{◌≡◌, ℕ, zero, suc, ◌+◌, ◌<◌, ◌�
 use Rattle.std.specs.Int.{int_max}
 use Rattle.std.specs.List.{range_with_len}
 use Rattle.std.proofs.lemmas.Int.{ints, clamps}
+use Rattle.vs_types.proofs.CallerLemmas.{times_none, times_sum}
 use Rattle.vs_layer.specs.declared.arc.Arc.{Arc}
 use Rattle.vs_instance.specs.Lagrangian.{total}
 use Rattle.vs_path.specs.Residual.{price_at}
@@ -10,31 +11,8 @@ use Rattle.vs_ship.specs.Balance.{gained, weighed}
 use Rattle.vs_ship.specs.Shipments.{excess}
 use Rattle.vs_ship.proofs.balance.Gained.{arc_gain}
 use Rattle.vs_ship.proofs.balance.InOrder.{total-range_suc}
-use Rattle.vs_ship.proofs.balance.Numbers.{times_more, times_none, total-range_same}
+use Rattle.vs_ship.proofs.balance.Numbers.{total-range_same}
 use Rattle.vs_ship.proofs.balance.Weights.{one_where, passed, passed-is}
-
--- a product with a sum of units
-times_sum : (x : ℤ) (m n : ℕ) → x *ℤ pos (m + n) ≡ x *ℤ pos m +ℤ x *ℤ pos n
-times_sum x m zero =
-    let none = times_none x in
-    let same = ap (λ (k : ℕ). x *ℤ pos k) (plus_none m) in
-    omega (arith, ints, none, same)
-  where
-    plus_none : (k : ℕ) → k + 0 ≡ k
-    plus_none k = omega arith
-times_sum x m (suc n) =
-    let rest = times_sum x m n in
-    let left = ap (λ (k : ℕ). x *ℤ pos k) (one_more m n) in
-    let right = ap (λ (k : ℕ). x *ℤ pos k) (suc_is n) in
-    let more = times_more x (m + n) in
-    let last = times_more x n in
-    omega (arith, ints, rest, left, right, more, last)
-  where
-    one_more : (a b : ℕ) → a + suc b ≡ (a + b) + 1
-    one_more a b = omega arith
-
-    suc_is : (a : ℕ) → suc a ≡ a + 1
-    suc_is a = omega arith
 
 -- two flows together gain what both gain
 pub gained-both : (weight : ℕ → ℤ) (arcs : List Arc) (both a b : List ℕ) → length both ≡ length arcs

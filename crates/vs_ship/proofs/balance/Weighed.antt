@@ -3,10 +3,11 @@ use Rattle.std.proofs.Common.{◌≡◌, ◌≢◌, ℕ, zero, suc, ◌+◌, ◌
 use Rattle.std.specs.List.{range_with_len}
 use Rattle.std.proofs.lemmas.Int.{ints}
 use Rattle.std.proofs.lemmas.List.{get_or-set_same, get_or-set_other}
+use Rattle.vs_types.proofs.CallerLemmas.{times_none}
 use Rattle.vs_instance.specs.Lagrangian.{total}
 use Rattle.vs_path.specs.Residual.{price_at}
 use Rattle.vs_ship.specs.Balance.{weighed}
-use Rattle.vs_ship.proofs.balance.Numbers.{times_suc, times_pred, times_none, total-range_but, total-range_same}
+use Rattle.vs_ship.proofs.balance.Numbers.{times_suc, times_pred, total-range_but, total-range_same}
 
 -- one of the numbers is another one
 pub weighed-set : (weight : ℕ → ℤ) (xs : List ℤ) (i : ℕ) (y : ℤ) → i < length xs

@@ -4,13 +4,13 @@ use Rattle.std.proofs.Math.Seq.{take-suc}
 use Rattle.std.proofs.lemmas.Int.{ints}
 use Rattle.std.proofs.lemmas.Bool.{cases_eq, cases_lt}
 use Rattle.std.proofs.lemmas.List.{get_or-set_same, get_or-set_other}
+use Rattle.vs_instance.proofs.CallerLemmas.{total-map_append}
 use Rattle.vs_layer.specs.declared.arc.Arc.{Arc}
 use Rattle.vs_queue.specs.declared.step.Step.{Step}
 use Rattle.vs_queue.specs.declared.step.Step.TheVariants.{Forward, Back}
 use Rattle.vs_path.specs.Residual.{step_in}
 use Rattle.vs_ship.specs.Balance.{steps_gain, step_gain}
 use Rattle.vs_ship.specs.Shipments.{CanTake, CanTakeAll, IsAmong, IsSentAlong, GainAlong}
-use Rattle.vs_ship.proofs.balance.Numbers.{total-map_append}
 use Rattle.vs_ship.proofs.balance.Gained.{gained-more, gained-less}
 
 module _ (old now : List ℕ) (path : List Step) (count : ℕ) (can : CanTakeAll old path) (within : count < length path)

@@ -2,6 +2,7 @@
 use Rattle.std.proofs.Common.{◌≡◌, ◌⊎◌, ℕ, ◌+◌, true, false, arith, List, length, refl, sym, ap, ◌∙◌, subst, inl, inr, Option, ℤ}
 use Rattle.vs_prices.specs.Bounds.{IsNoLess}
 use Rattle.vs_prices.specs.declared.bound.Bound.{Bound}
+use Rattle.vs_prices.proofs.CallerLemmas.{no_less-trans}
 use Rattle.vs_tree.specs.History.{Opening, Place, State, IsLeafWorth, is_inner, known, place_at, prices_at, sets_at, spot_at, state_of}
 use Rattle.vs_tree.specs.Report.{IsLeastOf, IsLesser, bound_of}
 use Rattle.vs_tree.specs.Search.{IsSearch, Parts, worth_at}
@@ -10,7 +11,6 @@ use Rattle.vs_types.specs.declared.layer_set.LayerSet.{LayerSet}
 use Rattle.vs_types.specs.declared.numbers.TripNo.{TripNo}
 use Rattle.vs_tree.specs.declared.spot.Spot.{Spot}
 use Rattle.vs_tree.specs.declared.spot.Spot.TheVariants.{Inner, Free, Held, Closed}
-use Rattle.vs_tree.proofs.BoundOrder.{no_less-trans}
 use Rattle.vs_tree.proofs.LawfulPrices.{one_worth}
 use Rattle.vs_tree.proofs.search.Facts.{leaf_is, spot-is}
 

@@ -18,7 +18,8 @@ pub returns-in_ok-too_large-in-None : goal.returns-in_ok-too_large-in-None
 returns-in_ok-too_large-in-None c =
     let timetable = c.in-Ok.timetable in
     let found = c.in-Ok.ensures.found in
-    too_large_searched c.args.effort c.args.bytes.now c.in_ok-too_large-in-None.too_large timetable.instance timetable.names
+    too_large_searched c.args.effort c.args.bytes.now c.in_ok-too_large-in-None.too_large timetable.instance
+    timetable.names
     (record { before = found.0; rest = found.1; instance = found.2 })
     (sym c.in-None.ensures.budget) c.in_ok-too_large-in-None.ensures
 

@@ -8,11 +8,12 @@ use Rattle.vs_instance.specs.Restriction.{permitted_sets, set_of}
 use Rattle.vs_instance.specs.declared.trip.Trip.{Trip}
 use Rattle.vs_prices.specs.Bounds.{IsNoLess}
 use Rattle.vs_prices.specs.declared.bound.Bound.{Bound}
+use Rattle.vs_prices.proofs.CallerLemmas.{no_less-refl}
 use Rattle.vs_tree.specs.History.{FullStep, MaySplit, Opening, Took, state_of}
 use Rattle.vs_tree.specs.Prices.{AreLawful, AreWorth, Prices, prices_of, zero_prices}
 use Rattle.vs_tree.specs.Search.{Search, state}
 use Rattle.vs_types.specs.Parts.{IsProperPart}
-use Rattle.vs_tree.proofs.CallerLemmas.{one_worth, zeros_lawful, no_less-refl}
+use Rattle.vs_tree.proofs.CallerLemmas.{one_worth, zeros_lawful}
 use Rattle.test_crew.proofs.leaves.split_root.Goals as goal
 
 -- a search whose root was taken by worker 0 may be split with the table of zeros

@@ -5,7 +5,7 @@ use Rattle.vs_tree.specs.Search.{Search, state}
 use Rattle.vs_tree.specs.Takes.{IsOver, IsSized}
 use Rattle.vs_crew.specs.Found.{IsFound}
 use Rattle.vs_crew.proofs.CallerLemmas.{fits_sized, plan_of}
-use Rattle.test_resume.specs.Alone.{IsBetween, begun_alone}
+use Rattle.test_resume.specs.Alone.{IsBetweenLeaves, begun_alone}
 use Rattle.test_resume.proofs.AloneSearches.{begins}
 use Rattle.test_resume.proofs.Ends.{spent, stopped}
 use Rattle.test_resume.proofs.HandedIn.{lawful_next, taken_leaf, taken_task}
@@ -112,7 +112,7 @@ returns c =
     let now = c.loop-left.invariant in
     let own = c.instance-instance.ensures in
     let finished = now.finished in
-    let Ends : Search → Type 0 = λ n. (n.opening ≡ begun_alone p budget) × IsBetween n
+    let Ends : Search → Type 0 = λ n. (n.opening ≡ begun_alone p budget) × IsBetweenLeaves n
     × ((state n).finished + c.loop-left.left ≡ budget) × (c.loop-left.left ≡ budget → n.steps ≡ []) in
     let before : Ends c.loop-left.tree = (now.opening, now.between, now.finished, now.first) in
     elim c.loop-left-test.branch [

@@ -2,9 +2,10 @@ use Rattle.std.proofs.Common.{◌≡◌, ◌<◌, ◌∙◌, ◌*ℤ◌, ℕ, le
 use Rattle.std.specs.List.{range_with_len}
 use Rattle.std.proofs.lemmas.Int.{ints}
 use Rattle.std.proofs.lemmas.List.{get_or_default}
+use Rattle.vs_instance.proofs.CallerLemmas.{total-range_next}
 use Rattle.vs_layer.specs.Graph.{Graph, arc_of}
 use Rattle.vs_instance.specs.Lagrangian.{total}
-use Rattle.vs_circ.proofs.low.Costs.{cost-in_order, cost_on, sum-fits, total-range_next}
+use Rattle.vs_circ.proofs.low.Costs.{cost-in_order, cost_on, sum-fits}
 use Rattle.vs_circ.proofs.fixing.cost_of.Goals as goal
 
 pub loop-k-preserved : goal.loop-k-preserved

@@ -5,7 +5,7 @@ use Rattle.vs_layer.specs.Graph.{Graph, arc_of}
 use Rattle.vs_match.specs.declared.arc_kind.ArcKind.{ArcKind}
 use Rattle.vs_match.specs.LayerGraph.{kind_of}
 use Rattle.vs_circ.specs.shipping.Prepared.{offered_cost, offered_room}
-use Rattle.vs_ship.proofs.CallerLemmas.{done-more}
+use Rattle.vs_types.proofs.CallerLemmas.{place_filled}
 use Rattle.vs_circ.proofs.preparing.offer_arcs.Goals as goal
 
 pub loop-k-preserved : goal.loop-k-preserved
@@ -25,12 +25,12 @@ loop-k-preserved c =
     let fits : SFits w64 c.offered_cost.result = search rules in
     let word = to_z-of_z w64 c.offered_cost.result fits in
     record {
-      cost = done-more (pos 0) (λ (j : ℕ) (z : ℤ). z ≡ offered_cost offers (kind_of n j) (arc_of n.graph j))
+      cost = place_filled (pos 0) (λ (j : ℕ) (z : ℤ). z ≡ offered_cost offers (kind_of n j) (arc_of n.graph j))
           c.loop-k.cost k _ (omega (arith, inside, c.requires.cost_size)) c.loop-k.invariant.cost
           (word ∙ c.offered_cost.ensures
           ∙ ap (λ (kind : ArcKind). offered_cost offers kind c.arc-arc.result) c.kind-kind.ensures
           ∙ ap (λ (a : Arc). offered_cost offers (kind_of n k) a) arc);
-      room = done-more 0 (λ (j r : ℕ). r ≡ offered_room offers (kind_of n j) (arc_of n.graph j)) c.loop-k.room k _
+      room = place_filled 0 (λ (j r : ℕ). r ≡ offered_room offers (kind_of n j) (arc_of n.graph j)) c.loop-k.room k _
           (omega (arith, inside, c.requires.room_size)) c.loop-k.invariant.room
           (c.offered_room.ensures
           ∙ ap (λ (kind : ArcKind). offered_room offers kind c.arc-arc.result) c.kind-kind.ensures

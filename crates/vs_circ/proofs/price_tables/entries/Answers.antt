@@ -1,7 +1,7 @@
 use Rattle.std.proofs.Common.{ℕ, ℤ, rules, w64, SFits, pos}
 use Rattle.std.proofs.lemmas.Int.{to_z-of_z}
 use Rattle.vs_circ.specs.node_prices.PriceTables.{IsEntry}
-use Rattle.vs_ship.proofs.CallerLemmas.{pushed-more}
+use Rattle.vs_types.proofs.CallerLemmas.{pushed-more}
 use Rattle.vs_circ.proofs.price_tables.entries.Goals as goal
 
 pub loop-i-preserved : goal.loop-i-preserved

@@ -1,6 +1,6 @@
 use Rattle.std.proofs.Common.{ℕ, ℤ, pos}
 use Rattle.vs_circ.specs.node_prices.PriceTables.{IsEntry}
-use Rattle.vs_ship.proofs.CallerLemmas.{AreSoFar}
+use Rattle.vs_types.proofs.CallerLemmas.{AreSoFar}
 use Rattle.vs_circ.proofs.price_tables.entries.Given as goal
 
 abbrev pub invariant-loop-i : goal.invariant-loop-i

@@ -1,7 +1,7 @@
 use Rattle.std.proofs.Common.{pos, get_or, arith}
 use Rattle.std.proofs.lemmas.Int.{ints}
+use Rattle.vs_instance.proofs.CallerLemmas.{total-range_next}
 use Rattle.vs_circ.specs.shipping.Values.{worth_on}
-use Rattle.vs_ship.proofs.CallerLemmas.{total-more}
 use Rattle.vs_circ.proofs.low.Worth.{worth-word}
 use Rattle.vs_circ.proofs.relaxing.worth_of.Goals as goal
 
@@ -20,7 +20,7 @@ loop-k-preserved c =
     c.worth_on-worth.ensures (c.requires.small k) (omega (arith, c.type_inv.units k)) in
     let now = c.loop-k.invariant.within in
     let before = c.loop-k.invariant.worth in
-    let more = total-more (worth_on c.args.cost.now c.args.units.now) k in
+    let more = total-range_next (worth_on c.args.cost.now c.args.units.now) k in
     let is = here.0 in
     record {
       worth = omega (

@@ -19,7 +19,7 @@ returns-clause-arcs c =
     let points = c.args.nodes.now.points.items in
     let count : c.len.result ≡ length points = omega (arith, c.len.ensures, c.args.nodes.now.points.ok.0) in
     let back = c.return_arc.ensures ∙ ap (λ (n : ℕ). return_of p l (n + 1)) count in
-    let e = c.push_rest_outs.new.arcs.items in
+    let e = c.push_rest_waits.new.arcs.items in
     let pushed : c.push.new.self.items ≡ e ++ return_of p l (last_node points) ∷ [] =
     c.in_ok-push.ensures.items ∙ ap (λ (x : LayerArc). e ++ x ∷ []) back in
     let P : List LayerArc → Type 0 = λ xs. Adds (IsTrip p l points) xs c.push_trips.new.arcs.items in
@@ -30,12 +30,9 @@ returns-clause-arcs c =
     are_arcs p l c.args.matching points c.push.new.self.items c.put_in_order.new.items.items
     (rw pushed
     (adds_all p l c.args.matching points c.push_trips.new.arcs.items c.push_waiting.new.arcs.items
-    c.push_deadheads.new.arcs.items
-    c.push_pull_outs.new.arcs.items c.push_pull_ins.new.arcs.items c.push_rest_ins.new.arcs.items
-    c.push_rest_waits.new.arcs.items e _
+    c.push_deadheads.new.arcs.items c.push_drives.new.arcs.items e _
     (subst P c.in_ok-arcs.ensures.items c.in_ok-push_trips.ensures.adds) c.in_ok-push_waiting.ensures.adds
-    c.in_ok-push_deadheads.ensures.adds c.in_ok-push_pull_outs.ensures.adds c.in_ok-push_pull_ins.ensures.adds
-    c.in_ok-push_rest_ins.ensures.adds c.in_ok-push_rest_waits.ensures.adds c.in_ok-push_rest_outs.ensures.adds
+    c.in_ok-push_deadheads.ensures.adds c.in_ok-push_drives.ensures.adds c.in_ok-push_rest_waits.ensures.adds
     (adds_return p l c.args.matching points e)))
     same c.put_in_order.ensures.ordered
 
@@ -43,18 +40,15 @@ pub returns-clause-few : goal.returns-clause-few
 returns-clause-few c =
     let pushed =
     ap length c.in_ok-push.ensures.items
-    ∙ length-append c.push_rest_outs.new.arcs.items (c.return_arc.result ∷ []) in
+    ∙ length-append c.push_rest_waits.new.arcs.items (c.return_arc.result ∷ []) in
     omega (
       arith,
       c.put_in_order.ensures.few,
       c.in_ok-ordered.ensures.count,
       ap length c.deref.ensures.value,
       pushed,
-      c.in_ok-push_rest_outs.ensures.few,
       c.in_ok-push_rest_waits.ensures.few,
-      c.in_ok-push_rest_ins.ensures.few,
-      c.in_ok-push_pull_ins.ensures.few,
-      c.in_ok-push_pull_outs.ensures.few,
+      c.in_ok-push_drives.ensures.few,
       c.in_ok-push_deadheads.ensures.few,
       c.in_ok-push_waiting.ensures.few,
       c.in_ok-push_trips.ensures.few,

@@ -2,7 +2,7 @@ use Rattle.std.proofs.Common.{◌≡◌, ◌-◌, ◌<◌, ◌∙◌, sym, ap, r
 use Rattle.vs_match.specs.declared.arc_kind.LayerArc.{LayerArc}
 use Rattle.vs_match.specs.ArcsOf.{rest_wait_of}
 use Rattle.vs_match.proofs.events.Adding.{upto-one, upto-skip, upto-none}
-use Rattle.vs_match.proofs.matches.PulledOut.{AtPlace}
+use Rattle.vs_match.proofs.matches.WaitedAt.{AtPlace}
 use Rattle.vs_match.proofs.matches.RestedAt.{OfRestWait, only_wait_at, rest_waits_are, rests_past, no_rest_before}
 use Rattle.vs_match.proofs.rests.push_rest_waits.Goals as goal
 

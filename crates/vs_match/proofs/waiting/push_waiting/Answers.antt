@@ -7,7 +7,7 @@ use Rattle.vs_match.specs.ArcsOf.{waiting_of}
 use Rattle.vs_match.specs.StopNodes.{event_of}
 use Rattle.vs_match.proofs.events.Adding.{upto-one, upto-skip, upto-none}
 use Rattle.vs_match.proofs.matches.Deadheading.{event_within}
-use Rattle.vs_match.proofs.matches.PulledOut.{AtPlace, same_at}
+use Rattle.vs_match.proofs.matches.WaitedAt.{AtPlace, same_at}
 use Rattle.vs_match.proofs.walks.WaitingChains.{same_stop}
 use Rattle.vs_match.proofs.matches.WaitedAt.{OfNeighbours, at_stop_later, only_waiting, waiting_is, waiting_past, none_before_first}
 use Rattle.vs_match.proofs.waiting.push_waiting.Goals as goal

@@ -1,8 +1,9 @@
 use Rattle.std.proofs.Common.{◌≡◌, ℕ, ◌∙◌, arith, rules, subst, sym}
+use Rattle.vs_prices.specs.declared.table.Table.{Table}
 use Rattle.vs_multi.specs.Raising.{IsCostTable}
 use Rattle.vs_multi.specs.Steps.{AreMoved, rounds_in}
 use Rattle.vs_multi.proofs.Better.{IsGood, better_good, better_other}
-use Rattle.vs_multi.proofs.Leading.{HaveLed, first_led, last_led, more_led}
+use Rattle.vs_multi.proofs.Leading.{HaveLed, all_led, first_led, more_led}
 use Rattle.vs_multi.proofs.best.best_of.Goals as goal
 
 pub loop-r-init : goal.loop-r-init
@@ -28,8 +29,11 @@ loop-r-init c =
         holds = zero.holds;
         costs = zero.costs;
       };
-      led = first_led case.instance.now case.nets.now case.sets.now c.args.steps c.in_ok-most.most
-          c.args.multipliers.now _ _ ran.ran moved;
+      led = subst (λ (table : Table). HaveLed case.instance.now case.nets.now case.sets.now c.args.steps
+          c.in_ok-most.most c.args.multipliers.now 1 table c.run_on.new.self.covers.items c.run_on.new.multipliers)
+          (sym c.swap.ensures.x_after)
+          (first_led case.instance.now case.nets.now case.sets.now c.args.steps c.in_ok-most.most
+          c.args.multipliers.now c.run_on.new.self.table c.in_ok-first.first _ _ ran.worth ran.ran moved);
       within = search rules;
     }
 
@@ -69,13 +73,14 @@ loop-r-preserved c =
         holds = rest.holds;
         costs = rest.costs;
       };
-      led = more_led p case.nets.now sets c.args.steps c.in_ok-most.most multipliers c.loop-r.r _ _ _ _ inv.led ran.ran
-          moved;
+      led = more_led p case.nets.now sets c.args.steps c.in_ok-most.most multipliers c.loop-r.r best after.table
+          kept.new.best kept.new.table c.loop-r.greatest c.in_ok-worth.worth kept.result inv.worth ran.worth
+          kept.ensures _ _ _ _ inv.led ran.ran moved;
       within = ran.within;
     }
 
-pub returns-clause-covers : goal.returns-clause-covers
-returns-clause-covers c =
+pub returns-clause-best : goal.returns-clause-best
+returns-clause-best c =
     let case = c.args.case.now in
     let done : c.loop-r.r ≡ rounds_in c.args.steps =
     omega (
@@ -85,7 +90,8 @@ returns-clause-covers c =
       c.rounds-r-end.ensures.some,
       c.loop-r.auto.r-end,
     ) in
-    last_led case.instance.now case.nets.now case.sets.now c.args.steps c.in_ok-most.most c.args.multipliers.now
-    c.loop-r.round.covers.items c.loop-r.multipliers c.in_ok-most.ensures.mean
+    all_led case.instance.now case.nets.now case.sets.now c.args.steps c.in_ok-most.most c.args.multipliers.now
+    c.loop-r.table c.loop-r.round.covers.items c.loop-r.multipliers c.in_ok-most.ensures.mean
     (subst (λ (n : ℕ). HaveLed case.instance.now case.nets.now case.sets.now c.args.steps c.in_ok-most.most
-    c.args.multipliers.now n c.loop-r.round.covers.items c.loop-r.multipliers) done c.loop-r.invariant.led)
+    c.args.multipliers.now n c.loop-r.table c.loop-r.round.covers.items c.loop-r.multipliers) done
+    c.loop-r.invariant.led)

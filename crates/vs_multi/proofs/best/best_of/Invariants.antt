@@ -7,7 +7,7 @@ use Rattle.vs_multi.specs.Rounds.{IsRoundFor}
 use Rattle.vs_multi.proofs.Leading.{HaveLed}
 use Rattle.vs_multi.proofs.best.best_of.Given as goal
 
--- the best table so far, and the rounds up to the last one
+-- the best table so far, and the rounds that led here
 abbrev pub invariant-loop-r : goal.invariant-loop-r
 invariant-loop-r l = record {
   fits : Fits l.case.instance.now l.table;
@@ -17,6 +17,6 @@ invariant-loop-r l = record {
   lagrangian : ReachesLagrangian l.case.instance.now l.case.sets.now l.fn.multipliers l.table;
   round : IsRoundFor l.case.instance.now l.round;
   led : HaveLed l.case.instance.now l.case.nets.now l.case.sets.now l.steps l.most l.fn.multipliers l.r
-      l.round.covers.items l.multipliers;
+      l.table l.round.covers.items l.multipliers;
   within : AreMultipliers l.case.instance.now l.multipliers;
 }

@@ -4,7 +4,7 @@ use Rattle.std.proofs.lemmas.List.{length-set}
 use Rattle.vs_instance.specs.Restriction.{set_of}
 use Rattle.vs_multi.specs.Multipliers.{IsMultiplier}
 use Rattle.vs_multi.specs.Offers.{IsLeastElsewhere}
-use Rattle.vs_multi.proofs.Places.{place_filled}
+use Rattle.vs_types.proofs.CallerLemmas.{place_filled}
 use Rattle.vs_multi.proofs.offering.multiply_elsewhere.Goals as goal
 
 pub loop-i-preserved : goal.loop-i-preserved

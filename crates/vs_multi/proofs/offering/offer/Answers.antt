@@ -5,7 +5,7 @@ use Rattle.vs_instance.specs.Lagrangian.{multiplier_of}
 use Rattle.vs_instance.specs.Restriction.{set_of}
 use Rattle.vs_multi.specs.Offers.{AreOffersTo, IsOfferFor}
 use Rattle.vs_multi.proofs.OfferedBlocks.{are_offers}
-use Rattle.vs_multi.proofs.Places.{place_filled}
+use Rattle.vs_types.proofs.CallerLemmas.{place_filled}
 use Rattle.vs_multi.proofs.offering.offer.Goals as goal
 
 pub loop-i-preserved : goal.loop-i-preserved

@@ -1,5 +1,6 @@
 use Rattle.std.proofs.Common.{◌∙◌}
-use Rattle.vs_multi.proofs.BoundOrder.{else_no_less, worth_along}
+use Rattle.vs_prices.proofs.CallerLemmas.{else_no_less}
+use Rattle.vs_multi.proofs.BoundOrder.{worth_along}
 use Rattle.vs_multi.proofs.Exchanged.{fleet_back, from_back, into_back}
 use Rattle.vs_multi.proofs.raising.take_better.Goals as goal
 

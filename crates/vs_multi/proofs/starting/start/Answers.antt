@@ -3,7 +3,8 @@ use Rattle.std.proofs.lemmas.List.{length-set}
 use Rattle.vs_instance.specs.Lagrangian.{IsStart}
 use Rattle.vs_multi.specs.Multipliers.{IsMultiplier}
 use Rattle.vs_multi.proofs.OwnBlocks.{start_is, start_value, start_within}
-use Rattle.vs_multi.proofs.Places.{all_within, place_filled}
+use Rattle.vs_multi.proofs.Places.{all_within}
+use Rattle.vs_types.proofs.CallerLemmas.{place_filled}
 use Rattle.vs_multi.proofs.starting.start.Goals as goal
 
 pub loop-i-preserved : goal.loop-i-preserved

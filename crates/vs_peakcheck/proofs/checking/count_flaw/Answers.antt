@@ -2,8 +2,9 @@ use Rattle.std.proofs.Common.{ap, sym, subst, ◌∙◌, ℕ, Option}
 use Rattle.vs_instance.specs.Firsts.{first}
 use Rattle.vs_instance.specs.Plan.{IsPlan}
 use Rattle.vs_plan.specs.Blocks.{pairs_of}
+use Rattle.vs_plan.proofs.CallerLemmas.{few_blocks}
 use Rattle.vs_peakcheck.specs.Flaws.{count_flaws}
-use Rattle.vs_peakcheck.proofs.LayerFlaws.{few_blocks, plan_flaw}
+use Rattle.vs_peakcheck.proofs.LayerFlaws.{plan_flaw}
 use Rattle.vs_peakcheck.proofs.checking.count_flaw.Goals as goal
 
 pub difference-requires : goal.difference-requires

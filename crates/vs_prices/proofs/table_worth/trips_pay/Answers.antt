@@ -1,6 +1,7 @@
 use Rattle.std.proofs.Common.{arith, sym, ◌∙◌}
+use Rattle.vs_instance.proofs.CallerLemmas.{total-range_next}
 use Rattle.vs_prices.specs.Worth.{least_price}
-use Rattle.vs_prices.proofs.RunningTotals.{trip_added, total-map_more, same_sum}
+use Rattle.vs_prices.proofs.RunningTotals.{trip_added, same_sum}
 use Rattle.vs_prices.proofs.table_worth.trips_pay.Goals as goal
 
 pub loop-i-preserved : goal.loop-i-preserved
@@ -14,7 +15,7 @@ loop-i-preserved c =
     record {
       value = added.value
           ∙ (same_sum _ _ _ _ inv.value c.least_price.ensures.value
-          ∙ sym (total-map_more (least_price p c.args.sets.now c.args.table.now) c.loop-i.i));
+          ∙ sym (total-range_next (least_price p c.args.sets.now c.args.table.now) c.loop-i.i));
       low = added.low;
       high = added.high;
     }

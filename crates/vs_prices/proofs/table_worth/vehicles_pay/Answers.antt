@@ -2,8 +2,9 @@ use Rattle.std.proofs.Common.{◌<◌, ◌≤◌, length, arith, sym, ap, ◌∙
 use Rattle.vs_instance.specs.Ways.{no_layer}
 use Rattle.vs_instance.specs.declared.layer.Layer.{Layer}
 use Rattle.vs_instance.specs.declared.limits.TheConstants.{MAX_FLEET}
+use Rattle.vs_instance.proofs.CallerLemmas.{total-range_next}
 use Rattle.vs_prices.specs.Worth.{fleet_price}
-use Rattle.vs_prices.proofs.RunningTotals.{product_added, total-map_more, same_sum, same_product}
+use Rattle.vs_prices.proofs.RunningTotals.{product_added, same_sum, same_product}
 use Rattle.vs_prices.proofs.table_worth.vehicles_pay.Goals as goal
 
 pub overflow_add-paid : goal.overflow_add-paid
@@ -32,7 +33,7 @@ loop-l-preserved c =
       value = added.value
           ∙ (same_sum _ _ _ _ inv.value
           (same_product _ _ _ _ c.vehicle_price.ensures.value (ap (λ (x : Layer). x.fleet) c.layer.ensures))
-          ∙ sym (total-map_more (fleet_price c.args.instance.now c.args.table.now) c.loop-l.l));
+          ∙ sym (total-range_next (fleet_price c.args.instance.now c.args.table.now) c.loop-l.l));
       low = added.low;
       high = added.high;
     }

@@ -1,14 +1,12 @@
-use Rattle.std.proofs.Common.{◌≡◌, rules, sym, subst, Bool, false, MatchBool}
+use Rattle.std.proofs.Common.{rules, sym, subst}
 use Rattle.std.proofs.lemmas.Int.{to_z-of_z}
+use Rattle.vs_types.proofs.CallerLemmas.{match_false}
 use Rattle.vs_prices.specs.Worth.{IsRoundedUp, IsWorth, table_value}
 use Rattle.vs_prices.specs.declared.bound.Bound.TheVariants.{AtLeast, NoPlan}
 use Rattle.vs_prices.proofs.Duality.{bounds_plans}
 use Rattle.vs_prices.proofs.RunningTotals.{difference_passed}
 use Rattle.vs_prices.proofs.table_worth.worth.Goals as goal
 use mir.Syntax.{w128}
-
-match_false : (b : Bool) (P Q : Type 0) → b ≡ false → Q → MatchBool b P Q
-match_false b P Q e h = subst (λ x. MatchBool x P Q) (sym e) h
 
 pub returns-then-not-table-clause-worth : goal.returns-then-not-table-clause-worth
 returns-then-not-table-clause-worth c =

@@ -4,7 +4,8 @@ use Rattle.std.proofs.lemmas.List.Elements.{All-set}
 use Rattle.vs_instance.specs.HoldingTable.{price_of}
 use Rattle.vs_prices.specs.Table.{IsPrice}
 use Rattle.vs_resume.specs.Widened.{IsSettled, place_of}
-use Rattle.vs_resume.proofs.WidenedPrices.{later_kept, more_settled, others_kept, row_inside}
+use Rattle.vs_resume.proofs.WidenedPrices.{later_kept, more_settled, others_kept}
+use Rattle.vs_types.proofs.CallerLemmas.{row_inside}
 use Rattle.vs_resume.proofs.widening.widen_layer.Goals as goal
 use Rattle.vs_rows.proofs.CallerLemmas.{as_word}
 

@@ -1,6 +1,7 @@
 use Rattle.std.proofs.Common.{◌≡◌, ◌∙◌, ◌<◌, ◌*◌, ℕ, ℤ, List, pos, ap, sym, arith, length, get_or, map}
 use Rattle.std.specs.List.{range_with_len}
 use Rattle.std.proofs.lemmas.Int.{ints}
+use Rattle.vs_instance.proofs.CallerLemmas.{total-range_next}
 use Rattle.vs_layer.specs.declared.arc.Arc.{Arc}
 use Rattle.vs_layer.specs.Graph.{arc_of}
 use Rattle.vs_instance.specs.declared.limits.TheConstants.{MAX_FLEET}
@@ -12,7 +13,7 @@ use Rattle.vs_ship.proofs.balance.Numbers.{total-none}
 use Rattle.vs_ship.proofs.balance.Weighed.{weighed-none}
 use Rattle.vs_ship.proofs.balance.AtMost.{gained_on}
 use Rattle.vs_ship.proofs.balance.InOrder.{gained-in_order}
-use Rattle.vs_ship.proofs.balance.Leaving.{passed-total, passed-weighed, passed-within, total-more}
+use Rattle.vs_ship.proofs.balance.Leaving.{passed-total, passed-weighed, passed-within}
 use Rattle.vs_ship.proofs.leaving.leave.Goals as goal
 
 pub loop-k-init : goal.loop-k-init
@@ -66,7 +67,7 @@ loop-k-preserved c =
           let same = ap (weighed weight) is in
           let here = passed-weighed old (arc_of g k) n from to weight in
           let before = inv.balanced weight in
-          let more = total-more (gained_on weight g.arcs units) k in
+          let more = total-range_next (gained_on weight g.arcs units) k in
           omega (arith, ints, same, here, before, more);
       even = ap total is ∙ passed-total old (arc_of g k) n from to ∙ inv.even;
       within = λ v.

@@ -3,7 +3,7 @@ use Rattle.vs_layer.specs.declared.arc.Arc.{Arc}
 use Rattle.vs_layer.specs.Ends.{no_arc}
 use Rattle.vs_layer.specs.Graph.{arc_of}
 use Rattle.vs_ship.specs.Mirror.{turned}
-use Rattle.vs_ship.proofs.prices.Pushed.{pushed-more}
+use Rattle.vs_types.proofs.CallerLemmas.{pushed-more}
 use Rattle.vs_ship.proofs.mirror.turned_arcs.Goals as goal
 
 pub loop-k-preserved : goal.loop-k-preserved

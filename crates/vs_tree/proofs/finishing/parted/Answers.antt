@@ -27,3 +27,6 @@ returns-clause-upper c =
     ∙ ap (λ (x : LayerSet). set sets c.args.trip.0 x) c.minus-right.ensures.value in
     subst (λ (x : List LayerSet). IsWorth c.args.instance.now x c.args.table.now c.worth-upper.result) written
     c.worth-upper.ensures.worth
+
+pub returns-clause-sets : goal.returns-clause-sets
+returns-clause-sets c = set-set c.args.sets.now c.args.trip.0 c.args.left c.minus-right.result

@@ -15,7 +15,8 @@ returns g c =
     let text = c.in_ok-text.ensures in
     record {
       document = text.document;
-      solves = search_answers c.args.timetable.now.instance c.args.budget c.args.self.now.workers t.opening t.steps text.document
+      solves = search_answers c.args.timetable.now.instance c.args.budget c.args.self.now.workers t.opening t.steps
+          text.document
           (record {
             begins = made.begins;
             is_opening = known.opening;

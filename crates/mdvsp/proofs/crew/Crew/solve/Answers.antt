@@ -1,5 +1,5 @@
 use Rattle.std.proofs.Common.{ℕ, IfOk, subst}
-use Rattle.mdvsp.specs.Answered.{IsDocumentOf}
+use Rattle.mdvsp.specs.Answered.{AnswersDocument}
 use Rattle.mdvsp.specs.Searching.{IsSearchable}
 use Rattle.mdvsp.proofs.owing.SearchOwed.{document_owed, no_search_owed}
 use Rattle.mdvsp.proofs.crew.Crew.solve.Goals as goal
@@ -10,7 +10,7 @@ returns-in-With g c =
     let found = subst (IsSearchable c.args.effort c.args.bytes.now) c.in-With.is c.in_ok-timetable.ensures in
     document_owed c.args.effort c.args.bytes.now timetable.instance timetable.names c.in-With.budget c.plan.result
     found.text found.budget_is
-    (subst (λ (w : ℕ). IfOk c.plan.result (IsDocumentOf timetable.instance timetable.names c.in-With.budget w))
+    (subst (λ (w : ℕ). IfOk c.plan.result (AnswersDocument timetable.instance timetable.names c.in-With.budget w))
     c.requires.workers c.plan.ensures)
 
 pub returns-in-Not : goal.returns-in-Not

@@ -1,7 +1,7 @@
 use Rattle.std.proofs.Common.{ℕ, ◌<◌, ◌^◌, sym, subst}
 use Rattle.vs_instance.specs.Problem.{Problem}
 use Rattle.vs_reader.specs.Names.{HaveCounts}
-use Rattle.vs_rows.specs.DocumentText.{HasText}
+use Rattle.vs_cert.proofs.CallerLemmas.{states_have_documents}
 use Rattle.vs_tree.specs.Laws.{IsTrueClaim}
 use Rattle.vs_tree.specs.Report.{IsReport}
 use Rattle.vs_tree.specs.Search.{state}
@@ -28,6 +28,7 @@ returns g c =
       worked = ensured.worked;
       over = ensured.over;
     } in
+    let has = states_have_documents t.opening t.steps known.opening known.history known.budget in
     record {
       opening = t.opening;
       steps = t.steps;
@@ -38,9 +39,9 @@ returns g c =
         is_report = subst (λ (x : Problem). IsReport x (state t) r) ensured.begins.problem c.report.ensures;
         proves = subst (λ (x : Problem). IsTrueClaim x (state t) r r.claim) ensured.begins.problem
             (c.reports_are_true.ensures t.opening t.steps r known.opening known.history c.report.ensures);
-        documents = λ d text of_state.
-            search_answers p c.args.budget c.args.self.now.workers t.opening t.steps d made of_state
-            (subst (λ (x : Problem). HasText x d) (sym ensured.begins.problem) text);
+        document = has.0;
+        of_state = has.1;
+        solves = search_answers p c.args.budget c.args.self.now.workers t.opening t.steps has.0 made has.1 has.2;
       };
       status_is = c.claim_status.ensures;
       text_is = c.in_ok-text.ensures;

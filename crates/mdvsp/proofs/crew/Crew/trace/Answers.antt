@@ -1,5 +1,5 @@
 use Rattle.std.proofs.Common.{ℕ, IfOk, subst}
-use Rattle.mdvsp.specs.Answered.{IsTraceOf}
+use Rattle.mdvsp.specs.Answered.{AnswersTrace}
 use Rattle.mdvsp.specs.Searching.{IsSearchable}
 use Rattle.mdvsp.proofs.owing.TraceOwed.{no_trace_owed, trace_owed}
 use Rattle.mdvsp.proofs.crew.Crew.trace.Goals as goal
@@ -10,7 +10,7 @@ returns-in-With g c =
     let found = subst (IsSearchable c.args.effort c.args.bytes.now) c.in-With.is c.in_ok-timetable.ensures in
     trace_owed c.args.effort c.args.bytes.now timetable.instance timetable.names c.in-With.budget c.tell.result
     found.text found.budget_is
-    (subst (λ (w : ℕ). IfOk c.tell.result (IsTraceOf timetable.instance timetable.names c.in-With.budget w))
+    (subst (λ (w : ℕ). IfOk c.tell.result (AnswersTrace timetable.instance timetable.names c.in-With.budget w))
     c.requires.workers c.tell.ensures)
 
 pub returns-in-Not : goal.returns-in-Not

@@ -2,7 +2,7 @@ use Rattle.std.proofs.Common.{◌≡◌, ℕ, Bool, true, false, inl, inr, arith
 use Rattle.std.proofs.lemmas.Bool.{cases_lt}
 use Rattle.std.proofs.lemmas.List.{get_or_past}
 use Rattle.vs_instance.specs.Ways.{Permitted}
-use Rattle.test_engine.proofs.Pushed.{pushed-more}
+use Rattle.vs_types.proofs.CallerLemmas.{pushed-more}
 use Rattle.test_engine.proofs.circulations.offers.must_of.Goals as goal
 
 pub loop-i-preserved : goal.loop-i-preserved

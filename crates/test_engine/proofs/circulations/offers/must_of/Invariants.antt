@@ -1,6 +1,6 @@
 use Rattle.std.proofs.Common.{◌≡◌, ℕ, Bool, true, false}
 use Rattle.vs_instance.specs.Ways.{Permitted}
-use Rattle.test_engine.proofs.Pushed.{AreSoFar}
+use Rattle.vs_types.proofs.CallerLemmas.{AreSoFar}
 use Rattle.test_engine.proofs.circulations.offers.must_of.Given as goal
 
 abbrev pub invariant-loop-i : goal.invariant-loop-i

@@ -4,7 +4,7 @@ use Rattle.std.proofs.lemmas.Bool.{cases_lt}
 use Rattle.std.proofs.lemmas.List.{get_or_past}
 use Rattle.vs_instance.specs.Ways.{Permitted}
 use Rattle.vs_instance.specs.declared.limits.TheConstants.{MAX_MULTIPLIER}
-use Rattle.test_engine.proofs.Pushed.{pushed-more}
+use Rattle.vs_types.proofs.CallerLemmas.{pushed-more}
 use Rattle.vs_circ.specs.Offers.{IsOffered}
 use Rattle.test_engine.proofs.circulations.offers.offers_of.Goals as goal
 

@@ -2,7 +2,7 @@ use Rattle.std.proofs.Common.{ℕ, Option, None, ℤ, pos, ◌≤ℤ◌}
 use Rattle.std.specs.Prelude.{IsSome, IfSome}
 use Rattle.vs_instance.specs.Ways.{Permitted}
 use Rattle.vs_instance.specs.declared.limits.TheConstants.{MAX_MULTIPLIER}
-use Rattle.test_engine.proofs.Pushed.{AreSoFar}
+use Rattle.vs_types.proofs.CallerLemmas.{AreSoFar}
 use Rattle.test_engine.proofs.circulations.offers.offers_of.Given as goal
 
 abbrev pub invariant-loop-i : goal.invariant-loop-i

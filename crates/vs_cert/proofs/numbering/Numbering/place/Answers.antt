@@ -1,7 +1,7 @@
 use Rattle.std.proofs.Common.{◌≡◌, ◌<◌, ◌++◌, [], ◌∷◌, sym, ap, ◌∙◌, subst, get_or, set, length, arith, Some, None, ℕ, Option, List}
 use Rattle.std.specs.List.{slice_get}
 use Rattle.std.proofs.lemmas.List.{get_or_default}
-use Rattle.vs_cert.specs.Numbering.{ArePlaces, Numbered, place_in, with_number}
+use Rattle.vs_cert.specs.Numbering.{ArePlacesOf, Numbered, place_in, with_number}
 use Rattle.vs_cert.proofs.states.Numberings.{grown_places, known_before, new_now, stands-last}
 use Rattle.vs_cert.proofs.numbering.Numbering.place.Goals as goal
 
@@ -27,9 +27,9 @@ invariant_of-self c =
     let at = was places c.args.number c.index.result.now inside c.index.ensures ∙ c.in_default.is in
     let are = grown_places places numbers c.args.number c.self.invariant inside at in
     let size : c.len-place.result ≡ length numbers = omega (arith, c.len-place.ensures, c.self.inside.numbers.ok.0) in
-    subst (λ (more : List ℕ). ArePlaces (set places c.args.number (Some c.len-place.result)) more)
+    subst (λ (more : List ℕ). ArePlacesOf (set places c.args.number (Some c.len-place.result)) more)
     (sym c.in-Ok.ensures.items)
-    (subst (λ (n : ℕ). ArePlaces (set places c.args.number (Some n)) (numbers ++ c.args.number ∷ [])) (sym size) are)
+    (subst (λ (n : ℕ). ArePlacesOf (set places c.args.number (Some n)) (numbers ++ c.args.number ∷ [])) (sym size) are)
 
 pub returns-in-Ok-clause-numbers : goal.returns-in-Ok-clause-numbers
 returns-in-Ok-clause-numbers c =

@@ -1,7 +1,10 @@
-use Rattle.std.proofs.Common.{◌≡◌, ◌∷◌, [], arith, length, map}
+use Rattle.std.proofs.Common.{◌≡◌, ◌<◌, ◌∷◌, [], arith, length, map}
+use Rattle.vs_rows.proofs.CallerLemmas.{err_passes}
+use Rattle.vs_document.specs.Reading.{IsRefusalOf}
+use Rattle.vs_document.proofs.rows.ReadThrough.{passes}
 use Rattle.vs_plan.specs.Blocks.{pairs_of}
 use Rattle.vs_rows.specs.DocumentRows.{ClaimRow, CostRow, BoundRow, NodesRow, BlockRow, shape_row, tables_rows}
-use Rattle.vs_document.proofs.parts.WholeDocument.{all_say, few_shapes, few_trips, tree_of}
+use Rattle.vs_document.proofs.parts.WholeDocument.{all_say, few_shapes, few_trips, tree_of, tree_refused_at, whole_refused}
 use Rattle.vs_document.proofs.reading.document.read_rows.Goals as goal
 
 pub returns-clause-found : goal.returns-clause-found
@@ -63,3 +66,43 @@ returns-clause-read_for c =
       shapes = tree.parts;
       few_rows = few_shapes input c.requires head_rows table_rows blocks_are c.in_ok-shape.shape.items say;
     }
+
+pub returns-in_err-blocks-clause-refused : goal.returns-in_err-blocks-clause-refused
+returns-in_err-blocks-clause-refused c =
+    let input = c.args.input.now in
+    let some : 0 < length input.rest = omega (arith, c.if-len-eq0.false, c.len.ensures) in
+    err_passes _ (IsRefusalOf input) c.from_residual-in_err-blocks.ensures.1
+    (whole_refused input _ some (passes input _ c.in_ok-head.ensures.found.reads.lead c.in_err-blocks.ensures.refused))
+
+pub returns-in_err-tables-clause-refused : goal.returns-in_err-tables-clause-refused
+returns-in_err-tables-clause-refused c =
+    let input = c.args.input.now in
+    let some : 0 < length input.rest = omega (arith, c.if-len-eq0.false, c.len.ensures) in
+    err_passes _ (IsRefusalOf input) c.from_residual-in_err-tables.ensures.1
+    (whole_refused input _ some (passes input _ c.in_ok-head.ensures.found.reads.lead
+    (passes input _ c.in_ok-blocks.ensures.found.reads.lead c.in_err-tables.ensures.refused)))
+
+pub returns-in_err-shape-clause-refused : goal.returns-in_err-shape-clause-refused
+returns-in_err-shape-clause-refused c =
+    let input = c.args.input.now in
+    let some : 0 < length input.rest = omega (arith, c.if-len-eq0.false, c.len.ensures) in
+    let n : c.len-count.result ≡ length c.in_ok-tables.tables.items =
+    omega (arith, c.len-count.ensures, c.in_ok-tables.tables.ok.0) in
+    err_passes _ (IsRefusalOf input) c.from_residual-in_err-shape.ensures.1
+    (whole_refused input _ some (passes input _ c.in_ok-head.ensures.found.reads.lead
+    (passes input _ c.in_ok-blocks.ensures.found.reads.lead
+    (passes input _ c.in_ok-tables.ensures.found.reads.lead
+    (tree_refused_at input _ _ _ _ n c.in_err-shape.ensures.refused)))))
+
+pub returns-in_err-read_end-clause-refused : goal.returns-in_err-read_end-clause-refused
+returns-in_err-read_end-clause-refused c =
+    let input = c.args.input.now in
+    let some : 0 < length input.rest = omega (arith, c.if-len-eq0.false, c.len.ensures) in
+    let n : c.len-count.result ≡ length c.in_ok-tables.tables.items =
+    omega (arith, c.len-count.ensures, c.in_ok-tables.tables.ok.0) in
+    err_passes _ (IsRefusalOf input) c.from_residual-in_err-read_end.ensures.1
+    (whole_refused input _ some (passes input _ c.in_ok-head.ensures.found.reads.lead
+    (passes input _ c.in_ok-blocks.ensures.found.reads.lead
+    (passes input _ c.in_ok-tables.ensures.found.reads.lead
+    (tree_refused_at input _ _ _ _ n
+    (passes input _ c.in_ok-shape.ensures.found.reads.lead c.in_err-read_end.ensures.refused))))))

@@ -1,9 +1,9 @@
 use Rattle.std.proofs.Common.{refl}
 use Rattle.vs_rows.specs.DocumentRows.{CostRow}
+use Rattle.vs_document.specs.DocumentRefusals.{documents}
 use Rattle.vs_document.specs.Places.{AtCost, AtBound}
 use Rattle.vs_document.specs.Reading.{IsRefusedAt}
-use Rattle.vs_rows.proofs.CallerLemmas.{err_passes}
-use Rattle.vs_document.proofs.rows.RefusedRows.{reads_one}
+use Rattle.vs_rows.proofs.CallerLemmas.{err_passes, reads_one}
 use Rattle.vs_document.proofs.reading.head.read_cost.Goals as goal
 use Rattle.vs_document.proofs.reading.head.read_cost.Goals.{in-Cost, in_default}
 
@@ -17,7 +17,7 @@ returns-clause-found c = elim c.match-said.branch [
   | in-Cost w ↦
       let says = rw w.in-Cost.is at c.in_ok-said.ensures.says in
       rw w.result-is
-      (reads_one c.args.input.now 1 c.in_ok-said.ensures.within AtCost (CostRow w.in-Cost.cost) (λ e. cc) says tt
-      (AtBound w.in-Cost.cost) refl tt tt)
+      (reads_one documents c.args.input.now 1 c.in_ok-said.ensures.within AtCost (CostRow w.in-Cost.cost) says
+      (AtBound w.in-Cost.cost) (record { suits = tt; order = refl; right = (tt, tt) }))
   | in_default w ↦ rw w.result-is tt
 ]

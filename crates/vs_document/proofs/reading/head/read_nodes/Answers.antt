@@ -1,9 +1,9 @@
 use Rattle.std.proofs.Common.{refl, ℤ, Option}
 use Rattle.vs_rows.specs.DocumentRows.{NodesRow}
+use Rattle.vs_document.specs.DocumentRefusals.{documents}
 use Rattle.vs_document.specs.Places.{AtNodes, AtBlocks}
 use Rattle.vs_document.specs.Reading.{IsRefusedAt}
-use Rattle.vs_rows.proofs.CallerLemmas.{err_passes}
-use Rattle.vs_document.proofs.rows.RefusedRows.{reads_one}
+use Rattle.vs_rows.proofs.CallerLemmas.{err_passes, reads_one}
 use Rattle.vs_document.proofs.reading.head.read_nodes.Goals as goal
 use Rattle.vs_document.proofs.reading.head.read_nodes.Goals.{in-Nodes, in_default}
 
@@ -17,7 +17,7 @@ returns-clause-found c = elim c.match-said.branch [
   | in-Nodes w ↦
       let says = rw w.in-Nodes.is at c.in_ok-said.ensures.says in
       rw w.result-is
-      (λ cost. reads_one c.args.input.now 3 c.in_ok-said.ensures.within (AtNodes cost) (NodesRow w.in-Nodes.nodes)
-      (λ e. cc) says tt (AtBlocks cost) refl tt tt)
+      (λ cost. reads_one documents c.args.input.now 3 c.in_ok-said.ensures.within (AtNodes cost)
+      (NodesRow w.in-Nodes.nodes) says (AtBlocks cost) (record { suits = tt; order = refl; right = (tt, tt) }))
   | in_default w ↦ rw w.result-is tt
 ]

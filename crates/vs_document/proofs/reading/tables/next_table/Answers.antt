@@ -1,8 +1,8 @@
 use Rattle.std.proofs.Common.{◌+◌, []}
 use Rattle.vs_rows.specs.PriceOrder.{prices_of}
-use Rattle.vs_rows.proofs.CallerLemmas.{wrong_within}
+use Rattle.vs_rows.proofs.CallerLemmas.{bad_row, wrong_within}
+use Rattle.vs_document.specs.DocumentRefusals.{documents}
 use Rattle.vs_document.specs.Places.{InTable}
-use Rattle.vs_document.proofs.rows.RefusedRows.{bad_row}
 use Rattle.vs_document.proofs.parts.PricePlaces.{table_refused}
 use Rattle.vs_document.proofs.parts.SamePlaces.{no_table}
 use Rattle.vs_document.proofs.reading.tables.next_table.Goals as goal
@@ -16,7 +16,7 @@ wrong_price-requires-clause-row c =
 pub returns-in-NoTable-clause-refused : goal.returns-in-NoTable-clause-refused
 returns-in-NoTable-clause-refused c =
     rw c.refusal.ensures
-    (bad_row c.args.input.now c.args.at c.requires.row
+    (bad_row documents c.args.input.now c.args.at c.requires.row
     (no_table c.args.input.now.names _ c.requires.kind (rw c.in-NoTable.is at c.in-Err.ensures.refused))
     (InTable c.args.before []) (λ e. cc))
 

@@ -1,9 +1,10 @@
-use Rattle.std.proofs.Common.{ℕ, suc, refl, arith}
+use Rattle.std.proofs.Common.{ℕ, suc, refl, inl, arith}
 use Rattle.vs_rows.specs.DocumentRows.{LeafRow, SplitRow}
+use Rattle.vs_document.specs.DocumentRefusals.{documents}
 use Rattle.vs_document.specs.Places.{InTree}
+use Rattle.vs_document.specs.declared.refused.DocWhy.TheVariants.{TableNumber}
 use Rattle.vs_document.specs.Reading.{IsRefusedAt}
-use Rattle.vs_rows.proofs.CallerLemmas.{err_passes}
-use Rattle.vs_document.proofs.rows.RefusedRows.{leads_one, says_one, out_of_order, wrong_number}
+use Rattle.vs_rows.proofs.CallerLemmas.{err_passes, leads_one, out_of_order, says_one, wrong_row}
 use Rattle.vs_document.specs.RowKinds.{row_said}
 use Rattle.vs_document.proofs.parts.SamePlaces.{tree_order}
 use Rattle.vs_document.proofs.parts.TreeReading.{leaf_part, split_part}
@@ -20,12 +21,15 @@ pub returns-then-number-eq0-clause-refused : goal.returns-then-number-eq0-clause
 returns-then-number-eq0-clause-refused c = λ parts.
     let says = rw c.in-Leaf.is at c.in_ok-said.ensures.says in
     rw c.refusal.ensures
-    (wrong_number c.args.input.now c.args.row c.in_ok-said.ensures.within (InTree c.args.tables (suc parts))
-    (LeafRow c.in-Leaf.number) (λ e. cc) says tt (InTree c.args.tables parts) refl
-    (λ number. elim c.then-number-eq0.branch [
-      | then-number-eq0-via-then-number-eq0 w ↦ omega (arith, number.0, w.if-number-eq0.true)
-      | then-number-eq0-via-else-number-eq0+then-number-tables w ↦ omega (arith, number.1, w.if-number-tables.true)
-    ]))
+    (wrong_row documents c.args.input.now c.args.row c.in_ok-said.ensures.within (InTree c.args.tables (suc parts))
+    (LeafRow c.in-Leaf.number) says tt (λ e. cc) (InTree c.args.tables parts) TableNumber refl
+    (inl (
+      (λ number. elim c.then-number-eq0.branch [
+        | then-number-eq0-via-then-number-eq0 w ↦ omega (arith, number.0, w.if-number-eq0.true)
+        | then-number-eq0-via-else-number-eq0+then-number-tables w ↦ omega (arith, number.1, w.if-number-tables.true)
+      ]),
+      refl,
+    )))
 
 pub returns-clause-found : goal.returns-clause-found
 returns-clause-found c =
@@ -40,9 +44,9 @@ returns-clause-found c =
           rw w.result-is
           (record {
             is_part = split_part input w.in-Split.trip w.in-Split.left c.requires.input.counts says.form;
-            say = says_one input row within (InTree tables 1) said (λ e. cc) says tt;
-            lead = λ parts. leads_one input row within (InTree tables (suc parts)) said (λ e. cc) says tt
-                (InTree tables (suc (suc parts))) refl tt tt;
+            say = says_one documents input row within (InTree tables 1) said says;
+            lead = λ parts. leads_one documents input row within (InTree tables (suc parts)) said says
+                (InTree tables (suc (suc parts))) (record { suits = tt; order = refl; right = (tt, tt) });
           })
       | in-Leaf+else-number-eq0+else-number-tables w ↦
           let says = rw w.in-Leaf.is at c.in_ok-said.ensures.says in
@@ -60,8 +64,8 @@ returns-clause-refused c = elim c.match-said.branch [
   | in_default w ↦
       rw w.result-is
       (λ parts. rw w.refusal-in_default.ensures
-      (out_of_order c.args.input.now c.args.row c.in_ok-said.ensures.within (InTree c.args.tables (suc parts))
-      (row_said c.in_ok-said.said) (λ e. cc) c.in_ok-said.ensures.says tt
+      (out_of_order documents c.args.input.now c.args.row c.in_ok-said.ensures.within
+      (InTree c.args.tables (suc parts)) (row_said c.in_ok-said.said) c.in_ok-said.ensures.says tt (λ e. cc)
       (tree_order c.args.input.now.instance c.args.tables parts c.in_ok-said.said w.in_default.not-Split
       w.in_default.not-Leaf)))
 ]

@@ -4,6 +4,7 @@ use Rattle.vs_plan.specs.Blocks.{pair_of, pairs_of}
 use Rattle.vs_peakcheck.specs.Places.{AtBlocks}
 use Rattle.vs_peakcheck.specs.Reading.{IsRefusedAt}
 use Rattle.vs_rows.proofs.CallerLemmas.{err_passes}
+use Rattle.vs_peakcheck.proofs.PricedRows.{passes}
 use Rattle.vs_peakcheck.proofs.CountedRows.{one_more_block}
 use Rattle.vs_peakcheck.proofs.reading.blocks.read_blocks.Goals as goal
 
@@ -11,7 +12,7 @@ pub returns-in_err-counted-clause-refused : goal.returns-in_err-counted-clause-r
 returns-in_err-counted-clause-refused c =
     let place = AtBlocks c.args.l.0 c.args.count in
     err_passes _ (IsRefusedAt c.args.input.now c.args.at place) c.from_residual-in_err-counted.ensures.1
-    (c.loop-row.invariant.reads.refused _ (c.in_err-counted.ensures.refused c.args.count))
+    (passes c.args.input.now _ c.loop-row.invariant.reads.lead (c.in_err-counted.ensures.refused c.args.count))
 
 pub loop-row-preserved : goal.loop-row-preserved
 loop-row-preserved c =

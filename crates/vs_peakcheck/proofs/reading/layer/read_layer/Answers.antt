@@ -7,7 +7,7 @@ use Rattle.vs_peakcheck.specs.declared.claimed.Claimed.{Claimed}
 use Rattle.vs_peakcheck.specs.Places.{AtLayer}
 use Rattle.vs_peakcheck.specs.Reading.{IsRefusedAt, ReadsLayer}
 use Rattle.vs_rows.proofs.CallerLemmas.{as_word, err_passes}
-use Rattle.vs_peakcheck.proofs.PricedRows.{fleet_reads}
+use Rattle.vs_peakcheck.proofs.PricedRows.{fleet_reads, passes}
 use Rattle.vs_peakcheck.proofs.ReadLayers.{layer_read}
 use Rattle.vs_peakcheck.proofs.reading.layer.read_layer.Goals as goal
 
@@ -16,14 +16,28 @@ ray_is : (count : Option ℕ) (b : Bool) → is_some count ≡ not b → b ≡ i
 ray_is count true is = sym (ap not is)
 ray_is count false is = sym (ap not is)
 
+pub returns-in_err-blocks-clause-refused : goal.returns-in_err-blocks-clause-refused
+returns-in_err-blocks-clause-refused c =
+    let input = c.args.input.now in
+    err_passes _ (IsRefusedAt input c.args.at (AtLayer c.args.l.0)) c.from_residual-in_err-blocks.ensures.1
+    (passes input _ c.in_ok-count.ensures.found.reads.lead c.in_err-blocks.ensures.refused)
+
+pub returns-in_err-fleet-clause-refused : goal.returns-in_err-fleet-clause-refused
+returns-in_err-fleet-clause-refused c =
+    let input = c.args.input.now in
+    err_passes _ (IsRefusedAt input c.args.at (AtLayer c.args.l.0)) c.from_residual-in_err-fleet.ensures.1
+    (passes input _ c.in_ok-count.ensures.found.reads.lead
+    (passes input _ c.in_ok-blocks.ensures.found.reads.lead c.in_err-fleet.ensures.refused))
+
 pub returns-in_err-prices-clause-refused : goal.returns-in_err-prices-clause-refused
 returns-in_err-prices-clause-refused c =
     let input = c.args.input.now in
     let fleet = fleet_reads input c.in_ok-blocks.fleet_row c.args.l.0 c.in_ok-count.count c.in_ok-fleet.fleet
     c.in_ok-fleet.ensures.found in
     err_passes _ (IsRefusedAt input c.args.at (AtLayer c.args.l.0)) c.from_residual-in_err-prices.ensures.1
-    (c.in_ok-count.ensures.found.reads.refused _
-    (c.in_ok-blocks.ensures.found.reads.refused _ (fleet.refused _ c.in_err-prices.ensures.refused)))
+    (passes input _ c.in_ok-count.ensures.found.reads.lead
+    (passes input _ c.in_ok-blocks.ensures.found.reads.lead
+    (passes input _ fleet.lead c.in_err-prices.ensures.refused)))
 
 pub returns-clause-found : goal.returns-clause-found
 returns-clause-found c =

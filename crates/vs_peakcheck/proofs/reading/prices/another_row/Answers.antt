@@ -1,4 +1,5 @@
-use Rattle.vs_peakcheck.proofs.RefusedRows.{out_of_order}
+use Rattle.vs_rows.proofs.CallerLemmas.{out_of_order}
+use Rattle.vs_peakcheck.specs.PeakRefusals.{peaks}
 use Rattle.vs_peakcheck.proofs.reading.prices.another_row.Goals as goal
 use Rattle.vs_peakcheck.proofs.reading.prices.another_row.Goals.{in-Ok, in-Err}
 
@@ -7,7 +8,7 @@ returns c = λ place going none. elim c.match-said_at.branch [
   | in-Ok w ↦
       rw w.result-is
       (rw w.refusal.ensures
-      (out_of_order c.args.input.now c.args.row w.in-Ok.ensures.within place _ going w.in-Ok.ensures.says
+      (out_of_order peaks c.args.input.now c.args.row w.in-Ok.ensures.within place _ w.in-Ok.ensures.says tt going
       (none _ w.in-Ok.ensures.says)))
   | in-Err w ↦ rw w.result-is (w.in-Err.ensures.refused place going)
 ]

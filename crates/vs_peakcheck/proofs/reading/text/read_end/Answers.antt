@@ -1,10 +1,10 @@
 use Rattle.std.proofs.Common.{length, arith}
+use Rattle.vs_peakcheck.specs.PeakRefusals.{peaks}
 use Rattle.vs_peakcheck.specs.Places.{AtLayer}
 use Rattle.vs_peakcheck.specs.Reading.{IsRefusedAt, peak_said}
-use Rattle.vs_rows.proofs.CallerLemmas.{err_passes}
+use Rattle.vs_rows.proofs.CallerLemmas.{err_passes, out_of_order}
 use Rattle.vs_peakcheck.proofs.OtherKinds.{no_end}
 use Rattle.vs_peakcheck.proofs.ReadLayers.{rows_behind_end}
-use Rattle.vs_peakcheck.proofs.RefusedRows.{out_of_order}
 use Rattle.vs_peakcheck.proofs.reading.text.read_end.Goals as goal
 
 pub returns-in_err-said-clause-refused : goal.returns-in_err-said-clause-refused
@@ -20,8 +20,8 @@ returns-in_default c =
     record {
       found = tt;
       refused = rw c.refusal.ensures
-          (out_of_order input c.args.row c.in_ok-said.ensures.within
-          (AtLayer (length input.instance.layers)) (peak_said s) (λ e. cc) c.in_ok-said.ensures.says
+          (out_of_order peaks input c.args.row c.in_ok-said.ensures.within
+          (AtLayer (length input.instance.layers)) (peak_said s) c.in_ok-said.ensures.says tt (λ e. cc)
           (no_end input c.args.row s c.requires.input c.in_ok-said.ensures.says c.in_default.not-End));
     }
 

@@ -1,11 +1,11 @@
 use Rattle.std.proofs.Common.{◌∙◌, ap, map, length}
 use Rattle.std.proofs.lemmas.List.{length-map, length-replicate}
+use Rattle.vs_types.proofs.CallerLemmas.{map-replicate}
 use Rattle.vs_queue.specs.declared.node_table.Mark.TheVariants.{Unknown}
 use Rattle.vs_queue.specs.declared.node_table.NodeRecord.{NodeRecord}
 use Rattle.vs_queue.specs.declared.node_table.TheConstants.{UNKNOWN}
 use Rattle.vs_queue.specs.declared.step.Step.TheVariants.{Forward}
 use Rattle.vs_queue.specs.NodeLists.{key_of, settled_of, step_of}
-use Rattle.vs_queue.proofs.heap.Records.{map-replicate}
 use Rattle.vs_queue.proofs.node_table.NodeTable.new.Goals as goal
 
 abbrev unknown : NodeRecord

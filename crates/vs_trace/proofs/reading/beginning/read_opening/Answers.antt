@@ -1,9 +1,9 @@
 use Rattle.std.proofs.Common.{refl}
+use Rattle.vs_trace.specs.TraceRefusals.{traces}
 use Rattle.vs_trace.specs.TraceRows.{OpeningRow}
-use Rattle.vs_rows.proofs.CallerLemmas.{err_passes}
+use Rattle.vs_rows.proofs.CallerLemmas.{err_passes, reads_one}
 use Rattle.vs_trace.specs.Places.{AtFirst, AtOpening}
 use Rattle.vs_trace.specs.Reading.{IsRefusedAt}
-use Rattle.vs_trace.proofs.RefusedRows.{reads_one}
 use Rattle.vs_trace.proofs.reading.beginning.read_opening.Goals as goal
 use Rattle.vs_trace.proofs.reading.beginning.read_opening.Goals.{in-Opening, in_default}
 
@@ -19,8 +19,9 @@ returns-clause-found c = elim c.match-said.branch [
       rw w.result-is
       (record {
         form = says.0;
-        reads = reads_one c.args.input.now 1 c.in_ok-said.ensures.within AtOpening
-            (OpeningRow w.in-Opening.budget w.in-Opening.workers) (λ e. cc) says AtFirst refl tt tt;
+        reads = reads_one traces c.args.input.now 1 c.in_ok-said.ensures.within AtOpening
+            (OpeningRow w.in-Opening.budget w.in-Opening.workers) says AtFirst
+            (record { suits = tt; order = refl; right = (tt, tt) });
       })
   | in_default w ↦ rw w.result-is tt
 ]

@@ -2,6 +2,7 @@ use Rattle.std.proofs.Common.{arith, sym, ◌∙◌}
 use Rattle.std.proofs.lemmas.Bool.{false≢true}
 use Rattle.vs_rows.proofs.CallerLemmas.{err_passes}
 use Rattle.vs_trace.specs.Reading.{IsRefusalOf}
+use Rattle.vs_trace.proofs.ReadThrough.{passes}
 use Rattle.vs_trace.proofs.WholeReading.{all_read, behind_end, behind_the_head, no_trace, read_for}
 use Rattle.vs_trace.proofs.reading.whole.read_rows.Goals as goal
 
@@ -21,15 +22,15 @@ returns-in_err-first-clause-refused c =
     let both = c.has_head.ensures.0 c.if-not-has_head.false in
     err_passes _ (IsRefusalOf c.args.input.now) c.from_residual-in_err-first.ensures.1
     (behind_the_head c.args.input.now _ both.0 both.1
-    (c.in_ok-budget.ensures.found.reads.lead.refused _ c.in_err-first.ensures.refused))
+    (passes c.args.input.now _ c.in_ok-budget.ensures.found.reads.lead c.in_err-first.ensures.refused))
 
 pub returns-in_err-steps-clause-refused : goal.returns-in_err-steps-clause-refused
 returns-in_err-steps-clause-refused c =
     let both = c.has_head.ensures.0 c.if-not-has_head.false in
     err_passes _ (IsRefusalOf c.args.input.now) c.from_residual-in_err-steps.ensures.1
     (behind_the_head c.args.input.now _ both.0 both.1
-    (c.in_ok-budget.ensures.found.reads.lead.refused _
-    (c.in_ok-first.ensures.found.reads.lead.refused _ c.in_err-steps.ensures.refused)))
+    (passes c.args.input.now _ c.in_ok-budget.ensures.found.reads.lead
+    (passes c.args.input.now _ c.in_ok-first.ensures.found.reads.lead c.in_err-steps.ensures.refused)))
 
 pub returns-then-end-len-clause-refused : goal.returns-then-end-len-clause-refused
 returns-then-end-len-clause-refused c =

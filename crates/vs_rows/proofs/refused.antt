@@ -1,0 +1,4 @@
+pub mod RefusedRows
+pub mod RefusedOnce
+pub mod SamePlaces
+pub mod WrongPrices
