@@ -2,6 +2,7 @@
 """Runs the command lines of README.md and of the pages in docs/, and says where a page differs from what they print.
 
 usage: tools/run_pages.py [PROGRAM] [--write]
+       tools/run_pages.py --links
 
 PROGRAM is the built mdvsp; where it isn't given, bin/mdvsp, or else what the gate leaves in the folder of mdvsp_main.
 
@@ -15,7 +16,8 @@ PROGRAM is the built mdvsp; where it isn't given, bin/mdvsp, or else what the ga
 - A source that a page names with its crate, as `vs_x/src/y.rt` or `vs_x/specs/Y.antt`, has to be there.
 
 Blocks in other languages (```sh for what isn't run here) are left alone. With --write the pages get what was printed,
-and the files' texts; read what changed then. Nothing beside Python's own library is needed.
+and the files' texts; read what changed then. With --links no command is run, and no program is needed. Nothing beside
+Python's own library is needed.
 """
 
 import difflib
@@ -202,20 +204,26 @@ class Page:
                 self.tell(first + at, f"prints something else: {command}", told, printed)
                 self.mended[first + behind, first + behind + len(told)] = [indent + line for line in printed]
 
-    def look(self, program, deadline):
-        """Looks at all that the page says."""
+    def look_at_places(self):
+        """Looks at the links, sources and files' texts of the page."""
         found = list(blocks(self.lines))
         self.look_at_links(found)
         self.look_at_sources()
+        for _, path, first, end, indent in found:
+            if path:
+                self.look_at_file(path, first, end, indent)
+
+    def look(self, program, deadline):
+        """Looks at all that the page says."""
+        self.look_at_places()
+        found = list(blocks(self.lines))
         with tempfile.TemporaryDirectory(prefix="mdvsp-page-") as folder:
             has_commands = any(language == "console" for language, *_ in found)
             room = Room(folder, program) if has_commands else None
             for language, path, first, end, indent in found:
-                if path:
-                    self.look_at_file(path, first, end, indent)
-                elif language == "console" and time.monotonic() < deadline:
+                if language == "console" and not path and time.monotonic() < deadline:
                     self.run_block(room, first, end, indent)
-                elif language == "console":
+                elif language == "console" and not path:
                     self.tell(first - 1, f"wasn't run: all commands take more than {ALL_SECONDS} seconds")
 
     def write(self):
@@ -235,12 +243,15 @@ def program_of(words):
 
 
 def main():
-    words = [word for word in sys.argv[1:] if word != "--write"]
-    program = program_of(words[:1])
+    words = [word for word in sys.argv[1:] if not word.startswith("--")]
+    program = None if "--links" in sys.argv[1:] else program_of(words[:1])
     deadline = time.monotonic() + ALL_SECONDS
     all_pages = [Page(path) for path in pages()]
     for page in all_pages:
-        page.look(program, deadline)
+        if program:
+            page.look(program, deadline)
+        else:
+            page.look_at_places()
         if page.mended and "--write" in sys.argv[1:]:
             page.write()
     faults = [fault for page in all_pages for fault in page.faults]

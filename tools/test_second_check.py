@@ -243,9 +243,8 @@ def find_program(words):
     return max(built, key=os.path.getmtime)
 
 
-def main():
-    begin = time.monotonic()
-    comparison = Comparison(find_program([word for word in sys.argv[1:] if word != "--kinds"]))
+def compare_all(comparison):
+    """Judges all texts that the first lines of this file name."""
     for name, text, row in [*second_texts.KNOWN, *second_orders.orders(), *second_texts.printed()]:
         comparison.compare_known(name, text, row)
     for name, text in second_texts.limits():
@@ -256,6 +255,12 @@ def main():
     if comparison.third:
         compare_peaks(comparison)
     compare_files(comparison)
+
+
+def main():
+    begin = time.monotonic()
+    comparison = Comparison(find_program([word for word in sys.argv[1:] if word != "--kinds"]))
+    compare_all(comparison)
     if "--kinds" in sys.argv:
         print(*(f"{count:6} {kind}" for kind, count in sorted(comparison.kinds.items())), sep="\n")
     documents, seconds = comparison.compared - comparison.peaks, time.monotonic() - begin

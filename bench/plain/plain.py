@@ -1,13 +1,16 @@
 #!/usr/bin/env python3
-"""Writes the crates of the search as one program of plain Rust, to try an algorithm before it is proved.
+"""Writes the crates as plain Rust, of which `rustc` makes a program in less than a minute. Nothing of it is proved.
 
-    bench/plain/plain.py OUT     writes OUT/main.rs and what it needs
-    rustc --edition 2024 -O OUT/main.rs -o OUT/plain
-    OUT/plain FILE NODES         plans the instance by one worker; with LOG=1 it tells of each case on standard error
+    bench/plain/plain.py OUT            writes OUT/main.rs and what it needs: the program that `make quick` builds
+    bench/plain/plain.py --tests OUT    writes the crates with their tests, for `rustc --test`
+    bench/plain/plain.py --search OUT   writes the search alone, with a `main` of its own, to try and time an algorithm
 
-Contracts, proofs and what is only there for them are left out, and `Vec` is one whose calls answer `Result`
-(prelude.rs), so the rest stays as it is. Plans and bounds are those of `bin/mdvsp solve --workers 1`, but nothing is
-proved of it: a change that pays here has to be made in the crates.
+    rustc --edition 2024 -O OUT/main.rs -o OUT/search
+    OUT/search FILE NODES               plans by one worker; with LOG=1 it prints each case on standard error
+
+Which crates there are is read from crates.txt. Contracts, proofs and what is only there for them are left out, and what
+the sources use of Rattle's library is imitated by the .rs files beside this one (`Vec`, whose calls answer `Result`, in
+prelude.rs, the rest of `std` in standard.rs, and four libraries by their names), so that all else stays as it is.
 """
 
 import os
@@ -16,14 +19,61 @@ import shutil
 import sys
 
 HERE = os.path.dirname(os.path.abspath(__file__))
-CRATES = os.path.join(HERE, "..", "..", "crates")
-SEARCH = """vs_types vs_instance vs_connect vs_plan vs_prices vs_layer vs_match vs_queue vs_path vs_ship
-    vs_circ vs_decomp vs_multi vs_cuts vs_bundle vs_tree vs_node vs_penalty""".split()
+TOP = os.path.join(HERE, "..", "..")
+# Groups of crates.txt that are part of the program.
+GROUPS = ["ground", "audit", "search", "program"]
+# Crates of tests that are programs, or whose tests start threads one by one.
+BESIDE_TESTS = ["test_meeting", "test_turn"]
+# The crates of the search that aren't part of a search by one worker. Of `vs_crew` one file is.
+BESIDE_SEARCH = "vs_turn vs_crew vs_cert vs_resume vs_trace vs_replay vs_peak".split()
+STAND_INS = ["macros.rs", "prelude.rs", "standard.rs"]
+LIBRARIES = ["atomic_table", "csv", "indexmap", "itoa"]
 
-CLAUSE = re.compile(r"\b(?:requires|ensures)\b(?: \*)?(?: \w+)?\s*\{")
+CLAUSE = re.compile(r"\b(?:requires|ensures)\b ?\*?(?: \w+)?\s*\{")
 GHOST_FIELD = re.compile(r"\bghost \w+: \{")
 GHOST_ITEM = re.compile(r"\bghost \w+ = \{")
 PROOF = re.compile(r"\bprove!\(")
+TEST = re.compile(r"#\[test\]\nfn (\w+)\(")
+
+
+def groups():
+    """Returns the crates of each group of crates.txt, in the order in which they stand there."""
+    found, group = {}, None
+    with open(os.path.join(TOP, "crates.txt"), encoding="utf-8") as file:
+        for line in file:
+            if opened := re.match(r"# (\w+): .* On: ", line):
+                group = found.setdefault(opened[1], [])
+            elif crate := re.match(r"(\w+)[^:#]*:", line):
+                group.append(crate[1])
+    return found
+
+
+def crates(kind):
+    """Returns the crates of the program, of the search alone, or of the tests too."""
+    known = groups()
+    found = [crate for group in GROUPS for crate in known[group]]
+    if kind == "tests":
+        return found + [crate for crate in known["tests"] if crate not in BESIDE_TESTS]
+    if kind == "program":
+        return found
+    needed = needs_of([crate for crate in known["search"] if crate not in BESIDE_SEARCH])
+    return [crate for crate in found if crate in needed and crate not in BESIDE_SEARCH]
+
+
+def needs_of(names):
+    """Returns crates and all that they depend on."""
+    needs = {}
+    with open(os.path.join(TOP, "crates.txt"), encoding="utf-8") as file:
+        for line in file:
+            if crate := re.match(r"(\w+)[^:#]*:([^#]*)", line):
+                needs[crate[1]] = crate[2].split()
+    found, left = set(), list(names)
+    while left:
+        name = left.pop()
+        if name not in found:
+            found.add(name)
+            left += needs.get(name, [])
+    return found
 
 
 def end_of(text, start):
@@ -43,7 +93,7 @@ def without(text, pattern, behind):
     kept, at = [], 0
     while found := pattern.search(text, at):
         line = text[text.rfind("\n", 0, found.start()) + 1 : found.start()]
-        if line.lstrip().startswith("//"):
+        if "//" in line:
             kept.append(text[at : found.end()])
             at = found.end()
             continue
@@ -58,44 +108,65 @@ def derived(found):
     return f"#[derive({', '.join(names)})]" if names else ""
 
 
-def plain(text, crate):
-    """Returns a source of a crate as plain Rust in a module of that name."""
+def plain(text, crate, names):
+    """Returns a source of a crate as plain Rust in a module of that name; `names` are the crates that there are."""
     text = re.sub(r"ghost use [^;]*;\n", "", text)
-    for pattern, behind in ((CLAUSE, ""), (GHOST_ITEM, r"\s*;"), (GHOST_FIELD, r"\s*,?"), (PROOF, ";?")):
+    for pattern, behind in ((CLAUSE, ""), (GHOST_ITEM, r"\s*;"), (GHOST_FIELD, r"\s*[,;]?"), (PROOF, ";?")):
         text = without(text, pattern, behind)
     text = text.replace("#![tactic(auto)]", "")
+    text = re.sub(r"^ *#\[tactic\(.*\)\]\n", "", text, flags=re.MULTILINE)
     text = re.sub(r"#\[derive\(([^)]*)\)\]", derived, text)
     text = re.sub(r"\bDrop \+ |: Drop\b(?! for)| \+ Drop\b", "", text)
-    text = re.sub(r"\.collect\(((?:\w+\.)*alloc)\)", r".collect_in(\1)", text)
-    text = re.sub(r"use std::(?:alloc|marker|snapshot|collections)::[^;]*;\n", "", text)
+    text = re.sub(r"\.collect\(((?:\w+\.)*alloc(?:\(\))?)\)", r".collect_in(\1)", text)
+    text = re.sub(r"\.to_vec\((?=\w)", ".copy_in(", text)
     text = re.sub(r"(?<![\w:$])crate::", f"crate::{crate}::", text)
-    text = re.sub(r"(?<![\w:])(pub(?:\(crate\))? )?use (vs_\w+)", r"\1use crate::\2", text)
-    text = re.sub(r"(?<![\w:])(vs_\w+)::", r"crate::\1::", text)
-    text = re.sub(r"^//!", "//", text, flags=re.M)
+    text = re.sub(r"(?<![\w:])std::", "crate::standard::", text)
+    text = re.sub(rf"(?<![\w:])(pub(?:\(crate\))? )?use ({'|'.join(names)})\b(?!;)", r"\1use crate::\2", text)
+    text = re.sub(rf"(?<![\w:])({'|'.join(names)})::", r"crate::\1::", text)
+    text = re.sub(r"^fn main\(", "pub fn main(", text, flags=re.M)
+    text = re.sub(TEST, rf"#[test]\nfn \1() {{\n    crate::standard::test::ended(\1_);\n}}\n\nfn \1_(", text)
+    text = re.sub(r"^ *#\[tactic\(.*\)\]\n", "", text, flags=re.M)
+    # A comment of what is left out would document nothing.
+    text = re.sub(r"^( *)//[/!]", r"\1//", text, flags=re.M)
     return f"#[allow(unused_imports)]\nuse crate::prelude::*;\n{text}"
 
 
-def write(source, to, crate):
+def write(source, to, crate, names):
     with open(source, encoding="utf-8") as file:
-        text = plain(file.read(), crate)
+        text = plain(file.read(), crate, names)
     os.makedirs(os.path.dirname(to), exist_ok=True)
     with open(to, "w", encoding="utf-8") as file:
         file.write(text)
 
 
-def main(out):
-    for crate in SEARCH:
-        base = os.path.join(CRATES, crate, "src")
-        for folder, _, names in os.walk(base):
-            for name in names:
-                path = os.path.relpath(os.path.join(folder, name), base).removesuffix(".rt")
-                to = "mod" if path == "lib" else path
-                write(os.path.join(folder, name), os.path.join(out, crate, f"{to}.rs"), crate)
-    write(os.path.join(CRATES, "vs_crew", "src", "finding.rt"), os.path.join(out, "finding.rs"), "vs_crew")
-    for name in ("main.rs", "prelude.rs"):
+def write_crate(crate, out, names):
+    """Writes the sources of a crate as a module."""
+    base = os.path.join(TOP, "crates", crate, "src")
+    for folder, _, files in os.walk(base):
+        for file in files:
+            path = os.path.relpath(os.path.join(folder, file), base).removesuffix(".rt")
+            to = "mod" if path in ("lib", "main") else path
+            write(os.path.join(folder, file), os.path.join(out, crate, f"{to}.rs"), crate, names)
+
+
+def main(out, kind):
+    found = crates(kind)
+    names = [*found, "vs_turn", *LIBRARIES]
+    for crate in found:
+        write_crate(crate, out, names)
+    if kind == "search":
+        finding = os.path.join(TOP, "crates", "vs_crew", "src", "finding.rt")
+        write(finding, os.path.join(out, "finding.rs"), "vs_crew", names)
+    with open(os.path.join(HERE, f"{kind}.rs"), encoding="utf-8") as file:
+        text = file.read().replace("// CRATES\n", "".join(f"mod {crate};\n" for crate in sorted(found)))
+    with open(os.path.join(out, "main.rs"), "w", encoding="utf-8") as file:
+        file.write(text)
+    for name in [*STAND_INS, *(f"{library}.rs" for library in LIBRARIES if kind != "search")]:
         shutil.copy(os.path.join(HERE, name), out)
 
 
-if len(sys.argv) != 2:
-    sys.exit(__doc__)
-main(sys.argv[1])
+if __name__ == "__main__":
+    words = [word for word in sys.argv[1:] if word not in ("--search", "--tests")]
+    if len(words) != 1 or len(sys.argv) > 3:
+        sys.exit(__doc__)
+    main(words[0], sys.argv[1].removeprefix("--") if len(sys.argv) == 3 else "program")

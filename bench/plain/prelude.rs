@@ -1,10 +1,14 @@
 //! What the sources of the crates find where Rattle's library would be: collections whose calls answer `Result`, over
 //! those of plain Rust, and types that are there for proofs.
 
-use std::collections::BinaryHeap as PlainHeap;
+pub use crate::standard::rt::{AllocGlobal, Eprint, HostRuntime, Print};
+use std::borrow::Borrow;
+use std::collections::{BinaryHeap as PlainHeap, LinkedList as PlainList, linked_list};
+use std::fmt::{Arguments, Debug, Display, Formatter, Write};
 use std::marker::PhantomData;
 use std::ops::{Deref, DerefMut};
 use std::slice;
+use std::string::String as PlainString;
 use std::vec::{IntoIter, Vec as PlainVec};
 
 pub type Global = ();
@@ -12,7 +16,22 @@ pub type Global = ();
 #[derive(Clone, Copy, Debug)]
 pub struct AllocError;
 
-pub struct AllocFailed<T>(pub T);
+/// No memory for an item, which is given back.
+pub struct AllocFailed<T> {
+    pub value: T,
+}
+
+impl<T> Debug for AllocFailed<T> {
+    fn fmt(&self, formatter: &mut Formatter<'_>) -> std::fmt::Result {
+        formatter.write_str("AllocFailed")
+    }
+}
+
+impl<T> From<AllocFailed<T>> for AllocError {
+    fn from(_: AllocFailed<T>) -> Self {
+        AllocError
+    }
+}
 
 type Found<T> = Result<T, AllocError>;
 
@@ -68,10 +87,13 @@ impl<T> Vec<T> {
     }
 
     #[inline]
-    pub fn push(&mut self, item: T) -> Found<()> {
+    pub fn push(&mut self, item: T) -> Result<(), AllocFailed<T>> {
         self.0.push(item);
         Ok(())
     }
+
+    /// Drops a list that has no items.
+    pub fn destroy_empty(self) {}
 
     pub fn pop(&mut self) -> Option<T> {
         self.0.pop()
@@ -88,6 +110,10 @@ impl<T> Vec<T> {
     pub fn append(&mut self, other: &mut Vec<T>) -> Found<()> {
         self.0.append(&mut other.0);
         Ok(())
+    }
+
+    pub fn split_off(&mut self, place: usize) -> Found<Self> {
+        Ok(Vec(self.0.split_off(place)))
     }
 
     pub fn insert(&mut self, place: usize, item: T) -> Found<()> {
@@ -174,6 +200,26 @@ impl<'a, T> IntoIterator for &'a mut Vec<T> {
     }
 }
 
+impl std::io::Write for Vec<u8> {
+    fn write(&mut self, piece: &[u8]) -> std::io::Result<usize> {
+        self.0.write(piece)
+    }
+
+    fn flush(&mut self) -> std::io::Result<()> {
+        Ok(())
+    }
+}
+
+pub trait CopyIn<T> {
+    fn copy_in(&self, _: Global) -> Found<Vec<T>>;
+}
+
+impl<T: Clone> CopyIn<T> for [T] {
+    fn copy_in(&self, _: Global) -> Found<Vec<T>> {
+        Ok(Vec(self.to_vec()))
+    }
+}
+
 pub trait CollectIn: Iterator + Sized {
     fn collect_in(self, _: Global) -> Found<Vec<Self::Item>> {
         Ok(Vec(self.collect()))
@@ -220,5 +266,101 @@ impl<T: Ord> BinaryHeap<T> {
 
     pub fn clear(&mut self) {
         self.0.clear();
+    }
+}
+
+/// A list of which a part is split off without a copy.
+#[derive(Debug)]
+pub struct LinkedList<T>(PlainList<T>);
+
+impl<T> LinkedList<T> {
+    pub fn new(_: Global) -> Self {
+        LinkedList(PlainList::new())
+    }
+
+    pub fn push_back(&mut self, item: T) -> Result<(), AllocFailed<T>> {
+        self.0.push_back(item);
+        Ok(())
+    }
+
+    pub fn front(&self) -> Option<&T> {
+        self.0.front()
+    }
+
+    pub fn len(&self) -> usize {
+        self.0.len()
+    }
+
+    pub fn is_empty(&self) -> bool {
+        self.0.is_empty()
+    }
+
+    pub fn iter(&self) -> linked_list::Iter<'_, T> {
+        self.0.iter()
+    }
+
+    pub fn split_off(&mut self, place: usize) -> Found<Self> {
+        Ok(LinkedList(self.0.split_off(place)))
+    }
+
+    pub fn append(&mut self, other: &mut Self) -> Found<()> {
+        self.0.append(&mut other.0);
+        Ok(())
+    }
+}
+
+#[derive(Debug, PartialEq, Eq, Hash)]
+pub struct String(pub PlainString);
+
+impl String {
+    pub fn new(_: Global) -> Self {
+        String(PlainString::new())
+    }
+
+    pub fn from_str(_: Global, text: &str) -> Found<Self> {
+        Ok(String(text.to_owned()))
+    }
+
+    pub fn from_utf8_lossy(_: Global, bytes: &[u8]) -> Found<Self> {
+        Ok(String(PlainString::from_utf8_lossy(bytes).into_owned()))
+    }
+
+    pub fn push(&mut self, letter: char) -> Found<()> {
+        self.0.push(letter);
+        Ok(())
+    }
+
+    pub fn push_str(&mut self, text: &str) -> Found<()> {
+        self.0.push_str(text);
+        Ok(())
+    }
+
+    pub fn as_str(&self) -> &str {
+        &self.0
+    }
+
+    /// What `write!` calls.
+    pub fn write_fmt(&mut self, words: Arguments<'_>) -> Found<()> {
+        self.0.write_fmt(words).map_err(|_| AllocError)
+    }
+}
+
+impl Deref for String {
+    type Target = str;
+
+    fn deref(&self) -> &str {
+        &self.0
+    }
+}
+
+impl Borrow<str> for String {
+    fn borrow(&self) -> &str {
+        &self.0
+    }
+}
+
+impl Display for String {
+    fn fmt(&self, formatter: &mut Formatter<'_>) -> std::fmt::Result {
+        Display::fmt(&self.0, formatter)
     }
 }

@@ -1,6 +1,6 @@
 """Prices a plan of one's own: whether it is one, what it costs, and how far it is from what every plan costs at least.
 
-OWN has a record `block,GROUP,TRIP..` for each vehicle, as docs/questions.md shows; any document will do. In its place
+OWN has a record `block,GROUP,TRIP..` for each vehicle, as docs/planning.md shows; any document will do. In its place
 --feed FEED takes the blocks from the block_id of a feed's trips.txt, for a timetable that `mdvsp-plan gtfs` made of it;
 each of these blocks gets the group in which all of them together cost least, and a trip without a block_id is a block
 alone.

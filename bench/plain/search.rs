@@ -1,40 +1,16 @@
-//! Plans an instance by one worker, as the crates do: `plain FILE NODES`. Nothing is proved here.
+//! Plans an instance by one worker, as the crates do: `search FILE NODES`. Nothing is proved here.
 #![allow(dead_code, unused)]
 
-macro_rules! vec {
-    (in $alloc:expr; $item:expr; $count:expr) => {{
-        let _ = $alloc;
-        Ok::<_, crate::prelude::AllocError>(crate::prelude::Vec(std::vec![$item; $count]))
-    }};
-    (in $alloc:expr; $($item:expr),*) => {{
-        let _ = $alloc;
-        Ok::<_, crate::prelude::AllocError>(crate::prelude::Vec(std::vec![$($item),*]))
-    }};
-}
+#[macro_use]
+mod macros;
+mod prelude;
+mod standard;
 
 mod finding;
-mod prelude;
-mod vs_bundle;
-mod vs_circ;
-mod vs_connect;
-mod vs_cuts;
-mod vs_decomp;
-mod vs_instance;
-mod vs_layer;
-mod vs_match;
-mod vs_multi;
-mod vs_node;
-mod vs_path;
-mod vs_penalty;
-mod vs_plan;
-mod vs_prices;
-mod vs_queue;
-mod vs_ship;
-mod vs_tree;
 mod vs_turn {
     pub trait Kept {}
 }
-mod vs_types;
+// CRATES
 
 use std::collections::HashMap;
 use std::time::Instant;
@@ -125,7 +101,7 @@ fn tell(report: &Report, begun: Instant) -> String {
     let bound = report.bound.unwrap_or(0);
     let apart = 100.0 * (cost - bound) as f64 / cost.max(1) as f64;
     let seconds = begun.elapsed().as_secs_f64();
-    format!("{:?} cost {cost} bound {bound} apart {apart:.4} % cases {} {seconds:.2} s", report.claim, report.finished)
+    std::format!("{:?} cost {cost} bound {bound} apart {apart:.4} % cases {} {seconds:.2} s", report.claim, report.finished)
 }
 
 fn main() {
@@ -160,8 +136,8 @@ fn main() {
         }
         tree.finish_as(0, leaf, found.outcome.table, found.finish);
         if log {
-            eprintln!("{}", tell(&tree.report(), begun));
+            std::eprintln!("{}", tell(&tree.report(), begun));
         }
     }
-    println!("{}", tell(&tree.report(), begun));
+    std::println!("{}", tell(&tree.report(), begun));
 }

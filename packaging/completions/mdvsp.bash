@@ -1,0 +1,20 @@
+# Completion of mdvsp for bash. tools/usage.py writes this file from packaging/commands.txt.
+
+_mdvsp() {
+  local words=
+  COMPREPLY=()
+  [ "$COMP_CWORD" -eq 1 ] && words='solve resume trace replay check blocks network peak peakcheck make trial --help --version'
+  [ "$COMP_CWORD" -gt 1 ] && case ${COMP_WORDS[1]} in
+    solve) words='--workers --nodes' ;;
+    resume) words='--workers --nodes' ;;
+    trace) words='--workers --nodes' ;;
+  esac
+  # Behind an option stands a number, which is not completed, and no option stands twice.
+  case ${COMP_WORDS[COMP_CWORD - 1]} in --*) return ;; esac
+  local word
+  for word in $words; do
+    [[ " ${COMP_WORDS[*]:1:COMP_CWORD-1} " == *" $word "* ]] || COMPREPLY+=("$word")
+  done
+  mapfile -t COMPREPLY < <(compgen -W "${COMPREPLY[*]}" -- "${COMP_WORDS[COMP_CWORD]}")
+}
+complete -o default -F _mdvsp mdvsp
