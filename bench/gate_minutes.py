@@ -65,7 +65,7 @@ def read(path):
     took = collections.Counter()
     if path and os.path.exists(path):
         with open(path, encoding="utf-8") as file:
-            for line in file:
+            for line in (it for it in file if not it.startswith("#")):
                 name, kind, seconds = line.split()
                 took[name, kind] += float(seconds)
     return took

@@ -7,8 +7,9 @@
 
 In crates.txt a comment `# NAME: ... On: NAME, NAME.` opens a group and names the groups, and the toolchain's libraries,
 on which its crates may depend.
-A crate's line in the lists is the first sentence of its root file. The lists stand between the lines
-`<!-- crates: NAME -->` and `<!-- crates: end -->` of a page, where NAME is `picture`, `table` or `edits`.
+A crate's line in the table is the first sentence of its root file, up to a colon or `, with` where it is long. The
+lists stand between the lines `<!-- crates: NAME -->` and `<!-- crates: end -->` of a page, where NAME is `picture`,
+`table` or `edits`.
 """
 
 from __future__ import annotations
@@ -22,7 +23,11 @@ TOP = Path(__file__).resolve().parent.parent
 GROUP = re.compile(r"# (\w+): (.*?) On: ([\w, ]+)\.$")
 CRATE = re.compile(r"(\w+)[^:#]*:([^#]*)")
 PART = re.compile(r"(<!-- crates: (\w+) -->\n)(.*?)(<!-- crates: end -->)", re.S)
-WIDTH = 120
+
+# The groups whose crates aren't part of the program, and how many words a sentence of the table may have.
+UNLISTED = ["examples", "tests"]
+LONG = 20
+PART_END = re.compile(r":|, with ")
 
 
 @dataclass
@@ -40,6 +45,11 @@ class Crate:
         lines = [line[3:].strip() for line in root.read_text(encoding="utf-8").splitlines() if line.startswith("//!")]
         sentence = re.match(r".*?[.;](?= |$)", " ".join(lines))
         return (sentence[0] if sentence else " ".join(lines)).rstrip(".;") + "."
+
+    def in_short(self) -> str:
+        """Returns that sentence, where it is long up to its first colon or `, with`."""
+        about = self.about()
+        return about if len(about.split()) <= LONG else PART_END.split(about)[0].rstrip(".") + "."
 
     def edits(self) -> int:
         """Returns how many edits the gate has to refuse."""
@@ -99,20 +109,22 @@ def picture(all_crates: House) -> str:
 
 
 def table(all_crates: House) -> str:
-    """Returns a row for each crate: its group, what it is, and what it depends on directly."""
-    rows = ["| Group | Crate | What it is | Depends on |", "|---|---|---|---|"]
+    """Returns a row for each crate of the program: what it is."""
+    rows = ["| Crate | What it is |", "|---|---|"]
     for crate in all_crates.crates.values():
-        needs = " ".join(f"`{name}`" for name in crate.needs) or "nothing"
-        rows.append(f"| {crate.group} | `{crate.name}` | {crate.about()} | {needs} |")
+        if crate.group not in UNLISTED:
+            rows.append(f"| `{crate.name}` | {crate.in_short()} |")
     return "\n".join(rows) + "\n"
 
 
 def edits(all_crates: House) -> str:
-    """Returns how many edits each crate has that the gate has to refuse, where it has some."""
-    having = [crate for crate in all_crates.crates.values() if crate.edits()]
-    rows = ["| Group | Crate | What it is | Edits that must fail |", "|---|---|---|---|"]
-    rows += [f"| {crate.group} | `{crate.name}` | {crate.about()} | {crate.edits()} |" for crate in having]
-    return "\n".join(rows) + f"\n\nIn all {sum(crate.edits() for crate in having)} edits.\n"
+    """Returns how many edits each crate has that the gate has to refuse, where it has some, by group."""
+    rows = ["| Group | Edits that must fail, by crate |", "|---|---|"]
+    for group in all_crates.about:
+        having = [f"`{crate.name}` {crate.edits()}" for crate in all_crates.of_group(group) if crate.edits()]
+        if having:
+            rows.append(f"| {group} | {', '.join(having)} |")
+    return "\n".join(rows) + f"\n\nIn all {sum(crate.edits() for crate in all_crates.crates.values())} edits.\n"
 
 
 LISTS = {"picture": picture, "table": table, "edits": edits}
