@@ -22,7 +22,7 @@ HUBS = [(6_000, 6_000), (3_500, 7_500), (8_000, 4_000), (7_500, 9_000)]
 # A vehicle, a minute and a metre of each type, and what it costs more at each further depot.
 TYPES = {"Mini": (40_000, 9, 1), "Solo": (60_000, 11, 1), "Bend": (90_000, 14, 2)}
 DEARER = 1_500
-# The types that a line may have, and how often it runs in the peaks and beside them.
+# The types that a line may have, and how often it runs in the peaks and outside of them.
 KINDS = [
     (["Mini", "Solo"], 30, 60),
     (["Solo", "Bend"], 15, 30),

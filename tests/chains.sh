@@ -8,7 +8,7 @@ work=$(mktemp -d)
 trap 'rm -rf "$work"' EXIT
 wrong=0
 
-# Tells what went wrong, and counts it.
+# Prints what went wrong, and counts it.
 fails() {
   wrong=$((wrong + 1))
   echo "$name: $1"

@@ -17,10 +17,10 @@ claim, the cost and the bound have to be the same, and `check` has to say yes to
 documents to which their traces replay. The calls of two workers come in another order each time, so there a number
 stands for another call in each run.
 
-A run of MEETING has to end with status 6 and nothing written, or to print a row in which no worker holds a leaf and
-the history has gone on: it begins with the steps that stood, and no count, cost or bound is worse than before. Where
+A run of MEETING has to end with status 6 and nothing written, or to print a row in which no worker holds a leaf. In
+that row the history has gone on: it begins with the steps that stood, and no count, cost or bound has got worse. Where
 the crew says that the search is over, claim, cost and bound have to be those that are found with ample memory. Where
-it hands the search back as it was, for want of memory, a second row has to tell what a further crew made of it; that
+it runs out of memory and hands the search back as it was, a second row has to say what a further crew made of it. That
 one has to find the same, if the call was refused alone. Each of these answers has to come in some run, so that it was
 tried.
 
@@ -198,7 +198,7 @@ def same_answer(trial, timetable):
     return judge
 
 
-# A row of MEETING: which crew it tells of, what that answered, and how the search stood before and after it.
+# A row of MEETING: which crew it is about, what that answered, and how the search stood before and after it.
 COUNT, COST = r"\d+", r"none|\d+"
 COLUMNS = {"steps": COUNT, "spots": COUNT, "finished": COUNT, "cost": COST, "bound": COUNT}
 ROW = re.compile(

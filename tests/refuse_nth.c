@@ -2,7 +2,7 @@
    of it: tests/each_allocation.py builds it and runs the program over it.
 
    REFUSE_TALLY  a file of 16 bytes, to which are written, as two numbers of 64 bits: how many calls were counted, and
-                 how many of them were refused. It is mapped, so it tells both however the program ends.
+                 how many of them were refused. It is mapped, so it gives both however the program ends.
    REFUSE_AT     the number of the call to refuse, counted from 1; 0 or nothing: none.
    REFUSE_ON     where it is set, all later calls are refused too.
 
@@ -39,7 +39,7 @@ static int refuse_on;
 static atomic_int begun;
 static int (*main_of_program)(int, char **, char **);
 
-/* Counts a call, and tells whether it is to be refused. */
+/* Counts a call, and says whether it is to be refused. */
 static int is_refused(void) {
     if (!atomic_load(&begun))
         return 0;

@@ -26,7 +26,7 @@ export program work
 runs=0
 wrong=0
 
-# Counts a run, and tells what is wrong with it: what was run, the status, and those that are promised.
+# Counts a run, and prints what is wrong with it: what was run, the status, and those that are promised.
 ended() {
   local what=$1 status=$2
   shift 2
@@ -40,7 +40,7 @@ ended() {
   fi
 }
 
-# Counts a run, and tells where something was written that mustn't be.
+# Counts a run, and says where something was written that mustn't be.
 nothing_written() {
   if [ -s "$1" ]; then
     wrong=$((wrong + 1))
@@ -123,7 +123,7 @@ within() {
   (ulimit -v "$much" && exec "$program" "$@" < "$file" > "$work/out") 2> "$work/err"
 }
 
-# The least address space, in KB, in which the program begins at all. Below, its loader tells that it can't, or the
+# The least address space, in KB, in which the program begins at all. Below, its loader says that it can't, or the
 # system kills it, and it isn't the program that ends.
 least=1024
 within "$least" /dev/null make 0

@@ -1,5 +1,5 @@
 #!/usr/bin/env python3
-"""Proves one library in a copy of its own, so that others can be proved beside it.
+"""Proves one library in a copy of its own, so that others can be proved at the same time.
 
     tools/prove.py NAME    proves the library NAME; those that it depends on have to be proved already
 

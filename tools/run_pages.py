@@ -16,7 +16,7 @@ PROGRAM is the built mdvsp; where it isn't given, bin/mdvsp, or else what the ga
 - A source that a page names with its crate, as `vs_x/src/y.rt` or `vs_x/specs/Y.antt`, has to be there.
 
 Blocks in other languages (```sh for what isn't run here) are left alone. With --write the pages get what was printed,
-and the files' texts; read what changed then. With --links no command is run, and no program is needed. Nothing beside
+and the files' texts; read what changed then. With --links no command is run, and no program is needed. Nothing except
 Python's own library is needed.
 """
 
@@ -58,7 +58,7 @@ def pages():
 
 
 def kept_files():
-    """Returns the files of FOLDERS that the repository keeps; all of them where git can't tell."""
+    """Returns the files of FOLDERS that the repository keeps; all of them where git can't say."""
     told = subprocess.run(["git", "ls-files", "-z", *FOLDERS], cwd=TOP, capture_output=True, text=True, check=False)
     if told.returncode == 0 and told.stdout:
         return [path for path in told.stdout.split("\0") if path and os.path.isfile(f"{TOP}/{path}")]

@@ -46,7 +46,7 @@ NUMBER = re.compile(r"0|-?[1-9][0-9]{0,20}")
 
 
 class Refused(Exception):
-    """The input is refused at a record, for a reason with a number and a name; what more is told stands behind."""
+    """The input is refused at a record, for a reason with a number and a name; what more is given stands behind."""
 
     def __init__(self, row, number, name, *more):
         super().__init__(row, number, name, *more)
@@ -156,7 +156,7 @@ class Instance:
 class InstanceReader:
     """Takes the records of an instance one by one, and refuses the first that breaks a rule of numbers 1 to 9.
 
-    The names of each kind are kept with their numbers. What number 10 may be told of is kept with the record's row.
+    The names of each kind are kept with their numbers. What a refusal by number 10 names is kept with the record's row.
     """
 
     def __init__(self):
@@ -257,7 +257,7 @@ class InstanceReader:
         self.names[kind][name] = len(self.names[kind])
 
     def finish(self):
-        """Returns the instance, once all its records were taken, or refuses its first misfit."""
+        """Returns the instance, once all its records were taken, or refuses the first error in it."""
         if self.row == 0:
             raise Refused(1, 1, "NoHeader")
         self.want_layers()
@@ -843,7 +843,7 @@ def tree_flaws(instance, pieces, document):
     """Yields the splits that don't share out their trip's layers and the leaves that are too weak, row by row.
 
     What waits on the stack are the sets of layers of the parts that are still to come, the next one at the top. Only
-    the first flaw is told, so nothing is judged behind a split that shares out nothing.
+    the first flaw is printed, so nothing is judged behind a split that shares out nothing.
     """
     stack = [[trip.layers for trip in instance.trips]]
     for position, row in enumerate(document.tree, 1):
@@ -886,7 +886,7 @@ def found_claim(document):
 
 
 def flaws(instance, document):
-    """Yields the flaws of a document in the order in which they are told."""
+    """Yields the flaws of a document in the order in which they are printed."""
     pieces = Pieces(instance)
     if document.cost is not None:
         yield from plan_flaws(instance, document)

@@ -1,4 +1,4 @@
-"""Texts with several faults, for tools/test_second_check.py, and the row of the one that the pages say is told first.
+"""Texts with several faults, for tools/test_second_check.py, and the row that the pages say is printed.
 
 Each is a text in which parts are exchanged for others. The rows are what docs/formats/solution.md
 (*check*) and docs/formats/errors.md say, found by reading and not by a program.
@@ -8,7 +8,7 @@ from second_texts import JUST_A_REST, JUST_A_REST_PLAN, SPLITS, SPLITS_PLAN, TWO
 
 # Records 1 to 13 are the timetable: the header, 3 stops, 6 deadheads, a layer and 2 trips. Then comes the document.
 OF_TWO_TRIPS = [
-    # Numbers 1 to 9 are told before 10, and these by kind and not by record; the document is judged last.
+    # Numbers 1 to 9 are printed before 10, and these by kind and not by record; the document is judged last.
     ("refused,13,6,UnknownName", "layer,L1,D,2,", "layer,L1,D,2001,", "trip,t2,Q,", "trip,t2,R,"),
     ("refused,11,10,Range,fleet", "layer,L1,D,2,", "layer,L1,D,2001,", "deadhead,P,Q,15,0", "deadhead,P,Q,0,0"),
     ("refused,11,10,Range,fleet", "layer,L1,D,2,", "layer,L1,D,2001,", "result,1,optimal", "result,2,optimal"),
@@ -22,7 +22,7 @@ OF_TWO_TRIPS = [
     ),
     ("refused,11,10,EndNotAfterStart", "deadhead,Q,P,15,0\n", "", "8:30,0,L1", "8:00,0,L1"),
     ("refused,0,10,NotClosed,3,1,2", "deadhead,Q,P,15,0\n", ""),
-    # Several misfits of one record.
+    # Several errors in one record.
     ("refused,10,10,SelfDeadhead", "deadhead,Q,P,15,0", "deadhead,Q,Q,0,1000001"),
     ("refused,10,10,Range,minutes", "deadhead,Q,P,15,0", "deadhead,P,Q,0,1000001"),
     ("refused,10,10,Range,metres", "deadhead,Q,P,15,0", "deadhead,P,Q,1,1000001"),

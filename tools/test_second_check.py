@@ -43,7 +43,7 @@ SECOND = os.path.join(second_texts.TOP, "tools", "second_check.py")
 # How many changes of each way are made of a small text, about, how many timetables are drawn, and documents for each.
 CHANGES, TIMETABLES, DOCUMENTS = 80, 60, 10
 PEAK_CHANGES = 40
-# Differences beyond so many are counted and not told.
+# Differences beyond so many are counted and not printed.
 MOST_TOLD = 20
 
 
@@ -119,7 +119,7 @@ class Comparison:
             self.tell(f"{name}: {found!r} is answered, and {row!r} is known")
 
     def note(self, name, first, second, third):
-        """Counts an answer, and tells it where one judge differs from the program. None is a judge that can't say."""
+        """Counts an answer, and prints it where one judge differs from the program. None is a judge that can't say."""
         self.compared += 1
         self.kinds[kind_of(first[0])] += 1
         if any(other not in (None, first) for other in (second, third)):

@@ -41,7 +41,7 @@ def example(name: str) -> str:
 TIMETABLE, PLAN = example("two_trips.csv"), example("two_trips_plan.csv")
 PEAKS = "result,1,peak\npeak,L1,1\nblock,L1,t1,t2\nfleet,L1,0\nprice,L1,t1,1000,0\nprice,L1,t2,0,0\nend\n"
 
-# Prices that a floating point number can't tell from one more or less. A vehicle is worth 10^18 - 1,010,000, so both
+# Prices that floating point can't distinguish from one more or less. A vehicle is worth 10^18 - 1,010,000, so both
 # pull-outs cost just what 10^18 for entering is worth beyond that; t1 is left for what t2 is entered.
 LARGE = """result,1,open
 cost,1080

@@ -1,7 +1,8 @@
-//! Prints `COUNT` rows of two names, by a fixed seed. The first names of all rows collide under the hasher of the standard
-//! library without a salt: of their hashes, as `indexmap` folds them to 32 bits, the 8 lowest and the 8 highest bits are the
-//! same, so they look for one group of its table and none is told from another before their texts are compared. They are
-//! found by trying one name after another, some 65,536 for each. The second name of a row is the one tried behind the first.
+//! Prints `COUNT` rows of two names, by a fixed seed. The first names of all rows collide under the hasher of the
+//! standard library without a salt. `indexmap` folds their hashes to 32 bits, of which the 8 lowest and the 8 highest
+//! are the same. So they look for one group of its table, and only a comparison of their texts can distinguish them.
+//! They are found by trying one name after another, some 65,536 for each. The second name of a row is the one tried
+//! behind the first.
 
 use std::collections::hash_map::DefaultHasher;
 use std::hash::{Hash, Hasher};

@@ -8,7 +8,7 @@ from typing import Dict, Iterable, List, Sequence, Tuple
 from .limits import MAX_METRES, MAX_MINUTES
 from .timetable import Way
 
-# A drive is counted in parts of a minute, so that hundredths of one and seconds are whole.
+# A drive is counted in parts of a minute, so that seconds and 0.01 minutes are whole.
 PARTS = 300
 NO_WAY = 10**12
 

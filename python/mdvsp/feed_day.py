@@ -177,7 +177,7 @@ class Measure:
 
 
 def travelled(trip: FeedTrip) -> float:
-    """Returns the distance between a trip's first and last stop by shape_dist_traveled, and 0 where it isn't told."""
+    """Returns the distance between a trip's first and last stop by shape_dist_traveled, and 0 where it isn't given."""
     if not trip.calls:
         return 0.0
     first, last = trip.calls[0].travelled, trip.calls[-1].travelled

@@ -1,8 +1,8 @@
 """The pictures of a plan as SVG: each vehicle's day as a bar, and how many vehicles are out over the day.
 
-Shapes tell apart what a vehicle does, with or without colour: a trip is a full bar with its line in it, an empty drive
-a thin hatched bar, a wait a dotted line, a rest in the depot a dashed frame. Names stand in the titles, which a browser
-shows on hover.
+Shapes show what a vehicle does, with or without colour. A trip is a full bar with its line in it, and an empty drive
+a thin hatched bar. A wait is a dotted line, and a rest in the depot a dashed frame. Names stand in the titles, which a
+browser shows on hover.
 """
 
 from __future__ import annotations

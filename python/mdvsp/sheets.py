@@ -231,7 +231,7 @@ def group_notes(sheet: Sheet, groups: Mapping[str, Group]) -> List[str]:
 
 
 def looks_like_money(fields: Fields) -> bool:
-    """Whether a vehicle's cost has decimals while the rates beside it are written without."""
+    """Whether a vehicle's cost has decimals while the rates with it are written without."""
     rates = fields["per_minute"] + fields["per_metre"]
     return bool(re.search(r"[.,]", fields["fixed"])) and not re.search(r"[.,]", rates)
 

@@ -101,7 +101,7 @@ def claim_lines(plans: Sequence[Plan], costs: Sequence[Optional[int]], unit: int
 
 
 def summary(timetable: Timetable, plans: Sequence[Tuple[str, Plan]], names: SideFile) -> Tuple[List[str], List[str]]:
-    """Returns the lines that sum up one or two plans, each with its file, and what is to be said beside them."""
+    """Returns the lines that sum up one or two plans, each with its file, and the notes on them."""
     documents = [plan for _, plan in plans]
     head = [row("", ["first", "second", "second - first"])] if len(plans) == 2 else []
     without = [f"{path}: there is no plan in it" for path, plan in plans if plan.cost is None]

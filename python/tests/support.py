@@ -39,7 +39,7 @@ def at_the_top():
 
 
 def run(*words):
-    """Runs `mdvsp-plan` from the repository's top; returns its status, its output, and what it says beside it."""
+    """Runs `mdvsp-plan` from the repository's top; returns its status, its output, and what is on standard error."""
     said = io.StringIO()
     with tempfile.TemporaryFile("w+", encoding="utf-8", newline="") as out, at_the_top():
         with contextlib.redirect_stdout(out), contextlib.redirect_stderr(said):

@@ -1,4 +1,4 @@
-//! A caller of the judge of plans: it reads a timetable and the document behind it, and prints what the plan costs or
+//! A caller of the judge of plans. It reads a timetable and the document behind it, and prints what the plan costs or
 //! what is wrong with it first. No crate of the search stands below it.
 #![tactic(auto)]
 

@@ -16,8 +16,8 @@ use vs_resume::MAX_RESUMED_ENTRIES;
 /// How many leaves a search may work on where no number is given, unless its tables could have too many entries.
 pub const DEFAULT_NODES: u32 = 200;
 
-/// How many leaves a search of the instance may work on: as many as are given, or else 200, and fewer where its tables
-/// could have too many entries. None where so many are given that they could.
+/// How many leaves a search of the instance may work on: as many as are given, or else 200. Where no number is given,
+/// it is fewer where the search's tables could have too many entries. None where so many are given that they could.
 pub fn budget_of(instance: &Instance, nodes: Option<u32>) -> Option<u32>
     requires { IfSome nodes (λ n. n ≤ MAX_BUDGET) }
     ensures budget { result ≡ budget_of instance.now nodes }
@@ -59,9 +59,9 @@ fn entries_of(instance: &Instance) -> u32
     instance.trips() * instance.layers()
 }
 
-/// How many nodes a search that is carried on from a document may work on: as many as are given, or else 200, and fewer
-/// where the tables of the document's leaves and of the nodes could have too many entries. None where they could have
-/// too many all the same.
+/// How many nodes a search that is carried on from a document may work on: as many as are given, or else 200. Where no
+/// number is given, it is fewer where the tables of the leaves and of the nodes could have too many entries. None where
+/// they could have too many all the same.
 pub fn resumed_budget(instance: &Instance, document: &Document, nodes: Option<u32>) -> Option<u32>
     requires nodes { IfSome nodes (λ n. n ≤ MAX_BUDGET) }
     requires rows { length document.now.shape.items < 2 ^ 32 }
@@ -78,7 +78,7 @@ pub fn resumed_budget(instance: &Instance, document: &Document, nodes: Option<u3
     }
 }
 
-/// As many nodes as are given, or else 200, or as many as leave few enough entries beside those of the leaves.
+/// As many nodes as are given, or else 200, or as many as leave few enough entries together with those of the leaves.
 fn resumed_nodes(instance: &Instance, leaves: u32, nodes: Option<u32>) -> u32
     requires { IfSome nodes (λ n. n ≤ MAX_BUDGET) }
     ensures nodes { result ≡ resumed_nodes instance.now leaves nodes }

@@ -67,7 +67,7 @@ impl<'a, R: Threads + Wait + Sync, G: Gate + Sync> Crew<'a, R, G> {
         }
     }
 
-    /// The same of a part, without a first plan. A search that finished no leaf gave its root back for want of memory.
+    /// The same of a part, without a first plan. A search that finished no leaf gave its root back: out of memory.
     pub fn search_part(&self, alloc: Global, part: &Instance, budget: u32) -> Result<Tree, Memory>
         requires { budget ≤ MAX_BUDGET }
         ensures { IfOk result (IsDeepened part.now budget) }

@@ -18,9 +18,8 @@ ghost use Rattle.vs_words.specs.Words.{MayBeTaken, Reads};
 ghost use Rattle.vs_document.specs.ReadingBack.{ReadsAs};
 ghost use Rattle.vs_reader.specs.Rows.{Row, lines};
 
-/// What `solve` has to write for an instance is true: behind the instance's records, the last of which is
-/// ended by a line end, `check` has to answer `yes`. And both together read as the instance and the document that is
-/// owed.
+/// What `solve` must output for an instance is true. Behind the instance's records, where a line end ends the last of
+/// them, `check` has to answer `yes`. Both together read as the instance and the document that `solve` must output.
 pub fn solved_documents_hold()
     ensures { (effort : Effort) (bytes read : List ℕ) (answer : Status) (rows : List Row)
         (owed : OwesDocument effort bytes answer rows)
@@ -45,9 +44,9 @@ pub fn bounds_never_fall()
         → NeverFalls owed.before owed.document }
 {}
 
-/// For what `trace` has to write for an instance, behind the instance's records, the last of which is ended by a line
-/// end, `replay` is owed a document of the state that the search came to, one that the search may answer, and nothing
-/// else.
+/// Take an instance's records, with a line end behind the last of them, and behind them what `trace` must output for
+/// it. For that `replay` must output a document of the state that the search came to, and nothing else. The search may
+/// answer that document.
 pub fn written_traces_replay()
     ensures { (effort : Effort) (bytes read : List ℕ) (answer replayed : Status) (rows others : List Row)
         (owed : OwesTrace effort bytes answer rows) → MayBeTaken effort
@@ -57,15 +56,15 @@ pub fn written_traces_replay()
         owed.opening owed.steps others }
 {}
 
-/// What a command other than `solve`, `trial`, `resume`, `trace` and `peak` is owed for the bytes that it read is one
-/// thing: one status, and one list of rows. So no input has two verdicts.
+/// A command other than `solve`, `trial`, `resume`, `trace` and `peak` must output one thing for the bytes that it
+/// read. That is one status, and one list of rows. So no input has two verdicts.
 pub fn one_answer()
     ensures { (command : Command) (bytes : List ℕ) (a b : Status) (r s : List Row)
         → IsDetermined command → Owes command bytes a r → Owes command bytes b s
         → (a ≡ b) × (r ≡ s) }
 {}
 
-/// What a command is owed has one status, but that a search may leave open what another one settles. So nothing is
+/// What a command must output has one status, but that a search may leave open what another one settles. So nothing is
 /// refused and also answered, and no plan is shown to be optimal where there is shown to be none.
 pub fn one_status()
     ensures { (command : Command) (bytes : List ℕ) (a b : Status) (r s : List Row)
@@ -86,14 +85,14 @@ pub fn bounds_never_pass_costs()
         (x y : Shown) → Shows search bytes a r p x → Shows other others b s p y → NeverPasses x y }
 {}
 
-/// No search of an instance, by whichever command and with whatever effort, answers that there is no plan where another
-/// one answers that its plan is optimal. Two plans that are optimal cost the same.
+/// Of an instance no search, by whichever command and effort, answers that there is no plan where another one answers
+/// that its plan is optimal. Two plans that are optimal cost the same.
 pub fn searches_agree()
     ensures { (search other : Search) (bytes others : List ℕ) (a b : Status) (r s : List Row) (p : Problem)
         (x y : Shown) → Shows search bytes a r p x → Shows other others b s p y → NeverDisagree a b x y }
 {}
 
-/// Without a node a run is done exactly where there is a greedy plan and it costs no more than the table of zeros is
+/// Without a node a run is done exactly where there is a greedy plan that costs at most what the table of zeros is
 /// worth. Else it is open.
 pub fn done_where_shown()
     ensures { (effort : Effort) (bytes : List ℕ) (answer : Status) (rows : List Row)

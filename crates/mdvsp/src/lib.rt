@@ -1,5 +1,5 @@
 //! `mdvsp` plans the vehicles of a bus company for one timetable, and judges such plans. `run` does what words ask for,
-//! over any source and sink of bytes; the program beside it, `mdvsp_main`, calls it over its standard streams.
+//! over any source and sink of bytes. The program `mdvsp_main` calls it over its standard streams.
 #![tactic(auto)]
 
 mod budget;

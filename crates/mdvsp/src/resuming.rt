@@ -74,7 +74,8 @@ impl<'a, R: Threads + Wait + Sync, G: Gate + Sync> Crew<'a, R, G> {
         }
     }
 
-    /// The answer for an instance and a document that holds, by turns with this budget in which the crew searches.
+    /// The answer for an instance and a document that holds: by turns of resume with this budget, in which the crew
+    /// searches.
     fn carry_on(
         &self,
         alloc: Global,

@@ -29,8 +29,8 @@ pub const TRIAL_NODES: u32 = 20;
 /// How many workers share it.
 pub const TRIAL_WORKERS: u32 = 1;
 
-/// What `trial n` answers: the generator's instance of n trips is made, read and searched, and the document that is
-/// written for it is read behind its instance and judged.
+/// What `trial n` answers: the generator's instance of n trips is made, read and searched. The document that is written
+/// for it is then read behind its instance and judged.
 pub fn answer_trial<R: Threads + Wait + Sync, G: Gate + Sync>(
     rt: &R,
     alloc: Global,
@@ -126,7 +126,7 @@ fn joined(alloc: Global, first: &[u8], second: &[u8]) -> Result<Vec<u8>, Memory>
     Ok(bytes)
 }
 
-/// Want of memory where a text is longer than an input may be.
+/// Out of memory where a text is longer than an input may be.
 fn check_length(text: &[u8]) -> Result<(), Memory>
     ensures { OnOk result (length text.now ≤ input_limit) }
 {

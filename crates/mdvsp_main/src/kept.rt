@@ -1,4 +1,4 @@
-//! A source and a sink that keep what goes through them, for the words that are told behind a run.
+//! A source and a sink that keep what goes through them, for the words that are printed behind a run.
 
 use std::alloc::Global;
 use vs_io::{Failed, Sink, Source};

@@ -18,8 +18,8 @@ mod progress;
 mod usage;
 
 /// Runs the words after the program's name over standard input and output, and ends with the run's code. Where standard
-/// error is a terminal, it tells there how far the run has come, why there is no plan where there is none, and what was
-/// refused or found wrong; where the words are wrong, it tells on standard error how the program is called. The one
+/// error is a terminal, it prints there how far the run has come. There it also says why there is no plan, and what was
+/// refused or found wrong. Where the words are wrong, it prints on standard error how the program is called. The one
 /// word that asks for that, or for the version, it answers itself.
 fn main(rt: HostRuntime) -> ExitCode {
     let words = match given_words(&rt) {
@@ -66,13 +66,13 @@ fn about_itself<R: Print>(rt: &R, words: &[String]) -> Option<Status> {
     }
 }
 
-/// Tells on standard error how the program is called. Whether standard error takes it doesn't matter.
+/// Prints on standard error how the program is called. Whether standard error takes it doesn't matter.
 fn tell_usage<R: Eprint>(rt: &R) {
     let _ = eprintln!(rt; "{USAGE}");
 }
 
-/// Tells on standard error what was refused, and where, or why a document doesn't hold, by the row that was written;
-/// nothing where input and row weren't kept. Whether standard error takes it doesn't matter.
+/// Prints on standard error what was refused, and where, or why a document doesn't hold, by the row that was written.
+/// It prints nothing where input and row weren't kept. Whether standard error takes it doesn't matter.
 fn tell_refusal<R: Eprint>(rt: &R, alloc: Global, input: &Kept, row: &Kept) {
     let (Some(input), Some(row)) = (input.bytes(), row.bytes()) else {
         return;
@@ -82,7 +82,7 @@ fn tell_refusal<R: Eprint>(rt: &R, alloc: Global, input: &Kept, row: &Kept) {
     }
 }
 
-/// Tells on standard error why an instance has no plan, by the document that was written for it; nothing where they
+/// Says on standard error why an instance has no plan, by the document that was written for it; nothing where they
 /// weren't kept. Whether standard error takes it doesn't matter.
 fn tell_reason<R: Eprint>(rt: &R, alloc: Global, input: &Kept, document: &Kept) {
     let (Some(input), Some(document)) = (input.bytes(), document.bytes()) else {

@@ -1,19 +1,19 @@
-//! What a run tells of how far it has come.
+//! What a run prints of how far it has come.
 
 use std::rt::Clock;
 use std::sync::atomic::{AtomicU64, Ordering};
 use std::time::Instant;
 use vs_crew::Gate;
 
-/// A gate that is open. It tells on standard error how many cases were taken and for how long the run has lasted, once
+/// A gate that is open. It prints on standard error how many cases were taken and for how long the run has lasted, once
 /// a second at most.
 #[derive(Drop)]
 pub struct Progress<'a, R: Eprint + Clock> {
     rt: &'a R,
-    /// When the run began, where this is told at all.
+    /// When the run began, where anything is printed at all.
     start: Option<Instant>,
     taken: AtomicU64,
-    /// The last second in which it was told.
+    /// The last second of the run in which it printed, 0 where it printed nothing.
     told: AtomicU64,
 }
 
@@ -28,7 +28,7 @@ impl<'a, R: Eprint + Clock> Progress<'a, R> {
         }
     }
 
-    /// Ends the line that was told last. Whether standard error takes it doesn't matter.
+    /// Ends the line that was printed last. Whether standard error takes it doesn't matter.
     pub fn end(&self) {
         if self.told.load(Ordering::SeqCst) != 0 {
             let _ = eprintln!(self.rt; "");

@@ -1,6 +1,6 @@
 //! Tests of what judges: worked examples of documents, plans, prices, verdicts and claims of peaks, and that each call
-//! can answer something else than `Memory`. Also of the sentences that say why there is no plan, what is refused, and
-//! why a document, a trace or a text of peaks doesn't hold.
+//! can answer something else than `Memory`. Also of the sentences that say why there is no plan and what is refused.
+//! Others say why a document, a trace or a text of peaks doesn't hold.
 #![tactic(auto)]
 
 #[cfg(test)]

@@ -68,8 +68,8 @@ fn are_refused_at_their_first_bad_row(rt: HostRuntime) -> Result<(), Fail> {
     Ok(())
 }
 
-/// Why the instance alone claims nothing, and why a block of another layer and one with a trip that its layer may not
-/// run are refused.
+/// Why the instance alone claims nothing. And why a block of another layer is refused, and one with a trip that its
+/// layer may not run.
 fn errors_elsewhere(alloc: Global) -> Result<[Option<PeakError>; 3], Fail> {
     let alone = joined(alloc, &[STOPS, LAYER, TRIPS])?;
     let two = [

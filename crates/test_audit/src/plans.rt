@@ -143,8 +143,8 @@ fn cost_nothing_while_their_vehicle_rests(rt: HostRuntime) -> Result<(), Fail> {
     Ok(())
 }
 
-/// The texts of an instance, and what the plan costs that the greedy rule makes of it and how many trips its first
-/// block has, where it makes one.
+/// The texts of an instance, and what the greedy rule's plan costs and how many trips its first block has. None where
+/// the rule makes no plan.
 const PLANNED: [([&str; 3], Option<(i64, usize)>); 3] = [
     // One vehicle is out from 7:50 to 9:10.
     ([STOPS, LAYER, TRIPS], Some((1080, 2))),

@@ -171,8 +171,8 @@ fn break_where_a_move_pays_more_than_it_costs(rt: HostRuntime) -> Result<(), Fai
     Ok(())
 }
 
-/// The text of a table for a trip in the morning and one at noon, between which a rest costs 20, and where it breaks
-/// first.
+/// The text of a table for a trip in the morning and one at noon, and where it breaks first. A rest between the trips
+/// costs 20.
 const RESTING_BREAKS: [(&str, Option<BrokenAt>); 2] = [
     (NOON_TABLE, None),
     (

@@ -1,4 +1,4 @@
-//! The words that tell why a timetable has no plan.
+//! The words that say why a timetable has no plan.
 
 use std::alloc::Global;
 use std::test::Fail;
@@ -15,8 +15,8 @@ const THREE_TRIPS: &str = "trip,t1,P,8:00,Q,8:30,0,L1\ntrip,t2,P,8:10,Q,8:40,0,L
 const THREE_PRICES: &str =
     "table,1,ray\nfleet,L1,1\nprice,L1,t1,1,0\nprice,L1,t2,1,0\nprice,L1,t3,1,0\n";
 
-/// Three trips at one time, each of which may be run in the first two of three layers, and the prices that count each
-/// of them and each vehicle of these layers once.
+/// Three trips at one time, each of which may be run in the first two of three layers. The prices below count each trip
+/// and each vehicle of these two layers once.
 const SHARED_TRIPS: &str = "layer,L2,P,1,1000,1,0\nlayer,L3,D,5,1000,1,0\n\
     trip,t1,P,8:00,Q,8:30,0,L1,L2\ntrip,t2,P,8:00,Q,8:30,0,L1,L2\n\
     trip,t3,P,8:00,Q,8:30,0,L1,L2\n";
@@ -41,7 +41,7 @@ const ONE_PRICE: &str = "table,1,ray\nfleet,L1,1\nprice,L1,t1,1,0\n";
 /// Two cases.
 const TWO_LEAVES: &str = "split,t1,L1\nleaf,1\nleaf,1\nend\n";
 
-/// An instance, the document that was written for it, and what is told: nothing where there are no words.
+/// An instance, the document that was written for it, and the words: empty where there are none.
 const TOLD: [(&[&str], &[&str], &str); 9] = [
     (
         &[STOPS, LAYER, THREE_TRIPS],
@@ -84,7 +84,7 @@ const TOLD: [(&[&str], &[&str], &str); 9] = [
     (&[STOPS, LAYER, TRIPS], &[SHORT_HEAD], ""),
 ];
 
-/// What is told of an instance by a document.
+/// The words for an instance and its document, and nothing where there are none.
 fn told(alloc: Global, instance: &[&str], document: &[&str]) -> Result<String, Fail> {
     let input = joined(alloc, instance)?;
     let document = joined(alloc, document)?;
@@ -113,7 +113,7 @@ fn rows(alloc: Global, trips: u32, before: &str, behind: &str) -> Result<String,
     Ok(text)
 }
 
-/// What is told of so many trips at one time, which two vehicles have to run.
+/// The words for so many trips at one time, which two vehicles have to run.
 fn told_of_many(alloc: Global, trips: u32) -> Result<String, Fail> {
     let timetable = rows(alloc, trips, "trip,t", ",P,8:00,Q,8:30,0,L1")?;
     let prices = rows(alloc, trips, "price,L1,t", ",1,0")?;

@@ -13,7 +13,7 @@ const SHORTER: &str = "instance,1\nstop,P\nstop,Q\nstop,R\n\
 
 const OPEN: &str = "instance,1\nstop,P\nstop,Q\nstop,R\ndeadhead,P,Q,7,900\ndeadhead,Q,R,5,600\n";
 
-/// A text, the row that is written for it, and the words: none where nothing is told.
+/// A text, the row that is written for it, and the words: empty where there are none.
 pub type Told = (&'static [&'static str], &'static str, &'static str);
 
 const TOLD: &[Told] = &[
@@ -335,7 +335,7 @@ fn told(alloc: Global, input: &[&str], row: &str) -> Result<String, Fail> {
     }
 }
 
-/// So all rows of a table are told.
+/// Checks the words for all rows of a table.
 pub fn are_told<R: Abort>(rt: &R, alloc: Global, rows: &[Told]) -> Result<(), Fail> {
     for &(input, row, words) in rows {
         let found = told(alloc, input, row)?;

@@ -75,7 +75,7 @@ pub fn started(alloc: Global, instance: &Instance, budget: u32) -> Result<Tree, 
     Tree::start(alloc, instance.copy(alloc)?, budget, 2, None)
 }
 
-/// Takes the root for worker 0. False where it is told otherwise.
+/// Takes the root for worker 0. False where it gets another answer.
 fn take_root(tree: &mut Tree, sets: &mut [LayerSet], table: &mut Table) -> bool
     requires starts { tree.old.steps ≡ [] }
     requires workers { tree.old.opening.workers ≡ 2 }
@@ -127,7 +127,7 @@ pub fn split_root(tree: &mut Tree, mut sets: Vec<LayerSet>, mut table: Table) ->
     true
 }
 
-/// A search in which worker 0 took the root and split it with the table of zeros: on the left the trip is run in the
+/// A search in which worker 0 took the root and split it with the table of zeros. On the left the trip is run in the
 /// first layer.
 pub fn split(alloc: Global, instance: &Instance, budget: u32) -> Result<Tree, NotMade>
     requires budget { budget ≤ 5 }

@@ -38,7 +38,7 @@ impl<'a, R: Clock> Meeting<'a, R> {
         self.met.load(Ordering::SeqCst)
     }
 
-    /// Tells the other worker of one's own spot, and waits for the other's.
+    /// Shows the other worker that this one is at its spot, and waits for the other.
     fn meet(&self, own: &AtomicBool, other: &AtomicBool) {
         own.store(true, Ordering::SeqCst);
         for _ in 0..self.looks {

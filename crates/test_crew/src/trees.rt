@@ -14,7 +14,7 @@ use test_fixtures::{instance_of, share};
 use vs_tree::{Claim, Report, Take, Tree};
 use worked::{answer, finished, taken_again};
 
-/// What a search reports that is over, and what worker 0 is told then.
+/// What a search reports that is over, and what worker 0 gets then.
 fn told_then(alloc: Global, tree: &mut Tree) -> Result<(Report, Take), Fail>
     requires workers { tree.old.opening.workers ≡ 2 }
     requires stays { ¬ (IsAmong 0 (state tree.old).gone) }
@@ -43,7 +43,8 @@ fn are_done_once_both_leaves_are_closed(rt: HostRuntime) -> Result<(), Fail> {
     Ok(())
 }
 
-/// How many leaves were finished when one was given back, and once the other one was closed; and what worker 0 is told.
+/// How many leaves were finished when one was given back, and once the other one was closed. And what worker 0
+/// gets then.
 fn told_again(alloc: Global) -> Result<(u32, u32, Take), Fail> {
     let instance = one_trip(alloc)?;
     taken_again(alloc, &instance)
@@ -57,7 +58,7 @@ fn give_a_leaf_again_that_was_given_back(rt: HostRuntime) -> Result<(), Fail> {
     Ok(())
 }
 
-/// What worker 1 is told of a search in which both may ask.
+/// What worker 1 gets from a search in which both may ask.
 fn told_to_other(alloc: Global, tree: &mut Tree) -> Result<Take, Fail>
     requires workers { tree.old.opening.workers ≡ 2 }
     requires none_gone { (state tree.old).gone ≡ [] }
@@ -65,7 +66,7 @@ fn told_to_other(alloc: Global, tree: &mut Tree) -> Result<Take, Fail>
     answer(alloc, tree, 1)
 }
 
-/// What worker 0 is told of a search in which both may ask, and then worker 1.
+/// What worker 0 gets from a search in which both may ask, and then worker 1.
 fn both_told(alloc: Global, tree: &mut Tree) -> Result<(Take, Take), Fail>
     requires workers { tree.old.opening.workers ≡ 2 }
     requires none_gone { (state tree.old).gone ≡ [] }
@@ -75,7 +76,7 @@ fn both_told(alloc: Global, tree: &mut Tree) -> Result<(Take, Take), Fail>
     Ok((first, second))
 }
 
-/// What they are told after the split of the root, with a budget of so many leaves.
+/// What they get after the split of the root, with a budget of so many leaves.
 fn told_of(alloc: Global, budget: u32) -> Result<(Take, Take), Fail>
     requires { budget ≤ 5 }
 {

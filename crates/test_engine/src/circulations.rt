@@ -1,4 +1,4 @@
-//! Least circulations of one layer, beside every way to give its trips to vehicles.
+//! Least circulations of one layer, compared with every way to give its trips to vehicles.
 
 ghost use Rattle.std.specs.Prelude.{◌≡◌, ℕ, ◌<◌, length};
 ghost use Rattle.vs_match.specs.LawfulNets.{IsLawful};

@@ -24,7 +24,7 @@ const fn arc(from: u32, to: u32) -> Arc {
     }
 }
 
-/// The nodes 0, 1 and 2, and arcs from 0 to 1, from 1 to 2, from 0 to 2, and back from 2 to 0.
+/// The nodes 0, 1 and 2, and four arcs: 0 to 1, 1 to 2, 0 to 2, and back from 2 to 0.
 fn three_nodes(alloc: Global) -> Result<Net, Fail>
     ensures nodes { IfOk result (λ net. net.nodes ≡ 3) }
     ensures arcs { IfOk result (λ net. length net.arcs ≡ 4) }
@@ -184,7 +184,8 @@ fn may_guide(residual: &Residual, prices: &[i64]) -> bool
     residual.keeps_sign_rule(prices)
 }
 
-/// A node, and what the nodes cost from it where node 1 is reached at cost 2, and node 2 from it at 1 or at once at 5.
+/// A node, and what the nodes cost from it. The arcs from node 0 cost 2 to node 1 and 5 to node 2. The one from node
+/// 1 to node 2 costs 1.
 const COSTS: [(u32, [Option<i64>; 3]); 2] = [
     (0, [Some(0), Some(2), Some(3)]),
     (2, [None, None, Some(0)]),
@@ -218,8 +219,8 @@ fn cost_the_least(rt: HostRuntime) -> Result<(), Fail> {
     Ok(())
 }
 
-/// Units on the arcs, the nodes' surplus, a node and prices from which a search begins; the node that lacks a unit
-/// which it finds, how many nodes it reaches, the path, and the prices then.
+/// Units on the arcs, the nodes' surplus, and the node and the prices with which a search begins. Also the node that it
+/// finds and that lacks a unit, if any, how many nodes it reaches, the path, and the prices then.
 struct Searched {
     units: [u32; 4],
     surplus: [i64; 3],

@@ -1,5 +1,5 @@
-//! What tests are run on: texts of instances and documents, what is read from them, and small timetables that are drawn
-//! from numbers, with the cost of their cheapest plans by a count of all plans.
+//! What tests are run on: texts of instances and documents, what is read from them, and small timetables. Those
+//! are drawn from numbers, and a count of all plans gives the cost of their cheapest plans.
 #![tactic(auto)]
 
 mod documents;

@@ -1,5 +1,5 @@
-//! Tests of what both components depend on: sets of layers, streams, texts and instances, nets; and of the count of all
-//! plans, beside which other tests put what is found.
+//! Tests of what both components depend on: sets of layers, streams, texts, instances and nets. Also tests of the count
+//! of all plans, with which other tests compare what is found.
 #![tactic(auto)]
 
 #[cfg(test)]

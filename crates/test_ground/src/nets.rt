@@ -17,7 +17,7 @@ const fn arc(from: u32, to: u32) -> Arc {
     }
 }
 
-/// The ends of three arcs between three nodes, and the first fault of a net of them.
+/// The ends of three arcs between three nodes, and the first error in a net of them.
 const FAULTS: [([(u32, u32); 3], NetFault); 4] = [
     ([(0, 1), (2, 1), (2, 0)], NetFault::NotForward(1)),
     ([(0, 3), (2, 1), (2, 0)], NetFault::NoSuchNode(0)),
@@ -25,7 +25,7 @@ const FAULTS: [([(u32, u32); 3], NetFault); 4] = [
     ([(0, 1), (2, 0), (2, 0)], NetFault::NotForward(1)),
 ];
 
-/// The fault of a net of these arcs.
+/// The first error in a net of these arcs.
 fn fault(alloc: Global, ends: [(u32, u32); 3]) -> Result<Option<NetError>, Fail> {
     let arcs = Vec::from_slice(alloc, &ends.map(|(from, to)| arc(from, to)))?;
     Ok(Net::new(alloc, 3, arcs).err())
@@ -68,8 +68,8 @@ const SIX_TRIPS: &str = "trip,t1,D,7:30,P,8:00,0,L1\ntrip,t2,D,7:35,P,8:05,0,L1\
     trip,t3,D,7:40,P,8:10,0,L1\ntrip,t4,D,7:50,P,8:20,0,L1\n\
     trip,t5,Q,8:30,D,9:00,0,L1\ntrip,t6,Q,8:40,D,9:10,0,L1\n";
 
-/// Trips, whether only the latest of the first matches remain, how large the layer's net is, the minutes at which its
-/// deadheads leave, and how many pairs of trips connect.
+/// Trips, whether only the latest of the first matches remain, and how large the layer's net is. Also the minutes at
+/// which its deadheads leave, and how many pairs of trips connect.
 struct Matched {
     trips: &'static str,
     latest: bool,

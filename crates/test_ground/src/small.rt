@@ -1,4 +1,4 @@
-//! The count of all plans of a small timetable, beside plans that were counted by hand.
+//! The count of all plans of a small timetable, compared with plans that were counted by hand.
 
 use std::alloc::{AllocError, Global};
 use std::test::Fail;

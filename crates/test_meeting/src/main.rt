@@ -1,7 +1,7 @@
 //! Two workers share a search whose root is split, and meet: it prints a row of what their crew made of the search.
 //!
-//! `tests/each_allocation.py` has each call for memory of it fail in turn. Where the crew hands the search back for
-//! want of memory, as it was before, the search is handed to a crew once more, and a second row says what came then.
+//! `tests/each_allocation.py` has each call for memory of it fail in turn. A crew that runs
+//! out of memory may hand the search back as it was. Then a crew gets it once more, and a second row says what came.
 //! Where there is no memory outside of the crew, it ends with status 6 and prints nothing.
 #![tactic(auto)]
 
@@ -63,8 +63,8 @@ fn told<R: Threads + Wait + Sync + Clock>(
     Ok(shared_out(rt, alloc, &instance, &nets, tree, &stood))
 }
 
-/// What a crew makes of a search that stands so; and where it hands it back as it was, for want of memory, what a
-/// further crew makes of it.
+/// What a crew makes of a search that stands so. Where it runs out of memory and hands the search back as it was, also
+/// what a further crew makes of it.
 fn shared_out<R: Threads + Wait + Sync + Clock>(
     rt: &R,
     alloc: Global,

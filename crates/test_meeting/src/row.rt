@@ -112,7 +112,7 @@ fn word(claim: Claim) -> &'static str {
     }
 }
 
-/// The cost that a report tells.
+/// The cost that a report gives.
 fn cost_of(report: Report) -> Option<i128> {
     report.cost.map(i128::from)
 }

@@ -9,8 +9,8 @@ use test_fixtures::texts::{BLOCK, END, HEAD, LAYER, STOPS, TABLE, TRIPS, ZERO_TA
 use vs_document::text_of;
 use vs_prices::Claim;
 
-/// A case, its parts, the budget, and what has to come: the claim, the cost, the bound, the nodes, how many parts were
-/// searched, and how the text begins.
+/// A case, its parts, the budget, and what has to come. That is the claim, the cost, the bound, the nodes, how many
+/// parts were searched, and how the text begins.
 struct Carried {
     case: &'static str,
     parts: &'static [&'static str],

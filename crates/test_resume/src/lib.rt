@@ -1,5 +1,5 @@
-//! Tests of searches that are carried on from their documents, by a solver of parts that is one worker without threads,
-//! and of traces: how one is read, where it is refused, and what it replays to.
+//! Tests of searches that are carried on from their documents, by a solver of parts that is one worker without threads.
+//! Also tests of traces: how one is read, where it is refused, and what it replays to.
 #![tactic(auto)]
 
 #[cfg(test)]

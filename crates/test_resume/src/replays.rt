@@ -7,8 +7,8 @@ use test_fixtures::{input_of, joined};
 use vs_replay::{Replayed, replay, write};
 use vs_trace::read;
 
-/// What becomes of the trace that stands behind an instance: the text of its search's trace, and of its document; else
-/// the first step that may not come.
+/// What becomes of the trace behind an instance: the text of its search's trace, and of its document. Else the first
+/// step that may not come.
 fn outcome(alloc: Global, parts: &[&str]) -> Result<Result<(Vec<u8>, Vec<u8>), u32>, Fail> {
     let text = joined(alloc, parts)?;
     let input = input_of(alloc, &text)?;

@@ -1,4 +1,4 @@
-//! What is told of small traces.
+//! What small traces are read as.
 
 use std::alloc::Global;
 use std::test::Fail;
@@ -25,8 +25,8 @@ const ALL_KINDS: [&str; 4] = [
     "closed,6,7\ntable,2,cost\nfleet,L1,0\nprice,L1,t1,0,0\nfleet,L2,0\nprice,L2,t1,0,0\nend\n",
 ];
 
-/// The numbers of a step behind the word for its kind: its worker, its spot or its cost, and how many blocks or prices
-/// for entering trips it has.
+/// The word for a step's kind, and its numbers. They are its worker, its spot or its cost, and how many blocks or
+/// prices for entering trips it has.
 fn numbers_of(step: &Full) -> (&'static str, u32, i64, usize) {
     match step {
         Full::Took { worker, spot } => ("took", *worker, i64::from(*spot), 0),
@@ -135,7 +135,7 @@ fn first_of(alloc: Global, rows: &str) -> Result<Option<(i64, usize)>, Fail> {
     }
 }
 
-/// The rows of a first plan and `end`, and what is told of it.
+/// The rows of a first plan and `end`, and what is read: its cost and how many blocks it has.
 const FIRSTS: [(&str, Option<(i64, usize)>); 4] = [
     ("first,none\nend\n", None),
     ("first,0\nend\n", Some((0, 0))),

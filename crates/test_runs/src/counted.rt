@@ -1,4 +1,4 @@
-//! Plans of small timetables in which vehicles rest, beside a plain count of all plans.
+//! Plans of small timetables in which vehicles rest, compared with a plain count of all plans.
 
 use crate::audited::audit;
 use mdvsp::Status;

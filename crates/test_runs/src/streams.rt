@@ -14,7 +14,7 @@ use test_fixtures::texts::{BLOCK, END, HEAD, LAYER, STOPS, TABLE, TRIPS};
 use vs_crew::NoGate;
 use vs_io::{MemSink, MemSource};
 
-/// The words and the input of a run, which of its takes and which of its puts fail, counted from 1, how it ends, and
+/// The words and the input of a run, and which of its takes and of its puts fail, counted from 1. Also how it ends, and
 /// what it has written then.
 struct Failing {
     words: &'static [&'static str],
@@ -99,8 +99,8 @@ leaf,1
 end
 ";
 
-/// How many bytes streams give and take at a time, how many takes read the 216 bytes of the two trips to their end, and
-/// how many puts write the 123 bytes of the document.
+/// How many bytes streams give and take at a time, and how many takes and puts a run over them has. The takes read the
+/// 216 bytes of the two trips to their end, and the puts write the 123 bytes of the document.
 struct Pieces {
     piece: usize,
     takes: u64,
@@ -120,8 +120,8 @@ const PIECES: &[Pieces] = &[
     },
 ];
 
-/// How a run over streams of such pieces ends of which this take and this put fail, how many bytes it has written then,
-/// and whether the document begins with them.
+/// How a run over streams of such pieces ends, where this take and this put fail. Also how many bytes it has written
+/// then, and whether the document begins with them.
 fn ended<R: Threads + Wait + Sync>(
     rt: &R,
     alloc: Global,

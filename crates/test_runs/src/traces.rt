@@ -1,4 +1,4 @@
-//! Traces, beside the documents of the same searches.
+//! Traces, compared with the documents of the same searches.
 
 use crate::runs::ran;
 use std::alloc::Global;

@@ -1,4 +1,4 @@
-//! Plans and tables on which layers agree, beside those of rules that are simpler.
+//! Plans and tables on which layers agree, compared with those of rules that are simpler.
 
 ghost use Rattle.std.specs.Prelude.{IfOk};
 ghost use Rattle.vs_match.specs.LayerNets.{AreLayerNets};

@@ -1,4 +1,4 @@
-//! Peaks of small timetables, beside a plain count of all ways to share the trips out.
+//! Peaks of small timetables, compared with a plain count of all ways to share the trips out.
 
 use std::alloc::Global;
 use std::test::Fail;

@@ -1,5 +1,5 @@
-//! Tests of what searches: blocks of a flow, multipliers, layers that agree, the work on a root, sums at the ends of
-//! the limits, and peaks that are found.
+//! Tests of what searches: blocks of a flow, multipliers, layers that agree, and the work on a root. Also tests of sums
+//! at the ends of the limits, and of peaks that are found.
 #![tactic(auto)]
 
 #[cfg(test)]

@@ -17,8 +17,8 @@ use vs_node::{Task, work};
 use vs_prices::{Bound, permitted_sets};
 use vs_tree::Next;
 
-/// What 2,000 trips cost that run all the time there is, at the greatest rates: for each a vehicle, 1,000,000,000, and
-/// 1,000,000 for each of 2,879 minutes and 10,000 for each of 1,000,000 metres.
+/// What 2,000 trips cost that run all the time there is, at the greatest rates. A trip's vehicle costs 1,000,000,000,
+/// each of its 2,879 minutes 1,000,000, and each of its 1,000,000 metres 10,000.
 const COST: i64 = 2_000 * (1_000_000_000 + 2_879 * 1_000_000 + 1_000_000 * 10_000);
 
 /// These trips, with a vehicle for each.

@@ -1,4 +1,4 @@
-//! Tests of turns: threads that hold one by turns, what each finds then, and how it waits.
+//! Tests of turns: threads that hold one alternately, what each finds then, and how it waits.
 #![tactic(auto)]
 
 #[cfg(test)]

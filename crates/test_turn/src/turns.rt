@@ -178,7 +178,7 @@ fn hold_a_while<R: Wait + Clock>(rt: &R, turn: &Turn<Tally>, seat: Seat) -> Seat
     held.release()
 }
 
-/// Asks for the turn once another seat has it, and tells how long this thread has computed.
+/// Asks for the turn once another seat has it, and gives how long this thread has computed.
 fn ask_later<R: Wait + Clock + CpuClock>(
     rt: &R,
     turn: &Turn<Tally>,

@@ -2,8 +2,9 @@
 
 ghost use Rattle.vs_cert.specs.Laws.{WrittenSearchesAreReadBack};
 
-/// Behind the records of its instance, the last of which is ended by a line end, what `write` gives for a search is
-/// read as a document with the search's report, its cheapest plan, its tree of cases, and the tables that leaves name.
+/// What `write` gives for a search is read as a document behind the records of its instance. The last of these records
+/// is ended by a line end. The document has the search's report, its cheapest plan, its tree of cases, and the tables
+/// that leaves name.
 pub fn written_searches_are_read_back()
     ensures { WrittenSearchesAreReadBack }
 {}

@@ -17,8 +17,8 @@ use vs_reader::Names;
 use vs_tree::Tree;
 use vs_types::Memory;
 
-/// The text of the document of a search, with the names of its instance: its report, its cheapest plan, the tables that
-/// leaves name, in the order in which they first do, and its tree of cases.
+/// The text of the document of a search, with the names of its instance. It has the report, the cheapest plan, the
+/// tables that leaves name, and the tree of cases. The tables come in the order in which leaves first name them.
 pub fn write(alloc: Global, tree: &Tree, names: &Names) -> Result<Vec<u8>, Memory>
     requires { HaveCounts tree.now.opening.problem names.now }
     ensures { IfOk result (λ bytes.

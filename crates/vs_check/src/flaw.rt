@@ -6,7 +6,7 @@ use vs_prices::{BrokenAt, Claim};
 /// Why a document doesn't hold. Tables and positions in the shape count from 0.
 #[derive(Clone, Copy, Debug, PartialEq, Eq)]
 pub enum Flaw {
-    /// The blocks beside a printed cost are no plan of the instance.
+    /// The blocks that are printed together with a cost are no plan of the instance.
     Plan(PlanFault),
     /// The printed cost, and what the plan costs, in cost units.
     CostDiffers(i64, i64),

@@ -1,4 +1,4 @@
-//! The verdict on a document: its flaws one after the other, the first of which is told.
+//! The verdict on a document: its flaws one after the other, the first of which is reported.
 
 ghost use Rattle.std.specs.Prelude.{◌≡◌, ◌<◌, ◌^◌, ◌↔◌, length, slice_get, All, IfOk};
 ghost use Rattle.vs_check.specs.Flaws.{claim_flaws, leaf_flaws, named_flaws, plan_flaws, shape_flaws, IsVerdictWithin, flaws_of, tables_flaws, verdict_of};
@@ -95,8 +95,8 @@ fn tables_flaw(alloc: Global, instance: &Instance, tables: &[Table]) -> Result<O
     Ok(first_broken(instance, &mut reader, tables, &mut scratch))
 }
 
-/// The flaw of a leaf at this position, whose table is worth so much there, beside the printed
-/// bound.
+/// The flaw of a leaf at this position, whose table is worth so much there, compared with the
+/// printed bound.
 fn weak_flaw(position: u32, worth: Bound, bound: Option<i128>) -> Option<Flaw>
     ensures { result ≡ first (leaf_flaws position worth bound) }
 {
@@ -177,7 +177,7 @@ fn shape_flaw(
     Ok(None)
 }
 
-/// The flaw of the claim beside the printed cost and bound.
+/// The flaw of the claim, compared with the printed cost and bound.
 fn claim_flaw(document: &Document) -> Option<Flaw>
     ensures { let found = claim_found document.now.cost document.now.bound in
         result ≡ first (claim_flaws document.now.claim found) }
@@ -213,10 +213,11 @@ fn first_flaw(
 }
 
 /// Judges a document, over all pairs of trips. Yes exactly where the document holds, and else the
-/// first flaw: of the blocks and their cost, where a cost is printed; of the tables by number; of
-/// the shape row by row; and of the claim. Yes alone, whoever wrote the document, proves that its
-/// blocks are a plan of the printed cost and that no plan of the instance costs less than the
-/// printed bound.
+/// first flaw. Flaws of the blocks and their cost come first, where a cost is printed. Then come
+/// those of the tables by number, those of the shape row by row, and that of the claim.
+///
+/// Whoever wrote the document, yes alone proves that its blocks are a plan of the printed cost. It
+/// also proves that no plan of the instance costs less than the printed bound.
 pub fn check(alloc: Global, instance: &Instance, document: &Document) -> Result<Verdict, Memory>
     requires { IsReadFor instance.now document.now }
     ensures verdict { IfOk result (λ verdict.

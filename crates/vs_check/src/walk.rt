@@ -99,7 +99,7 @@ impl Walk {
     }
 
     /// Goes on behind the part at hand, to the right part of the innermost split that still has one
-    /// to come, and puts back the layers of the trips of the splits that are behind.
+    /// to come. The layers of the trips of the splits that are behind are put back.
     pub(crate) fn leave_part(&mut self)
         ensures { IsBehindPart self.old self.new }
     {

@@ -6,8 +6,8 @@ ghost use Rattle.vs_instance.specs.Ways.{Connects};
 use vs_instance::Instance;
 use vs_types::TripNo;
 
-/// Whether a vehicle that ran trip i is at the start of trip j in time: the way from the one's end to the
-/// other's start exists and takes no more minutes than there are between the two.
+/// Whether a vehicle that ran trip i is at the start of trip j in time. The way from the one's end to the
+/// other's start must exist, and must take no more minutes than there are between the two.
 pub fn connects(instance: &Instance, i: TripNo, j: TripNo) -> bool
     requires trip { i.0 < length instance.now.trips }
     requires next { j.0 < length instance.now.trips }

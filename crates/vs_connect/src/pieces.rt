@@ -66,8 +66,8 @@ pub fn trip_cost(instance: &Instance, l: LayerNo, i: TripNo) -> i64
     rated(instance.layer(l), trip.end - trip.start, trip.metres) as i64
 }
 
-/// What a vehicle of layer l costs from the end of trip i to the start of trip j where it goes straight from the one to
-/// the other, in cost units. None exactly where i doesn't connect to j.
+/// What a vehicle of layer l costs that goes straight from the end of trip i to the start of trip j, in cost units.
+/// None exactly where i doesn't connect to j.
 pub fn direct_cost(instance: &Instance, l: LayerNo, i: TripNo, j: TripNo) -> Option<i64>
     requires layer { l.0 < length instance.now.layers }
     requires trip { i.0 < length instance.now.trips }
@@ -112,8 +112,8 @@ pub fn rest_cost(instance: &Instance, l: LayerNo, i: TripNo, j: TripNo) -> Optio
     Some(cost as i64)
 }
 
-/// What a vehicle of layer l costs from the end of trip i to the start of trip j, in cost units, straight or by the
-/// depot, as is cheaper. None exactly where i doesn't connect to j.
+/// What a vehicle of layer l costs from the end of trip i to the start of trip j, in cost units. It goes straight
+/// or by the depot, as is cheaper. None exactly where i doesn't connect to j.
 pub fn link_cost(instance: &Instance, l: LayerNo, i: TripNo, j: TripNo) -> Option<i64>
     requires layer { l.0 < length instance.now.layers }
     requires trip { i.0 < length instance.now.trips }
@@ -128,9 +128,9 @@ pub fn link_cost(instance: &Instance, l: LayerNo, i: TripNo, j: TripNo) -> Optio
     }
 }
 
-/// When a vehicle of layer l is back in its depot between trips i and j, and when it leaves it again, in minutes from
-/// 0:00 of the first day. None exactly where it goes straight: where i doesn't rest before j in l, or a rest isn't
-/// cheaper.
+/// When a vehicle of layer l is back in its depot between trips i and j, and when it leaves it again. Both are in
+/// minutes from 0:00 of the first day. None exactly where it goes straight: where i doesn't rest before j in l, or a
+/// rest isn't cheaper.
 pub fn rest_times(instance: &Instance, l: LayerNo, i: TripNo, j: TripNo) -> Option<(u32, u32)>
     requires layer { l.0 < length instance.now.layers }
     requires trip { i.0 < length instance.now.trips }

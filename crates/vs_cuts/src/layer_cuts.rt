@@ -15,7 +15,7 @@ use crate::whole::{WHOLE, part_of};
 use std::alloc::Global;
 use vs_types::Memory;
 
-/// How many cuts a layer may keep, beside the mixed one.
+/// How many cuts a layer may keep, in addition to the mixed one.
 pub const MOST_CUTS: u32 = 1_000;
 
 /// The cuts of a layer, or places for them. The mixed one stands at the last place.

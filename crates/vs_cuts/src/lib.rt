@@ -1,4 +1,4 @@
-//! Cuts of layers, and their weights: each layer keeps circulations that it found before, its cuts, and the weights mix
+//! Cuts of layers, and their weights. Each layer keeps circulations that it found before: its cuts. The weights mix
 //! them such that together they run every trip as nearly once as is worth the multipliers that it takes. No circulation
 //! is asked for here.
 #![tactic(auto)]

@@ -240,8 +240,9 @@ fn add_weight(standings: &mut [Standing], place: usize, amount: i64)
     standing.weight = as_part(standing.weight + amount);
 }
 
-/// Changes how much is lacking of the trips of each cut of a layer, where so much weight goes from the cut that has the
-/// first products to the one that has the others. Gives the peaks that are then.
+/// Changes how much is lacking of the trips of each cut of a layer, as this amount of weight moves between two cuts.
+/// The weight leaves the cut that has the first products, and goes to the one that has the others. Gives the peaks that
+/// are then.
 ///
 /// It is the innermost loop of a climb. It has a call of its own, since its numbers wouldn't find room in registers
 /// among those of its caller.
@@ -278,8 +279,8 @@ fn tilt(
     peaks
 }
 
-/// How much more is lacking of the trips of a cut, where so much weight goes from a cut with which it has the first
-/// product to one with which it has the other.
+/// How much more is lacking of the trips of a cut, where this amount of weight moves between two cuts. It has the first
+/// product with the cut that the weight leaves, and the other with the cut that the weight goes to.
 fn more_lacking(left: i64, taken: i64, amount: i64) -> i64
     requires left { IsProduct MOST_PRODUCT left }
     requires taken { IsProduct MOST_PRODUCT taken }

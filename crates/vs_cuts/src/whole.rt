@@ -1,5 +1,5 @@
 //! Parts of a whole, and how far the numbers go that weighing adds up and multiplies again and again. These keep within
-//! 64 bits without a look at each sum: to stop at a limit takes a branch on a sign, which is as often guessed wrong as
+//! 64 bits without a check of each sum. To stop at a limit takes a branch on a sign, which is as often guessed wrong as
 //! right. What is reckoned less often stops at the nearest number that fits, which costs time alone.
 
 ghost use Rattle.std.specs.Prelude.{◌*◌, ◌^◌, ◌≤◌};

@@ -14,8 +14,8 @@ use vs_match::LayerNet;
 use vs_plan::Block;
 use vs_types::{LayerNo, Memory};
 
-/// The blocks that the vehicles of a circulation run: the same trips, in no more blocks than the return arc carries
-/// units, at no higher cost. A run of waiting, deadhead and rest arcs becomes one connection, and a round without a
+/// The blocks that the vehicles of a circulation run: the same trips, at no higher cost. There are no more blocks than
+/// the return arc carries units. A run of waiting, deadhead and rest arcs becomes one connection, and a round without a
 /// trip is dropped.
 pub fn blocks_of(
     alloc: Global,

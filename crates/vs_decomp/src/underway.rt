@@ -15,7 +15,7 @@ use vs_match::LayerNet;
 use vs_plan::Block;
 use vs_types::{LayerNo, Memory};
 
-/// The vehicles of a layer on their way through its net: at each node those that stand there, with the trips that
+/// The vehicles of a layer on their way through its net. At each node are those that stand there, with the trips that
 /// they have run so far.
 #[derive(Drop)]
 pub struct Underway {

@@ -18,8 +18,8 @@ pub fn documents_of_rows_are_alike()
     ensures { DocumentsOfRowsAreAlike }
 {}
 
-/// Behind the records of its instance, the last of which is ended by a line end, the text of a document is read as that
-/// document.
+/// The text of a document is read as that document, behind the records of its instance. A line end ends the last of
+/// those records.
 pub fn written_documents_are_read_back()
     ensures { WrittenDocumentsAreReadBack }
 {}

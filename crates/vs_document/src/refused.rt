@@ -61,7 +61,7 @@ impl From<NoMemory> for DocError {
     }
 }
 
-/// The error that tells a row of the document, counted from 0, by its number among all records.
+/// The error that names a row of the document, counted from 0, by its number among all records.
 pub fn refusal(input: &Input, row: usize, why: DocWhy) -> DocError
     requires input { IsInput input.now }
     requires row { row ≤ length input.now.rest }

@@ -58,7 +58,7 @@ fn triple_misfit(
     }
 }
 
-/// The first misfit of the ways from stop k by stop s, by the number of the third stop.
+/// The first error of the ways from stop k by stop s, by the number of the third stop.
 fn detours_by(ways: &Ways, k: StopNo, s: StopNo) -> Option<Misfit>
     requires from { k.0 < ways.now.stops }
     requires by { s.0 < ways.now.stops }
@@ -76,7 +76,7 @@ fn detours_by(ways: &Ways, k: StopNo, s: StopNo) -> Option<Misfit>
     None
 }
 
-/// The first misfit of the ways from stop k, by the numbers of the second and the third stop.
+/// The first error of the ways from stop k, by the numbers of the second and the third stop.
 fn detours_from(ways: &Ways, k: StopNo) -> Option<Misfit>
     requires { k.0 < ways.now.stops }
     ensures { result ≡ first_misfit (misfits_from ways.now.stops ways.now.given k.0) }
@@ -89,7 +89,7 @@ fn detours_from(ways: &Ways, k: StopNo) -> Option<Misfit>
     None
 }
 
-/// The first misfit of closure, by the numbers of the three stops. Each three are judged one by one only
+/// The first error of closure, by the numbers of the three stops. Each three are judged one by one only
 /// where lengths in rows, which are quicker to compare, aren't closed.
 pub fn closure_misfit(alloc: Global, ways: &Ways) -> Result<Option<Misfit>, Memory>
     requires { AreShort ways.now }
@@ -104,7 +104,7 @@ pub fn closure_misfit(alloc: Global, ways: &Ways) -> Result<Option<Misfit>, Memo
     Ok(first_detour(ways))
 }
 
-/// The first misfit of closure, each three stops judged one by one.
+/// The first error of closure, each three stops judged one by one.
 fn first_detour(ways: &Ways) -> Option<Misfit>
     ensures { result ≡ first_misfit (closure_misfits ways.now.stops ways.now.given) }
 {

@@ -38,7 +38,7 @@ fn way_of(deadhead: &Deadhead) -> Way
     }
 }
 
-/// The deadheads between so many stops, or their first misfit.
+/// The deadheads between so many stops, or their first error.
 pub fn ways_of(alloc: Global, stops: u32, deadheads: &[Deadhead]) -> Result<Ways, NewError>
     requires stops { stops ≤ MAX_STOPS }
     requires count { length deadheads.now < 2 ^ 32 }

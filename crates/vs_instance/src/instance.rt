@@ -49,7 +49,7 @@ impl Model for Instance {
 }
 
 impl Instance {
-    /// The instance that the parts make, or the first misfit of theirs.
+    /// The instance that the parts make, or the first error in them.
     pub fn new(alloc: Global, parts: Parts) -> Result<Instance, NewError>
         requires { AreParts parts }
         ensures made { OnOk result (MakeInstance parts) }
@@ -105,8 +105,8 @@ impl Instance {
         })
     }
 
-    /// The same stops, deadheads and layers, and the same trips, each of which the layers of its set alone may run: the
-    /// part of a case, whose plans are those of the case.
+    /// The same stops, deadheads and layers, and the same trips, each of which only the layers of its set may run. It
+    /// is the part of a case: its plans are those of the case.
     pub fn narrow(&self, alloc: Global, sets: &[LayerSet]) -> Result<Instance, Memory>
         requires { IsRestriction self.now sets.now }
         ensures { IfOk result (λ instance. instance ≡ narrowed self.now sets.now) }

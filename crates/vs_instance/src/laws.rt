@@ -24,7 +24,7 @@ ghost use Rattle.vs_instance.specs.Laws.{
   StartingValuesExist,
 };
 
-/// Plans cost at least what a Lagrangian value says: with one multiplier for each trip, every plan
+/// Plans cost at least what a Lagrangian value says. With one multiplier for each trip, every plan
 /// within the sets costs no less than the value at them.
 pub fn lagrangian_values_bound_plans()
     ensures { LagrangianValuesBoundPlans }
@@ -40,8 +40,8 @@ pub fn starting_values_exist()
     ensures { StartingValuesExist }
 {}
 
-/// Who rests connects: where a vehicle can pull in after a trip, rest, and pull out to another one in time, it can also
-/// go straight from the one to the other, since deadheads are closed.
+/// Trips with a rest between them connect. Say that a vehicle can pull in after a trip, rest, and pull out to another
+/// one in time. Then it can also go straight from the one to the other, since deadheads are closed.
 pub fn who_rests_connects()
     ensures { RestsConnect }
 {}

@@ -1,5 +1,6 @@
-//! The instance that is planned: its stops, deadheads, layers and trips, and the definitions of ways,
-//! pieces of cost, blocks, plans and prices that every other crate cites.
+//! The instance that is planned: its stops, deadheads, layers and trips.
+//!
+//! Here are also the definitions of ways, pieces of cost, blocks, plans and prices that every other crate cites.
 #![tactic(auto)]
 
 mod closure;

@@ -47,7 +47,7 @@ pub enum Misfit {
 /// Why no instance was made.
 #[derive(Clone, Copy, Debug, PartialEq, Eq)]
 pub enum NewError {
-    /// The parts are none: this is the first misfit of all, in the order of layers, deadheads, trips
+    /// The parts are none: this is the first error of all, in the order of layers, deadheads, trips
     /// and closure.
     Misfit(Misfit),
     /// There was no memory.

@@ -40,7 +40,7 @@ fn is_out_of_range(stay: Option<u64>) -> bool
     }
 }
 
-/// The first misfit of the layers, in number order.
+/// The first error of the layers, in number order.
 pub fn layers_misfit(layers: &[Layer]) -> Option<Misfit>
     requires { length layers.now ≤ MAX_LAYERS }
     ensures { result ≡ first_misfit (layers_misfits layers.now) }
@@ -65,7 +65,7 @@ fn trip_misfit(i: TripNo, trip: &Trip) -> Option<Misfit>
     }
 }
 
-/// The first misfit of the trips, in number order.
+/// The first error of the trips, in number order.
 pub fn trips_misfit(trips: &[Trip]) -> Option<Misfit>
     requires { length trips.now ≤ MAX_TRIPS }
     ensures { result ≡ first_misfit (trips_misfits trips.now) }

@@ -10,8 +10,8 @@ use std::alloc::Global;
 use std::marker::Model;
 use vs_types::{Memory, StopNo};
 
-/// The deadheads between so many stops, looked up in one step: a row for each stop that is left, with a
-/// place for each stop that is reached.
+/// The deadheads between so many stops, looked up in one step. There is a row for each stop that is left,
+/// with a place for each stop that is reached.
 #[derive(Drop)]
 pub struct Ways {
     stops: usize,

@@ -19,7 +19,7 @@ impl From<Failed> for WriteFault {
     }
 }
 
-/// Writes all the bytes, in order. It takes no memory. After a fault the sink has a first part of
+/// Writes all the bytes, in order. It takes no memory. After a failure the sink has a first part of
 /// them.
 pub fn emit<O: Sink>(sink: &mut O, bytes: &[u8]) -> Result<(), WriteFault>
     ensures ok { OnOk result (Appends (O.taken sink.old) (O.taken sink.new) bytes.now) }

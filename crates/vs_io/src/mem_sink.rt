@@ -1,4 +1,4 @@
-//! A sink in memory, with faults where they are wanted.
+//! A sink in memory, with failures where they are wanted.
 
 ghost use Rattle.std.specs.Prelude.{◌≡◌, ℕ, ◌+◌, ◌<◌, ◌≤◌, ◌↔◌, ◌⊎◌, ◌++◌, [], length, take, min, Contains, Some, IfOk, IsErr, OnOk, OnErr};
 ghost use Rattle.vs_io.specs.Bytes.{Appends};
@@ -10,7 +10,7 @@ use std::alloc::Global;
 use std::marker::Model;
 use vs_types::Memory;
 
-/// A sink in memory, which takes bytes in pieces while it has room and fails where it is told to.
+/// A sink in memory, which takes bytes in pieces while it has room and fails at the chosen calls.
 #[derive(Drop)]
 pub struct MemSink {
     bytes: Vec<u8>,

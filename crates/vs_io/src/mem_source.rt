@@ -1,4 +1,4 @@
-//! A source in memory, with faults where they are wanted.
+//! A source in memory, with failures where they are wanted.
 
 ghost use Rattle.std.specs.Prelude.{◌≡◌, ℕ, ◌<◌, ◌≤◌, ◌↔◌, ◌++◌, length, take, min, Contains, Some, IfOk, IsErr, OnOk, OnErr, []};
 ghost use Rattle.vs_io.specs.Bytes.{Takes};
@@ -7,7 +7,7 @@ ghost use Rattle.vs_io.specs.Faults.{Rose, one_more};
 use crate::source::{Failed, Source};
 use std::marker::Model;
 
-/// A source in memory, which gives its bytes in pieces and fails where it is told to.
+/// A source in memory, which gives its bytes in pieces and fails at the chosen calls.
 #[derive(Drop)]
 pub struct MemSource {
     bytes: Vec<u8>,

@@ -8,7 +8,7 @@ use crate::source::Failed;
 
 /// Where bytes are written to.
 ///
-/// `taken` is the bytes taken so far, where the sink tells them. `faults` is a count of failed
+/// `taken` is the bytes taken so far, where the sink gives them. `faults` is a count of failed
 /// calls, a u64 that never falls and stays at its greatest value once it is there.
 pub trait Sink {
     ghost taken: { Self → Option (List ℕ) };

@@ -11,8 +11,8 @@ pub struct Failed;
 
 /// Where bytes are read from.
 ///
-/// `left` is the bytes that are left, where the source tells them. `calls` is a count of all calls
-/// and `faults` one of those that failed, each a u64 that never falls and stays at its greatest
+/// `left` is the bytes that are left, where the source gives them. `calls` is a count of all calls
+/// and `faults` one of those that failed. Each is a u64 that never falls and stays at its greatest
 /// value once it is there.
 pub trait Source {
     ghost left: { Self → Option (List ℕ) };

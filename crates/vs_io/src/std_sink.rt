@@ -9,8 +9,8 @@ use crate::source::Failed;
 use std::io::Write;
 use std::marker::Model;
 
-/// A sink over a writer of the system, which tells no bytes. Clauses see the writer and the count of
-/// faults.
+/// A sink over a writer of the system, which gives no `taken`. Clauses see the writer and the count
+/// of failures.
 #[derive(Drop)]
 pub struct StdSink<W: Write + Drop> {
     writer: W,
@@ -47,7 +47,7 @@ impl<W: Write + Drop> Sink for StdSink<W> {
         ensures fault { OnErr result (Rose self.old.faults self.new.faults) }
         ensures never_falls { self.old.faults ≤ self.new.faults }
 
-        // The writer took what it says, where that tells its bytes.
+        // The writer took what it says, where its contents are known.
         ensures written { IfOk result (λ n.
             Appends (W.contents self.old.device) (W.contents self.new.device) (take n piece.now)) }
         ensures unwritten { OnErr result

@@ -8,8 +8,8 @@ use crate::source::{Failed, Source};
 use std::io::Read;
 use std::marker::Model;
 
-/// A source over a reader of the system, which tells no bytes. Clauses see the reader, the count of
-/// calls and that of faults.
+/// A source over a reader of the system, which gives no `left`. Clauses see the reader, the count of
+/// calls and that of failures.
 #[derive(Drop)]
 pub struct StdSource<R: Read + Drop> {
     reader: R,
@@ -54,10 +54,10 @@ impl<R: Read + Drop> Source for StdSource<R> {
         ensures never_falls { self.old.faults ≤ self.new.faults }
         ensures counted { self.new.calls ≡ one_more self.old.calls }
 
-        // It gives what the reader gave, where that tells its bytes.
+        // It gives what the reader gave, where the reader's remaining bytes are known.
         ensures read { ReadConsumes (R.remaining self.old.device) (R.remaining self.new.device) result buf.new }
 
-        // Exactly how the count of faults moves.
+        // Exactly how the count of failures moves.
         ensures risen { OnErr result (self.new.faults ≡ one_more self.old.faults) }
         ensures not_risen { OnOk result (self.new.faults ≡ self.old.faults) }
     {

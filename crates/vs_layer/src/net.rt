@@ -14,13 +14,13 @@ use vs_types::Memory;
 
 /// A net of nodes and arcs, both counted from 0. Only the last arc goes back, from the last node to node 0;
 /// the nodes are numbered so that all others go up. The arcs that leave a node, and those that reach it, are
-/// kept as a forward and a reverse star (Ahuja, Magnanti and Orlin, Network Flows, 1993, section 2.3).
+/// kept as a forward and a reverse star. See Ahuja, Magnanti and Orlin, Network Flows, 1993, section 2.3.
 #[derive(Drop)]
 pub struct Net {
     nodes: u32,
     arcs: Vec<Arc>,
-    /// By arc the node that it reaches, once more: who searches looks along many arcs for where they lead, and these
-    /// lie closer together than the arcs.
+    /// By arc the node that it reaches, once more. A search scans many arcs for where they lead, and these numbers lie
+    /// closer together than the arcs.
     heads: Vec<u32>,
     forward: Star,
     reverse: Star,

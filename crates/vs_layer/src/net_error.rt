@@ -9,7 +9,7 @@ use vs_types::Memory;
 pub enum NetFault {
     /// One of its ends is no node.
     NoSuchNode(u32),
-    /// It isn't the last arc and doesn't go from a lower to a higher node, or it is the last and doesn't
+    /// It isn't the last arc and doesn't go from a lower to a higher node. Or it is the last and doesn't
     /// go from the last node to node 0.
     NotForward(u32),
 }

@@ -7,7 +7,7 @@ ghost use Rattle.vs_make.specs.Generator.{make_rows};
 ghost use Rattle.vs_make.specs.Made.{IsWholeText, made_names, made_problem};
 
 /// The text that is made for n trips is an instance text. It stands for n trips, as they are drawn, four layers, twelve
-/// stops and the deadheads between them, under their names; behind its records stands nothing, and a line end ends the
+/// stops and the deadheads between them, under their names. Behind its records stands nothing, and a line end ends the
 /// last of them.
 pub fn made_texts_are_instances()
     ensures { (n : ℕ) → n ≤ MAX_TRIPS

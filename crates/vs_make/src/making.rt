@@ -1,5 +1,5 @@
-//! The rows of the instance that `make N` writes: stops in a grid, all deadheads between them, four layers, and N trips
-//! drawn from one sequence of numbers.
+//! The rows of the instance that `make N` writes. They are stops in a grid, all deadheads between them, four layers,
+//! and N trips drawn from one sequence of numbers.
 
 ghost use Rattle.std.specs.Prelude.{◌≡◌, ◌<◌, ◌≤◌, [], ◌∷◌, ◌++◌, codes, map, flat_map, IfOk, OnOk};
 ghost use Rattle.std.specs.List.{range_with_len};

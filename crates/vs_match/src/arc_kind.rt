@@ -1,4 +1,4 @@
-//! The arcs of a layer's net: what an arc stands for, and an arc beside it.
+//! What an arc of a layer's net stands for, and an arc together with that.
 
 ghost use Rattle.std.specs.Prelude.{◌≡◌};
 ghost use Rattle.vs_match.specs.Adds.{arc_in};
@@ -19,7 +19,7 @@ pub enum ArcKind {
     PullOut,
     /// It comes back to its depot.
     PullIn,
-    /// It comes back to its depot between two trips, and rests there until the first minute of the depot line at which
+    /// It comes back to its depot between two trips. It rests there until the first minute of the depot line at which
     /// its stay is over.
     RestIn,
     /// It rests on, until the next minute of the depot line.

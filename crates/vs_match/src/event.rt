@@ -27,9 +27,9 @@ impl Event {
     }
 }
 
-/// What a node of a layer's net between the first and the last stands for: an event at a stop, or a minute in the
-/// depot at which a vehicle that rests there may leave, which is one of the depot line. Points are ordered by minute;
-/// at one minute the depot comes first, and then the stops.
+/// What a node of a layer's net between the first and the last stands for. It is an event at a stop, or a minute in
+/// the depot at which a vehicle that rests there may leave. Such minutes are the depot line. Points are ordered by
+/// minute; at one minute the depot comes first, and then the stops.
 #[derive(Clone, Copy, Debug, PartialEq, Eq, PartialOrd, Ord)]
 pub struct Point {
     /// Minutes from 0:00 of the first day, 0 to 2,879.

@@ -36,7 +36,7 @@ pub fn circulations_decompose()
         → (blocks : List LayerBlock) × Decompose p l n units blocks }
 {}
 
-/// Blocks of a layer are a circulation of each of its lawful nets, which runs the same trips with as many vehicles
+/// Blocks of a layer are a circulation of each of its lawful nets. It runs the same trips with as many vehicles
 /// at the same cost.
 pub fn blocks_compose()
     ensures { (p : Problem) (l : LayerNo) (n : LayerGraph) (blocks : List LayerBlock)
@@ -44,8 +44,8 @@ pub fn blocks_compose()
         → (units : List ℕ) × Compose p n blocks units }
 {}
 
-/// For each set of trips, the circulations of a lawful net cost at least exactly what blocks do, in 1/1000 of a
-/// cost unit; and there are such circulations exactly where there are such blocks.
+/// For each set of trips, the least cost of circulations of a lawful net is exactly that of blocks, in 1/1000 of a
+/// cost unit. There are such circulations exactly where there are such blocks.
 pub fn nets_cost_what_blocks_do()
     ensures { (p : Problem) (l : LayerNo) (n : LayerGraph) (chosen : ℕ → Bool) (cost : Option ℕ)
         → IsInstance p → IsLawful p l.0 n

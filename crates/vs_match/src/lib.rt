@@ -1,6 +1,7 @@
-//! The time-space net of a layer, by first match or latest first match: its nodes are the departures and arrivals
-//! of the layer's trips and the minutes at which rested vehicles leave the depot, and its arcs for waiting, driving
-//! and resting lead to exactly the trips that connect.
+//! The time-space net of a layer, by first match or latest first match.
+//!
+//! Its nodes are the departures and arrivals of the layer's trips and the minutes at which rested vehicles leave the
+//! depot. Its arcs for waiting, driving and resting lead to exactly the trips that connect.
 #![tactic(auto)]
 
 mod arc_kind;

@@ -17,8 +17,8 @@ use std::alloc::Global;
 use vs_instance::{Instance, MAX_TRIPS};
 use vs_types::{LayerNo, Memory, StopNo, TripNo};
 
-/// The nodes of a layer's net between its first and its last: the points that they stand for, in order; and by their
-/// stops those of all events, those of departures, those of arrivals, and those of the depot line.
+/// The nodes of a layer's net between its first and its last. Here are the points that they stand for, in order. By
+/// their stops there are those of all events, those of departures, those of arrivals, and those of the depot line.
 #[derive(Drop)]
 pub struct Nodes {
     pub points: Vec<Point>,
@@ -66,8 +66,8 @@ fn points_of(alloc: Global, instance: &Instance, l: LayerNo) -> Result<Vec<Point
     Ok(points)
 }
 
-/// Puts the points of a trip that a layer may run to the others: its two events, and the minute until which a vehicle
-/// rests that leaves the depot for it.
+/// Adds the points of a trip that a layer may run to the others. They are its two events, and the minute until which
+/// a vehicle rests that leaves the depot for it.
 fn push_points(
     instance: &Instance,
     l: LayerNo,

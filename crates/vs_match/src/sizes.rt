@@ -8,8 +8,7 @@ use crate::layer_net::LayerNet;
 use vs_instance::Instance;
 use vs_types::{LayerNo, TripNo};
 
-/// How large a layer's net is: how many nodes have a place, how many are on the depot line, and how many arcs of these
-/// kinds there are.
+/// How large a layer's net is. It counts the nodes with a place, those on the depot line, and the arcs of these kinds.
 #[derive(Clone, Copy, Debug, PartialEq, Eq)]
 pub struct NetCounts {
     pub nodes: u32,

@@ -7,7 +7,7 @@ ghost use Rattle.vs_match.specs.StopNodes.{IsStopNodeBefore, IsRising, AreByStop
 use std::alloc::Global;
 use vs_types::{Memory, StopNo};
 
-/// A node of a layer's net by its stop: one that stands for an event, or one of the depot line, which is at the depot's
+/// A node of a layer's net by its stop. It stands for an event, or is one of the depot line, which is at the depot's
 /// stop. They are ordered by stop, then by minute.
 #[derive(Clone, Copy, Debug, PartialEq, Eq, PartialOrd, Ord)]
 pub struct StopNode {

@@ -37,8 +37,8 @@ pub fn form_words(alloc: Global, why: &[u8], refusal: &Refusal<'_>) -> Result<St
     }
 }
 
-/// The place of the first field of a record that isn't what a refusal of this name asks for, and the place behind the
-/// last where there is none.
+/// The place of the first field of a record that isn't what a refusal of this name asks for. Where there is none, it is
+/// the place behind the last.
 fn first_bad(why: &[u8], kind: Kind, at: &ByteRecord) -> usize {
     for k in 1..at.len() {
         if is_bad(why, Column::of(kind, k), field(at, k)) {

@@ -18,9 +18,9 @@ use vs_types::Memory;
 /// The instance of nothing, behind which a document's rows are read alone.
 const HEADER: &[u8] = b"instance,1\n";
 
-/// Why there is no plan, in a line without its end: by the text of an instance, whatever stands behind its records, and
-/// that of the document that was written for it. None where one of them isn't read, or the document doesn't claim that
-/// there is no plan, or has no ray for that.
+/// Why there is no plan, in a line without its end. It follows from the text of an instance and that of the document
+/// that was written for it. Anything may stand behind the records of the instance. None where one of the texts isn't
+/// read, or the document doesn't claim that there is no plan, or has no ray for that.
 pub fn reason_text(alloc: Global, input: &[u8], document: &[u8]) -> Result<Option<String>, Memory> {
     let Some(input) = input_of(alloc, input, document)? else {
         return Ok(None);

@@ -29,7 +29,7 @@ const REFUSED: &[(&str, &str)] = &[
     ),
 ];
 
-/// The words for blocks beside a count that are no plan, by what is wrong with them. The gaps are the layer, the block
+/// The words for blocks with a count that are no plan, by what is wrong with them. The gaps are the layer, the block
 /// or the trip, and the place in the block.
 const BLOCKS: &[(&str, &str)] = &[
     (

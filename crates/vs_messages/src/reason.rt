@@ -1,4 +1,4 @@
-//! Why there is no plan, as a ray tells it.
+//! Why there is no plan, as a ray shows it.
 
 ghost use Rattle.std.specs.Prelude.{◌≡◌, IfOk};
 ghost use Rattle.vs_prices.specs.Table.{Fits};

@@ -31,7 +31,7 @@ pub fn first_record(alloc: Global, text: &[u8]) -> Result<ByteRecord, Memory>
     match reader.read_byte_record(&mut row) {
         Ok(true) => Ok(row),
         Ok(false) => Ok(ByteRecord::new(alloc)),
-        // Bytes in memory have no fault, so the only error is want of memory.
+        // Bytes in memory can't fail to be read, so the only error is to be out of memory.
         Err(_) => Err(Memory),
     }
 }
@@ -52,7 +52,7 @@ pub fn record_at(alloc: Global, text: &[u8], number: u64) -> Result<Option<ByteR
     Ok(Some(records.current))
 }
 
-/// The first record of an instance whose first fields are its kind's, this name and, where it is told, this other one.
+/// The first record of an instance whose first fields are its kind's, this name and, where it is given, this other one.
 /// None where no record before the first `result` record is such a one.
 pub fn record_like(
     alloc: Global,
@@ -100,7 +100,7 @@ pub fn record_of_kind(
     Ok(ByteRecord::new(alloc))
 }
 
-/// Whether a record's first fields are its kind's, this name and, where it is told, this other one.
+/// Whether a record's first fields are its kind's, this name and, where it is given, this other one.
 fn is_like(row: &ByteRecord, kind: Kind, name: &[u8], other: Option<&[u8]>) -> bool {
     if !is_text(field(row, 0), kind.name()) || field(row, 1) != name {
         return false;

@@ -24,9 +24,9 @@ const FIRST_OF_TRACES: u64 = 50;
 
 const FIRST_OF_PEAKS: u64 = 60;
 
-/// What a row tells that was written for an input, in a sentence without a line's end: what was refused, and where, or
-/// why a document doesn't hold, by the names of the input. None exactly where the row is neither a refusal's nor one
-/// that says no. Where a refusal names a record, the sentence begins with its number.
+/// What a row says that was written for an input, in a sentence without a line's end. It is what was refused, and
+/// where, or why a document doesn't hold, by the names of the input. None exactly where the row is neither a refusal's
+/// nor one that says no. Where a refusal names a record, the sentence begins with its number.
 pub fn refusal_text(alloc: Global, input: &[u8], row: &[u8]) -> Result<Option<String>, Memory>
     ensures told { IfOk result (λ words.
         is_some words ≡ (is_refusal (first_row row.now) || is_flaw (first_row row.now))) }
@@ -70,7 +70,7 @@ fn place_words(alloc: Global, row: &ByteRecord) -> Result<String, Memory>
     Ok(words)
 }
 
-/// The words for what a refusal tells, without the record's number.
+/// The words for what a refusal says, without the record's number.
 fn why_words(alloc: Global, input: &[u8], row: &ByteRecord) -> Result<String, Memory> {
     let number = number_in(row, 1);
     if number == 0 {

@@ -12,7 +12,7 @@ use vs_types::TripNo;
 /// How many trips are named at most.
 const MAX_NAMED: usize = 10;
 
-/// What a reason tells, in a line without its end, by the names of its trips.
+/// What a reason says, in a line without its end, by the names of its trips.
 pub fn reason_words(alloc: Global, names: &Names, reason: &Reason) -> Result<String, AllocError>
     requires { All (λ i. i.0 < length names.now.trips) (trips_of reason.now) }
 {
@@ -69,7 +69,7 @@ fn noun(count: u64, one: &'static str, more: &'static str) -> &'static str {
     if count == 1 { one } else { more }
 }
 
-/// The names of trips, at most ten of them, and how many there are beside these.
+/// The names of trips, at most ten of them, and how many more there are.
 fn listed(alloc: Global, names: &Names, trips: &[TripNo]) -> Result<String, AllocError>
     requires { All (λ i. i.0 < length names.now.trips) trips.now }
 {

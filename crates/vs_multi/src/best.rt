@@ -92,12 +92,12 @@ fn best_of(
     })
 }
 
-/// The best table of 30 rounds. In each, every layer finds a least circulation of the trips whose sets have it, each
-/// offered for its multiplier, and its prices go into the round's table. Then a trip's multiplier rises by a step
-/// where no layer runs it, and falls by one for each layer but one that does; the step is at first the mean of the
-/// multipliers to begin with, and halved every five rounds. The table is worth no less than the Lagrangian value at
-/// the first multipliers, and no less than the table of any of the rounds. The multipliers move on, also after want of
-/// memory. The search doesn't call it.
+/// The best table of 30 rounds. In each, every layer finds a least circulation of the trips whose sets have it. Each
+/// trip is offered for its multiplier, and the layer's prices go into the round's table. Then a trip's multiplier rises
+/// by a step where no layer runs it, and falls by one for each layer but one that does. The step is at first the mean
+/// of the multipliers to begin with, and halved every five rounds. The table is worth no less than the Lagrangian value
+/// at the first multipliers, and no less than the table of any of the rounds. The multipliers move on, also where
+/// memory runs out. The search doesn't call it.
 pub fn rounds(
     alloc: Global,
     instance: &Instance,
@@ -127,8 +127,8 @@ pub fn rounds(
     best_of(&case, Steps::Halving, multipliers, work)
 }
 
-/// The same by so many rounds of small steps, which go on from what the multipliers know: in round r, counted from 0, a
-/// 400th of the mean, times 10 and divided by 10 + r.
+/// The same by so many rounds of small steps, which go on from what the multipliers know. In round r, counted from 0,
+/// the step is a 400th of the mean, times 10 and divided by 10 + r.
 pub fn few_rounds(
     case: &Case<'_>,
     rounds: u32,

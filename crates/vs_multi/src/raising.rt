@@ -1,4 +1,4 @@
-//! A table made better layer by layer, each layer's prices being the best beside those of the others.
+//! A table made better layer by layer, each layer's prices being the best together with those of the others.
 ghost use Rattle.std.specs.Prelude.{◌≡◌, ◌<◌, true, false, IfOk, length};
 ghost use Rattle.vs_circ.specs.LayerPrices.{AreHolding};
 ghost use Rattle.vs_instance.specs.Restriction.{IsRestriction};
@@ -67,8 +67,8 @@ fn take_better(
     }
 }
 
-/// Makes the prices of layer l the best that it can have beside those of the others, where the table is worth more by
-/// that. Gives what it is worth then.
+/// Makes the prices of layer l the best that it can have together with those of the others, where that makes the table
+/// worth more. Gives what it is worth then.
 fn raise_layer(
     case: &Case<'_>,
     table: &mut Table,
@@ -136,11 +136,10 @@ fn raise_cost_table(
     Ok(least)
 }
 
-/// Makes a table better within the sets: layer by layer it takes the prices of a least circulation in which the layer
-/// is offered each trip for the least that the trip pays in the other layers of its set, where the table is worth more
-/// by that. It goes through all layers until that gains nothing, five times at most. A ray stays as it is. It is told
-/// what the table is worth, and gives what it is worth then. After want of memory the table still holds and is worth no
-/// less.
+/// Makes a table better within the sets. Layer by layer it takes the prices of a least circulation, where the table is
+/// worth more by that. The layer is offered each trip for the least that the trip pays in the other layers of its set.
+/// It goes through all layers until that gains nothing, five times at most. A ray stays as it is. Takes what the
+/// table is worth, and gives what it is worth then. Where memory runs out, the table still holds and is worth no less.
 pub fn raise(
     case: &Case<'_>,
     table: &mut Table,

@@ -21,8 +21,8 @@ use vs_match::LayerNet;
 use vs_prices::{Bound, Table, worth};
 use vs_types::{LayerNo, LayerSet, Memory};
 
-/// One case of a search: the instance, a net for each of its layers, and the layers in which each trip may be run; and
-/// where the memory comes from that what is found is written into.
+/// One case of a search: the instance, a net for each of its layers, and the layers in which each trip may be run. Its
+/// allocator gives the memory that what is found is written into.
 #[derive(Clone, Copy)]
 pub struct Case<'a> {
     pub alloc: Global,

@@ -43,8 +43,8 @@ fn least_own_cost(instance: &Instance, i: TripNo) -> Option<i64>
     least
 }
 
-/// The multipliers to begin with, in 1/1000 of a cost unit: each becomes the least cost of a block of that trip alone,
-/// in whichever of the layers that may run it, or 0 where it has none.
+/// The multipliers to begin with, in 1/1000 of a cost unit. Each becomes the least cost of a block of that trip alone,
+/// in any layer that may run it; 0 where there is none.
 pub fn start(instance: &Instance, multipliers: &mut [i64])
     requires { length multipliers.old ≡ length instance.now.trips }
     ensures start { AreStarts instance.now multipliers.new }
@@ -56,7 +56,7 @@ pub fn start(instance: &Instance, multipliers: &mut [i64])
     }
 }
 
-/// The multipliers that a table stands for: each becomes what its trip pays in the cheapest layer of its set, or the
+/// The multipliers that a table stands for. Each becomes what its trip pays in the cheapest layer of its set, or the
 /// limit that this is beyond.
 pub fn of_table(instance: &Instance, sets: &[LayerSet], table: &Table, multipliers: &mut [i64])
     requires fits { Fits instance.now table.now }

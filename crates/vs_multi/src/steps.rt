@@ -11,7 +11,7 @@ use vs_instance::MAX_MULTIPLIER;
 /// How many rounds the root has: in the last of them the step is a 32nd of the first, and more would move little.
 pub(crate) const ROUNDS: u32 = 30;
 
-/// After how many rounds the step is halved: with steps of one size multipliers go up and down a few times before they
+/// After how many rounds the step is halved. With steps of one size multipliers go up and down a few times before they
 /// come no nearer.
 pub(crate) const ROUNDS_PER_STEP: u32 = 5;
 

@@ -20,7 +20,7 @@ pub trait ArcReader {
 
     ghost reads: { Self → ℕ };
 
-    /// How many layers there are, as far as a u32 can tell.
+    /// How many layers there are, as far as a u32 can count them.
     fn layers(&self) -> u32
         ensures { result ≡ min (length (nets self.now)) (2 ^ 32 - 1) };
 

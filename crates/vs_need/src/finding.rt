@@ -61,10 +61,10 @@ fn narrow(found: &[Option<i128>], answer: &mut [Option<i64>])
     }
 }
 
-/// For each trip that the layer may run, the greatest price for entering a trip that it connects to, less what the
-/// link to that one costs, in 1/1000 of a cost unit; in a ray the links cost nothing. None exactly where there is no
-/// such trip, and for the trips that the layer may not run. The arcs of the layer's net are read once, from the last
-/// on: all arcs that leave a node are read before any that reaches it.
+/// For each trip that the layer may run, the greatest price for entering a trip that it connects to, less the cost of
+/// the link. It is in 1/1000 of a cost unit; in a ray the links cost nothing. None exactly where there is no such trip,
+/// and for the trips that the layer may not run. The arcs of the layer's net are read once, from the last on. All arcs
+/// that leave a node are read before any that reaches it.
 pub fn needs<N: ArcReader>(
     nets: &mut N,
     table: &Table,

@@ -162,8 +162,8 @@ fn first_link(
     None
 }
 
-/// The first place where a table breaks on the moves of a layer, by three passes along the net of the layer and,
-/// where a link breaks, one from its trip.
+/// The first place where a table breaks on the moves of a layer. Finding it takes three passes along the net of the
+/// layer and, where a link breaks, one from its trip.
 fn broken_move<N: ArcReader>(
     nets: &mut N,
     table: &Table,
@@ -223,14 +223,14 @@ fn broken_in_layer<N: ArcReader>(
     broken_move(nets, table, trips, l, scratch)
 }
 
-/// Where a table breaks first, as `vs_prices::broken` answers it, without the instance: by layers in order; in a layer
-/// the price of its vehicles, and then by trips in order the pull-out, each trip in order to which the trip connects,
-/// and the pull-in.
+/// Where a table breaks first, as `vs_prices::broken` answers it, without the instance. The layers are judged in order.
+/// In a layer the price of its vehicles comes first, and then its trips in order. For a trip it is the pull-out, each
+/// trip in order to which the trip connects, and the pull-in.
 ///
-/// In each layer whose vehicles have a price of 0 or more it goes along the net three times: with the arcs for what the
-/// pull-outs cost, and against them for what the best next trip is worth and for what the pull-ins cost. A trip with a
-/// link that breaks is one whose best next trip is worth more than leaving it; where the first break is on such a link,
-/// a fourth pass from that trip's arrival tells which trip is the first in order.
+/// In each layer whose vehicles have a price of 0 or more it goes along the net three times. It goes with the arcs for
+/// what the pull-outs cost. It goes against them for what the best next trip is worth, and for what the pull-ins cost.
+/// A trip with a link that breaks is one whose best next trip is worth more than leaving it. Where the first break is
+/// on such a link, a fourth pass from that trip's arrival finds which trip is the first in order.
 pub fn broken_fast<N: ArcReader>(
     nets: &mut N,
     table: &Table,

@@ -1,8 +1,8 @@
 //! Prices judged by passes along the arcs of each layer's net, in place of all pairs of trips.
 //!
 //! The program calls `layer_nets`, `broken_for`, `Counted` and `Scratch`. `needs` and `broken_fast` are for who embeds
-//! the passes and has the nets alone. `needs` tells the least price for leaving each trip at which no link from it
-//! breaks, which is what a search for better prices asks for; `broken_fast` is `broken_for` without an instance.
+//! the passes and has the nets alone. `needs` gives the least price for leaving each trip at which no link from it
+//! breaks. A search for better prices asks for that. `broken_fast` is `broken_for` without an instance.
 #![tactic(auto)]
 
 mod aim;

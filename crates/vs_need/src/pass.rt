@@ -85,7 +85,7 @@ fn forget(values: &mut [Option<i128>], found: &mut [Option<i128>])
     found.fill(None);
 }
 
-/// Reads one arc of a pass, and what it stands for: its far end gives the trip's entry, where it is a trip's, and its
+/// Reads one arc of a pass, and what it stands for. Where the arc is a trip's, its far end gives the trip's entry. Its
 /// near end gets what the arc joins to it.
 fn read_arc(
     aim: Aim,
@@ -116,9 +116,9 @@ fn read_arc(
     values[near] = greater(values[near], offer(aim, into, ray, *kind, way.cost, value));
 }
 
-/// For each trip what the best walk is worth that joins the far end of its arc and an arc that the aim asks for, at
-/// the prices for entering the trips. Each arc of the net is read once: before an arc, all arcs that have its far end
-/// as their near end.
+/// For each trip what the best walk is worth, at the prices for entering the trips. The walk joins the far end of the
+/// trip's arc and an arc that the aim asks for. Each arc of the net is read once: before an arc, all arcs that have its
+/// far end as their near end.
 pub(crate) fn pass<N: ArcReader>(
     nets: &mut N,
     at: LayerAim,

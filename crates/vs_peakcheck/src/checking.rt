@@ -19,9 +19,9 @@ use vs_plan::{Block, Plan, PlanError, judge};
 use vs_prices::{Bound, Table, broken, permitted_sets, worth};
 use vs_types::{LayerNo, Memory};
 
-/// Whether what is claimed of each layer holds, and else the first flaw of the first layer that has one. Yes alone,
-/// whoever claims it, means that each count is how many vehicles the layer needs for all that it may run, and that no
-/// number is enough where no count is claimed.
+/// Whether what is claimed of each layer holds, and else the first flaw of the first layer that has one. Whoever claims
+/// it, yes alone means that each count is how many vehicles the layer needs for all that it may run. It also means that
+/// no number is enough where no count is claimed.
 pub fn check(alloc: Global, instance: &Instance, claimed: &[Claimed]) -> Result<PeakVerdict, Memory>
     requires { CanBeChecked instance.now claimed.now }
     ensures verdict { IfOk result (λ v.

@@ -11,8 +11,9 @@ use std::alloc::Global;
 use vs_instance::{Instance, Layer, MAX_FLEET, NewError, Parts};
 use vs_types::{LayerNo, Memory};
 
-/// The instance in which a plan costs as much as it has vehicles of layer l: the same stops and deadheads, that layer
-/// alone with the greatest fleet, whose vehicles cost 1 each and nothing else, and the trips that it may run, in order.
+/// The instance in which a plan costs as much as it has vehicles of layer l. It has the same stops and deadheads, that
+/// layer alone with the greatest fleet, and the trips that it may run, in order. The vehicles cost 1 each and nothing
+/// else.
 pub fn counting(alloc: Global, instance: &Instance, l: LayerNo) -> Result<Instance, Memory>
     requires { l.0 < length instance.now.layers }
     ensures { IfOk result (λ counted. counted ≡ counting instance.now l.0) }

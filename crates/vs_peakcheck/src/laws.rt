@@ -18,8 +18,8 @@ pub fn claims_of_rows_are_judged_alike()
     ensures { ClaimsOfRowsAreJudgedAlike }
 {}
 
-/// Claims that hold prove the peaks: each count is how many vehicles its layer needs for all that it may run, and no
-/// number is enough where no count is claimed.
+/// Claims that hold prove the peaks. Each count is how many vehicles its layer needs for all that it may run. No number
+/// is enough where no count is claimed.
 pub fn holding_claims_prove_peaks()
     ensures { HoldingClaimsProvePeaks }
 {}

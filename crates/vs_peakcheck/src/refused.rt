@@ -28,8 +28,8 @@ pub enum PeakWhy {
 /// Why nothing was read.
 #[derive(Clone, Copy, Debug, PartialEq, Eq)]
 pub enum PeakError {
-    /// What follows the instance is no text of peaks, first of all at this record of the whole text, counted from 1,
-    /// and for this reason.
+    /// What follows the instance is no text of peaks. The first record that is refused has this number in the whole
+    /// text, counted from 1, and is refused for this reason.
     Refused { row: u64, why: PeakWhy },
     /// There was no memory.
     Memory,
@@ -59,7 +59,7 @@ impl From<NoMemory> for PeakError {
     }
 }
 
-/// The error that tells a row of the text, counted from 0, by its number among all records.
+/// The error that names a row of the text, counted from 0, by its number among all records.
 pub fn refusal(input: &Input, row: usize, why: PeakWhy) -> PeakError
     requires input { IsInput input.now }
     requires row { row ≤ length input.now.rest }

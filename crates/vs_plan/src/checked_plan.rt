@@ -95,7 +95,7 @@ impl CheckedPlan {
     }
 }
 
-/// The plan with what it costs, or the plan itself and the first of all its faults, as `judge` answers it.
+/// The plan with what it costs, or the plan itself and the first of all its errors, as `judge` answers it.
 pub fn check_plan(
     alloc: Global,
     instance: &Instance,

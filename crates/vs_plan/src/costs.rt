@@ -84,8 +84,8 @@ fn links_cost(instance: &Instance, l: LayerNo, trips: &[TripNo]) -> i64
     cost
 }
 
-/// What a vehicle of layer l costs that runs the trips, in cost units: its pull-out, its trips, the ways between them,
-/// straight or by the depot, and its pull-in, each of which a block has.
+/// What a vehicle of layer l costs that runs the trips, in cost units. This is for its pull-out, its trips, the ways
+/// between them, straight or by the depot, and its pull-in. A block has each of these.
 fn run_cost(instance: &Instance, l: LayerNo, trips: &[TripNo]) -> i64
     requires instance { IsInstance instance.now }
     requires block { IsBlock instance.now l trips.now }
@@ -103,8 +103,8 @@ fn run_cost(instance: &Instance, l: LayerNo, trips: &[TripNo]) -> i64
     driven + back
 }
 
-/// The minute at which the vehicle of a block leaves its depot, and the one at which it is back, counted
-/// from 0:00 of the first day.
+/// The minute at which the vehicle of a block leaves its depot, and the one at which it is back. Both are
+/// counted from 0:00 of the first day.
 pub fn block_times(instance: &Instance, block: &Block) -> (u32, u32)
     requires { IsBlock instance.now block.now.layer block.now.trips.items }
     ensures out { result.0 ≡ pull_out_minute instance.now block.now.layer block.now.trips.items }
@@ -117,8 +117,8 @@ pub fn block_times(instance: &Instance, block: &Block) -> (u32, u32)
     run_times(instance, block.layer, &block.trips)
 }
 
-/// What a block costs, in cost units: for the vehicle, for each minute from the one at which it leaves its depot to the
-/// one at which it is back, save those that it rests there in between, and for each metre.
+/// What a block costs, in cost units: for the vehicle, for each minute that counts, and for each metre. The minutes
+/// from leaving its depot to being back count, save those that it rests there in between.
 pub fn block_cost(instance: &Instance, block: &Block) -> i64
     requires { IsBlock instance.now block.now.layer block.now.trips.items }
     ensures value { result ≡ pos (block_cost instance.now block.now.layer block.now.trips.items) }

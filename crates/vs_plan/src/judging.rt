@@ -1,4 +1,4 @@
-//! What is wrong with blocks that are to be a plan, fault by fault in order, and the judge that answers the first.
+//! What is wrong with blocks that are to be a plan, error by error in order, and the judge that answers the first.
 
 ghost use Rattle.std.specs.Prelude.{◌≡◌, ℕ, ◌<◌, ◌^◌, length, IfOk, IfErr, pos, ◌≤ℤ◌};
 ghost use Rattle.vs_plan.specs.Blocks.{CanBeJudged, IsOfInstance, blocks_of, pair_of, pairs_of};
@@ -69,7 +69,7 @@ fn return_fault(instance: &Instance, b: u32, block: &Block) -> Option<PlanFault>
     }
 }
 
-/// The first fault of block b.
+/// The first error of block b.
 fn block_fault(instance: &Instance, b: u32, block: &Block) -> Option<PlanFault>
     requires block { IsOfInstance instance.now (pair_of block.now) }
     requires few { length block.now.trips.items < 2 ^ 32 }
@@ -83,7 +83,7 @@ fn block_fault(instance: &Instance, b: u32, block: &Block) -> Option<PlanFault>
     return_fault(instance, b, block)
 }
 
-/// The first fault of the blocks by themselves.
+/// The first error of the blocks by themselves.
 fn blocks_fault(instance: &Instance, blocks: &[Block]) -> Option<PlanFault>
     requires { CanBeJudged instance.now (pairs_of blocks.now) }
     ensures { result ≡ first (blocks_faults instance.now (pairs_of blocks.now)) }
@@ -130,7 +130,7 @@ fn fleet_fault(instance: &Instance, blocks: &[Block]) -> Option<PlanFault>
     None
 }
 
-/// The first fault of the blocks together: of the trips that they run, and of the vehicles that they use.
+/// The first error of the blocks together: of the trips that they run, and of the vehicles that they use.
 fn joint_fault(
     alloc: Global,
     instance: &Instance,
@@ -146,7 +146,7 @@ fn joint_fault(
     }
 }
 
-/// The first of all faults of the blocks.
+/// The first of all errors of the blocks.
 fn plan_fault(
     alloc: Global,
     instance: &Instance,
@@ -161,8 +161,8 @@ fn plan_fault(
     }
 }
 
-/// What the plan costs, in cost units, or the first of all faults. Its blocks come first, each by its trips
-/// in order and then by its way back; then the trips that stand more than once, then those that stand
+/// What the plan costs, in cost units, or the first of all errors. Its blocks come first, each by its trips
+/// in order and then by its way back. Then come the trips that stand more than once, then those that stand
 /// nowhere, and last the fleets.
 pub fn judge(alloc: Global, instance: &Instance, plan: &Plan) -> Result<i64, PlanError>
     requires { CanBeJudged instance.now (blocks_of plan.now) }

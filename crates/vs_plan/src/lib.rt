@@ -1,5 +1,6 @@
-//! Plans of vehicles: which blocks are one, what is wrong with those that aren't, what a plan costs, and a
-//! first plan by a simple rule.
+//! Plans of vehicles: which blocks are one, and what is wrong with those that aren't.
+//!
+//! Here are also what a plan costs, and a first plan by a simple rule.
 #![tactic(auto)]
 
 mod block;

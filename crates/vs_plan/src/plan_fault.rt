@@ -26,8 +26,8 @@ pub enum PlanFault {
 /// Why there is no answer on a plan, or none that accepts it.
 #[derive(Clone, Copy, Debug, PartialEq, Eq)]
 pub enum PlanError {
-    /// The blocks are no plan: this is the first fault of all, in the order of blocks, trips that stand
-    /// more than once, trips that stand nowhere, and fleets.
+    /// The blocks are no plan: this is the first error of all. Blocks come first, then trips that stand
+    /// more than once, then trips that stand nowhere, and last fleets.
     Fault(PlanFault),
     /// There was no memory.
     Memory,

@@ -61,8 +61,8 @@ fn is_pull_in_broken(instance: &Instance, table: &Table, l: LayerNo, i: TripNo) 
     exceeds(0, from, in_cost(instance, l, i), table.ray)
 }
 
-/// Whether layer l may run trip j, and entering it is worth more than leaving trip i and the way
-/// between the two cost, where there is one in time.
+/// Whether the link from trip i to trip j breaks the table in layer l. It does where l may run j,
+/// i connects to j, and entering j is worth more than leaving i and the way between cost.
 fn is_link_broken(instance: &Instance, table: &Table, l: LayerNo, i: TripNo, j: TripNo) -> bool
     requires fits { Fits instance.now table.now }
     requires layer { l.0 < length instance.now.layers }
@@ -140,9 +140,9 @@ fn broken_in_layer(instance: &Instance, table: &Table, l: LayerNo) -> Option<Bro
     None
 }
 
-/// Where a table breaks first: by layers in order; in a layer the price of its vehicles, and then
-/// by trips in order the pull-out, each trip in order to which the trip connects, and the pull-in.
-/// It goes once over all pairs of trips.
+/// Where a table breaks first, by layers in order. In a layer the price of its vehicles comes first,
+/// and then the trips in order. Of a trip it is the pull-out, each trip in order to which the trip
+/// connects, and the pull-in. It goes once over all pairs of trips.
 pub fn broken(instance: &Instance, table: &Table) -> Option<BrokenAt>
     requires { Fits instance.now table.now }
     ensures first { result ≡ first (breaks_of instance.now table.now) }

@@ -2,7 +2,7 @@
 
 ghost use Rattle.vs_prices.specs.CaseLaws.{LeavesAreRestrictions, LeavesShareOutPlans};
 
-/// The leaves of a good tree share out the plans of its root: each plan within the root's restriction lies
+/// The leaves of a good tree share out the plans of its root. Each plan within the root's restriction lies
 /// within that of exactly one leaf.
 pub fn leaves_share_out_plans()
     ensures { LeavesShareOutPlans }

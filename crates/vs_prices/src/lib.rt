@@ -1,6 +1,6 @@
 //! Dual prices, and what they show of every plan: prices that hold bound what each plan costs, however found.
 //!
-//! Beside them stand trees of cases, which share out the plans of an instance, and what a cost and a bound claim
+//! Here are also trees of cases, which share out the plans of an instance, and what a cost and a bound claim
 //! together.
 #![tactic(auto)]
 

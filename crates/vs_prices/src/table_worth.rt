@@ -15,7 +15,7 @@ use vs_connect::{lesser, scaled, trip_cost};
 use vs_instance::Instance;
 use vs_types::{LayerNo, LayerSet, Memory, SCALE, TripNo};
 
-/// No trip pays more than this in a layer, or less than its negative, in 1/1000 of a cost unit: it pays at most two
+/// No trip pays more than this in a layer, or less than its negative, in 1/1000 of a cost unit. It pays at most two
 /// prices and a piece of cost.
 pub const MAX_TRIP_PRICE: i64 = 3_000_000_000_000_000_000;
 
@@ -37,8 +37,8 @@ pub fn permitted_sets(alloc: Global, instance: &Instance) -> Result<Vec<LayerSet
     Ok(sets)
 }
 
-/// What trip i pays in layer l, in 1/1000 of a cost unit: the price for entering it and its own cost, which a ray
-/// leaves out, less the price for leaving it.
+/// What trip i pays in layer l, in 1/1000 of a cost unit. This is the price for entering it and its own cost, which a
+/// ray leaves out, less the price for leaving it.
 pub fn trip_price(instance: &Instance, table: &Table, l: LayerNo, i: TripNo) -> i64
     requires fits { Fits instance.now table.now }
     requires layer { l.0 < length instance.now.layers }
@@ -111,8 +111,8 @@ fn rounded_up(value: i128) -> i128
     if value % scale > 0 { whole + 1 } else { whole }
 }
 
-/// What the table is worth where each trip is run in a layer of its set, one set per trip: what the
-/// trips pay in the cheapest layers of their sets, less what all vehicles pay, rounded up to whole
+/// What the table is worth where each trip is run in a layer of its set, one set per trip. This is
+/// what the trips pay in the cheapest layers of their sets, less what all vehicles pay, rounded up to whole
 /// cost units. A ray, in which costs count nothing, shows by a value above 0 that there is no such
 /// plan, and else nothing. Where the table holds, no plan within the sets costs less.
 pub fn worth(instance: &Instance, sets: &[LayerSet], table: &Table) -> Bound
@@ -133,14 +133,14 @@ pub fn worth(instance: &Instance, sets: &[LayerSet], table: &Table) -> Bound
     }
 }
 
-/// Prices that hold bound every plan: it costs at least what they are worth within any restriction
-/// that it keeps to, and where they are worth that there is no plan, none keeps to the restriction.
+/// Prices that hold bound every plan. It costs at least what they are worth within any restriction
+/// that it keeps to. Where their worth is that there is no plan, none keeps to the restriction.
 /// This is the weak duality of linear programming, said of plans as lists of blocks.
 pub fn prices_bound_plans()
     ensures { PricesBoundPlans }
 {}
 
-/// A ray is a cost table of the instance without rates, and each such table is a ray: the conditions and the value are
+/// A ray is a cost table of the instance without rates, and each such table is a ray. The conditions and the value are
 /// the same. So a ray shows that there is no plan exactly where, with nothing costing anything, the prices would bound
 /// plans above 0.
 pub fn unrated_tables_are_rays()

@@ -1,5 +1,5 @@
-//! A queue of the nodes of a net by key, from which a node of the least key is taken first, with what a search keeps of
-//! each node beside its key. Nodes are numbers, and nothing here sees a net.
+//! A queue of the nodes of a net by key, from which a node of the least key is taken first. Together with the key, it
+//! keeps what a search knows of each node. Nodes are numbers, and nothing here sees a net.
 #![tactic(auto)]
 
 mod node_heap;

@@ -11,8 +11,8 @@ use std::alloc::Global;
 use std::marker::Model;
 use vs_types::Memory;
 
-/// Nodes with keys, of which one with the least key is taken first; each node is in it at most once. Beside its key it
-/// keeps of each node the last step of a path to it and, once it is settled, its distance and its place.
+/// Nodes with keys, of which one with the least key is taken first; each node is in it at most once. Of each node it
+/// also keeps the last step of a path to it. Once the node is settled, it keeps its distance and its place too.
 #[derive(Drop)]
 pub struct NodeHeap {
     table: NodeTable,

@@ -9,8 +9,8 @@ use std::alloc::Global;
 use std::marker::Model;
 use vs_types::Memory;
 
-/// Past the distance of any node. It stands where a node isn't reached, so that nearly always one look at the distance
-/// tells whether a step leads to a lesser one; that the node isn't reached is what its mark says.
+/// Past the distance of any node. It stands where a node isn't reached, so that nearly always the distance alone shows
+/// whether a step leads to a lesser one. That the node isn't reached is what its mark says.
 const UNKNOWN: i64 = i64::MAX;
 
 /// A node whose least distance is known.

@@ -62,8 +62,8 @@ fn digits(field: &[u8], most: usize) -> Option<u64>
     Some(value)
 }
 
-/// The time that a field writes, in minutes from 0:00 of the first day: an hour of one or two digits up to
-/// 47, a colon, and a minute of two digits up to 59. None where the field isn't one.
+/// The time that a field writes, in minutes from 0:00 of the first day. The field has an hour of one or two
+/// digits up to 47, a colon, and a minute of two digits up to 59. None where the field isn't one.
 pub fn time(field: &[u8]) -> Option<u32>
     ensures { MatchOption result
         ((t : ℕ) → ¬ (IsTime field.now t))

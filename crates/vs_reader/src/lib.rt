@@ -1,4 +1,4 @@
-//! The reader of instance texts: the records that `csv` reads are judged one by one, and give an instance
+//! The reader of instance texts. It judges the records that `csv` reads one by one, and gives an instance
 //! with its names, or the first refusal.
 #![tactic(auto)]
 

@@ -51,7 +51,7 @@ pub struct Head {
     pub in_rest: bool,
 }
 
-/// The instance that a text stands for, with its names and the rows from its first `result` record on; else
+/// The instance that a text stands for, with its names and the rows from its first `result` record on. Else
 /// the first refusal of the text.
 pub fn read(alloc: Global, bytes: &[u8]) -> Result<Input, ReadError>
     requires { length bytes.now ≤ MAX_BYTES }

@@ -28,7 +28,7 @@ impl RecordNumbers {
         }
     }
 
-    /// The number of the record that a misfit is told at, 0 where it concerns the deadheads of three stops.
+    /// The number of the record at which an error is reported, 0 where it concerns the deadheads of three stops.
     pub fn of_misfit(&self, misfit: Misfit) -> u32
         ensures { (records : List Row) → HasNumbers self.now records → result ≡ misfit_row records misfit }
     {

@@ -31,10 +31,10 @@ pub enum Why {
     Misfit(Misfit),
 }
 
-/// A refusal, and the record that it is told at.
+/// A refusal, and the record at which it is reported.
 #[derive(Clone, Copy, Debug, PartialEq, Eq)]
 pub struct Refused {
-    /// The number of the record, counted from 1. 0 for a misfit of the deadheads of three stops.
+    /// The number of the record, counted from 1. 0 for an error of the deadheads of three stops.
     pub row: u64,
     pub why: Why,
 }

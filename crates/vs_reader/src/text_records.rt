@@ -39,7 +39,7 @@ impl<'t> TextRecords<'t> {
         ensures { IfOk result (λ found. (rows : List Row) → AreLeft self.old rows
             → GivesNext self.new rows found) }
     {
-        // Bytes in memory have no fault, so the only error is want of memory.
+        // Reading bytes in memory can't fail, so the only error is to be out of memory.
         let Ok(found) = self.reader.read_byte_record(&mut self.current) else {
             return Err(Memory);
         };

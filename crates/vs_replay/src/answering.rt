@@ -1,4 +1,4 @@
-//! `replay`: the document of the search that a trace tells.
+//! `replay`: the document of the search that a trace records.
 
 ghost use Rattle.std.specs.Prelude.{◌≡◌, ℕ, ◌≤◌, List, [], ◌∷◌, length, IfOk};
 ghost use Rattle.vs_reader.specs.Names.{HaveCounts};
@@ -50,7 +50,7 @@ fn answer_trace(alloc: Global, input: &Input) -> Result<Answer, Memory>
     }
 }
 
-/// The document to which a trace replays, or else the first step that may not come; where its tables could have too
+/// The document to which a trace replays, or else the first step that may not come. Where its tables could have too
 /// many entries it isn't replayed.
 fn replayed(
     alloc: Global,

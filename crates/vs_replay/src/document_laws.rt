@@ -2,15 +2,16 @@
 
 ghost use Rattle.vs_replay.specs.Laws.{DocumentsComeBack, ReplaysHaveOneAnswer, StatesHaveOneText, WrittenTracesReplay};
 
-/// A trace that tells of a search, whose steps may leave out offers that weren't accepted, comes back to its document:
-/// where no leaf of the search is held, the trace replays, and each document of the state to which it replays is
-/// written as one of the search's state.
+/// A trace that records a search, but for offers that weren't accepted, comes back to its document. This is so where no
+/// leaf of the search is held. The trace then replays, and each document of the state to which it replays is written as
+/// one of the search's state.
 pub fn documents_come_back()
     ensures { DocumentsComeBack }
 {}
 
-/// Behind the records of its instance, the last of which is ended by a line end, the trace text of a search none of
-/// whose leaves is held has `replay` write a document of the search's state, where the search keeps to the limits.
+/// Take a search that keeps to the limits, and none of whose leaves is held. Its trace text stands behind the records
+/// of its instance, the last of which is ended by a line end. For this input `replay` writes a document of the search's
+/// state.
 pub fn written_traces_replay()
     ensures { WrittenTracesReplay }
 {}

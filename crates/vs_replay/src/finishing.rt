@@ -68,8 +68,8 @@ fn table_holds(instance: &Instance, ground: &mut Ground, table: &Table) -> bool
     }
 }
 
-/// How a leaf is finished. None where its new table is worth less than the one that it has, or closes it though there
-/// is room for a cheaper plan, or where the parts aren't parts of the leaf.
+/// How a leaf is finished. None where its new table is worth less than the one that it has, or where the parts aren't
+/// parts of the leaf. None too where the table closes the leaf though there is room for a cheaper plan.
 fn finish_of(instance: &Instance, tree: &Tree, sets: &mut [LayerSet], done: &Done) -> Option<Finish>
     requires same { tree.now.opening.problem ≡ instance.now }
     requires holds { IsHeldBy (state tree.now) done.now.worker done.now.leaf }

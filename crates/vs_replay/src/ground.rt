@@ -11,8 +11,8 @@ use vs_need::{Counted, Scratch};
 use vs_prices::{Table, permitted_sets};
 use vs_types::{LayerSet, Memory};
 
-/// What is at hand for all steps: the nets of the layers, by which tables are judged, and room for the layers and the
-/// prices of a leaf.
+/// What is at hand for all steps. These are the nets of the layers, by which tables are judged, and room for the layers
+/// and the prices of a leaf.
 #[derive(Drop)]
 pub struct Ground<'a> {
     pub nets: Counted<'a>,

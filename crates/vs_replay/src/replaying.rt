@@ -18,10 +18,10 @@ use vs_types::Memory;
 /// What becomes of a trace.
 #[derive(Drop)]
 pub enum Replayed {
-    /// The search that the trace tells. No leaf of it is held.
+    /// The search that the trace records. No leaf of it is held.
     Tree(Tree),
-    /// The first step, counted from 1, that may not come; 0 where the first plan is none, or not one of its cost; one
-    /// more than there are steps where a leaf is held at the end.
+    /// The first step, counted from 1, that may not come. It is 0 where the first plan is none, or not one of its cost.
+    /// It is one more than there are steps where a leaf is held at the end.
     NotAStep(u32),
 }
 
@@ -54,7 +54,7 @@ pub fn replay(alloc: Global, instance: &Instance, trace: Trace) -> Result<Replay
     Ok(Replayed::Tree(tree))
 }
 
-/// Makes the steps up to the first that may not come, and tells how many.
+/// Makes the steps up to the first that may not come, and gives how many.
 fn make_all(
     alloc: Global,
     instance: &Instance,

@@ -19,7 +19,7 @@ use vs_trace::Full;
 use vs_tree::{Hand, Next, Take, Tree};
 use vs_types::Memory;
 
-/// Makes a step that a trace tells. False where it may not come.
+/// Makes a step that a trace records. False where it may not come.
 pub fn make(
     alloc: Global,
     instance: &Instance,
@@ -102,8 +102,8 @@ fn give_back(tree: &mut Tree, w: u32, leaf: u32) -> bool
     true
 }
 
-/// Offers a plan of this cost for a worker. False where the worker may offer none, the plan isn't cheaper than the
-/// cheapest so far, or it is no plan of the instance at this cost.
+/// Offers a plan of this cost for a worker. False where the worker may offer none, or the plan isn't cheaper than the
+/// cheapest so far. False too where it is no plan of the instance at this cost.
 fn offer(
     alloc: Global,
     instance: &Instance,

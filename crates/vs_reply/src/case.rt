@@ -63,7 +63,7 @@ fn read_instance(alloc: Global, bytes: &[u8]) -> Result<Input, CaseError>
     }
 }
 
-/// An answer that refuses a text, or want of memory for it.
+/// An answer that refuses a text, or the error that there is no memory for it.
 fn refusal(answer: Result<Answer, Memory>) -> CaseError
     ensures { result ≡ case_error answer }
 {

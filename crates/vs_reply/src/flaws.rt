@@ -1,4 +1,4 @@
-//! The fields that tell why a document doesn't hold.
+//! The fields that say why a document doesn't hold.
 
 ghost use Rattle.std.specs.Prelude.{◌≡◌, [], ◌∷◌, ◌++◌, length, OnOk};
 ghost use Rattle.vs_check.specs.Flaws.{IsBreakWithin, IsFaultWithin, IsFlawWithin};

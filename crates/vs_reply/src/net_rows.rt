@@ -1,4 +1,4 @@
-//! The rows that tell how large the nets of each layer are.
+//! The rows that say how large the nets of each layer are.
 
 ghost use Rattle.std.specs.Prelude.{◌≡◌, ◌<◌, [], ◌∷◌, ◌++◌, codes, length, OnOk};
 ghost use Rattle.vs_match.specs.declared.matching.Matching.TheVariants as Matching;
@@ -13,8 +13,8 @@ use vs_reader::Names;
 use vs_rows::Text;
 use vs_types::{LayerNo, Memory};
 
-/// Writes the rows that tell how large the nets of all layers are: of each layer first that of its net by first match,
-/// then that of its net by latest first match.
+/// Writes the rows that say how large the nets of all layers are. Of each layer, that of its net by first match is the
+/// first, and then comes that of its net by latest first match.
 pub fn write_nets(
     alloc: Global,
     text: &mut Text,
@@ -84,8 +84,8 @@ fn write_latest(
     write_sizes(text, layer, "latest", counts(&net), full, stay)
 }
 
-/// Writes how large a net is, how many pairs of trips connect in its layer, and what there is in it for rests where the
-/// layer has a least rest.
+/// Writes how large a net is, and how many pairs of trips connect in its layer. Where the layer has a least rest, it
+/// also writes what there is in the net for rests.
 fn write_sizes(
     text: &mut Text,
     layer: &str,
@@ -104,8 +104,8 @@ fn write_sizes(
     text.end_row()
 }
 
-/// Adds what there is in a net for rests, where the layer has a least rest: how many nodes stand for its depot during
-/// the day, and how many arcs lead back to it.
+/// Adds what there is in a net for rests, where the layer has a least rest. That is how many nodes stand for its depot
+/// during the day, and how many arcs lead back to it.
 fn write_rests(text: &mut Text, counts: NetCounts, stay: Option<u64>) -> Result<(), Memory>
     ensures { OnOk result (text.new ≡ text.old ++ more_fields (rest_fields stay counts)) }
 {

@@ -1,4 +1,4 @@
-//! The fields that tell why a text of peaks doesn't hold.
+//! The fields that say why a text of peaks doesn't hold.
 
 ghost use Rattle.std.specs.Prelude.{◌≡◌, ℕ, ◌<◌, [], ◌∷◌, ◌++◌, length, All, OnOk};
 ghost use Rattle.vs_check.specs.Flaws.{IsBreakWithin, IsFaultWithin};
@@ -15,8 +15,8 @@ use vs_reader::Names;
 use vs_rows::Text;
 use vs_types::{LayerNo, Memory, TripNo};
 
-/// Adds to a row why what is claimed of layer l, which may run these trips, doesn't hold: the flaw's number and name,
-/// the layer, and then the flaw's places by the instance's names, and values.
+/// Adds to a row why what is claimed of layer l, which may run these trips, doesn't hold. The fields are the flaw's
+/// number and name, the layer, and then the flaw's places by the instance's names, and values.
 pub fn peak_flaw_fields(
     text: &mut Text,
     names: &Names,

@@ -11,7 +11,7 @@ use vs_reader::Why;
 use vs_rows::Text;
 use vs_types::{Memory, StopNo};
 
-/// Writes the number of a refusal, its name, and the details of a misfit.
+/// Writes the number of a refusal, its name, and the details of an error of an input.
 pub fn write_why(text: &mut Text, why: Why) -> Result<(), Memory>
     ensures { OnOk result (text.new ≡ text.old
         ++ more_fields (decimal (why_number why) ∷ why_name why ∷ why_details why)) }
@@ -24,7 +24,7 @@ pub fn write_why(text: &mut Text, why: Why) -> Result<(), Memory>
     }
 }
 
-/// Writes the details of a misfit, where it has any.
+/// Writes the details of an error of an input, where it has any.
 fn write_details(text: &mut Text, misfit: Misfit) -> Result<(), Memory>
     ensures { OnOk result (text.new ≡ text.old ++ more_fields (misfit_details misfit)) }
 {
@@ -82,7 +82,7 @@ fn why_name(why: Why) -> &'static str
     }
 }
 
-/// The name of a misfit.
+/// The name of an error of an input.
 fn misfit_name(misfit: Misfit) -> &'static str
     ensures { result.now ≡ misfit_name misfit }
 {

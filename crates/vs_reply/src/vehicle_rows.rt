@@ -123,8 +123,8 @@ fn write_runs(
     Ok(())
 }
 
-/// Writes the row of the trip at a place of a block, which counts from 0, and before it the one of a rest, where the
-/// vehicle rests between the trip before and this one.
+/// Writes the row of the trip at a place of a block, which counts from 0. Where the vehicle rests between the trip
+/// before and this one, the row of that rest comes first.
 fn write_next(
     text: &mut Text,
     instance: &Instance,

@@ -9,8 +9,8 @@ use vs_instance::Instance;
 use vs_tree::Tree;
 use vs_types::Memory;
 
-/// How many nodes a turn finishes at most: few enough that the search soon comes back to the leaf of least worth of
-/// all, and enough that a part is worth its nets.
+/// How many nodes a turn finishes at most. They are few enough that the search soon comes back to the leaf of least
+/// worth of all. They are enough that a part is worth its nets.
 pub const MAX_TURN: u32 = 20;
 
 /// How many entering prices the tables of a search of a part may have together, with one table for each node of its

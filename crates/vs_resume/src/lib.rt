@@ -1,7 +1,7 @@
 //! A search that is carried on from the document that it ended with.
 //!
-//! Round after round, the leaf with the lowest bound gives place to a search of its part: the instance in which each
-//! trip may be run only in the layers that the leaf leaves it.
+//! Round after round, the leaf with the lowest bound gives place to a search of its part. That is the instance in which
+//! each trip may be run only in the layers that the leaf leaves it.
 #![tactic(auto)]
 
 mod cases;

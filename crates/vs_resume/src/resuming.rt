@@ -16,17 +16,17 @@ use vs_document::Document;
 use vs_instance::{Instance, MAX_TRIPS};
 use vs_types::Memory;
 
-/// How many entering prices the tables of a search that is carried on may have together, with one table for each leaf
-/// of its document and for each node of its budget: twice as many as a search may have, so that every document that one
-/// writes can be carried on.
+/// How many entering prices the tables of a search that is carried on may have together. There is one table for each
+/// leaf of its document and for each node of its budget. The limit is twice that of a search, so that every document
+/// that a search writes can be carried on.
 pub const MAX_RESUMED_ENTRIES: u32 = 6_000_000;
 
-/// Goes on with a search where a document that holds left it, until the budget is spent or every leaf shows what the
-/// cheapest plan costs. Each turn goes to the weakest leaf, and of several as weak to the leftmost. The solver searches
-/// its part of the instance, and that search's tree grows where the leaf stood; a new leaf has its own table, or that
-/// of the leaf before where this shows more. A cheaper plan that was found is the plan from then on. What is counted
-/// are the nodes of this call alone. It returns where the solver does. Whatever it answers, the solver may be called
-/// again.
+/// Goes on with a search where a document that holds left it. It ends when the budget is spent, or every leaf shows
+/// what the cheapest plan costs. Each turn goes to the weakest leaf, and of several as weak to the leftmost. The solver
+/// searches its part of the instance, and that search's tree grows where the leaf stood. A new leaf has its own table,
+/// or that of the leaf before where this shows more. A cheaper plan that was found is the plan from then on. What is
+/// counted are the nodes of this call alone. It returns where the solver does. Whatever it answers, the solver may be
+/// called again.
 pub fn resume<S: Deepen>(
     alloc: Global,
     instance: &Instance,

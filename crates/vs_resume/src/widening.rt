@@ -9,9 +9,9 @@ use vs_instance::{Instance, MAX_PRICE};
 use vs_prices::Table;
 use vs_types::{LayerNo, LayerSet, TripNo};
 
-/// Widens a table of the part that these sets leave to the whole instance: where a layer may run a trip in the instance
-/// and may not in the part, the price for entering it becomes the least that there is and the one for leaving it the
-/// greatest. All others stay. Takes no memory.
+/// Widens a table of the part that these sets leave to the whole instance. It acts where a layer may run a trip in the
+/// instance and may not in the part. There the price for entering the trip becomes the least that there is, and the one
+/// for leaving it the greatest. All others stay. Takes no memory.
 pub fn widen(instance: &Instance, sets: &[LayerSet], table: &mut Table)
     requires fits { Fits instance.now table.old }
     requires sets { IsRestriction instance.now sets.now }

@@ -14,15 +14,15 @@ use vs_document::Document;
 use vs_prices::{Table, claim_found};
 use vs_types::Memory;
 
-/// The places at which the tables of the leaves are written, leaf by leaf, and the numbers of the tables in the order
-/// in which they are.
+/// The places at which the tables of the leaves are written, leaf by leaf. Also the numbers of the tables, in the order
+/// in which they are written.
 #[derive(Drop)]
 struct Named {
     places: Vec<u32>,
     numbers: Vec<u32>,
 }
 
-/// The document of a course that so many nodes led to: with the tables alone that leaves name, in the order in which
+/// The document of a course that so many nodes led to. It has only the tables that leaves name, in the order in which
 /// they first name them.
 pub(crate) fn document_of(alloc: Global, course: Course, nodes: u32) -> Result<Document, Memory>
     requires few { length course.tables.items < 2 ^ 32 }

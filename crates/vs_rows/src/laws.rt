@@ -15,8 +15,9 @@ pub fn written_rows_stand_for_their_document()
     ensures { WrittenRowsStandForTheirDocument }
 {}
 
-/// The ranges that the definitions take from the code: of a cost and a bound in cost units, of the cases that a search
-/// finished, of the numbers of tables, and of a price of 19 digits in 1/1000 of a cost unit.
+/// The ranges that the definitions take from the code. They are those of a cost and a bound in cost units, and of the
+/// cases that a search finished. They are also those of the numbers of tables, and of a price of 19 digits in 1/1000
+/// of a cost unit.
 pub fn limits_are_fixed()
     ensures cost { MAX_COST ≡ pos 100000000000000000 }
     ensures bound { MAX_BOUND ≡ pos 100000000000000000000 }

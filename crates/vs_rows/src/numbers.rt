@@ -35,8 +35,8 @@ fn natural(digits: &[u8]) -> Option<u128>
     Some(n)
 }
 
-/// The number within `MAX_BOUND` in either direction that a field writes: 0, or a digit 1 to 9 and digits after it, or
-/// such a number behind a `-`.
+/// The number within `MAX_BOUND` in either direction that a field writes. The field is 0, or a digit 1 to 9 and digits
+/// after it, or such a number behind a `-`.
 pub fn signed(field: &[u8]) -> Option<i128>
     ensures found { IfSome result (λ z. (field.now ≡ signed_decimal z) × IsWithin MAX_BOUND z) }
     ensures none { IfNone result ((z : ℤ) → IsWithin MAX_BOUND z → ¬ (field.now ≡ signed_decimal z)) }

@@ -18,9 +18,9 @@ pub enum PriceWhy {
 /// Why a table wasn't read.
 #[derive(Clone, Copy, Debug, PartialEq, Eq)]
 pub enum TableError {
-    /// The first row tells no table.
+    /// The first row gives no table.
     NoTable,
-    /// The first row tells a table that hasn't the next number.
+    /// The first row gives a table that hasn't the next number.
     Number,
     /// A row of prices, counted from 0, is wrong, first of all this one and for this reason.
     Prices { row: usize, why: PriceWhy },

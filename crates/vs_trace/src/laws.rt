@@ -2,8 +2,8 @@
 
 ghost use Rattle.vs_trace.specs.Told.{WrittenTracesStand};
 
-/// The trace text of a search stands for a trace that tells how the search began, and its steps but for offers that
-/// weren't accepted, where the search keeps to the limits of a trace.
+/// Where a search keeps to the limits of a trace, its trace text stands for a trace. That trace says how the search
+/// began, and gives its steps but for offers that weren't accepted.
 pub fn written_traces_stand()
     ensures { WrittenTracesStand }
 {}

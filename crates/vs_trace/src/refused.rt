@@ -61,7 +61,7 @@ impl From<NoMemory> for TraceError {
     }
 }
 
-/// The error that tells a row of the trace, counted from 0, by its number among all records.
+/// The error that gives a row of the trace, counted from 0, by its number among all records.
 pub fn refusal(input: &Input, row: usize, why: TraceWhy) -> TraceError
     requires input { IsInput input.now }
     requires row { row ≤ length input.now.rest }

@@ -1,4 +1,4 @@
-//! What a trace tells.
+//! What a trace says.
 
 use vs_plan::Plan;
 use vs_prices::Table;

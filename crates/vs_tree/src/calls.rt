@@ -1,5 +1,5 @@
-//! What passes between a search and its workers: what a worker has in hand, what it is told when it asks, what it makes
-//! of a leaf, and what the search reports.
+//! What passes between a search and its workers. A worker has a leaf in hand or not, asks for one, and closes or splits
+//! it. The search answers, and reports what it found.
 
 use vs_prices::Claim;
 use vs_types::{LayerSet, TripNo};
@@ -14,7 +14,7 @@ pub enum Hand {
     Gone,
 }
 
-/// What a worker that asks for a leaf is told.
+/// The answer to a worker that asks for a leaf.
 #[derive(Clone, Copy, Debug, PartialEq, Eq)]
 pub enum Take {
     /// It has this leaf now. `known` is the cost of the cheapest plan so far, in cost units.
@@ -32,8 +32,8 @@ pub enum Take {
 pub enum Next {
     /// Its table shows that no plan within it is wanted.
     Close,
-    /// Two leaves take its place: in one the trip is run in a layer of `left`, in the other in a layer
-    /// that `left` leaves of the trip's set.
+    /// Two leaves take its place. In one the trip is run in a layer of `left`, in the other in a layer that `left`
+    /// leaves of the trip's set.
     Split { trip: TripNo, left: LayerSet },
 }
 

@@ -1,5 +1,5 @@
 //! How a leaf is finished: what its new table is worth there, or in the two parts that take its place. The search is
-//! told, so that a worker can sum over all trips while others have their turns.
+//! given this, so that a worker can sum over all trips while others have their turns.
 ghost use Rattle.std.specs.Prelude.{◌≡◌, ◌<◌, length};
 ghost use Rattle.vs_types.specs.Parts.{IsProperPart};
 ghost use Rattle.vs_instance.specs.Restriction.{IsRestriction, set_of};
@@ -37,8 +37,9 @@ pub struct Parting {
 }
 
 impl Finish {
-    /// How a leaf with these layers is finished by a table that fits: one sum over all trips where it is closed, and
-    /// two where it is split. The layers are in the end those of the upper part; where it is closed they stay.
+    /// How a leaf with these layers is finished by a table that fits. That takes one sum over all trips where it is
+    /// closed, and two where it is split. The layers are in the end those of the upper part; where it is closed they
+    /// stay.
     pub fn of(instance: &Instance, sets: &mut [LayerSet], table: &Table, next: Next) -> Finish
         requires fits { Fits instance.now table.now }
         requires restriction { IsRestriction instance.now sets.old }
@@ -59,8 +60,8 @@ impl Finish {
     }
 }
 
-/// The parts of a leaf with these layers, of which one runs the trip in the layers on the left, and what a table is
-/// worth in each. The layers are in the end those of the upper part.
+/// The parts of a leaf with these layers, and what a table is worth in each. One part runs the trip in the layers on
+/// the left. The layers are in the end those of the upper part.
 fn parted(
     instance: &Instance,
     sets: &mut [LayerSet],

@@ -9,8 +9,8 @@ use std::marker::Model;
 use vs_types::Memory;
 
 /// The free leaves of a tree, of which the one that is to be taken next is found at once. It is a tournament: each
-/// inner place has the leaf that is taken first of the two below it (Knuth, The Art of Computer Programming,
-/// volume 3, section 5.2.3).
+/// inner place has the leaf that is taken first of the two below it. See Knuth, The Art of Computer Programming, volume
+/// 3, section 5.2.3.
 #[derive(Drop)]
 pub struct FreeLeaves {
     /// How many leaves there can be.

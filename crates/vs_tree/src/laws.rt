@@ -3,8 +3,8 @@
 ghost use Rattle.vs_tree.specs.Entries.{EntriesDiffer};
 ghost use Rattle.vs_tree.specs.Laws.{HistoriesAreSound, LeavesBoundPlans, ReportsAreTrue, StatesAreTrees};
 
-/// Every state that a history of a search leads to is sound: each plan of the instance lies in exactly one leaf,
-/// every table fits and holds, every accepted plan is one of the instance and cheaper than the one before, no closed
+/// Every state that a history of a search leads to is sound. Each plan of the instance lies in exactly one leaf, and
+/// every table fits and holds. Every accepted plan is one of the instance and cheaper than the one before. No closed
 /// leaf leaves room for a cheaper plan, and no more leaves are worked on than the budget allows.
 pub fn histories_are_sound()
     ensures { HistoriesAreSound }
@@ -15,8 +15,8 @@ pub fn leaves_bound_plans()
     ensures { LeavesBoundPlans }
 {}
 
-/// What the report of such a state claims is true of all plans of the instance: no plan costs less than the
-/// cheapest one found, or there is none, or none costs less than the bound.
+/// What the report of such a state claims is true of all plans of the instance. No plan costs less than the cheapest
+/// one found, or there is none, or none costs less than the bound.
 pub fn reports_are_true()
     ensures { ReportsAreTrue }
 {}

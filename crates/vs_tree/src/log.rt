@@ -145,7 +145,7 @@ impl Log {
         }
     }
 
-    /// Adds a table, and tells its number.
+    /// Adds a table, and gives its number.
     pub fn add_table(&mut self, table: Table) -> u32
         requires { length self.old.tables < self.old.table_room }
         ensures number { result ≡ length self.old.tables }
@@ -159,7 +159,7 @@ impl Log {
         number
     }
 
-    /// Adds an accepted plan, and tells its number.
+    /// Adds an accepted plan, and gives its number.
     pub fn add_plan(&mut self, plan: CheckedPlan) -> u32
         requires { length self.old.plans < self.old.plan_room }
         ensures number { result ≡ length self.old.plans }

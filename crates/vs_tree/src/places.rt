@@ -111,8 +111,8 @@ impl Places {
         }
     }
 
-    /// Splits a spot: below it come two free ones, where the trip is run in the layers on the left, and in those on
-    /// the right. Tells the number of the first; the other has the next.
+    /// Splits a spot: below it come two free ones. The trip is run in the layers on the left in the first, and in those
+    /// on the right in the other. Gives the number of the first; the other has the next.
     pub fn split(
         &mut self,
         k: u32,
@@ -135,7 +135,7 @@ impl Places {
         lower
     }
 
-    /// Makes a spot an inner one, above two that come next, and adds the lower of them. Tells its number.
+    /// Makes a spot an inner one, above two that come next, and adds the lower of them. Gives its number.
     fn add_lower(&mut self, k: u32, trip: TripNo, left: LayerSet, table: u32) -> u32
         requires spot { k < length self.old.places }
         requires trip { trip.0 < length (place_at self.old.places 0).sets }

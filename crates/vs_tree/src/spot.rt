@@ -5,8 +5,8 @@ use vs_types::{LayerSet, TripNo};
 /// A place in a tree of cases. A leaf is one that isn't `Inner`.
 #[derive(Clone, Copy, Debug, PartialEq, Eq)]
 pub enum Spot {
-    /// It was split: the trip is run in a layer of `left` in the lower spot, and in one of the others of its set in
-    /// the upper spot.
+    /// It was split. In the lower spot the trip is run in a layer of `left`, and in the upper spot in
+    /// another of its set.
     Inner {
         trip: TripNo,
         left: LayerSet,

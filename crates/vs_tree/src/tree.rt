@@ -158,9 +158,9 @@ impl Tree {
         })
     }
 
-    /// Gives a worker that holds no leaf, and gave none back, the next free leaf, where one leaves room for a plan
-    /// cheaper than the cheapest so far and the budget allows it. The layers and the prices of the leaf are then
-    /// written into the buffers, and else they stay as they were.
+    /// Gives the next free leaf to a worker that holds no leaf, and gave none back. It does so where one leaves room
+    /// for a plan cheaper than the cheapest so far and the budget allows it. The layers and the prices of the leaf are
+    /// then written into the buffers, and else they stay as they were.
     pub fn take(&mut self, w: u32, sets: &mut [LayerSet], table: &mut Table) -> Take
         requires worker { w < self.old.opening.workers }
         requires idle { (k : ℕ) → ¬ (IsHeldBy (state self.old) w k) }
@@ -277,9 +277,10 @@ impl Tree {
         });
     }
 
-    /// Gives the leaf that a worker holds a new table, which holds and is worth no less there than the one that it had,
-    /// and closes or splits it. To close it, the table's worth must leave no room for a plan cheaper than the cheapest
-    /// so far; to split it, `left` must have some of the trip's layers in the leaf, and not all of them.
+    /// Gives the leaf that a worker holds a new table, and closes or splits the leaf. The table holds and is worth no
+    /// less there than the one that the leaf had. To close it, the table's worth must leave no room for a plan cheaper
+    /// than the cheapest so far. To split it, `left` must have some of the trip's layers in the leaf, and not all of
+    /// them.
     pub fn finish(&mut self, w: u32, leaf: u32, table: Table, next: Next)
         requires { MayCome self.old.opening (state self.old)
             (finishing (state self.old) w leaf (prices_of table) next) }

@@ -3,8 +3,9 @@ use atomic_table::Badge;
 use std::collections::LinkedList;
 use std::marker::Model;
 
-/// A caller's token of a turn. Contracts see the turn's name, the opening of the value and how many entries that had
-/// when the turn was made, the seat's tickets, the entries that it has seen, and those of them that it made.
+/// A caller's token of a turn. Contracts see the turn's name, the opening of the value, and how many entries that had
+/// when the turn was made. They also see the seat's tickets, the entries that it has seen, and those of them that it
+/// made.
 #[derive(Drop)]
 pub struct Seat {
     pub(crate) tickets: LinkedList<u32>,

@@ -78,7 +78,7 @@ fn value_of<S>(mut row: Vec<Option<S>>) -> S
 }
 
 impl<S: Kept> Turn<S> {
-    /// A turn over the value, and the one seat, which has all tickets. Want of memory gives the value back.
+    /// A turn over the value, and the one seat, which has all tickets. Where memory runs out, it gives the value back.
     pub fn new(alloc: Global, value: S, seats: u32) -> Result<(Turn<S>, Seat), (S, Memory)>
         requires { 1 ≤ seats }
         ensures turn { IfOk result

@@ -1,7 +1,7 @@
 //! What the program is asked to do.
 
-/// How much a search may take: how many workers share it, 1 to 64, and on how many nodes it may work at most, 0 to
-/// 100,000, where a number is given.
+/// How much a search may take: how many workers share it, 1 to 64, and, where it is given, a limit. The limit is the
+/// most nodes that it may work on, 0 to 100,000.
 #[derive(Clone, Copy, Debug, PartialEq, Eq)]
 pub struct Effort {
     pub workers: u32,

@@ -130,8 +130,8 @@ impl Searching {
     }
 }
 
-/// What the words ask for: `check`, `network`, `blocks`, `peak`, `peakcheck` or `replay`, `solve`, `resume` or `trace`
-/// with or without their options, or `make` or `trial` and a number.
+/// What the words ask for. They are one of `check`, `network`, `blocks`, `peak`, `peakcheck` and `replay`, or `solve`,
+/// `resume` or `trace` with or without options. Or they are `make` or `trial` and a number.
 #[tactic(auto, using(crate::proofs::CommandWords::no_command))]
 pub fn command_of(words: &[String]) -> Result<Command, BadWord>
     ensures { Answers (words_of words.now) result }

@@ -29,7 +29,7 @@ fn full_table(alloc: Global, instance: &Instance) -> Result<Table, Fail>
     table(alloc, instance, [460_000, 455_000], [-10_000, -15_000])
 }
 
-/// What a worker was told that asked for a leaf, and its buffers then.
+/// What a worker got that asked for a leaf, and its buffers then.
 #[derive(Drop)]
 struct Told {
     take: Take,
@@ -79,7 +79,7 @@ fn ask(alloc: Global, tree: &mut Tree, w: u32) -> Result<Told, Fail>
     Ok(Told { take, sets, table })
 }
 
-/// What a worker is told that asks for a leaf and gave none back.
+/// What a worker gets that asks for a leaf and gave none back.
 pub fn answer(alloc: Global, tree: &mut Tree, w: u32) -> Result<Take, Fail>
     requires worker { w ≤ 1 }
     requires workers { tree.old.opening.workers ≡ 2 }
@@ -91,7 +91,7 @@ pub fn answer(alloc: Global, tree: &mut Tree, w: u32) -> Result<Take, Fail>
     Ok(told.take)
 }
 
-/// The search whose root is split, where worker 0 took the left leaf then; and what it was told.
+/// The search whose root is split, where worker 0 took the left leaf then; and what it got.
 fn left_taken(alloc: Global, instance: &Instance) -> Result<(Tree, Told), Fail>
     requires trips { length instance.now.trips ≡ 1 }
     ensures tree { IfOk result (λ made. (left : LayerSet) × (made.0 ≡ record {
@@ -114,7 +114,7 @@ fn left_taken(alloc: Global, instance: &Instance) -> Result<(Tree, Told), Fail>
     Ok((tree, lower))
 }
 
-/// The same, where worker 1 took the right leaf then; and what both were told.
+/// The same, where worker 1 took the right leaf then; and what both got.
 fn both_take(alloc: Global, instance: &Instance) -> Result<(Tree, Told, Told), Fail>
     requires trips { length instance.now.trips ≡ 1 }
     ensures tree { IfOk result (λ made. (left : LayerSet) × (made.0 ≡ record {
@@ -206,7 +206,7 @@ pub fn finished(alloc: Global, instance: &Instance) -> Result<Tree, Fail>
     Ok(tree)
 }
 
-/// The search in which worker 1 gave the right leaf back, and what worker 0 was told.
+/// The search in which worker 1 gave the right leaf back, and what worker 0 got.
 fn given_back(alloc: Global, instance: &Instance) -> Result<(Tree, Told), Fail>
     requires trips { length instance.now.trips ≡ 1 }
     ensures problem { IfOk result (λ made. made.0.opening.problem ≡ instance.now) }
@@ -225,8 +225,8 @@ fn given_back(alloc: Global, instance: &Instance) -> Result<(Tree, Told), Fail>
     Ok((tree, lower))
 }
 
-/// How many leaves were finished when worker 1 had given its leaf back, and once worker 0 had closed its own; and what
-/// worker 0 is told then.
+/// How many leaves were finished when worker 1 had given its leaf back, and once worker 0 had closed its own. And what
+/// worker 0 gets then.
 pub fn taken_again(alloc: Global, instance: &Instance) -> Result<(u32, u32, Take), Fail>
     requires sizes { (length instance.now.layers ≡ 2) × (length instance.now.trips ≡ 1) }
 {

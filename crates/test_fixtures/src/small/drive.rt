@@ -2,8 +2,8 @@
 
 use crate::small::{Layer, Small, Trip};
 
-/// What a vehicle has done so far: the minute at which it left the depot, the minutes that it rested there since, the
-/// metres that it drove, and the last trip that it ran.
+/// What a vehicle has done so far: the minute at which it left the depot, and the minutes that it rested there since.
+/// Also the metres that it drove, and the last trip that it ran.
 #[derive(Clone, Copy)]
 pub struct Driven {
     out: u64,

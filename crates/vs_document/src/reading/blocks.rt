@@ -12,7 +12,7 @@ use vs_plan::Block;
 use vs_reader::Input;
 use vs_rows::read_blocks;
 
-/// The blocks that stand from a row on beside a cost, and the row behind them.
+/// The blocks that stand from a row on together with a cost, and the row behind them.
 pub fn blocks_beside(
     alloc: Global,
     input: &Input,

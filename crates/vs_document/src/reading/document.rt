@@ -20,7 +20,7 @@ use vs_reader::Input;
 use vs_rows::Document;
 
 /// The document for which the rows of the input's rest stand; else the first row that is refused, and why.
-/// Prices for trips that a layer may not run, which no row tells, are 0.
+/// Prices for trips that a layer may not run, which no row gives, are 0.
 pub fn read(alloc: Global, input: &Input) -> Result<Document, DocError>
     requires { IsInput input.now }
     ensures found { IfOk result (IsDocumentOf input.now) }

@@ -71,7 +71,7 @@ fn read_cost(alloc: Global, input: &Input) -> Result<Option<i64>, DocError>
     }
 }
 
-/// The bound of the third row. Beside a cost there has to be one.
+/// The bound of the third row. Where there is a cost, there has to be a bound.
 fn read_bound(alloc: Global, input: &Input, cost: Option<i64>) -> Result<Option<i128>, DocError>
     requires input { IsInput input.now }
     requires row { 2 ≤ length input.now.rest }

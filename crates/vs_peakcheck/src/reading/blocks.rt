@@ -17,7 +17,8 @@ use vs_reader::Input;
 use vs_rows::forms;
 use vs_types::{LayerNo, Memory, TripNo};
 
-/// The blocks that stand from a row on beside a count of layer l, in the numbers of its trips, and the row behind them.
+/// The blocks that stand from a row on together with a count of layer l, and the row behind them. They are in the
+/// numbers of the layer's trips.
 pub(crate) fn read_blocks(
     alloc: Global,
     input: &Input,
@@ -46,7 +47,7 @@ pub(crate) fn read_blocks(
     Ok((blocks, input.rest.len()))
 }
 
-/// The block that a row tells, in the numbers of layer l's trips. It is refused where it is another layer's, and where
+/// The block that a row gives, in the numbers of layer l's trips. It is refused where it is another layer's, and where
 /// it has a trip that l may not run.
 fn block_at(
     alloc: Global,

@@ -50,7 +50,7 @@ pub(crate) fn read_layer(
     Ok((claimed, fleet_row + 1 + trips.len()))
 }
 
-/// How many vehicles layer l needs, in the row that has to tell it.
+/// How many vehicles layer l needs, in the row that has to give it.
 fn read_count(
     alloc: Global,
     input: &Input,

@@ -61,7 +61,7 @@ fn add_trip(all: &mut Prices, into: i64, from: i64) -> Result<(), Memory>
     Ok(())
 }
 
-/// The price of a vehicle of layer l, in the row that has to tell it.
+/// The price of a vehicle of layer l, in the row that has to give it.
 pub(crate) fn fleet_at(
     alloc: Global,
     input: &Input,
@@ -81,7 +81,7 @@ pub(crate) fn fleet_at(
     }
 }
 
-/// The prices for entering and for leaving a trip in a layer, in the row that has to tell them.
+/// The prices for entering and for leaving a trip in a layer, in the row that has to give them.
 fn price_at(
     alloc: Global,
     input: &Input,

@@ -12,7 +12,7 @@ use vs_prices::MAX_PRICE;
 use vs_reader::Input;
 use vs_types::{LayerNo, TripNo};
 
-/// The price of a vehicle of layer l, in the row that has to tell it.
+/// The price of a vehicle of layer l, in the row that has to give it.
 pub fn read_fleet(input: &Input, row: usize, l: LayerNo) -> Result<i64, PriceWhy>
     requires { row ≤ length input.now.rest }
     ensures found { IfOk result (ReadsFleet input.now row l.0) }
@@ -39,7 +39,7 @@ pub fn read_fleet(input: &Input, row: usize, l: LayerNo) -> Result<i64, PriceWhy
     Ok(price)
 }
 
-/// The prices for entering and for leaving trip i in layer l, in the row that has to tell them.
+/// The prices for entering and for leaving trip i in layer l, in the row that has to give them.
 pub fn read_price(input: &Input, row: usize, l: LayerNo, i: TripNo) -> Result<(i64, i64), PriceWhy>
     requires { row ≤ length input.now.rest }
     ensures found { IfOk result (ReadsPrice input.now row l.0 i.0) }

@@ -17,7 +17,7 @@ use vs_reader::Input;
 use vs_types::{LayerNo, Memory, TripNo};
 
 /// The table that stands from a row on behind `before` others, and the row behind it. Prices for trips that a layer may
-/// not run, which no row tells, are 0.
+/// not run, which no row gives, are 0.
 pub fn read_table(
     alloc: Global,
     input: &Input,
@@ -85,8 +85,8 @@ fn read_layer(input: &Input, at: usize, l: LayerNo, table: &mut Table) -> Result
     read_prices(input, at + 1, l, table)
 }
 
-/// Reads the rows of prices of a layer's trips, puts the prices of all trips at the end of those of the table, and
-/// answers the row behind them.
+/// Reads the rows of prices of a layer's trips, and answers the row behind them. The prices of all trips are put at the
+/// end of those of the table.
 fn read_prices(input: &Input, at: usize, l: LayerNo, table: &mut Table) -> Result<usize, TableError>
     requires input { IsInput input.now }
     requires row { at ≤ length input.now.rest }
@@ -109,7 +109,7 @@ fn read_prices(input: &Input, at: usize, l: LayerNo, table: &mut Table) -> Resul
     Ok(next)
 }
 
-/// The price of a vehicle of layer l, or at which row it isn't told.
+/// The price of a vehicle of layer l, or at which row it isn't given.
 fn fleet_at(input: &Input, row: usize, l: LayerNo) -> Result<i64, TableError>
     requires { row ≤ length input.now.rest }
     ensures found { IfOk result (ReadsFleet input.now row l.0) }
@@ -122,7 +122,7 @@ fn fleet_at(input: &Input, row: usize, l: LayerNo) -> Result<i64, TableError>
     }
 }
 
-/// The prices of trip i in layer l, or at which row they aren't told.
+/// The prices of trip i in layer l, or at which row they aren't given.
 fn price_at(input: &Input, row: usize, l: LayerNo, i: TripNo) -> Result<(i64, i64), TableError>
     requires { row ≤ length input.now.rest }
     ensures found { IfOk result (ReadsPrice input.now row l.0 i.0) }

@@ -17,8 +17,8 @@ use vs_instance::Instance;
 use vs_reader::Names;
 use vs_types::Memory;
 
-/// The text of a document, with the names of the instance that it is of: its rows in order, the layers
-/// of each split in number order. Prices for trips that a layer may not run aren't written.
+/// The text of a document, with the names of the instance that it is of. Its rows stand in order, and
+/// the layers of each split in number order. Prices for trips that a layer may not run aren't written.
 pub fn text_of(
     alloc: Global,
     instance: &Instance,

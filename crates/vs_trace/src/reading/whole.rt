@@ -19,7 +19,7 @@ use std::alloc::Global;
 use vs_reader::{Input, Rows};
 
 /// The trace for which the rows of the input's rest stand; else the first row that is refused, and why. Prices for
-/// trips that a layer may not run, which no row tells, are 0.
+/// trips that a layer may not run, which no row gives, are 0.
 pub fn read(alloc: Global, input: &Input) -> Result<Trace, TraceError>
     requires { IsInput input.now }
     ensures found { IfOk result (IsTraceOf input.now) }

@@ -13,8 +13,8 @@ use vs_reader::Names;
 use vs_tree::Tree;
 use vs_types::Memory;
 
-/// The text of the trace of a search, with the names of its instance: how it began, and its steps in order, each with
-/// the table or the plan that it adds. Offers that weren't accepted are left out.
+/// The text of the trace of a search, with the names of its instance. It says how the search began, and gives its steps
+/// in order, each with the table or the plan that it adds. Offers that weren't accepted are left out.
 pub fn write(alloc: Global, tree: &Tree, names: &Names) -> Result<Vec<u8>, Memory>
     requires { HaveCounts tree.now.opening.problem names.now }
     ensures { IfOk result (λ bytes.
