@@ -36,7 +36,7 @@ const fn aim_at(most: u64) -> Aim {
         cuts: 20,
         rounds: 60,
         trial_rounds: 60,
-        arcs: u64::MAX,
+        effort: u64::MAX,
     }
 }
 

@@ -3,31 +3,36 @@
 ghost use Rattle.std.specs.Prelude.{◌≤◌};
 ghost use Rattle.vs_cuts.specs.declared.layer_cuts.TheConstants.{MOST_CUTS};
 
-use vs_match::LayerNet;
 use vs_types::SCALE;
 
 /// So many times what one round is forecast to gain is the most that is hoped for from all rounds to come.
 const HOPE: i64 = 33;
 
+/// A forecast is small where it is no more than one part in so many of the value.
+const SMALL: i64 = 1_000_000;
+
+/// It is next to nothing where it is no more than one part in so many.
+const TINY: i64 = 1_000_000_000;
+
 /// What a climb is to come to, and after how much work it ends at the latest. It decides how good the multipliers
 /// become, and nothing else.
 #[derive(Clone, Copy, Debug)]
 pub struct Aim {
-    /// The cost of the cheapest plan that is known, in 1/1000 of a cost unit: a value less than one cost unit below it
+    /// The cost of the cheapest plan that is known, in 1/1000 of a cost unit. A value less than one cost unit below it
     /// is enough.
     pub known: Option<i64>,
     /// The step of the first rounds is taken of this, in 1/1000 of a cost unit: of `greatest_step`, as a rule.
     pub most: u64,
-    /// How many hundredths of that the first step has.
+    /// How many per cent of that the first step has.
     pub hundredths: u32,
-    /// How many circulations a layer keeps at most, beside the mixed one.
+    /// How many circulations a layer keeps at most, in addition to the mixed one.
     pub cuts: u32,
     /// How many rounds there are at most.
     pub rounds: u32,
     /// After so many rounds the climb ends where none of them has gained anything.
     pub trial_rounds: u32,
-    /// How many arcs the nets of all circulations have together at most.
-    pub arcs: u64,
+    /// After so much effort of the circulations the climb ends, as `Work::effort` counts it.
+    pub effort: u64,
     ghost few: { cuts ≤ MOST_CUTS },
 }
 
@@ -48,13 +53,11 @@ impl Aim {
         }
     }
 
-    /// How many rounds there are at most, where each has a circulation along each of these nets.
-    pub(crate) fn rounds_along(&self, nets: &[LayerNet]) -> u32 {
-        let mut arcs: u64 = 0;
-        for net in nets {
-            arcs = arcs.saturating_add(u64::from(net.net().arcs()));
-        }
-        let affordable = self.arcs / arcs.max(1);
-        u64::from(self.rounds).min(affordable) as u32
+    /// Whether a round is worth while that is forecast to gain so much. One that gains little is worth while where that
+    /// little is still a good part of what is left to gain.
+    pub(crate) fn is_worth(&self, value: i64, forecast: i64) -> bool {
+        let is_small = forecast <= value / SMALL
+            && (self.known.is_none() || self.is_far(value, forecast));
+        !is_small && forecast > value / TINY
     }
 }

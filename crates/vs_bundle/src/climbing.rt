@@ -1,6 +1,6 @@
 //! Multipliers climbed to the greatest Lagrangian value.
 
-ghost use Rattle.std.specs.Prelude.{◌≡◌, ◌⊎◌, IfOk, length};
+ghost use Rattle.std.specs.Prelude.{◌≡◌, ◌⊎◌, IfOk, OnOk, length};
 ghost use Rattle.vs_circ.specs.shipping.Ready.{IsReadyToRun};
 ghost use Rattle.vs_multi.specs.Multipliers.{AreMultipliers, AreWithin};
 ghost use Rattle.vs_multi.specs.Rounds.{IsCase};
@@ -23,9 +23,6 @@ const GAINED: i64 = 10;
 /// It gains much where it comes to one in so many.
 const GAINED_MUCH: i64 = 2;
 
-/// A climb ends once what is forecast is so small a part of the value.
-const NEAR: i64 = 1_000_000;
-
 /// What a climb found.
 #[derive(Drop)]
 pub struct Climbed {
@@ -37,15 +34,15 @@ pub struct Climbed {
     pub rounds: u32,
 }
 
-/// A climb on its way.
+/// A climb on its way, which may go on later from where it ended.
 #[derive(Drop)]
-struct Ascent {
+pub struct Ascent {
     bundle: Bundle,
     trial: Trial,
     stride: Stride,
     /// Multipliers that are tried.
     candidate: Vec<i64>,
-    /// The Lagrangian value at the best multipliers.
+    /// The Lagrangian value at the best multipliers, in 1/1000 of a cost unit.
     top: i64,
     /// What was forecast last.
     forecast: i64,
@@ -70,8 +67,31 @@ impl Ascent {
         })
     }
 
+    /// A climb from these multipliers, with the first circulations. The aim is that of the first part of the climb.
+    pub fn begin(
+        case: &Case<'_>,
+        aim: &Aim,
+        multipliers: &[i64],
+        work: &mut Work,
+    ) -> Result<Ascent, Memory>
+        requires case { IsCase case.now.instance.now case.now.nets.now case.now.sets.now }
+        requires multipliers { AreMultipliers case.now.instance.now multipliers.now }
+        ensures ascent { IfOk result (IsAscentFor case.now.instance.now) }
+        ensures ready { OnOk result (IsReadyToRun case.now.nets.now work.new) }
+    {
+        let mut ascent = Ascent::new(case, aim, multipliers)?;
+        begin_runs(case.alloc, case.nets, work)?;
+        ascent.find_first(case, multipliers, work);
+        Ok(ascent)
+    }
+
+    /// The Lagrangian value at the best multipliers, in 1/1000 of a cost unit, or near it where it is past what fits.
+    pub fn value(&self) -> i64 {
+        self.top
+    }
+
     /// Finds the first circulations.
-    fn begin(&mut self, case: &Case<'_>, multipliers: &[i64], work: &mut Work)
+    fn find_first(&mut self, case: &Case<'_>, multipliers: &[i64], work: &mut Work)
         requires can { CanClimb case.now.instance.now case.now.nets.now case.now.sets.now multipliers.now self.old }
         requires ready { IsReadyToRun case.now.nets.now work.old }
         ensures ascent { IsAscentFor case.now.instance.now self.new }
@@ -100,7 +120,7 @@ impl Ascent {
         let tolerance = self.tolerance();
         let forecast = self.bundle.weigh(step, tolerance);
         self.forecast = forecast.gain();
-        if self.forecast <= self.top / NEAR {
+        if !aim.is_worth(self.top, self.forecast) {
             return false;
         }
         self.step(step, multipliers);
@@ -142,22 +162,60 @@ impl Ascent {
         self.bundle.keep(&mut self.trial.found, 0, multipliers);
     }
 
-    /// Round after round, as long as another one may gain something that is asked for. Gives how many there were.
-    fn go_on(&mut self, case: &Case<'_>, aim: &Aim, multipliers: &mut [i64], work: &mut Work) -> u32
+    /// Round after round from these multipliers, which are those that the climb came to, as long as another one may
+    /// gain something that is asked for. Gives how many there were.
+    pub fn go_on(
+        &mut self,
+        case: &Case<'_>,
+        aim: &Aim,
+        multipliers: &mut [i64],
+        work: &mut Work,
+    ) -> u32
+        requires can { CanClimb case.now.instance.now case.now.nets.now case.now.sets.now multipliers.old self.old }
+        requires ready { IsReadyToRun case.now.nets.now work.old }
+        ensures multipliers { AreMultipliers case.now.instance.now multipliers.new }
+        ensures ascent { IsAscentFor case.now.instance.now self.new }
+    {
+        let rounds = self.take_rounds(case, aim, multipliers, work);
+        self.end_part(case);
+        rounds
+    }
+
+    /// The rounds of a part of the climb. Gives how many there were.
+    fn take_rounds(
+        &mut self,
+        case: &Case<'_>,
+        aim: &Aim,
+        multipliers: &mut [i64],
+        work: &mut Work,
+    ) -> u32
         requires can { CanClimb case.now.instance.now case.now.nets.now case.now.sets.now multipliers.old self.old }
         requires ready { IsReadyToRun case.now.nets.now work.old }
         ensures multipliers { AreMultipliers case.now.instance.now multipliers.new }
         ensures ascent { IsAscentFor case.now.instance.now self.new }
     {
         let begin = self.top;
-        let most = aim.rounds_along(case.nets);
-        for r in 0..most {
+        for r in 0..aim.rounds {
             let is_vain = r == aim.trial_rounds && self.top <= begin;
-            if is_vain || aim.is_reached(self.top) || !self.round(case, aim, multipliers, work) {
+            if is_vain || self.is_over(aim) || !self.round(case, aim, multipliers, work) {
                 return r;
             }
         }
-        most
+        aim.rounds
+    }
+
+    /// Lets the effort of the next part be counted from 0.
+    fn end_part(&mut self, case: &Case<'_>)
+        requires { IsAscentFor case.now.instance.now self.old }
+        ensures { IsAscentFor case.now.instance.now self.new }
+    {
+        let _ = case;
+        self.trial.effort = 0;
+    }
+
+    /// Whether the climb has come to where it is to come, or taken all the effort that it may.
+    fn is_over(&self, aim: &Aim) -> bool {
+        self.trial.effort > aim.effort || aim.is_reached(self.top)
     }
 
     /// How much a move of weights has to gain.
@@ -195,10 +253,10 @@ impl Ascent {
     }
 }
 
-/// Climbs from these multipliers to ever better ones, and leaves the best. Each round makes a step towards where the
-/// circulations that the layers found so far, each taken by a weight, run every trip once, and finds a further one in
-/// each layer there. The multipliers keep within their limits, also after want of memory. What they are worth a table
-/// shows: nothing is promised of that.
+/// Climbs from these multipliers to ever better ones, and leaves the best. The circulations that the layers found so
+/// far, each taken by a weight, run every trip once at some multipliers. Each round makes a step towards these, and
+/// finds a further circulation in each layer there. The multipliers keep within their limits, also where memory runs
+/// out. What they are worth a table shows: nothing is promised of that.
 pub fn climb(
     case: &Case<'_>,
     aim: &Aim,
@@ -210,9 +268,7 @@ pub fn climb(
     ensures within { AreMultipliers case.now.instance.now multipliers.new }
     ensures shares { IfOk result (λ climbed. AreSharesFor case.now.instance.now climbed.shares) }
 {
-    let mut ascent = Ascent::new(case, aim, multipliers)?;
-    begin_runs(case.alloc, case.nets, work)?;
-    ascent.begin(case, multipliers, work);
+    let mut ascent = Ascent::begin(case, aim, multipliers, work)?;
     let rounds = ascent.go_on(case, aim, multipliers, work);
     Ok(Climbed {
         shares: Shares::of(case, &ascent.bundle)?,

@@ -1,6 +1,6 @@
-//! The best multipliers of trips, nearly exactly, by a proximal bundle method (Lemarechal 1975, Kiwiel 1990): each
-//! layer keeps circulations that it found before, its cuts, and the multipliers go where these, mixed by weights, run
-//! every trip just once.
+//! The best multipliers of trips, nearly exactly, by a proximal bundle method (Lemarechal 1975, Kiwiel 1990). Each
+//! layer keeps circulations that it found before, its cuts. The multipliers go where these, mixed by weights, run every
+//! trip just once.
 #![tactic(auto)]
 
 mod aim;
@@ -11,6 +11,6 @@ mod stride;
 mod valuing;
 
 pub use aim::Aim;
-pub use climbing::{Climbed, climb};
+pub use climbing::{Ascent, Climbed, climb};
 pub use shares::Shares;
 pub use vs_cuts::WHOLE;

@@ -23,6 +23,8 @@ pub(crate) struct Trial {
     marks: Vec<bool>,
     /// By layer.
     pub found: Vec<Found>,
+    /// How much effort the circulations took.
+    pub effort: u64,
 }
 
 impl Trial {
@@ -40,6 +42,7 @@ impl Trial {
             offers: vec![in alloc; None; trips]?,
             marks: vec![in alloc; false; trips]?,
             found,
+            effort: 0,
         })
     }
 
@@ -52,11 +55,14 @@ impl Trial {
         ensures trial { IsTrialFor case.now.instance.now self.new }
         ensures ready { IsReadyToRun case.now.nets.now work.new }
     {
+        let before = work.effort();
         let mut value = total(multipliers);
         for l in 0..case.instance.layers() {
             let part = self.find(case, multipliers, LayerNo(l), work);
             value = value.saturating_add(part);
         }
+        let effort = work.effort().saturating_sub(before);
+        self.effort = self.effort.saturating_add(effort);
         value
     }
 

@@ -1,5 +1,5 @@
-//! Least circulations of a layer's net with prices that prove them, and least circulations that run given trips, or a
-//! ray that shows that there is none.
+//! Least circulations of a layer's net with prices that prove them. Least circulations that run given trips, or a ray
+//! that shows that there is none.
 #![tactic(auto)]
 
 mod circ;

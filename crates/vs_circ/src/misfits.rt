@@ -14,8 +14,8 @@ use vs_match::{ArcKind, LayerNet};
 use vs_ship::{Kept, suiting};
 use vs_types::TripNo;
 
-/// Lets a call begin with the units and prices that the last call left or with those that the one before it did,
-/// whichever need fewer changes. Where multipliers swing to and fro, that is the call before.
+/// Lets a call begin with the units and prices that the last call left, or with those of the one before it. It takes
+/// those that need fewer changes. Where multipliers swing to and fro, these are of the call before.
 pub(crate) fn recall(net: &LayerNet, offers: &[Option<i64>], kept: &mut Kept)
     requires arcs { HasSmallArcs net.now }
     requires offers { AreSmallOffers offers.now }
@@ -31,8 +31,9 @@ pub(crate) fn recall(net: &LayerNet, offers: &[Option<i64>], kept: &mut Kept)
     }
 }
 
-/// Whether fewer trips change from being run to not being run, or the other way, where a call with these offers begins
-/// with what the call before the last one left. It decides only how long the call takes.
+/// Whether fewer trips change between being run and not being run where a call with these offers begins with the
+/// earlier start. The earlier start is what the call before the last one left. This decides only how long the call
+/// takes.
 fn is_before_nearer(net: &LayerNet, offers: &[Option<i64>], kept: &Kept) -> bool
     requires arcs { HasSmallArcs net.now }
     requires offers { AreSmallOffers offers.now }

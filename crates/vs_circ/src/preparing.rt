@@ -61,8 +61,8 @@ pub(crate) fn offer_arcs(net: &LayerNet, offers: &[Option<i64>], cost: &mut [i64
     }
 }
 
-/// Makes a shipment ready for offers, whatever units and prices it has: no step gains anything,
-/// and what the units leave at the nodes can be sent.
+/// Makes a shipment ready for offers, whatever units and prices it has. No step gains anything, and what the units
+/// leave at the nodes can be sent.
 pub(crate) fn prepare(net: &LayerNet, offers: &[Option<i64>], shipment: &mut Shipment)
     requires arcs { HasSmallArcs net.now }
     requires nodes { net.now.graph.nodes ≤ MAX_SEARCH_NODES }

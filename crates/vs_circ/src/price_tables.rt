@@ -48,8 +48,8 @@ pub(crate) fn layer_prices(
 }
 
 /// Prices of a layer, with entries for so many trips, from prices of the nodes. They hold, and each trip pays no less
-/// by them: they are the mean of those with the least prices for leaving trips, and of those with the greatest ones
-/// for entering trips. The last two slices, with a number for each node, are space to work in.
+/// by them. They are a mean: of those with the least prices for leaving trips, and of those with the greatest for
+/// entering trips. The last two slices, with a number for each node, are space to work in.
 fn prices_with_leeways(
     alloc: Global,
     net: &LayerNet,

@@ -45,8 +45,8 @@ pub(crate) fn refit(net: &LayerNet, offers: &[Option<i64>], shipment: &mut Shipm
     }
 }
 
-/// Lets the arc of a trip cost and take what the offers say and carry units that suit it, once those of the trips
-/// before it do.
+/// Lets the arc of a trip cost and take what the offers say, and carry units that suit it. The arcs of the trips before
+/// it do so already.
 fn refit_trip(net: &LayerNet, offers: &[Option<i64>], trip: TripNo, shipment: &mut Shipment)
     requires net { IsNet net.now.graph }
     requires arcs { HasSmallArcs net.now }

@@ -15,9 +15,17 @@ use crate::costing::settled_cost;
 use crate::misfits::recall;
 use crate::settling::settle_again;
 use std::alloc::Global;
+use vs_layer::Net;
 use vs_match::LayerNet;
+use vs_path::Search;
 use vs_ship::{Kept, Work};
 use vs_types::{LayerNo, Memory, TripNo};
+
+/// To scan so many arcs takes as long as to settle a node without its arcs.
+const ARCS_A_NODE: u64 = 16;
+
+/// So does a look at so many trips.
+const TRIPS_A_NODE: u64 = 2;
 
 /// Makes what is kept ready for `runs` in these nets, which finds it by their numbers. It asks nothing of what is kept;
 /// any other call made with it ends that.
@@ -30,9 +38,9 @@ pub fn begin_runs(alloc: Global, nets: &[LayerNet], work: &mut Work) -> Result<(
     Ok(())
 }
 
-/// Marks the trips that a least circulation of offered trips runs in the net of this number, as `relaxed` finds one,
-/// without prices that show that it is. Every entry is set. Gives what that circulation costs, in 1/1000 of a cost
-/// unit, with no multipliers taken off.
+/// Marks the trips that a least circulation of offered trips runs in the net of this number. `relaxed` also finds
+/// one, with prices that show that it is least. Every entry is set. Gives what that circulation costs, in 1/1000 of a
+/// cost unit, with no multipliers taken off.
 pub fn runs(
     nets: &[LayerNet],
     l: LayerNo,
@@ -63,12 +71,25 @@ fn run_from(net: &LayerNet, offers: &[Option<i64>], kept: &mut Kept, answer: &mu
     ensures least { (p : Problem) (l : LayerNo) → IsInstance p → IsLawful p l.0 net.now
         → AreOffers p l.0 offers.now → RunLeast p l net.now offers.now answer.new result }
 {
+    let searched = kept.search.effort();
     // for the proof: its contract says how many nodes there are at most
     let _ = net.net();
     recall(net, offers, kept);
     settle_again(net, offers, kept);
+    count_effort(net.net(), offers.len(), searched, &mut kept.search);
     mark(net, &kept.shipment.flow.units, answer);
     settled_cost(net, offers, &kept.shipment)
+}
+
+/// Counts what a circulation takes besides the nodes that its searches settle: the arcs of these nodes, and a look at
+/// each trip. `before` is the effort that the search had when the circulation began.
+fn count_effort(net: &Net, trips: usize, before: u64, search: &mut Search)
+    ensures { search.new ≡ search.old }
+{
+    let settled = search.effort().saturating_sub(before);
+    let arcs_a_node = u64::from(net.arcs() / net.nodes().max(1));
+    let scans = settled.saturating_mul(arcs_a_node) / ARCS_A_NODE;
+    search.add_effort(scans.saturating_add(trips as u64 / TRIPS_A_NODE));
 }
 
 /// Marks exactly the trips that units run.

@@ -20,9 +20,8 @@ use crate::refitting::refit;
 use vs_match::LayerNet;
 use vs_ship::{Kept, bring_near, drain};
 
-/// The greatest price of a node, either way, with which a call begins that the last one for the net left, in 1/1000 of
-/// a cost unit: somewhat more than what prices lie within that were brought near, so this is done only where prices
-/// have drifted.
+/// The greatest price of a node, either way, with which a call begins, in 1/1000 of a cost unit. Prices that were
+/// brought near lie within somewhat less. So a call brings prices near only where they have drifted since the last one.
 const MAX_KEPT_PRICE: i64 = 750_000_000_000_000_000;
 
 /// Makes the units that are kept for the net a circulation of offered trips, with prices at which nobody gains

@@ -47,8 +47,8 @@ fn empty(units: &mut [u32])
     }
 }
 
-/// Makes a shipment ready to make up for the trips that have to run: a unit more is where each
-/// arrives, and a unit lacks where it departs. No arc carries anything, and all prices are 0.
+/// Makes a shipment ready to make up for the trips that have to run. Where each arrives is a unit more, and where it
+/// departs a unit lacks. No arc carries anything, and all prices are 0.
 pub(crate) fn supply(net: &LayerNet, must: &[bool], shipment: &mut Shipment)
     requires of_layer { (p : Problem) × (l : LayerNo) × IsInstance p × IsLawful p l.0 net.now }
     requires nodes { net.now.graph.nodes ≤ MAX_SEARCH_NODES }

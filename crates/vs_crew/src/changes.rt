@@ -1,4 +1,4 @@
-//! How a worker that waits is told that the search has changed.
+//! How a worker that waits learns that the search has changed.
 use std::sync::{Condvar, Mutex, Wait};
 
 /// How often a shared search was changed so that a worker may find a leaf again. A worker that waits for a change
@@ -22,7 +22,7 @@ impl Changes {
         *self.count.lock(rt)
     }
 
-    /// Tells those that wait that there was one more.
+    /// Counts one more, and wakes those that wait.
     pub(crate) fn tell<R: Wait>(&self, rt: &R) {
         let mut count = self.count.lock(rt);
         *count = count.saturating_add(1);

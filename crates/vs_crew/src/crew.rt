@@ -1,6 +1,5 @@
 //! A crew of workers: how they are enlisted, seated, let work together, and joined.
 ghost use Rattle.std.specs.Prelude.{◌≡◌, ◌<◌, [], length, IfErr, IfOk, Some};
-ghost use Rattle.std.specs.Thread.{IsSync};
 ghost use Rattle.vs_match.specs.LayerNets.{AreLayerNets};
 ghost use Rattle.vs_turn.specs.Seats.{SeatModel};
 ghost use Rattle.vs_tree.specs.Search.{state};
@@ -26,10 +25,10 @@ use vs_tree::Tree;
 use vs_turn::{Seat, Turn};
 use vs_types::Memory;
 
-/// Has so many workers take the leaves of a search and work on them, each in a thread of its own where one can be made,
-/// until no leaf leaves room for a plan cheaper than the cheapest so far, or the budget is spent. A worker that finds
-/// no memory gives its leaf back and takes no more; where no other is left, the search comes back as it has become.
-/// Before each leaf is worked on, the worker passes the gate.
+/// Has so many workers take the leaves of a search and work on them, each in a thread of its own where one can be made.
+/// They end where no leaf leaves room for a plan cheaper than the cheapest so far, or the budget is spent. A worker
+/// that finds no memory gives its leaf back and takes no more. Where no other is left, the search comes back as it has
+/// become. Before each leaf is worked on, the worker passes the gate.
 pub fn run<R: Threads + Wait + Sync, G: Gate + Sync>(
     rt: &R,
     alloc: Global,
@@ -177,7 +176,7 @@ fn work_together<R: Threads + Wait + Sync, G: Gate + Sync>(
     for_each_mut(rt, crew, threads, &work);
 }
 
-/// The seat of all workers once each has ended, and whether one of them was told that the search is over.
+/// The seat of all workers once each has ended, and whether one of them knows that the search is over.
 fn joined<G: Gate>(site: &Site<'_, G>, mut crew: Vec<Worker>) -> (Seat, bool)
     requires some { 0 < length crew.items }
     requires done { AreDone site.now.turn.now.name site.now.start.now.value crew.items }
@@ -195,7 +194,7 @@ fn joined<G: Gate>(site: &Site<'_, G>, mut crew: Vec<Worker>) -> (Seat, bool)
     (seat, over)
 }
 
-/// The seat of a worker that has ended, and whether it was told that the search is over.
+/// The seat of a worker that has ended, and whether it knows that the search is over.
 fn end_of(worker: Worker) -> (Seat, bool)
     requires { (seat : SeatModel) × (worker.seat ≡ Some seat) }
     ensures { (worker.seat ≡ Some result.0) × (result.1 ≡ worker.over) }

@@ -20,7 +20,7 @@ use vs_types::Memory;
 /// sets.
 const RAY_ROUNDS: u32 = 30;
 
-/// What the work on a leaf finds, and how the leaf is finished by that: what its new table is worth there, or in the
+/// What the work on a leaf finds, and how the leaf is finished by that. What its new table is worth there, or in the
 /// two parts, is reckoned before the worker has the turn.
 #[derive(Drop)]
 pub(crate) struct Finding {
@@ -92,8 +92,8 @@ fn found_on_leaf(
     }
 }
 
-/// What was found on a leaf; where it is split and no plan is known yet, closed by prices that show that there is none
-/// within its sets, if such are found.
+/// What was found on a leaf. Where it is split and no plan is known yet, prices that show that there is none within its
+/// sets close it, if such are found.
 fn closed_by_ray(
     alloc: Global,
     instance: &Instance,

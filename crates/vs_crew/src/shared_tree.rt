@@ -5,10 +5,10 @@ ghost use Rattle.vs_tree.specs.Search.{state};
 ghost use Rattle.vs_tree.specs.Sound.{IsOpening, IsPlanOf};
 ghost use Rattle.vs_tree.specs.Takes.{IsSized};
 ghost use Rattle.vs_tree.specs.Calls.{HoldsSome};
-ghost use Rattle.vs_tree.specs.History.{IsAmong, IsHeldBy};
+ghost use Rattle.vs_tree.specs.History.{IsAmong};
 ghost use Rattle.std.specs.Prelude.{IfSome};
 ghost use Rattle.vs_crew.specs.Crew.{AreWorkedAfter};
-ghost use Rattle.vs_crew.specs.Leaves.{HasFound, HasOffered, HoldsLeaf, IsTold};
+ghost use Rattle.vs_crew.specs.Leaves.{HasFound, HasOffered, IsTold};
 ghost use Rattle.vs_crew.specs.Sharing.{GoesOnBy, HasLeft, HeldWhenLeft, IsHolding, IsIdle};
 
 use crate::finding::Finding;
@@ -72,7 +72,7 @@ impl SharedTree {
         tree
     }
 
-    /// Gives an idle worker the next leaf, and its task, or tells it why there is none.
+    /// Gives an idle worker the next leaf, and its task, or the reason why there is none.
     pub(crate) fn take(&mut self, w: u32, task: &mut Task) -> Take
         requires idle { HeldWhenLeft w (IsIdle w) self.old.search }
         requires sets { length task.old.sets.items ≡ length self.old.search.opening.problem.trips }

@@ -7,8 +7,8 @@ use vs_match::LayerNet;
 use vs_tree::Tree;
 use vs_turn::Turn;
 
-/// What a worker passes between its take of a leaf and its work on it. It may wait or tell; it changes nothing of what
-/// the search comes to.
+/// What a worker passes between its take of a leaf and its work on it. It may wait or report. It changes nothing of
+/// what the search comes to.
 pub trait Gate {
     /// The worker has taken the leaf, and will work on it once this returns.
     fn before(&self, worker: u32, leaf: u32);

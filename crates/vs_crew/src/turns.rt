@@ -6,7 +6,6 @@ ghost use Rattle.vs_crew.specs.Leaves.{HasFound, IsTold};
 ghost use Rattle.vs_crew.specs.Sharing.{HasLeft, IsHolding, IsIdle, Knows};
 
 use crate::finding::Finding;
-use crate::shared_tree::SharedTree;
 use crate::site::{Gate, Site};
 use std::sync::Wait;
 use vs_node::Task;

@@ -27,7 +27,7 @@ pub(crate) struct Worker {
     pub scratch: Work,
     /// How many leaves it has taken since it sought plans by passes.
     pub taken: u32,
-    /// Whether it was told that the search is over.
+    /// Whether it knows that the search is over.
     pub over: bool,
 }
 
@@ -63,7 +63,7 @@ pub(crate) fn take_part<R: Wait, G: Gate>(
     }
 }
 
-/// The same with the seat in hand, and whether the worker was told that the search is over.
+/// The same with the seat in hand, and whether the worker knows that the search is over.
 fn go_on<R: Wait, G: Gate>(
     rt: &R,
     alloc: Global,

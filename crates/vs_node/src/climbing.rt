@@ -16,15 +16,15 @@ use vs_multi::{Case, few_rounds, greatest_step, keep_better, multipliers_of};
 use vs_prices::{Bound, Table};
 use vs_types::{Memory, SCALE};
 
-/// The first step of a climb, in hundredths of the greatest: the parent's multipliers are near.
+/// The first step of a climb, in per cent of the greatest: the parent's multipliers are near.
 const FIRST_STEP: u32 = 1;
 
 /// How many circulations a layer keeps: fewer would be mixed up before the rounds are over.
 const CUTS: u32 = 50;
 
-/// How many rounds a climb has at most: the first ten gain nothing as a rule, since no circulations are known yet, and
-/// what both parts of a split gain shows after some hundred. With 35 a timetable of 200 trips in eight layers takes
-/// eight times as many leaves to the same bound.
+/// How many rounds a climb has at most. The first ten gain nothing as a rule, since no circulations are known yet. What
+/// both parts of a split gain shows after some hundred. With 35 a timetable of 200 trips in eight layers takes eight
+/// times as many leaves to the same bound.
 const MOST_ROUNDS: u64 = 150;
 
 /// How many rounds there are, times the cube of how many trips each of them offers to layers, where these are fewer
@@ -38,8 +38,9 @@ const SMALL: u64 = 2_400;
 /// How many rounds a climb has on a larger timetable: one shows by which trip the leaf is split.
 const ROUNDS_ON_LARGE: u32 = 1;
 
-/// How many arcs, times trips, the circulations of a climb look along at most: a tenth of what a step of the root may.
-const EFFORT: u64 = 3_400_000_000;
+/// How much effort the circulations of a climb take at most, as `Work::effort` counts it. It is a tenth of what the
+/// first climb at the root may take.
+const EFFORT: u64 = 4_000_000;
 
 /// One round shows what the best multipliers are worth.
 const LAST_ROUNDS: u32 = 1;
@@ -109,6 +110,6 @@ fn aim_for(case: &Case<'_>, known: Option<i64>) -> Result<Aim, Memory> {
         cuts: CUTS,
         rounds,
         trial_rounds: rounds,
-        arcs: EFFORT / u64::from(case.instance.trips()).max(1),
+        effort: EFFORT,
     })
 }

@@ -11,8 +11,8 @@ use vs_prices::Bound;
 use vs_tree::Next;
 use vs_types::LayerSet;
 
-/// What becomes of a leaf whose table is worth so much: it is closed where the table leaves no room for a plan that
-/// costs less than the known cost and than the plan, and else split.
+/// What becomes of a leaf whose table is worth so much. It is closed where the table leaves no room for a plan that
+/// costs less than the known cost and than the plan. Else it is split.
 pub(crate) fn next_of(
     sets: &[LayerSet],
     worth: Bound,

@@ -11,7 +11,7 @@ use vs_multi::Case;
 use vs_prices::{Bound, Table, worth};
 use vs_types::Memory;
 
-/// The better of a leaf's own table and a found one, which is worth so much, with its worth; the found one where both
+/// The better of a leaf's own table and a found one, which is worth so much, with its worth. The found one where both
 /// are worth as much.
 pub(crate) fn better(
     case: &Case<'_>,

@@ -8,8 +8,8 @@ ghost use Rattle.vs_multi.specs.Multipliers.{AreWithin};
 use vs_bundle::{Shares, WHOLE};
 use vs_types::{LayerNo, LayerSet, MAX_LAYERS, TripNo};
 
-/// A trip counts as shared out where other layers than that of its greatest share run at least one part of it in so
-/// many: what is less hardly changes when the layer is chosen.
+/// A trip counts as shared out where layers other than that of its greatest share run at least one part of it in so
+/// many. A smaller part hardly changes when the layer is chosen.
 const PARTS: i64 = 20;
 
 /// A trip counts as run twice where all layers together run so much of it.
@@ -38,8 +38,8 @@ pub(crate) struct Candidate {
 }
 
 impl Candidate {
-    /// Whether a leaf is split by this trip rather than by the other one: by the one that is shared out more, and among
-    /// several by the one that is paid for most.
+    /// Whether a leaf is split by this trip rather than by the other one. It is split by the one that is shared out
+    /// more, and among several by the one that is paid for most.
     pub fn is_before(&self, other: &Candidate) -> bool {
         if self.shared == other.shared {
             self.multiplier > other.multiplier
@@ -86,9 +86,9 @@ impl Leads {
         greatest
     }
 
-    /// How far a trip is shared out, of which this layer runs most: what it is paid for, times how much other layers
-    /// run of it. Most of all where it is run twice, as may be a trip that is paid for by nothing: neither part of a
-    /// split allows that.
+    /// How far a trip is shared out, of which this layer runs most. That is what it is paid for, times how much other
+    /// layers run of it. It is the most of all where the trip is run twice, as may be one that is paid for by nothing.
+    /// Neither part of a split allows that.
     fn shared(&self, greatest: LayerNo, trip: TripNo) -> i128
         requires layer { greatest.0 < self.now.shares.layers }
         requires trip { trip.0 < self.now.shares.trips }

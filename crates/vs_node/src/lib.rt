@@ -1,5 +1,5 @@
-//! The work on one leaf of a search: prices for its sets, a plan of the layers that the prices choose, and whether the
-//! leaf is closed or split.
+//! The work on one leaf of a search. It finds prices for the leaf's sets and a plan of the layers that the prices
+//! choose, and closes or splits the leaf.
 #![tactic(auto)]
 
 mod choosing;

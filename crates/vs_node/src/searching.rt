@@ -18,8 +18,8 @@ use vs_types::Memory;
 /// How many rounds a leaf begins with: one shows what its first multipliers are worth.
 const FIRST_ROUNDS: u32 = 1;
 
-/// What comes of a leaf some trip of which may be run in two layers or more: the best of its own table, that of its
-/// first round and that of a climb, raised, and the plan of the layers that this one chooses.
+/// What comes of a leaf some trip of which may be run in two layers or more. Its table is the best of the leaf's own,
+/// that of the first round and that of a climb, raised. Its plan is that of the layers that this table chooses.
 pub(crate) fn search(case: &Case<'_>, task: &Task, work: &mut Work) -> Result<Outcome, Memory>
     requires leaf { IsAtHand case.now.instance.now case.now.nets.now case.now.sets.now task.now }
     requires choice { (i : ℕ) × (i < length case.now.sets.now) × HasChoice case.now.sets.now i }

@@ -71,8 +71,8 @@ pub fn settle(
     })
 }
 
-/// A least circulation of the layer's net that runs exactly the trips that have the layer in their sets, or prices that
-/// show that there is none. Which trips these are is marked in the buffer.
+/// A least circulation of the layer's net that runs exactly the trips that have the layer in their sets. Where there is
+/// none, prices that show it. Which trips these are is marked in the buffer.
 fn fixed_in(
     alloc: Global,
     instance: &Instance,

@@ -33,8 +33,8 @@ fn better_of(best: Option<Candidate>, next: Candidate) -> Candidate
     }
 }
 
-/// The trip by which a leaf is split: among those that may be run in two layers or more one that is shared out, where
-/// there is one, and of several the one that is paid for most. None exactly where no trip may be run in two layers.
+/// The trip by which a leaf is split, among those that may be run in two layers or more. One that is shared out comes
+/// first, and of several the one that is paid for most. None exactly where no trip may be run in two layers.
 pub(crate) fn split_trip(sets: &[LayerSet], leads: &Leads) -> Option<Candidate>
     requires few { length sets.now ≤ MAX_TRIPS }
     requires leads { AreLeadsFor sets.now leads.now }

@@ -20,10 +20,10 @@ use vs_match::LayerNet;
 use vs_multi::Case;
 use vs_types::Memory;
 
-/// Works on a leaf. Finds a table that within the leaf's sets is worth no less than the leaf's own, and no less than
-/// the Lagrangian value at the multipliers that the leaf begins with; and a least plan of the layers in which the trips
-/// pay least by the table. Closes the leaf where the table leaves no room for a plan that costs less than that one and
-/// than the known cost, and else says how it is split. A leaf whose trips have one layer each is closed.
+/// Works on a leaf. Finds a table that within the leaf's sets is worth no less than the leaf's own. It is also worth no
+/// less than the Lagrangian value at the multipliers that the leaf begins with. Finds a least plan of the layers in
+/// which the trips pay least by the table. Closes the leaf where the table leaves no room for a plan that costs less
+/// than that one and than the known cost. Else says how it is split. A leaf whose trips have one layer each is closed.
 pub fn work(
     alloc: Global,
     instance: &Instance,
@@ -69,8 +69,8 @@ pub fn work(
     }
 }
 
-/// Where each leaf that was split or closed was worked on, and one was, every leaf is worth no less than the value at
-/// the starting multipliers: the work at the root reaches it, and no later table is worth less.
+/// Where each leaf that was split or closed was worked on, and one was, every leaf reaches the value at the starting
+/// multipliers. The work at the root reaches it, and no later table is worth less.
 pub fn worked_searches_reach_the_start()
     ensures { WorkedSearchesReachTheStart }
 {}

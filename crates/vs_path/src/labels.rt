@@ -176,9 +176,9 @@ impl Labels {
         self.bound <= label
     }
 
-    /// The node that a step reaches is given the distance along it, where that is less than what it has, and less than
-    /// the distance of a node that lacks a unit: no node farther than that is settled. A settled node has no more than
-    /// the distance along an open step.
+    /// The node that a step reaches is given the distance along it, where that is less than what it has. It also has to
+    /// be less than the distance of a node that lacks a unit, since no node farther than that is settled. A settled
+    /// node has no more than the distance along an open step.
     #[inline(always)]
     fn relax(
         &mut self,

@@ -1,9 +1,9 @@
 //! Least paths along the arcs of a net on which units can still be sent or taken back.
 //!
-//! The program searches by `Search`. It reaches neither `distances` nor `Paths`, which stand here for those who embed
-//! the crate, and as an oracle, with which what a search by prices finds is compared: their paths are the least
-//! whatever prices were tried. A heap finds them where what nodes cost the last time, or else 0, are prices under which
-//! no residual step has a negative reduced cost; what is left to correct is corrected by passes over all arcs.
+//! The program searches by `Search`. `distances` and `Paths` are for those who embed the crate, and for tests, which
+//! compare with them what a search by prices finds. Their paths are the least whatever prices were tried. Prices suit a
+//! heap where no residual step has a negative reduced cost by them. The heap takes what nodes cost the last time where
+//! these suit, and else 0. Passes over all arcs correct what is left to correct.
 #![tactic(auto)]
 
 mod head_start;

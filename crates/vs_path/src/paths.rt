@@ -75,9 +75,9 @@ impl Paths {
             .find_paths(residual, prices, &self.zeros, source, &mut self.tree);
     }
 
-    /// Finds the least paths from node 0. The nodes that cost least less their prices come first, by what nodes cost
-    /// the last time as prices where these still keep the sign rule, else by prices of 0; what is left to correct then
-    /// is corrected along all arcs.
+    /// Finds the least paths from node 0. The nodes that cost least less their prices come first. The prices are what
+    /// nodes cost the last time, or 0 where these break the sign rule. What is left to correct is corrected along all
+    /// arcs.
     pub fn find_from_first(&mut self, residual: &Residual)
         requires nodes { length self.old.distances ≡ residual.now.graph.nodes }
         requires some { 0 < residual.now.graph.nodes }

@@ -27,6 +27,8 @@ pub struct Search {
     path: Vec<Step>,
     /// By node 0: no node lacks a unit, so a search goes on to the end.
     zeros: Vec<i64>,
+    /// What was done so far, in nodes that were settled.
+    effort: u64,
 }
 
 impl Model for Search {
@@ -53,12 +55,26 @@ impl Search {
             labels,
             path: Vec::with_capacity(alloc, nodes as usize)?,
             zeros: vec![in alloc; 0; nodes as usize]?,
+            effort: 0,
         })
     }
 
-    /// Finds the nearest node that lacks a unit (whose surplus is less than 0), and lowers the prices of the nodes
-    /// that are nearer, so that the steps to it cost nothing. None where no such node can be reached; then no price
-    /// changes. A search costs what it reaches.
+    /// What was done so far: the nodes that `find` settled, one more for each call of it, and what was added for other
+    /// work. It stays at the greatest number that fits.
+    pub fn effort(&self) -> u64 {
+        self.effort
+    }
+
+    /// Counts other work, as so many settled nodes.
+    pub fn add_effort(&mut self, nodes: u64)
+        ensures { self.new ≡ self.old }
+    {
+        self.effort = self.effort.saturating_add(nodes);
+    }
+
+    /// Finds the nearest node that lacks a unit, whose surplus is less than 0. It lowers the prices of the nodes that
+    /// are nearer, so that the steps to it cost nothing. None where no such node can be reached; then no price changes.
+    /// A search costs what it reaches, and counts that as effort.
     pub fn find(
         &mut self,
         residual: &Residual,
@@ -79,15 +95,18 @@ impl Search {
         ensures nodes { self.new.nodes ≡ self.old.nodes }
     {
         self.labels.clear();
-        let goal = self.labels.explore(residual, prices, surplus, source)?;
+        let found = self.labels.explore(residual, prices, surplus, source);
+        let settled = self.labels.order.len() as u64;
+        self.effort = self.effort.saturating_add(settled).saturating_add(1);
+        let goal = found?;
         self.labels.trace(residual, prices, goal, &mut self.path);
         self.labels.lower_prices(goal, prices);
         Some(goal)
     }
 
-    /// Raises the price of each node that can be reached by its least distance from the source by reduced costs, and
+    /// Raises the price of each node that can be reached by its least distance from the source by reduced costs. Raises
     /// the price of each other node by `beyond`, or by the greatest distance where that is more. The prices keep the
-    /// sign rule, and those of the nodes that can be reached tell what a least path from the source costs.
+    /// sign rule, and those of the nodes that can be reached show what a least path from the source costs.
     pub fn raise(&mut self, residual: &Residual, source: u32, beyond: i64, prices: &mut [i64])
         requires nodes { self.old.nodes ≡ residual.now.graph.nodes }
         requires small { IsSmall residual.now prices.old }

@@ -1,5 +1,4 @@
-pub mod FewLayers
-pub mod GivenLayers
+pub mod ShownPlans
 pub mod EvenMultipliers
 pub mod ShownRays
 pub mod CallerLemmas

@@ -1,17 +1,25 @@
 -- What plans are sought with.
-use Rattle.std.specs.Prelude.{◌≡◌, List, length, IfSome, ℤ}
+use Rattle.std.specs.Prelude.{◌≡◌, List, length, All, IfSome, ℤ}
 use Rattle.vs_types.specs.declared.layer_set.LayerSet.{LayerSet}
 use Rattle.vs_instance.specs.Problem.{Problem}
 use Rattle.vs_match.specs.LayerGraph.{LayerGraph}
 use Rattle.vs_multi.specs.Multipliers.{AreMultipliers}
 use Rattle.vs_multi.specs.Rounds.{IsCase}
-use Rattle.vs_penalty.specs.Penalties.{ArePenalties, IsPlanOf}
+use Rattle.vs_plan.specs.CheckedPlan.{Checked, IsChecked}
+use Rattle.vs_walk.specs.Penalties.{ArePenalties}
+use Rattle.vs_walk.specs.Walkers.{IsWalkerFor}
 use Rattle.vs_penalty.specs.declared.choices.Choices.{Choices}
 use Rattle.vs_penalty.specs.declared.seeking.Seeker.{Seeker}
+use Rattle.vs_penalty.specs.declared.walkers.Walkers.{Walkers}
+
+-- a checked plan of the instance
+abbrev pub IsPlanOf : Problem → Checked → Type 0
+IsPlanOf p plan = (plan.problem ≡ p) × IsChecked plan
 
 -- the best plan is one of the instance, and there is an entry for each trip
 pub record AreChoices (p : Problem) (choices : Choices) : Type 0 where
   pub best : IfSome choices.best (IsPlanOf p)
+  pub pool : choices.pool.trips ≡ length p.trips
   pub chosen : length choices.chosen.items ≡ length p.trips
 
 -- penalties and choices of an instance
@@ -25,3 +33,7 @@ pub record CanSeek (p : Problem) (graphs : List LayerGraph) (sets : List LayerSe
   pub case : IsCase p graphs sets
   pub multipliers : AreMultipliers p first
   pub seeker : IsSeekerFor p kept
+
+-- each of the walkers is one for the instance
+abbrev pub AreWalkers : Problem → Walkers → Type 0
+AreWalkers p walkers = All (IsWalkerFor p) walkers.walkers.items

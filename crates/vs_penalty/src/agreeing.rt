@@ -1,12 +1,12 @@
 //! The layers brought to agree, and what their multipliers show in the end.
-ghost use Rattle.std.specs.Prelude.{◌≡◌, IfOk, IfSome};
+ghost use Rattle.std.specs.Prelude.{IfOk, IfSome};
 ghost use Rattle.vs_instance.specs.Restriction.{IsRestriction, permitted_sets};
 ghost use Rattle.vs_multi.specs.Multipliers.{AreMultipliers};
 ghost use Rattle.vs_multi.specs.Rounds.{IsCase};
 ghost use Rattle.vs_match.specs.LayerNets.{AreLayerNets};
 ghost use Rattle.vs_prices.specs.Bounds.{IsWorthNoLess};
 ghost use Rattle.vs_prices.specs.Table.{Fits, HoldingTable};
-ghost use Rattle.vs_penalty.specs.Penalties.{IsPlanOf};
+ghost use Rattle.vs_penalty.specs.Seekers.{IsPlanOf};
 
 use crate::ray::seek_ray;
 use crate::seeking::Seeker;
@@ -24,12 +24,12 @@ use vs_types::{Memory, TripNo};
 /// One round shows what the multipliers are worth; they are the best already.
 const ROUNDS: u32 = 1;
 
-/// How many rounds prices are sought by that show that there is no plan: where there is none, a few suffice as a rule.
+/// How many rounds prices are sought by that show that there is no plan. Where there is none, a few suffice as a rule.
 const RAY_ROUNDS: u32 = 100;
 
 /// Brings the layers to agree on which of them runs which trip, and gives the cheapest plan that was found on the way,
-/// if any. The table becomes what the multipliers show in the end, where that is worth more; or, where neither a plan
-/// of this cost is known nor the first passes find one, what shows that there is none, if that is found. Where no trip
+/// if any. The table becomes what the multipliers show in the end, where that is worth more. Where no plan of this cost
+/// is known and the first passes find none, it becomes what shows that there is none, if that is found. Where no trip
 /// has two layers there is nothing to agree on: no plan is given, and the table stays.
 pub fn agree(
     alloc: Global,

@@ -1,27 +1,21 @@
 //! Plans on which the layers agree.
 //!
-//! Each layer is paid a little more for a trip that no other one runs and a little less for one that another does,
-//! until every trip is run by one. Where there is no plan, a Farkas ray shows it, which is sought as prices are where
-//! nothing costs anything.
+//! Each layer is paid a little more for a trip that no other one runs and a little less for one that another does. So
+//! the layers come to agree on one for every trip. Where there is no plan, a Farkas ray shows it, which is sought as
+//! prices are where nothing costs anything.
 #![tactic(auto)]
 
 mod agreeing;
 mod choices;
-mod choosing;
 mod effort;
 mod leaf;
 mod minutes;
 mod paying;
-mod penalties;
-mod pool;
-mod rate;
 mod ray;
 mod reasons;
 mod root;
 mod seeking;
-mod slow_passes;
-mod tally;
-mod turns;
+mod walkers;
 
 pub use agreeing::agree;
 pub use leaf::seek_plan;

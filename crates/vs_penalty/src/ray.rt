@@ -18,25 +18,25 @@ use vs_multi::{Case, few_rounds};
 use vs_prices::{Bound, Table, worth};
 use vs_types::{LayerSet, Memory, SCALE};
 
-/// What each trip is paid at first, where nothing costs anything: how much is of no account, since only the proportions
-/// count there, but whole numbers have to leave room for small parts of it.
+/// What each trip is paid at first, where nothing costs anything. How much is of no account, since only the proportions
+/// count there. But whole numbers have to leave room for small parts of it.
 const FIRST: i64 = 1_000_000;
 
-/// The first step of the climb, in hundredths of that.
+/// The first step of the climb, in per cent of that.
 const FIRST_STEP: u32 = 2;
 
 /// How many circulations a layer keeps.
 const CUTS: u32 = 50;
 
-/// How many arcs, times trips, the circulations of the climb look along at most: as many as those of a step of the
-/// search at the root.
-const EFFORT: u64 = 34_000_000_000;
+/// How much effort the circulations of the climb take at most, as `Work::effort` counts it: as much as those of the
+/// first climb at the root.
+const EFFORT: u64 = 40_000_000;
 
 /// How many rounds of prices there are at the best multipliers.
 const LAST_ROUNDS: u32 = 1;
 
 /// Prices that show that no plan runs each trip in a layer of its set, where a climb of so many rounds finds any. They
-/// are those of the instance without rates: nothing costs anything there, so that its plans are worth nothing, and
+/// are those of the instance without rates. Nothing costs anything there, so that its plans are worth nothing, and
 /// prices that bound them above nothing leave none.
 pub fn seek_ray(
     alloc: Global,
@@ -87,7 +87,7 @@ fn climbed_table(case: &Case<'_>, rounds: u32, work: &mut Work) -> Result<Table,
         cuts: CUTS,
         rounds,
         trial_rounds: rounds,
-        arcs: EFFORT / u64::from(case.instance.trips()).max(1),
+        effort: EFFORT,
     };
     if let Some(table) = plain_reason(case, work)? {
         return Ok(table);

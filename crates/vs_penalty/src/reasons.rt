@@ -1,5 +1,5 @@
-//! Prices that show that there is no plan for a reason that can be read off them: that one trip can't be run, or that
-//! too many are under way at one minute.
+//! Prices that show that there is no plan for a reason that can be read off them. It is that one trip can't be run, or
+//! that too many are under way at one minute.
 
 ghost use Rattle.std.specs.Prelude.{◌≡◌, ◌<◌, IfOk, IfSome, length};
 ghost use Rattle.vs_multi.specs.Multipliers.{AreMultipliers};

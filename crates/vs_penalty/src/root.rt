@@ -1,30 +1,65 @@
 //! The steps by which plans and multipliers are sought at the root.
 
+ghost use Rattle.vs_bundle.specs.Climbs.{IsAscentFor};
 ghost use Rattle.vs_multi.specs.Multipliers.{AreMultipliers};
 ghost use Rattle.vs_multi.specs.Rounds.{IsCase};
-ghost use Rattle.vs_penalty.specs.Seekers.{CanSeek, IsSeekerFor};
+ghost use Rattle.vs_penalty.specs.Seekers.{AreWalkers, CanSeek, IsSeekerFor};
 
-use crate::effort::{affordable, arcs_for, last_rounds, passes};
+use crate::effort::{is_slow, most_vain, quick_passes, turn_effort};
 use crate::seeking::Seeker;
-use crate::slow_passes::Course;
-use vs_bundle::{Aim, climb};
-use vs_circ::Work;
+use crate::walkers::Walkers;
+use vs_bundle::{Aim, Ascent};
+use vs_circ::{Work, begin_runs};
+use vs_instance::Instance;
 use vs_multi::Case;
 use vs_types::Memory;
 
-/// The first step of a climb, in hundredths of the greatest: the multipliers are known to within some hundredths.
+/// The first step of a climb, in per cent of the greatest. The multipliers are known to within some per cent of it.
 const FIRST_STEP: u32 = 2;
 
-/// How many circulations a layer keeps in a climb: with half as many it takes more rounds, with twice as many each
-/// round takes longer.
-const CUTS: u32 = 50;
+/// How many circulations a layer keeps in a climb: it is kept from one part of it to the next.
+const CUTS: u32 = 100;
 
-/// How many rounds the first climb has: later ones gain next to nothing.
-const ROUNDS: u32 = 300;
+/// How many turns the walkers have at most.
+const TURNS: u32 = 6;
 
-/// After how many agreements the first passes end: the first climb needs no more than a plan that is nearly as cheap
-/// as the best, and what later ones gain slow passes find sooner.
-const AGREEMENTS: u32 = 10;
+/// After so much effort of all walkers they end.
+const WALKS: u64 = 120_000_000;
+
+/// A part of the climb: how many rounds it has at most, and how much effort they take.
+#[derive(Clone, Copy, Debug)]
+struct Stage {
+    rounds: u32,
+    effort: u64,
+}
+
+/// From the multipliers of the quick passes: where the climb is slow, and where it isn't.
+const FIRST_SLOW: Stage = Stage {
+    rounds: 250,
+    effort: 40_000_000,
+};
+
+const FIRST: Stage = Stage {
+    rounds: 120,
+    effort: 40_000_000,
+};
+
+/// Once a cheaper plan is known.
+const FURTHER: Stage = Stage {
+    rounds: 30,
+    effort: 13_000_000,
+};
+
+/// After all turns, where the climb is slow and has had more rounds before, and where it isn't.
+const LAST_SLOW: Stage = Stage {
+    rounds: 100,
+    effort: 20_000_000,
+};
+
+const LAST: Stage = Stage {
+    rounds: 200,
+    effort: 20_000_000,
+};
 
 impl Seeker {
     /// Seeks plans by passes from the first multipliers.
@@ -33,18 +68,11 @@ impl Seeker {
         requires seeker { IsSeekerFor case.now.instance.now self.old }
         ensures { IsSeekerFor case.now.instance.now self.new }
     {
-        let passes = passes(case.instance) / 2;
-        let quick = Course {
-            passes: affordable(case.nets, passes, arcs_for(case.instance)),
-            agreements: AGREEMENTS,
-        };
-        self.seek(case, quick, work)
+        self.seek(case, quick_passes(case.instance), work)
     }
 
-    /// Seeks plans and ever better multipliers from where the first passes end, in steps: a climb, turns of slow passes
-    /// and of passes in pools of the best plans, and another climb, which a cheaper plan guides better. What is left is
-    /// left out as soon as no plan can cost less than the cheapest one, the turns also
-    /// where it could cost hardly less on a small instance.
+    /// Seeks plans and ever better multipliers from where the first passes end. There is a climb, turns of walkers, and
+    /// more of the climb, which a cheaper plan guides better.
     pub fn go_on(
         &mut self,
         case: &Case<'_>,
@@ -55,38 +83,141 @@ impl Seeker {
         ensures multipliers { AreMultipliers case.now.instance.now multipliers.new }
         ensures seeker { IsSeekerFor case.now.instance.now self.new }
     {
+        let (first, last) = stages(case.instance);
         multipliers.copy_from_slice(&self.penalties.multipliers);
-        self.climb(case, ROUNDS, multipliers, work)?;
+        let aim = self.aim(first);
+        let mut ascent = Ascent::begin(case, &aim, multipliers, work)?;
+        self.climb(case, &mut ascent, first, multipliers, work)?;
+        self.take_turns(case, &mut ascent, multipliers, work)?;
         if self.is_done(case.instance) {
             return Ok(());
         }
-        self.seek_near(case, multipliers, work)?;
-        self.climb(case, last_rounds(case.instance), multipliers, work)
+        self.climb(case, &mut ascent, last, multipliers, work)
     }
 
-    /// Climbs from these multipliers on to the best, by at most so many rounds.
-    fn climb(
+    /// Turns of walkers, until several find no cheaper plan or none can cost much less. Before a turn the climb goes on
+    /// where a cheaper plan is known than it had.
+    fn take_turns(
         &mut self,
         case: &Case<'_>,
-        rounds: u32,
+        ascent: &mut Ascent,
         multipliers: &mut [i64],
         work: &mut Work,
     ) -> Result<(), Memory>
-        requires { CanSeek case.now.instance.now case.now.nets.now case.now.sets.now multipliers.old self.old }
+        requires can { CanSeek case.now.instance.now case.now.nets.now case.now.sets.now multipliers.old self.old }
+        requires ascent { IsAscentFor case.now.instance.now ascent.old }
         ensures multipliers { AreMultipliers case.now.instance.now multipliers.new }
         ensures seeker { IsSeekerFor case.now.instance.now self.new }
+        ensures ascent { IsAscentFor case.now.instance.now ascent.new }
     {
-        let aim = Aim {
+        if self.is_over(case.instance) {
+            return Ok(());
+        }
+        let most = self.penalties.rate.most;
+        let budget = turn_effort(case.instance, self.of_pass);
+        let mut walkers = Walkers::new(case, multipliers, most, budget)?;
+        let most_vain = most_vain(case.instance);
+        let mut vain = 0;
+        let mut climbed_for = self.choices.cost();
+        for turn in 0..TURNS {
+            climbed_for = self.climb_further(case, ascent, climbed_for, multipliers, work)?;
+            if vain == most_vain || walkers.effort() > WALKS || self.is_over(case.instance) {
+                break;
+            }
+            let is_vain = self.take_turn(case, &mut walkers, turn, multipliers, work)?;
+            vain = if is_vain { vain.saturating_add(1) } else { 0 };
+        }
+        Ok(())
+    }
+
+    /// A part of the climb, where a cheaper plan is known than one of this cost. Gives what the cheapest one costs.
+    fn climb_further(
+        &mut self,
+        case: &Case<'_>,
+        ascent: &mut Ascent,
+        climbed_for: Option<i64>,
+        multipliers: &mut [i64],
+        work: &mut Work,
+    ) -> Result<Option<i64>, Memory>
+        requires can { CanSeek case.now.instance.now case.now.nets.now case.now.sets.now multipliers.old self.old }
+        requires ascent { IsAscentFor case.now.instance.now ascent.old }
+        ensures multipliers { AreMultipliers case.now.instance.now multipliers.new }
+        ensures seeker { IsSeekerFor case.now.instance.now self.new }
+        ensures ascent { IsAscentFor case.now.instance.now ascent.new }
+    {
+        let cost = self.choices.cost();
+        if cost != climbed_for {
+            self.climb(case, ascent, FURTHER, multipliers, work)?;
+        }
+        Ok(cost)
+    }
+
+    /// A turn of the walkers. Gives whether a plan is known and no cheaper one was found.
+    fn take_turn(
+        &mut self,
+        case: &Case<'_>,
+        walkers: &mut Walkers,
+        turn: u32,
+        multipliers: &[i64],
+        work: &mut Work,
+    ) -> Result<bool, Memory>
+        requires can { CanSeek case.now.instance.now case.now.nets.now case.now.sets.now multipliers.now self.old }
+        requires walkers { AreWalkers case.now.instance.now walkers.old }
+        ensures seeker { IsSeekerFor case.now.instance.now self.new }
+        ensures walkers { AreWalkers case.now.instance.now walkers.new }
+    {
+        let before = self.choices.cost();
+        walkers.take_turn(case, turn, multipliers, &mut self.choices.pool, work)?;
+        self.choices.draw_cheapest(case, work)?;
+        Ok(before.is_some() && self.choices.cost() == before)
+    }
+
+    /// Whether there is little left to gain for turns.
+    fn is_over(&self, instance: &Instance) -> bool {
+        self.is_done(instance) || self.is_near()
+    }
+
+    /// A part of the climb, from these multipliers, which it came to.
+    fn climb(
+        &mut self,
+        case: &Case<'_>,
+        ascent: &mut Ascent,
+        stage: Stage,
+        multipliers: &mut [i64],
+        work: &mut Work,
+    ) -> Result<(), Memory>
+        requires can { CanSeek case.now.instance.now case.now.nets.now case.now.sets.now multipliers.old self.old }
+        requires ascent { IsAscentFor case.now.instance.now ascent.old }
+        ensures multipliers { AreMultipliers case.now.instance.now multipliers.new }
+        ensures seeker { IsSeekerFor case.now.instance.now self.new }
+        ensures ascent { IsAscentFor case.now.instance.now ascent.new }
+    {
+        begin_runs(case.alloc, case.nets, work)?;
+        let aim = self.aim(stage);
+        ascent.go_on(case, &aim, multipliers, work);
+        self.value = ascent.value();
+        Ok(())
+    }
+
+    /// What a part of the climb is to come to.
+    fn aim(&self, stage: Stage) -> Aim {
+        Aim {
             known: self.choices.known(),
             most: self.penalties.rate.most,
             hundredths: FIRST_STEP,
             cuts: CUTS,
-            rounds,
-            trial_rounds: rounds,
-            arcs: arcs_for(case.instance),
-        };
-        let climbed = climb(case, &aim, multipliers, work)?;
-        self.value = climbed.value;
-        Ok(())
+            rounds: stage.rounds,
+            trial_rounds: stage.rounds,
+            effort: stage.effort,
+        }
+    }
+}
+
+/// The first and the last part of the climb.
+fn stages(instance: &Instance) -> (Stage, Stage) {
+    if is_slow(instance) {
+        (FIRST_SLOW, LAST_SLOW)
+    } else {
+        (FIRST, LAST)
     }
 }

@@ -1,26 +1,34 @@
 //! Plans sought pass by pass.
 
-ghost use Rattle.std.specs.Prelude.{◌≡◌, IfOk, OnOk};
+ghost use Rattle.std.specs.Prelude.{IfOk, OnOk};
 ghost use Rattle.vs_circ.specs.shipping.Ready.{IsReadyToRun};
 ghost use Rattle.vs_multi.specs.Multipliers.{AreMultipliers};
 ghost use Rattle.vs_multi.specs.Rounds.{IsCase};
-ghost use Rattle.vs_penalty.specs.Penalties.{ArePenalties};
 ghost use Rattle.vs_penalty.specs.Seekers.{IsSeekerFor};
 
 use crate::choices::Choices;
-use crate::effort::margin;
-use crate::penalties::Penalties;
-use crate::rate::{Pace, Rate};
-use crate::slow_passes::Course;
-use crate::tally::Tally;
+use crate::effort::{margin, turn_margin};
 use vs_circ::{Work, begin_runs};
-use vs_instance::{Instance, MAX_TRIPS};
+use vs_instance::Instance;
 use vs_multi::{Case, greatest_step};
 use vs_types::Memory;
+use vs_walk::{ALL, FEW, Penalties, Rate};
 
-/// A plan is tried where no more than one trip in so many is run by several layers: where more are, giving each to one
-/// of them leaves the vehicles of the others to run empty, and the plan is dear.
-const FEW: u32 = 8;
+/// So small a part of the greatest rate is that of the first quick passes, whose multipliers are known roughly. By so
+/// small a part of it the rate rises.
+const FIRST_PART: u64 = 100;
+
+const GROWTH: u64 = 8;
+
+/// After how many agreements quick passes end. The first climb needs no more than a plan that is nearly as cheap as the
+/// best, and what later ones gain walks find sooner.
+const AGREEMENTS: u32 = 10;
+
+/// How much effort quick passes take at most where a plan is known.
+const EFFORT: u64 = 40_000_000;
+
+/// So many times their passes and their effort they may take where no plan is known.
+const MORE: u32 = 4;
 
 /// What plans are sought with: what the layers are offered, and what was found so far.
 #[derive(Drop)]
@@ -29,6 +37,8 @@ pub(crate) struct Seeker {
     pub choices: Choices,
     /// No plan costs less than this, in 1/1000 of a cost unit, as far as multipliers show that.
     pub value: i64,
+    /// How much effort a quick pass took.
+    pub of_pass: u64,
 }
 
 impl Seeker {
@@ -38,11 +48,12 @@ impl Seeker {
         ensures { IfOk result (IsSeekerFor case.now.instance.now) }
     {
         let most = greatest_step(case.alloc, case.instance)?;
-        let rate = Rate::new(most, Pace::Quick);
+        let rate = Rate::new(most / FIRST_PART, most, GROWTH);
         Ok(Seeker {
             penalties: Penalties::new(case, multipliers, rate)?,
             choices: Choices::new(case.alloc, case.instance.trips() as usize)?,
             value: i64::MIN,
+            of_pass: 0,
         })
     }
 
@@ -52,27 +63,44 @@ impl Seeker {
             .is_within(self.value, margin(instance, self.value))
     }
 
-    /// So many passes, or fewer where they agree so often. Each time the layers nearly agree, the plan of that is
+    /// Whether no plan costs much less than the cheapest one that was found.
+    pub fn is_near(&self) -> bool {
+        self.choices.is_within(self.value, turn_margin(self.value))
+    }
+
+    /// So many quick passes, or more while no plan is known. Each time the layers nearly agree, the plan of that is
     /// found, and the rate falls.
-    pub fn seek(&mut self, case: &Case<'_>, course: Course, work: &mut Work) -> Result<(), Memory>
+    pub fn seek(&mut self, case: &Case<'_>, passes: u32, work: &mut Work) -> Result<(), Memory>
         requires case { IsCase case.now.instance.now case.now.nets.now case.now.sets.now }
         requires seeker { IsSeekerFor case.now.instance.now self.old }
         ensures { IsSeekerFor case.now.instance.now self.new }
     {
-        let mut left = course.agreements;
+        let mut left = AGREEMENTS;
         begin_runs(case.alloc, case.nets, work)?;
-        for _ in 0..course.passes {
-            if left == 0 {
+        let start = work.effort();
+        for k in 0..passes.saturating_mul(MORE) {
+            let effort = work.effort().saturating_sub(start);
+            if left == 0 || self.is_sought(k >= passes, effort) {
                 break;
             }
-            self.penalties.pass(case, work);
-            if self.agree(case.instance) {
+            self.penalties.pass(case, ALL, work);
+            if self
+                .penalties
+                .is_agreed(case.instance, case.instance.trips() / FEW)
+            {
                 left -= 1;
                 self.penalties.rate.ease();
                 self.draw(case, work)?;
             }
+            self.of_pass = work.effort().saturating_sub(start) / (u64::from(k) + 1);
         }
         Ok(())
+    }
+
+    /// Whether quick passes end that took so much effort, and of which there were enough, or not yet.
+    fn is_sought(&self, are_enough: bool, effort: u64) -> bool {
+        let has_plan = self.choices.best.is_some();
+        effort > EFFORT * u64::from(MORE) || has_plan && (are_enough || effort > EFFORT)
     }
 
     /// Finds the plan on which the layers nearly agree, and makes passes ready to go on.
@@ -84,20 +112,5 @@ impl Seeker {
     {
         self.choices.draw(case, &self.penalties.runs, work)?;
         begin_runs(case.alloc, case.nets, work)
-    }
-
-    /// Whether the layers nearly agree: every trip is run, and few are by several. The rate rises while trips are left
-    /// out.
-    pub fn agree(&mut self, instance: &Instance) -> bool
-        requires { IsSeekerFor instance.now self.old }
-        ensures { IsSeekerFor instance.now self.new }
-    {
-        prove!(instance.trips() <= MAX_TRIPS);
-        let tally = Tally::of(&self.penalties.runs);
-        if tally.none > 0 {
-            self.penalties.rate.raise();
-            return false;
-        }
-        tally.many <= instance.trips() / FEW
     }
 }

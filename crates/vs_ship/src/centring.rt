@@ -11,9 +11,8 @@ use crate::gaps::{MAX_NODE_PRICE, bring_near};
 use crate::mirror::turn_prices;
 use vs_path::{MAX_SEARCH_NODES, MAX_SEARCH_PRICE, Residual, Search};
 
-/// By how much at least the price of a node is raised that no path reaches, in 1/1000 of a cost unit: more than a path
-/// costs, which comes through at most 2,000 trips and 6,000 other arcs. So such a node stands past those that are
-/// reached.
+/// By how much at least the price of a node is raised that no path reaches, in 1/1000 of a cost unit. A path costs
+/// less, since it has at most 2,000 trips and 6,000 other arcs. So such a node lies past those that are reached.
 const BEYOND: i64 = 400_000_000_000_000_000;
 
 /// The greatest price of a node that was raised, either way, in 1/1000 of a cost unit.
@@ -61,7 +60,7 @@ fn begin_near(prices: &mut [i64], turned: &mut [i64], space: &mut [i64])
     turn_prices(prices, turned);
 }
 
-/// Sets the least prices at which the flow stays settled, by prices in the net turned round, where that of the last
+/// Sets the least prices at which the flow stays settled, by prices in the net turned round. The price of the last
 /// node, which is the first there, stays.
 fn lower(search: &mut Search, mirrored: &Residual, turned: &mut [i64], low: &mut [i64])
     requires nodes { search.old.nodes ≡ mirrored.now.graph.nodes }

@@ -11,9 +11,9 @@ use crate::shipment::Shipment;
 use vs_layer::Net;
 use vs_path::{Loads, Residual, Search, Step};
 
-/// How far apart nodes lie from which units are sent one after the other. A search settles some 50 of 4,000 nodes, so
-/// those from two nodes that lie near each other mostly go over the same ones, and the second finds the way that the
-/// first has just made dear.
+/// How far apart nodes lie from which units are sent one after the other. A search settles some 50 of 4,000 nodes. So
+/// the searches from two nodes that lie near each other mostly settle the same ones. The second then finds the way that
+/// the first has made dear.
 const STRIDE: u32 = 64;
 
 /// Sends units from the nodes that have too many to those that lack some, along paths that cost

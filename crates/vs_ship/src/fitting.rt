@@ -80,8 +80,8 @@ fn are_first_prices(prices: &[i64]) -> bool
     true
 }
 
-/// Gives each arc units that suit it, at these prices where that can be, else at prices of 0, and sets what they leave
-/// at the nodes.
+/// Gives each arc units that suit it, at these prices where that can be, else at prices of 0. Sets what they leave at
+/// the nodes.
 pub fn fit(net: &Net, costs: &Costs, prices: &mut [i64], units: &mut [u32], surplus: &mut [i64])
     requires each_node { length prices.old ≡ net.now.nodes }
     requires surplus { length surplus.old ≡ net.now.nodes }

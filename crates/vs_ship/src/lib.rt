@@ -1,5 +1,5 @@
-//! Units sent along the arcs of a net from nodes that have too many to nodes that lack some, with prices of the nodes
-//! at which nobody gains by another way, and prices in the middle of all those that do as well.
+//! Units sent along the arcs of a net from nodes that have too many to nodes that lack some. The nodes get prices at
+//! which nobody gains by another way. Among all such prices the crate can take those in the middle.
 #![tactic(auto)]
 
 mod centring;

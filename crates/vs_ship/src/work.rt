@@ -15,8 +15,8 @@ use vs_match::LayerNet;
 use vs_path::{Costs, Loads, Search};
 use vs_types::Memory;
 
-/// What is kept for a net: the units that were sent last, what a call can begin with instead, the searches, the arcs
-/// that carry units, the net turned round, and space to work in.
+/// What is kept for a net: the units that were sent last, and what a call can begin with instead. The searches, the
+/// arcs that carry units, the net turned round and space to work in are kept too.
 #[derive(Drop)]
 pub struct Kept {
     pub shipment: Shipment,
@@ -129,6 +129,15 @@ impl Work {
         Ok(Work { kept })
     }
 
+    /// What was done so far in the nets for which something is kept, in settled nodes.
+    pub fn effort(&self) -> u64 {
+        let mut effort: u64 = 0;
+        for kept in &self.kept {
+            effort = effort.saturating_add(kept.search.effort());
+        }
+        effort
+    }
+
     /// The place of what is kept for a net, which is made where there is none.
     pub fn place_of(&mut self, alloc: Global, net: &Net) -> Result<usize, Memory>
         ensures { IfOk result (λ place. IsReadyAt net.now self.new.kept.items place) }
@@ -141,8 +150,8 @@ impl Work {
         self.add(alloc, net)
     }
 
-    /// Lets what is kept at a place be for a net, where a place after all others is made, and forgets which units and
-    /// prices were settled there.
+    /// Lets what is kept at a place be for a net, and forgets which units and prices were settled there. A place after
+    /// all others is made.
     pub fn renew(&mut self, alloc: Global, place: usize, net: &Net) -> Result<(), Memory>
         requires { place ≤ length self.old.kept.items }
         ensures { OnOk result (IsRenewedAt net.now self.old.kept.items self.new.kept.items place) }

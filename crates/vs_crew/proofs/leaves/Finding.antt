@@ -1,12 +1,12 @@
 -- What the work on a leaf finds, also where the layers came to agree before.
-use Rattle.std.proofs.Common.{◌≡◌, ℕ, ◌<◌, ◌⊎◌, Bool, true, List, length, sym, subst, arith, inl, inr, Option, Some, None, ℤ}
+use Rattle.std.proofs.Common.{◌≡◌, ℕ, ◌<◌, ◌⊎◌, Bool, true, List, sym, subst, arith, inl, inr, Option, Some, None, ℤ}
 use Rattle.std.specs.Prelude.{IfSome}
 use Rattle.std.proofs.lemmas.Int.{ints, clamps}
 use Rattle.vs_types.specs.declared.layer_set.LayerSet.{LayerSet}
 use Rattle.vs_instance.specs.Problem.{Problem}
 use Rattle.vs_plan.specs.CheckedPlan.{Checked, cost_of}
 use Rattle.vs_connect.specs.Cost.{lesser_of}
-use Rattle.vs_penalty.specs.Penalties.{IsPlanOf as IsAgreed}
+use Rattle.vs_penalty.specs.Seekers.{IsPlanOf as IsAgreed}
 use Rattle.vs_prices.specs.Bounds.{IsBelow}
 use Rattle.vs_prices.specs.declared.bound.Bound.{Bound}
 use Rattle.vs_prices.specs.declared.bound.Bound.TheVariants.{AtLeast, NoPlan}

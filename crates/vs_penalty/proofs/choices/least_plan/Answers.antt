@@ -1,4 +1,4 @@
-use Rattle.vs_penalty.proofs.GivenLayers.{shown_plan}
+use Rattle.vs_penalty.proofs.ShownPlans.{shown_plan}
 use Rattle.vs_penalty.proofs.choices.least_plan.Goals as goal
 
 pub returns : goal.returns

@@ -1,0 +1,3 @@
+pub mod FewLayers
+pub mod GivenLayers
+pub mod KeptChoices

@@ -1,0 +1,7 @@
+pub mod Choices
+pub mod Moves
+pub mod Noted
+pub mod Penalties
+pub mod Rates
+pub mod Tallies
+pub mod Walkers

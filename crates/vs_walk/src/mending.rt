@@ -1,0 +1,169 @@
+//! Choices made cheaper: some layers share out their trips anew, or all of them those of some hours.
+
+ghost use Rattle.std.specs.Prelude.{◌<◌, ◌≤◌, length};
+ghost use Rattle.vs_circ.specs.shipping.Ready.{IsReadyToRun};
+ghost use Rattle.vs_types.specs.declared.numbers.TheConstants.{MAX_LAYERS};
+ghost use Rattle.vs_multi.specs.Rounds.{IsCase};
+ghost use Rattle.vs_walk.specs.Walkers.{IsWalkerFor};
+
+use crate::draws::Draws;
+use crate::passes::Course;
+use crate::penalties::high_for;
+use crate::rate::Rate;
+use crate::scope::{Scope, count_free, free_within, offer_free};
+use crate::walker::{FEW, FEW_LAYERS, Walker};
+use vs_circ::Work;
+use vs_instance::Instance;
+use vs_multi::Case;
+use vs_types::{LayerNo, LayerSet, Memory, TripNo};
+
+/// The rate rises by one part in so many.
+const GROWTH: u64 = 8;
+
+/// How many passes there are at most.
+const PASSES: u32 = 40;
+
+/// How many times at most a choice is mended. The effort ends it sooner.
+const MOST_TRIES: u32 = 10_000;
+
+/// Mending ends too after so many draws in a row of layers with no two trips to share out.
+const MOST_VAIN: u32 = 10;
+
+impl Walker {
+    /// Mends the cheapest choice that is kept, up to this effort.
+    pub(crate) fn mend_cheapest(
+        &mut self,
+        case: &Case<'_>,
+        end: u64,
+        work: &mut Work,
+    ) -> Result<(), Memory>
+        requires case { IsCase case.now.instance.now case.now.nets.now case.now.sets.now }
+        requires walker { IsWalkerFor case.now.instance.now self.old }
+        requires ready { IsReadyToRun case.now.nets.now work.old }
+        ensures walker { IsWalkerFor case.now.instance.now self.new }
+        ensures ready { IsReadyToRun case.now.nets.now work.new }
+    {
+        let Some(choice) = self.pool.get(0) else {
+            return Ok(());
+        };
+        self.next.layers.copy_from_slice(&choice.layers);
+        self.adopt(case, i64::MAX, end, work)
+    }
+
+    /// Mends the choice that is worked on, up to this effort.
+    pub(crate) fn mend(&mut self, case: &Case<'_>, end: u64, work: &mut Work)
+        requires case { IsCase case.now.instance.now case.now.nets.now case.now.sets.now }
+        requires walker { IsWalkerFor case.now.instance.now self.old }
+        requires ready { IsReadyToRun case.now.nets.now work.old }
+        ensures walker { IsWalkerFor case.now.instance.now self.new }
+        ensures ready { IsReadyToRun case.now.nets.now work.new }
+    {
+        let (trips, layers) = (case.instance.trips(), case.instance.layers());
+        let mut vain: u32 = 0;
+        for k in 0..MOST_TRIES {
+            if work.effort() >= end || vain == MOST_VAIN || trips == 0 || layers == 0 {
+                break;
+            }
+            let is_tried = self.mend_once(case, (k % 2) as usize, work);
+            vain = if is_tried { 0 } else { vain.saturating_add(1) };
+        }
+    }
+
+    /// Lets some layers share out their trips anew, and takes what they agree on where it costs no more. There are two
+    /// kinds of it. False where the layers have no two trips to share out.
+    fn mend_once(&mut self, case: &Case<'_>, kind: usize, work: &mut Work) -> bool
+        requires case { IsCase case.now.instance.now case.now.nets.now case.now.sets.now }
+        requires trips { 0 < length case.now.instance.now.trips }
+        requires layers { 0 < length case.now.instance.now.layers }
+        requires kind { kind < 2 }
+        requires walker { IsWalkerFor case.now.instance.now self.old }
+        requires ready { IsReadyToRun case.now.nets.now work.old }
+        ensures walker { IsWalkerFor case.now.instance.now self.new }
+        ensures ready { IsReadyToRun case.now.nets.now work.new }
+    {
+        let scope = draw_scope(&mut self.draws, case.instance, kind);
+        free_within(case.instance, scope, &self.draft.layers, &mut self.sets);
+        let free = count_free(&self.sets);
+        if free < 2 {
+            return false;
+        }
+        if !self.agree_in(case, scope, kind, free / FEW, work) {
+            self.mends[kind].lower();
+            return true;
+        }
+        self.choose(case);
+        if self.next.is_like(&self.draft) {
+            self.mends[kind].raise();
+        } else if self.reckon(case, scope.layers, work) && self.next.cost() <= self.draft.cost() {
+            self.take_next();
+        }
+        true
+    }
+
+    /// Passes of these layers from the choice that is worked on. Gives whether they agree: no more than a few trips are
+    /// run by several.
+    fn agree_in(
+        &mut self,
+        case: &Case<'_>,
+        scope: Scope,
+        kind: usize,
+        few: u32,
+        work: &mut Work,
+    ) -> bool
+        requires case { IsCase case.now.instance.now case.now.nets.now case.now.sets.now }
+        requires layers { 0 < length case.now.instance.now.layers }
+        requires kind { kind < 2 }
+        requires walker { IsWalkerFor case.now.instance.now self.old }
+        requires sets { IsCase case.now.instance.now case.now.nets.now self.old.sets.items }
+        requires ready { IsReadyToRun case.now.nets.now work.old }
+        ensures walker { IsWalkerFor case.now.instance.now self.new }
+        ensures ready { IsReadyToRun case.now.nets.now work.new }
+    {
+        let most = self.penalties.rate.most;
+        let course = Course {
+            layers: scope.layers,
+            few,
+            passes: PASSES,
+            end: u64::MAX,
+        };
+        offer_free(&self.sets, &self.best, high_for(most), &mut self.offered);
+        self.penalties.rate = Rate::up_to(self.mends[kind].part_of(self.agreed), most, GROWTH);
+        self.penalties.begin_from(&self.offered, &self.draft.layers);
+        let first = self.draws.below(case.instance.layers());
+        self.penalties.set_first(first);
+        let sets: &[LayerSet] = &self.sets;
+        self.penalties.agree(&Case { sets, ..*case }, course, work)
+    }
+}
+
+/// Two layers or three, by the kind. Where there are few layers: two of them, or all with the trips of some hours.
+fn draw_scope(draws: &mut Draws, instance: &Instance, kind: usize) -> Scope
+    requires trips { 0 < length instance.now.trips }
+    requires layers { 0 < length instance.now.layers }
+    requires kind { kind < 2 }
+{
+    let layers = instance.layers();
+    if layers > FEW_LAYERS {
+        return Scope::of_layers(draw_layers(draws, layers, 2 + kind as u32));
+    }
+    if kind == 0 && layers > 2 {
+        return Scope::of_layers(draw_layers(draws, layers, 2));
+    }
+    let trip = TripNo(draws.below(instance.trips()));
+    Scope::about(instance.trip(trip).start)
+}
+
+/// So many layers, or one less.
+fn draw_layers(draws: &mut Draws, layers: u32, count: u32) -> LayerSet
+    requires some { 0 < layers }
+    requires few { layers ≤ MAX_LAYERS }
+{
+    let mut drawn = LayerSet(0);
+    for _ in 0..count {
+        let l = draws.below(layers);
+        let is_new = !drawn.has(LayerNo(l));
+        let l = if is_new { l } else { (l + 1) % layers };
+        drawn = drawn.with(LayerNo(l));
+    }
+    drawn
+}
