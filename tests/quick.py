@@ -83,7 +83,7 @@ def is_settled(arguments: list[str]) -> bool:
 
 def case_fault(programs: Programs, case: run_cases.Case, arguments: list[str]) -> str:
     """Returns in what the two programs differ on a run of a case."""
-    proved, quick = (program.run(arguments, case.given) for program in programs)
+    proved, quick = (program.run(arguments, case.given, case.folder) for program in programs)
     if proved == quick:
         return ""
     if is_settled(arguments):

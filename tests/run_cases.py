@@ -19,8 +19,12 @@ given up after 120 seconds, or N. A case is a folder with these files:
               `peakcheck` where it is a text of peaks, else by `check`. A trace is replayed first, and its document judged
     records   what the document is judged behind, where that isn't the input
 
-Nothing may stand on standard error, except where arguments are wrong (status 2). The last line says how many runs passed
-and failed, and the status is 1 where one failed or a folder is no case.
+    errors    all that has to stand on standard error
+    *.csv     files that the arguments name. The program runs in the case's folder
+
+Where `errors` is missing, nothing may stand on standard error at status 0 or 11. At 1 and 3 a line has to stand there,
+at 2 two lines, the usage and what was refused, and otherwise a line may. The last line says how many runs passed and
+failed, and the status is 1 where one failed or a folder is no case.
 """
 
 from __future__ import annotations
@@ -39,7 +43,8 @@ from typing import Iterable, Iterator, Optional
 TOP = Path(__file__).resolve().parent.parent
 CASES = TOP / "tests" / "cases"
 BUILT = ("bin/mdvsp", "crates/mdvsp_main/out/mdvsp_main")
-WRONG_ARGUMENTS = 2
+# How many lines may stand on standard error, by the status, where the case doesn't say; otherwise none or one.
+SAID = {0: (0,), 1: (1,), 2: (2,), 3: (1,), 11: (0,)}
 # So many lines of a difference are shown.
 SHOWN = 20
 # What the program finds on standard input where it must read nothing.
@@ -47,7 +52,7 @@ LEFT = b"left\n"
 
 PARTS = ("begins", "ends", "lines")
 WANTED = ("output", *PARTS, "verdict")
-FILES = {"args", "input", "status", "records", *WANTED}
+FILES = {"args", "input", "status", "records", "errors", *WANTED}
 
 
 @dataclass(frozen=True)
@@ -55,10 +60,12 @@ class Case:
     """A case: its name, the arguments of its runs, its input, and what has to come out, by the names of the files."""
 
     name: str
+    folder: Path
     runs: list[list[str]]
     given: Optional[bytes]
     statuses: list[int]
     records: bytes
+    errors: Optional[bytes]
     wanted: dict[str, bytes]
 
 
@@ -69,13 +76,13 @@ class Program:
     path: str
     seconds: int
 
-    def run(self, arguments: list[str], given: Optional[bytes]) -> Ended:
-        """Runs it on an input, or on one that it must not read."""
+    def run(self, arguments: list[str], given: Optional[bytes], folder: Optional[Path] = None) -> Ended:
+        """Runs it on an input, or on one that it must not read, in a folder."""
         with tempfile.TemporaryFile(buffering=0) as source:
             source.write(LEFT if given is None else given)
             source.seek(0)
             command = [self.path, *arguments]
-            done = subprocess.run(command, stdin=source, capture_output=True, timeout=self.seconds)
+            done = subprocess.run(command, stdin=source, capture_output=True, timeout=self.seconds, cwd=folder)
             return Ended(done.returncode, done.stdout, done.stderr, os.lseek(source.fileno(), 0, os.SEEK_CUR))
 
 
@@ -108,7 +115,7 @@ def loaded(folder: Path) -> Case:
     name = folder.relative_to(CASES).as_posix()
     files = {path.name: path.read_bytes() for path in folder.iterdir()}
     wanted = {part: files[part] for part in WANTED if part in files}
-    unknown = sorted(set(files) - FILES)
+    unknown = sorted(name for name in set(files) - FILES if not name.endswith(".csv"))
     if unknown:
         raise NoCase(f"{name}: no file of a case is called {', '.join(unknown)}")
     if "args" not in files or "status" not in files or not wanted:
@@ -118,7 +125,8 @@ def loaded(folder: Path) -> Case:
     runs = [run.splitlines() for run in files["args"].decode("utf-8").split("\n\n")]
     statuses = [int(line) for line in files["status"].split()]
     given = files.get("input")
-    return Case(name, runs, given, statuses, files.get("records", given or b""), wanted)
+    records = files.get("records", given or b"")
+    return Case(name, folder, runs, given, statuses, records, files.get("errors"), wanted)
 
 
 def folders(names: list[str]) -> Iterator[Path]:
@@ -167,14 +175,22 @@ def verdict_faults(program: Program, case: Case, written: bytes) -> Iterator[str
         yield f"`{judge}` ends with {judged.status} and says {row[:100]!r}, wanted is {wanted!r}"
 
 
+def errors_faults(case: Case, ended: Ended) -> Iterator[str]:
+    """Yields what is wrong with what stands on standard error."""
+    if case.errors is not None and ended.errors != case.errors:
+        yield "on standard error stands something else\n" + difference(case.errors, ended.errors)
+    count, most = ended.errors.count(b"\n"), SAID.get(ended.status, (0, 1))
+    if case.errors is None and (count not in most or not ended.errors.endswith(b"\n" if count else b"")):
+        yield f"on standard error stands {ended.errors[:200]!r}"
+
+
 def faults(program: Program, case: Case, ended: Ended) -> Iterator[str]:
     """Yields what is wrong with how a run of a case ended."""
     if ended.status not in case.statuses:
         yield f"status {ended.status} in place of {' or '.join(map(str, case.statuses))}"
     if case.given is None and ended.read:
         yield f"it read {ended.read} bytes, and must read nothing"
-    if ended.errors and ended.status != WRONG_ARGUMENTS:
-        yield f"on standard error stands {ended.errors[:200]!r}"
+    yield from errors_faults(case, ended)
     yield from output_faults(case.wanted, ended.written)
     if "verdict" in case.wanted:
         yield from verdict_faults(program, case, ended.written)
@@ -183,7 +199,7 @@ def faults(program: Program, case: Case, ended: Ended) -> Iterator[str]:
 def tried(program: Program, case: Case, arguments: list[str]) -> Tried:
     """Makes a run of a case."""
     try:
-        ended = program.run(arguments, case.given)
+        ended = program.run(arguments, case.given, case.folder)
         return Tried(case, arguments, ended.written, list(faults(program, case, ended)))
     except subprocess.TimeoutExpired:
         return Tried(case, arguments, b"", [f"a run of it was given up after {program.seconds} seconds"])

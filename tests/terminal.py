@@ -1,5 +1,7 @@
 #!/usr/bin/env python3
-"""Runs the program with standard error a terminal, and sees which words stand there and which row is written.
+"""Runs the program with standard error a terminal, and sees which words stand there and which row is written. They have
+to be the same where standard error is a pipe, and none with --quiet. Where standard input is a terminal too, it has to
+say what it waits for. The line by which mdvsp-quick says what it is counts for nothing.
 
     tests/terminal.py [PROGRAM]
 
@@ -9,8 +11,11 @@ where all is as it has to be, and with 1 and a line for each run that isn't.
 
 import os
 import pty
+import re
+import select
 import subprocess
 import sys
+import termios
 
 TOP = os.path.dirname(os.path.dirname(os.path.abspath(__file__)))
 SECONDS = 30
@@ -86,6 +91,26 @@ RUNS = [
 ]
 
 
+# What is typed, status, what is written, and how what stands on the terminal begins, behind what was typed.
+TYPED = [
+    (["network"], "instance,1\n", 0, "", "reading a timetable from the terminal, up to Ctrl-D"),
+    (["check"], "instance,1\n", 3, "refused,2,20,NoResult\n", "reading a timetable and what stands behind it from "),
+    (["solve", "-"], "x\n", 3, "refused,1,1,NoHeader\n", "reading a timetable from the terminal"),
+    (["check", "examples/two_trips.csv", "-"], "x\n", 3, "", "reading a timetable and what stands behind it from "),
+    (["--quiet", "network"], "instance,1\n", 0, "", None),
+    (["network", "examples/two_trips.csv"], "", 0, None, None),
+    (["make", "0"], "", 0, None, None),
+    ([], "", 2, "words,1\n", "usage: mdvsp "),
+    (["network", "nothing.csv"], "", 2, "words,2\n", "usage: mdvsp network [TIMETABLE]\n\"nothing.csv\" names no file"),
+]
+
+# The line of mdvsp-quick.
+QUICK = re.compile(r"\Amdvsp-quick: .*\n")
+
+# The lines that a log has: at least one, and each of this form.
+LOGGED = re.compile(r"(seconds=\d+ cases=\d+\n)+")
+
+
 def program():
     """The program to try: the one that was named, else the one that was built."""
     if len(sys.argv) > 1:
@@ -108,7 +133,77 @@ def ended(path, words, text):
     except OSError:
         pass  # the terminal's other end is shut, and all was read
     os.close(ours)
-    return done.returncode, done.stdout.decode(), shown.decode().replace("\r\n", "\n")
+    return done.returncode, done.stdout.decode(), QUICK.sub("", shown.decode().replace("\r\n", "\n"))
+
+
+def piped(path, words, text):
+    """Runs the words with standard error a pipe; gives the status, what was written, and what stands in the pipe."""
+    done = subprocess.run([path, *words], input=text.encode(), capture_output=True, timeout=SECONDS)
+    return [done.returncode, done.stdout.decode(), done.stderr.decode()]
+
+
+def typed(path, words, text):
+    """Runs the words on a terminal, types the text and Ctrl-D; gives the status, what was written and what is shown."""
+    ours, theirs = pty.openpty()
+    form = termios.tcgetattr(theirs)
+    form[3] &= ~termios.ECHO
+    termios.tcsetattr(theirs, termios.TCSANOW, form)
+    # Two ends of input: the beginning of a second stream is read ahead, and its end is met twice.
+    os.write(ours, text.encode() + b"\4\4\4")
+    done = subprocess.run([path, *words], stdin=theirs, stdout=subprocess.PIPE, stderr=theirs, cwd=TOP, timeout=SECONDS)
+    shown = b""
+    while select.select([ours], [], [], 0)[0]:
+        shown += os.read(ours, 65536)
+    os.close(theirs)
+    os.close(ours)
+    return done.returncode, done.stdout.decode(), QUICK.sub("", shown.decode().replace("\r\n", "\n"))
+
+
+def typed_fault(path, words, text, status, written, begins):
+    """What is wrong with a run on a terminal; nothing where it is as it has to be."""
+    found = typed(path, words, text)
+    said = not found[2] if begins is None else found[2].startswith(begins)
+    if found[0] != status or not said or written not in (None, found[1]):
+        return f"{' '.join(words)} on a terminal: {found}, and it has to be {(status, written, begins)}"
+    return ""
+
+
+def said_faults(path, words, text, status, written, said):
+    """Yields what is wrong with what stands on a terminal, in a pipe, and with --quiet."""
+    for how, found, wanted in (
+        ("on a terminal", list(ended(path, words, text)), said),
+        ("in a pipe", piped(path, words, text), said),
+        ("with --quiet", list(ended(path, ["--quiet", *words], text)), ""),
+    ):
+        if found != [status, written, wanted]:
+            yield f"{' '.join(words)} {how}: {found}, and it has to be {[status, written, wanted]}"
+
+
+def log_faults(path):
+    """Yields what is wrong with a log: before the command, behind it, and beside --quiet."""
+    text = STOPS + LAYER + TRIPS
+    for words in (["--log", "solve"], ["solve", "--log"], ["--quiet", "--log", "trace", "--workers", "1"]):
+        for status, _, said in (ended(path, words, text), piped(path, words, text)):
+            if status != 0 or not LOGGED.fullmatch(said):
+                yield f"{' '.join(words)}: status {status}, and {said[:100]!r} is no log"
+
+
+def about_faults(path):
+    """Yields what is wrong with what the program says about itself and its commands."""
+    for words, begins in (
+        (["--help"], "usage: mdvsp "),
+        (["-h"], "usage: mdvsp "),
+        (["--version"], "mdvsp "),
+        (["--quiet", "--version"], "mdvsp "),
+        (["solve", "--help"], "usage: mdvsp solve [TIMETABLE] "),
+        (["check", "nothing.csv", "-h"], "usage: mdvsp check [TIMETABLE] [PLAN]\n\nJudge "),
+    ):
+        status, written, shown = ended(path, words, "")
+        if status != 0 or not written.startswith(begins) or shown:
+            yield f"{' '.join(words)}: status {status}, {written[:60]!r} and {shown[:60]!r} on the terminal"
+    status, written, shown = ended(path, ["--help", "me"], "")
+    if (status, written) != (2, "words,1\n") or not shown.startswith("usage: mdvsp "):
+        yield f"--help me: status {status}, {written[:60]!r} and {shown[:60]!r} on the terminal"
 
 
 def main():
@@ -120,23 +215,13 @@ def main():
         return 0
     os.close(ours)
     os.close(theirs)
-    wrong = 0
-    for words, text, *wanted in RUNS:
-        found = list(ended(path, words, text))
-        if found != wanted:
-            wrong += 1
-            print(f"{' '.join(words)}: {found}, and it has to be {wanted}")
-    for word, begins in (("--help", "usage: mdvsp "), ("-h", "usage: mdvsp "), ("--version", "mdvsp ")):
-        status, written, shown = ended(path, [word], "")
-        if status != 0 or not written.startswith(begins) or shown:
-            wrong += 1
-            print(f"{word}: status {status}, {written[:60]!r} and {shown[:60]!r} on the terminal")
-    status, written, shown = ended(path, ["--help", "me"], "")
-    if (status, written) != (2, "words,1\n") or not shown.startswith("usage: mdvsp "):
-        wrong += 1
-        print(f"--help me: status {status}, {written[:60]!r} and {shown[:60]!r} on the terminal")
-    print(f"terminal: {len(RUNS) + 4} runs, {wrong} wrong")
-    return 1 if wrong else 0
+    faults = [fault for run in RUNS for fault in said_faults(path, *run)]
+    faults += [fault for run in TYPED if (fault := typed_fault(path, *run))]
+    faults += [*log_faults(path), *about_faults(path)]
+    for fault in faults:
+        print(fault)
+    print(f"terminal: {len(RUNS) + len(TYPED)} inputs, {len(faults)} faults")
+    return 1 if faults else 0
 
 
 sys.exit(main())

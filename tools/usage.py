@@ -24,6 +24,8 @@ TABLE = TOP / "packaging" / "commands.txt"
 # The columns of what `--help` prints, and where its texts begin.
 WIDTH, INDENT = 115, 12
 OPTION = re.compile(r"\[(--\w+) N\]")
+# What stands for a file among the arguments of a command.
+FILE = re.compile(r"\b[A-Z]{2,}\b")
 
 
 @dataclass
@@ -75,6 +77,7 @@ class Table:
         self.all = list(entries())
         self.commands = self.of("command")
         self.options = self.of("option")
+        self.own = self.of("own")
         self.statuses = [it.value.split(" ", 1) for it in self.of("status")]
         once = {it.key: it.value for it in self.all}
         self.version, self.toolchain = once["version"], once["toolchain"]
@@ -90,6 +93,10 @@ class Table:
     def options_of(self, command: Entry) -> list[Entry]:
         names = OPTION.findall(command.value)
         return [option for option in self.options if option.name in names]
+
+    def readers(self) -> list[Entry]:
+        """Returns the commands that read files."""
+        return [entry for entry in self.words() if FILE.search(entry.value)]
 
     def about_itself(self) -> list[str]:
         """Returns the words that are answered of the program itself, as `--help`."""
@@ -122,13 +129,54 @@ def status_lines(table: Table) -> Iterator[str]:
 def help_text(table: Table) -> str:
     """Returns what `--help` prints, without its last line end."""
     commands = [line for command in table.commands for line in command_lines(command)]
+    own = [line for option in table.own for line in command_lines(option)]
     statuses = list(status_lines(table))
-    return "\n".join([f"usage: {table.usage}", "", "commands:", *commands, "", "exit status:", *statuses])
+    return "\n".join([usage_line(table), "", "commands:", *commands, *own, "", "exit status:", *statuses])
+
+
+def usage_line(table: Table) -> str:
+    """Returns how the program is called, in a line."""
+    return f"usage: {table.usage}"
+
+
+def command_text(table: Table, command: Entry) -> str:
+    """Returns what `COMMAND --help` prints behind its first line: what the command does, and its options."""
+    lines = textwrap.wrap(sentence(command.text), WIDTH, break_on_hyphens=False)
+    for option in table.options_of(command):
+        value = option.value.split(" ", 1)[1]
+        lines += textwrap.wrap(f"{option.name} N  {option.text}: {value}", WIDTH, initial_indent="  ",
+                               subsequent_indent=" " * INDENT, break_on_hyphens=False)
+    return "\n".join(lines)
+
+
+def rust_text(text: str) -> str:
+    """Returns a text as Rust writes it."""
+    text = text.replace("\\", "\\\\").replace('"', '\\"')
+    return f'"\\\n{text}"' if "\n" in text else f'"{text}"'
+
+
+def command_source(table: Table, command: Entry) -> str:
+    """Returns the source of what the program knows of a command."""
+    names = [rust_text(option.name) for option in table.options_of(command)]
+    return f"""    Command {{
+        name: {rust_text(command.name)},
+        files: {len(FILE.findall(command.value))},
+        options: &[{", ".join(names)}],
+        usage: {rust_text(f"usage: {table.name} {command.value}")},
+        about: {rust_text(command_text(table, command))},
+    }},
+"""
 
 
 def source(table: Table) -> str:
     """Returns the source of the usage."""
+    commands = "".join(command_source(table, command) for command in table.words())
+    names = "".join(f"    {rust_text(command.name)},\n" for command in table.words())
+    itself = ", ".join(rust_text(word) for word in [*table.about_itself(), "-h"])
+    values = "".join(f"    ({rust_text(it.name)}, {rust_text(it.value.split(' ', 1)[1])}),\n" for it in table.options)
     return f'''//! What the program says of itself. tools/usage.py writes this file from packaging/commands.txt.
+
+use crate::command::Command;
 
 /// The version of the program.
 pub const VERSION: &str = "{table.version}";
@@ -136,9 +184,27 @@ pub const VERSION: &str = "{table.version}";
 /// The toolchain whose proof the sources pass.
 pub const TOOLCHAIN: &str = "{table.toolchain}";
 
+/// How the program is called, in a line.
+pub const USAGE_LINE: &str = {rust_text(usage_line(table))};
+
 /// How the program is called.
 pub const USAGE: &str = "\\
 {help_text(table)}";
+
+/// The words that are answered of the program itself.
+pub const ABOUT: &[&str] = &[{itself}];
+
+/// The names of the commands.
+pub const NAMES: &[&str] = &[
+{names}];
+
+/// The options of commands, and which values they take.
+pub const OPTIONS: &[(&str, &str)] = &[
+{values}];
+
+/// The commands.
+pub const COMMANDS: &[Command] = &[
+{commands}];
 '''
 
 
@@ -153,7 +219,7 @@ def synopsis(command: Entry) -> str:
     words = []
     for word in re.findall(r"\[[^]]*\]|[^\s,]+,?", command.value):
         inner = word.strip("[],")
-        shown = " ".join(f"\\fI{it}\\fR" if it == "N" else f"\\fB{roff(it)}\\fR" for it in inner.split())
+        shown = " ".join(f"\\fI{it}\\fR" if it.isupper() else f"\\fB{roff(it)}\\fR" for it in inner.split())
         words.append(f"[{shown}]" if word.startswith("[") else shown + ("," if word.endswith(",") else ""))
     return " ".join(words)
 
@@ -174,6 +240,8 @@ def sections(table: Table) -> Iterator[tuple[str, list[str]]]:
         elif entry.key == "option":
             value = entry.value.split(" ", 1)[1]
             yield "OPTIONS", [f".TP\n\\fB{roff(entry.name)}\\fR \\fIN\\fR", roff(sentence(f"{entry.text}: {value}"))]
+        elif entry.key == "own":
+            yield "OPTIONS", [f".TP\n\\fB{roff(entry.name)}\\fR", roff(sentence(entry.text))]
         elif entry.key == "status":
             number, words = entry.value.split(" ", 1)
             yield "EXIT STATUS", [f".TP\n\\fB{number}\\fR", roff(sentence(words.split(" | ")[-1]))]
@@ -191,11 +259,12 @@ def paragraphs(entry: Entry, macro: str) -> list[str]:
 
 def manual(table: Table) -> str:
     """Returns the manual page."""
+    own = " ".join(f"[\\fB{roff(option.name)}\\fR]" for option in table.own)
     lines = [
         '.\\" tools/usage.py writes this file from packaging/commands.txt.',
         f'.TH {table.name.upper()} 1 "" "{table.name} {table.version}" "User Commands"',
         f".SH NAME\n{table.name} \\- {roff(table.about)}",
-        f".SH SYNOPSIS\n\\fB{table.name}\\fR \\fICOMMAND\\fR [\\fIARGUMENTS\\fR] < \\fIinput\\fR > \\fIoutput\\fR",
+        f".SH SYNOPSIS\n\\fB{table.name}\\fR {own} \\fICOMMAND\\fR [\\fIARGUMENTS\\fR] [\\fIFILE\\fR [\\fIFILE\\fR]]",
     ]
     title = ""
     for section, found in sections(table):
@@ -213,10 +282,10 @@ def short(command: Entry) -> str:
 
 def bash(table: Table) -> str:
     """Returns the completion for bash."""
-    words = " ".join([entry.name for entry in table.words()] + table.about_itself())
+    words = " ".join([entry.name for entry in [*table.words(), *table.own]] + table.about_itself())
     cases = "".join(
-        f"    {entry.name}) words='{' '.join(option.name for option in table.options_of(entry))}' ;;\n"
-        for entry in table.words() if table.options_of(entry)
+        f"    {entry.name}) words='{' '.join([*(option.name for option in table.options_of(entry)), '--help'])}' ;;\n"
+        for entry in table.words()
     )
     return f'''# Completion of {table.name} for bash. tools/usage.py writes this file from packaging/commands.txt.
 
@@ -226,6 +295,8 @@ _{table.name}() {{
   [ "$COMP_CWORD" -eq 1 ] && words='{words}'
   [ "$COMP_CWORD" -gt 1 ] && case ${{COMP_WORDS[1]}} in
 {cases}  esac
+  # Where no option is begun, a file may stand.
+  [[ "$COMP_CWORD" -gt 1 && ${{COMP_WORDS[COMP_CWORD]}} != -* ]] && return
   # Behind an option stands a number, which is not completed, and no option stands twice.
   case ${{COMP_WORDS[COMP_CWORD - 1]}} in --*) return ;; esac
   local word
@@ -246,10 +317,12 @@ def zsh(table: Table) -> str:
     for entry in table.words():
         arguments = [f"'{option.name}[{option.text.split(',')[0]}]:N, {option.value.split(' ', 1)[1]}: '"
                      for option in table.options_of(entry)]
+        for place, file in enumerate(FILE.findall(entry.value), 1):
+            arguments.append(f"'{place}:{file.lower()}:_files'")
         if entry.value.endswith(" N"):
             arguments = ["'1:trips, 0 to 2000: '"]
         cases += f"    {entry.name}) _arguments {' '.join(arguments)} ;;\n" if arguments else ""
-    itself = " ".join(f"'(- *){word}'" for word in table.about_itself())
+    itself = " ".join([*(f"'(- *){word}'" for word in table.about_itself()), *(option.name for option in table.own)])
     return f'''#compdef {table.name}
 # Completion of {table.name} for zsh. tools/usage.py writes this file from packaging/commands.txt.
 
@@ -279,6 +352,9 @@ def fish(table: Table) -> str:
     lines.append(f"complete -c {table.name} -f")
     for word in table.about_itself():
         lines.append(f"complete -c {table.name} -n __fish_use_subcommand -l {word.removeprefix('--')}")
+    for option in table.own:
+        name, about = option.name.removeprefix("--"), option.text.split(": ")[1]
+        lines.append(f"complete -c {table.name} -n __fish_use_subcommand -l {name} -d '{about}'")
     for entry in table.words():
         about = short(entry).replace("'", "\\'")
         lines.append(f"complete -c {table.name} -n __fish_use_subcommand -a {entry.name} -d '{about}'")
@@ -287,6 +363,8 @@ def fish(table: Table) -> str:
         seen = f"__fish_seen_subcommand_from {users}"
         about = f"{option.text.split(',')[0]}: {option.value.split(' ', 1)[1]}"
         lines.append(f"complete -c {table.name} -n '{seen}' -x -l {option.name.removeprefix('--')} -d '{about}'")
+    readers = " ".join(entry.name for entry in table.readers())
+    lines.append(f"complete -c {table.name} -n '__fish_seen_subcommand_from {readers}' -F")
     return "\n".join(lines) + "\n"
 
 

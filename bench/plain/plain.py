@@ -10,7 +10,7 @@
 
 Which crates there are is read from crates.txt. Contracts, proofs and what is only there for them are left out, and what
 the sources use of Rattle's library is imitated by the .rs files beside this one (`Vec`, whose calls answer `Result`, in
-prelude.rs, the rest of `std` in standard.rs, and four libraries by their names), so that all else stays as it is.
+prelude.rs, the rest of `std` in standard.rs, and five libraries by their names), so that all else stays as it is.
 """
 
 import os
@@ -27,7 +27,7 @@ BESIDE_TESTS = ["test_meeting", "test_turn"]
 # The crates of the search that aren't part of a search by one worker. Of `vs_crew` one file is.
 BESIDE_SEARCH = "vs_turn vs_crew vs_cert vs_resume vs_trace vs_replay vs_peak".split()
 STAND_INS = ["macros.rs", "prelude.rs", "standard.rs"]
-LIBRARIES = ["atomic_table", "csv", "indexmap", "itoa"]
+LIBRARIES = ["atomic_table", "csv", "indexmap", "itoa", "strsim"]
 
 CLAUSE = re.compile(r"\b(?:requires|ensures)\b ?\*?(?: \w+)?\s*\{")
 GHOST_FIELD = re.compile(r"\bghost \w+: \{")

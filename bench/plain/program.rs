@@ -10,6 +10,7 @@ mod atomic_table;
 mod csv;
 mod indexmap;
 mod itoa;
+mod strsim;
 
 // CRATES
 
@@ -57,7 +58,8 @@ unsafe impl GlobalAlloc for Ends {
 
 fn main() -> ExitCode {
     let asked = std::env::args_os().skip(1).eq(["--version"]);
-    if !asked && std::io::stderr().is_terminal() {
+    let quiet = std::env::args_os().nth(1).is_some_and(|word| word == "--quiet");
+    if !asked && !quiet && std::io::stderr().is_terminal() {
         std::eprintln!("{UNPROVED}");
     }
     let ended = mdvsp_main::main(standard::rt::HostRuntime);

@@ -1,6 +1,6 @@
 //! What the sources find as `std`: Rattle's library as far as they use it, over that of plain Rust.
 
-pub use std::{cmp, fs, mem, slice, str};
+pub use std::{cmp, mem, slice, str};
 
 pub mod alloc {
     pub use crate::prelude::{AllocError, AllocFailed, Global};
@@ -103,7 +103,34 @@ pub mod hash {
 }
 
 pub mod io {
+    pub use super::rt::{Stdin, Stdout};
     pub use std::io::{Error, ErrorKind, IsTerminal, Read, Result, Write};
+}
+
+pub mod fs {
+    /// What opens files.
+    pub trait Files {
+        type File;
+    }
+
+    impl Files for super::rt::HostRuntime {
+        type File = File;
+    }
+
+    /// A file of the system, which was opened for reading.
+    pub struct File(std::fs::File);
+
+    impl File {
+        pub fn open<R: Files>(_: &R, name: &str) -> std::io::Result<File> {
+            std::fs::File::open(name).map(File)
+        }
+    }
+
+    impl std::io::Read for File {
+        fn read(&mut self, buf: &mut [u8]) -> std::io::Result<usize> {
+            self.0.read(buf)
+        }
+    }
 }
 
 pub mod env {
@@ -124,8 +151,12 @@ pub mod env {
 
 /// The runtime, and the traits that say what of it a function uses.
 pub mod rt {
+    pub use super::fs::Files;
     use std::fmt::Arguments;
-    use std::io::{Error, Write};
+    use std::fs::File;
+    use std::io::{Error, IsTerminal, Read, Write};
+    use std::mem::ManuallyDrop;
+    use std::os::fd::FromRawFd;
 
     pub trait Env {}
     pub trait Clock {}
@@ -146,14 +177,12 @@ pub mod rt {
     impl super::thread::Threads for HostRuntime {}
 
     impl HostRuntime {
-        /// Standard input, unbuffered.
-        pub fn stdin(&self) -> Raw {
-            Raw::of(std::io::stdin())
+        pub fn stdin(&self) -> Stdin {
+            Stdin
         }
 
-        /// Standard output, unbuffered.
-        pub fn stdout(&self) -> Raw {
-            Raw::of(std::io::stdout())
+        pub fn stdout(&self) -> Stdout {
+            Stdout
         }
 
         pub fn stderr(&self) -> std::io::Stderr {
@@ -161,32 +190,38 @@ pub mod rt {
         }
     }
 
-    /// A stream of the system, each of whose calls is one of the system's.
-    pub struct Raw(Result<std::fs::File, Error>);
+    /// The file behind a descriptor that stays open.
+    fn file(descriptor: i32) -> ManuallyDrop<File> {
+        ManuallyDrop::new(unsafe { File::from_raw_fd(descriptor) })
+    }
 
-    impl Raw {
-        fn of(stream: impl std::os::fd::AsFd) -> Raw {
-            Raw(stream.as_fd().try_clone_to_owned().map(std::fs::File::from))
-        }
+    /// Standard input, unbuffered.
+    #[derive(Clone, Copy)]
+    pub struct Stdin;
 
-        fn file(&mut self) -> Result<&mut std::fs::File, Error> {
-            self.0.as_mut().map_err(|error| Error::from(error.kind()))
+    impl Stdin {
+        pub fn is_terminal(&self) -> bool {
+            std::io::stdin().is_terminal()
         }
     }
 
-    impl std::io::Read for Raw {
+    impl Read for Stdin {
         fn read(&mut self, buf: &mut [u8]) -> Result<usize, Error> {
-            self.file()?.read(buf)
+            file(0).read(buf)
         }
     }
 
-    impl Write for Raw {
+    /// Standard output, unbuffered.
+    #[derive(Clone, Copy)]
+    pub struct Stdout;
+
+    impl Write for Stdout {
         fn write(&mut self, piece: &[u8]) -> Result<usize, Error> {
-            self.file()?.write(piece)
+            file(1).write(piece)
         }
 
         fn flush(&mut self) -> Result<(), Error> {
-            self.file()?.flush()
+            Ok(())
         }
     }
 
@@ -250,6 +285,10 @@ pub mod thread {
     use std::time::Duration;
 
     pub trait Threads {}
+
+    pub fn available_parallelism<R: Threads>(_: &R) -> std::io::Result<std::num::NonZeroUsize> {
+        std::thread::available_parallelism()
+    }
 
     pub fn sleep<R>(_: &R, time: Duration) {
         std::thread::sleep(time);

@@ -10,5 +10,6 @@ mod atomic_table;
 mod csv;
 mod indexmap;
 mod itoa;
+mod strsim;
 
 // CRATES

@@ -3,6 +3,8 @@
 complete -c mdvsp -f
 complete -c mdvsp -n __fish_use_subcommand -l help
 complete -c mdvsp -n __fish_use_subcommand -l version
+complete -c mdvsp -n __fish_use_subcommand -l quiet -d 'say nothing on standard error'
+complete -c mdvsp -n __fish_use_subcommand -l log -d 'write there, in lines, how far a search has come'
 complete -c mdvsp -n __fish_use_subcommand -a solve -d 'plan the vehicles of a timetable'
 complete -c mdvsp -n __fish_use_subcommand -a resume -d 'go on from the plan\'s document behind the timetable'
 complete -c mdvsp -n __fish_use_subcommand -a trace -d 'plan as solve does'
@@ -14,5 +16,6 @@ complete -c mdvsp -n __fish_use_subcommand -a peak -d 'tell how few vehicles eac
 complete -c mdvsp -n __fish_use_subcommand -a peakcheck -d 'judge such a text behind its timetable'
 complete -c mdvsp -n __fish_use_subcommand -a make -d 'write a timetable of N trips'
 complete -c mdvsp -n __fish_use_subcommand -a trial -d 'make such a timetable'
-complete -c mdvsp -n '__fish_seen_subcommand_from solve resume trace' -x -l workers -d 'threads that share the search: 1 to 64'
+complete -c mdvsp -n '__fish_seen_subcommand_from solve resume trace' -x -l workers -d 'threads that share the search: 1 to 64, or auto for all processors'
 complete -c mdvsp -n '__fish_seen_subcommand_from solve resume trace' -x -l nodes -d 'cases of the search at most: 0 to 100000'
+complete -c mdvsp -n '__fish_seen_subcommand_from solve resume trace replay check blocks network peak peakcheck' -F

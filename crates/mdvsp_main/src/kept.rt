@@ -1,6 +1,9 @@
 //! A source and a sink that keep what goes through them, for the words that are printed behind a run.
 
+ghost use Rattle.std.specs.Prelude.{None};
+
 use std::alloc::Global;
+use std::io::Read;
 use vs_io::{Failed, Sink, Source};
 
 /// The bytes that went through a stream, where they are kept at all and there was memory for them.
@@ -36,17 +39,29 @@ impl Kept {
     }
 }
 
-/// A source that keeps what it gives. What clauses see of it is what they see of the source that it takes from.
+/// A source over a reader, which keeps what it gives. It gives no `left`.
 #[derive(Drop)]
-pub struct KeptSource<S: Source + Drop> {
-    source: S,
+pub struct KeptSource<R: Read + Drop> {
+    reader: R,
     kept: Kept,
+    calls: u64,
+    faults: u64,
 }
 
-impl<S: Source + Drop> KeptSource<S> {
-    /// A source that gives what this one gives.
-    pub fn new(source: S, kept: Kept) -> KeptSource<S> {
-        KeptSource { source, kept }
+impl<R: Read + Drop> KeptSource<R> {
+    /// A source that gives what the reader gives.
+    pub fn new(reader: R, kept: Kept) -> KeptSource<R> {
+        KeptSource {
+            reader,
+            kept,
+            calls: 0,
+            faults: 0,
+        }
+    }
+
+    /// The reader.
+    pub fn reader(&self) -> &R {
+        &self.reader
     }
 
     /// What was kept.
@@ -55,17 +70,25 @@ impl<S: Source + Drop> KeptSource<S> {
     }
 }
 
-impl<S: Source + Drop> Source for KeptSource<S> {
-    ghost left = { λ s. S.left s.source };
+impl<R: Read + Drop> Source for KeptSource<R> {
+    ghost left = { λ _. None };
 
-    ghost calls = { λ s. S.calls s.source };
+    ghost calls = { λ s. s.calls };
 
-    ghost faults = { λ s. S.faults s.source };
+    ghost faults = { λ s. s.faults };
 
     fn take(&mut self, buf: &mut [u8]) -> Result<usize, Failed> {
-        let count = self.source.take(buf)?;
-        self.kept.keep(&buf[..count]);
-        Ok(count)
+        self.calls = self.calls.saturating_add(1);
+        match self.reader.read(buf) {
+            Ok(count) => {
+                self.kept.keep(&buf[..count]);
+                Ok(count)
+            }
+            Err(_) => {
+                self.faults = self.faults.saturating_add(1);
+                Err(Failed)
+            }
+        }
     }
 }
 

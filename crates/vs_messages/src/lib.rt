@@ -24,3 +24,4 @@ mod words;
 pub use no_plan::reason_text;
 pub use reason::{Reason, ray_reason};
 pub use refusal::refusal_text;
+pub use sentence::{Part, sentence as sentence_of};
