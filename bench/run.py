@@ -1,7 +1,7 @@
 #!/usr/bin/env python3
 """Measures all that docs/benchmarks.md shows, and writes the runs to one file.
 
-    bench/run.py [--program FILE] [--out FILE] [--cbc-seconds N] [--quick]
+    bench/run.py [--program FILE] [--out FILE] [--cbc-seconds N] [--at-once N] [--quick]
 
 Instances are made by `mdvsp make`, bench/carpaneto.py, bench/city.py and bench/largest_instance.sh. Each document is
 judged by `check`. Where cbc is installed (Debian's coinor-cbc), the MIP solver gets the same instances as a time-space
@@ -9,8 +9,9 @@ model (bench/time_space_model.py), with one thread, right behind, for at most N 
 
 PROGRAM is bin/mdvsp where it isn't given, and the file bench/results/HOST-DATE.csv. Its rows `about` say the version,
 the toolchain and the processor. Each row `run` is one run, with CPU time, wall time and memory; tools/bench_page.py
-makes the tables and plots of the page from it. `--quick` measures small instances, once each, to try the script.
-Nothing else should run on the machine. It ends with 1 where a run fails, or a document isn't judged `yes`.
+makes the tables and plots of the page from it. `--at-once N` measures so many suites side by side, each on a processor
+of its own, and those that need several processors behind them. `--quick` measures small instances, once each, to try
+the script. Nothing else should run on the machine. It ends with 1 where a run fails, or a document isn't judged `yes`.
 """
 
 from __future__ import annotations
@@ -18,6 +19,8 @@ from __future__ import annotations
 import argparse
 import csv
 import datetime
+import multiprocessing
+import multiprocessing.queues
 import os
 import platform
 import re
@@ -26,13 +29,17 @@ import subprocess
 import sys
 import tempfile
 import time
-from dataclasses import asdict, dataclass, field, fields
+from concurrent.futures import ProcessPoolExecutor
+from dataclasses import asdict, dataclass, field, fields, replace
 from pathlib import Path
 
 TOP = Path(__file__).resolve().parent.parent
 
-# What a run is repeated for: at least three times, and up to nine while all together takes less than these seconds.
+# How often a run is repeated: at least three times, and up to nine while all together takes less than these seconds.
 LEAST_RUNS, MOST_RUNS, SECONDS_OF_RUNS = 3, 9, 5.0
+
+# A run that takes longer than this is made once.
+LONG_RUN = 10.0
 
 # What says how much memory a run held at once, in kB; where it isn't installed, 0 is written. A child of this script
 # would count the script's own memory too.
@@ -125,8 +132,8 @@ class Bench:
 
     def goes_on(self, runs: int, seconds: float) -> bool:
         """Returns whether a run that was repeated so often, for so many seconds, is repeated again."""
-        if self.quick:
-            return runs < 1
+        if runs == 0 or self.quick or seconds / runs > LONG_RUN:
+            return runs == 0
         return runs < LEAST_RUNS or (runs < MOST_RUNS and seconds < SECONDS_OF_RUNS)
 
     def judge(self, run: Run, given: Path, out: Path) -> None:
@@ -186,7 +193,7 @@ def last_number(name: str, text: str) -> str:
 
 
 def solve_suite(bench: Bench) -> None:
-    """`make N`: one node at each size, and at four sizes four workers, the default budget and CBC."""
+    """`make N`: one node at each size, and at four sizes the default budget and CBC."""
     sizes = [20, 40, 60] if bench.quick else [100, 200, 300, 500, 1000, 1500, 2000]
     whole = [20, 40] if bench.quick else [100, 300, 1000, 2000]
     for trips in sizes:
@@ -194,7 +201,6 @@ def solve_suite(bench: Bench) -> None:
         bench.measure("solve", f"make {trips}", made, "solve --nodes 0")
         bench.measure("solve", f"make {trips}", made, "solve --nodes 1")
         if trips in whole:
-            bench.measure("solve", f"make {trips}", made, "solve --nodes 1", 4)
             bench.measure("solve", f"make {trips}", made, "solve")
             bench.cbc("solve", f"make {trips}", made)
     largest = bench.make("largest", ["bench/largest_instance.sh", "1" if bench.quick else "16"])
@@ -219,6 +225,23 @@ def class_suite(bench: Bench) -> None:
         bench.cbc("classes", name, made)
 
 
+def root_suite(bench: Bench) -> None:
+    """The root alone, on instances by whose draws no constant of it was tuned; of cities, with 6 to 16 layers."""
+    drawn = [(trips, depots, seed) for trips in (200, 300, 400) for depots in (4, 6, 8) for seed in (11, 12)]
+    drawn += [(500, depots, seed) for depots in (4, 8) for seed in (11, 12)]
+    cities = [(200, 31, 3, 2), (500, 32, 3, 2), (400, 33, 3, 3), (800, 34, 3, 3), (1000, 35, 3, 4), (1200, 36, 3, 4)]
+    cities += [(1500, seed, 3, 4) for seed in (6, 7, 8)] + [(2000, seed, 4, 4) for seed in (6, 7, 8)]
+    cities += [(2000, seed, 3, 4, 3) for seed in (6, 7, 8)]
+    if bench.quick:
+        drawn, cities = [(30, 6, 11)], [(150, 31, 3, 2)]
+    named = [("{} trips, {} depots, draw {}".format(*numbers), ["carpaneto.py", *map(str, numbers)])
+             for numbers in drawn]
+    named += [("city " + " ".join(map(str, numbers)), ["city.py", *map(str, numbers)]) for numbers in cities]
+    for name, (script, *words_of) in named:
+        made = bench.make(f"root {name}", [f"bench/{script}", *words_of])
+        bench.measure("root", name, made, "solve --nodes 1")
+
+
 def progress_suite(bench: Bench) -> None:
     """The gap over time: the same instances with more and more nodes."""
     made = bench.make("progress", [bench.program, "make", "30" if bench.quick else "300"])
@@ -229,7 +252,7 @@ def progress_suite(bench: Bench) -> None:
 
 
 def worker_suite(bench: Bench) -> None:
-    """The same search by more and more workers; the root is worked on by one."""
+    """The same search by more and more workers; the root is worked on by one. At four sizes one node by four."""
     name = "make 40" if bench.quick else "make 1000"
     made = bench.make(name, [bench.program, *name.split()])
     nodes = 10 if bench.quick else 200
@@ -237,6 +260,9 @@ def worker_suite(bench: Bench) -> None:
     bench.measure("workers", name, made, "solve --nodes 1")
     for count in workers:
         bench.measure("workers", name, made, f"solve --nodes {nodes}", count)
+    for trips in [20, 40] if bench.quick else [100, 300, 1000, 2000]:
+        made = bench.make(f"make {trips}", [bench.program, "make", str(trips)])
+        bench.measure("solve", f"make {trips}", made, "solve --nodes 1", 4)
 
 
 def command_suite(bench: Bench) -> None:
@@ -310,7 +336,38 @@ def with_stay(line: str) -> str:
     return line.rstrip("\n") + ",30\n" if line.startswith("layer,") else line
 
 
-SUITES = [solve_suite, class_suite, progress_suite, worker_suite, command_suite, carried_suite, infeasible_suite]
+SUITES = [
+    solve_suite, class_suite, root_suite, progress_suite, command_suite, carried_suite, infeasible_suite,
+]
+
+# These need several processors.
+CROWDED = [worker_suite]
+
+
+def measure_suite(number: int, bench: Bench) -> list[Run]:
+    """Returns the runs of a suite, made in a folder of its own."""
+    suite = [*SUITES, *CROWDED][number]
+    with tempfile.TemporaryDirectory(prefix="mdvsp-bench-") as folder:
+        own = replace(bench, folder=Path(folder), runs=[])
+        suite(own)
+    return own.runs
+
+
+def take_processor(free: multiprocessing.queues.Queue[int]) -> None:
+    """Keeps this process, and what it starts, to one processor."""
+    os.sched_setaffinity(0, {free.get()})
+
+
+def measure_all(bench: Bench, at_once: int) -> list[Run]:
+    """Returns the runs of all suites: so many suites side by side, or one after the other, and the crowded ones last."""
+    free: multiprocessing.queues.Queue[int] = multiprocessing.Queue()
+    for processor in sorted(os.sched_getaffinity(0)):
+        free.put(processor)
+    own = take_processor if at_once > 1 else None
+    with ProcessPoolExecutor(at_once, initializer=own, initargs=(free,) if own else ()) as pool:
+        found = list(pool.map(measure_suite, range(len(SUITES)), [bench] * len(SUITES)))
+    found += [measure_suite(len(SUITES) + k, bench) for k in range(len(CROWDED))]
+    return [run for runs in found for run in runs]
 
 
 def first_line(command: list[str]) -> str:
@@ -354,15 +411,14 @@ def main() -> int:
     words.add_argument("--program", default=str(TOP / "bin" / "mdvsp"))
     words.add_argument("--out", type=Path)
     words.add_argument("--cbc-seconds", type=int, default=150)
+    words.add_argument("--at-once", type=int, default=1)
     words.add_argument("--quick", action="store_true")
     given = words.parse_args()
     day = datetime.date.today().isoformat()
-    with tempfile.TemporaryDirectory(prefix="mdvsp-bench-") as folder:
-        bench = Bench(os.path.abspath(given.program), Path(folder), given.cbc_seconds, given.quick)
-        for suite in SUITES:
-            suite(bench)
-        out = given.out or TOP / "bench" / "results" / f"{platform.node()}-{day}.csv"
-        write(out, about(bench, day), bench.runs)
+    bench = Bench(os.path.abspath(given.program), Path(os.devnull), given.cbc_seconds, given.quick)
+    bench.runs = measure_all(bench, given.at_once)
+    out = given.out or TOP / "bench" / "results" / f"{platform.node()}-{day}.csv"
+    write(out, about(bench, day), bench.runs)
     print(f"bench: {len(bench.runs)} runs in {out}")
     wrong = [run for run in bench.runs if run.audit not in ("", "yes") or run.status not in DONE]
     for run in wrong:

@@ -131,6 +131,15 @@ def solved(runs: list[Row] | None) -> list[str]:
     return [thousands(run["cost"]), thousands(run["bound"]), shown, run["nodes"], spread(runs, "cpu")]
 
 
+def roots(found: Results) -> str:
+    """Returns a row for each timetable whose root alone was worked on."""
+    rows = [
+        [instance, *solved(runs)[:3], spread(runs, "cpu"), short(median(runs, "megabytes"))]
+        for (instance, _, _), runs in found.of("root").items()
+    ]
+    return table(["Timetable", "Plan", "Bound", "Gap", "CPU s", "MB"], rows)
+
+
 def by_cbc(runs: list[Row] | None) -> list[str]:
     """Returns plan, bound and seconds of CBC."""
     if not runs:
@@ -184,6 +193,7 @@ SECTIONS = {
     "about": facts,
     "solve": lambda found: searches(found, "solve"),
     "classes": lambda found: searches(found, "classes"),
+    "roots": roots,
     "workers": workers,
     "commands": lambda found: commands(found, "commands"),
     "carried": lambda found: commands(found, "carried"),
