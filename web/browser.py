@@ -42,10 +42,10 @@ class Browser:
         )
         os.close(read)
         os.close(write)
-        self.buffer, self.count, self.session = b"", 0, None
+        self.buffer, self.count, self.attached = b"", 0, None
         self.events: "list[dict[str, Any]]" = []
         target = self.send("Target.createTarget", url="about:blank")["targetId"]
-        self.session = self.send("Target.attachToTarget", targetId=target, flatten=True)["sessionId"]
+        self.attached = self.send("Target.attachToTarget", targetId=target, flatten=True)["sessionId"]
         for domain in ("Page", "Runtime", "Log", "Network", "DOM"):
             self.send(f"{domain}.enable")
         self.send("Target.setAutoAttach", autoAttach=True, waitForDebuggerOnStart=False, flatten=True)
@@ -54,8 +54,8 @@ class Browser:
         """Calls a method of the protocol, and returns its result."""
         self.count += 1
         call = {"id": self.count, "method": method, "params": parameters}
-        if self.session:
-            call["sessionId"] = self.session
+        if self.attached:
+            call["sessionId"] = self.attached
         os.write(self.write, json.dumps(call).encode() + b"\0")
         end = time.monotonic() + SECONDS
         while True:
@@ -70,7 +70,7 @@ class Browser:
     def note(self, message: "dict[str, Any]") -> None:
         """Keeps an event, and listens to a worker that the page started."""
         self.events.append(message)
-        if message["method"] == "Target.attachedToTarget" and self.session:
+        if message["method"] == "Target.attachedToTarget" and self.attached:
             worker = message["params"]["sessionId"]
             for domain in ("Runtime", "Log", "Network"):
                 call = {"id": 0, "method": f"{domain}.enable", "sessionId": worker}
@@ -122,7 +122,7 @@ class Browser:
 
     def close(self) -> None:
         """Ends the browser."""
-        self.session = None
+        self.attached = None
         try:
             self.send("Browser.close")
         except (BrowserError, OSError):

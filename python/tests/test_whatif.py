@@ -138,7 +138,7 @@ class Prices(Folder):
         plan = self.document("plan.csv", PRESENT, PRESENT_COST)
         given = program()
         status, _, told = run("price", self.town, own, "--plan", plan, "--program", given)
-        # The timetable has 28 records and the document 8, and no proof follows: it ends early at record 37.
+        # No proof follows the timetable's 28 records and the document's 8, so the text ends where one has to stand.
         self.assertEqual((status, told.split(":")[0]), (3, "refused at record 37"))
 
     def test_texts_with_faults(self):
