@@ -39,8 +39,8 @@ mod voice;
 
 /// Runs the words after the program's name, and ends with the run's code. The words before the command are the
 /// program's own. Files that words name are read one after the other, else standard input. On standard error it says
-/// what was refused or found wrong, and why there is no plan. Where that is a terminal, or a log is asked for, it prints
-/// there how far the run has come. What is asked about the program it answers itself.
+/// what was refused or found wrong, and why there is no plan. Where that is a terminal, or a log is asked for, it
+/// prints there how far the run has come. What is asked about the program it answers itself.
 fn main(rt: HostRuntime) -> ExitCode {
     let streams = Streams {
         stdin: rt.stdin(),

@@ -30,13 +30,13 @@ commands:
   blocks [TIMETABLE] [PLAN]
             print the timetable of a plan's vehicles
   network [TIMETABLE]
-            tell how large a timetable's networks are
+            report how large a timetable's networks are
   peak [TIMETABLE]
-            tell how few vehicles each layer needs for all that it may run, whatever its fleet
+            report how few vehicles each layer needs for all that it may run, whatever its fleet
   peakcheck [TIMETABLE] [PEAKS]
             judge such a text behind its timetable
   make N    write a timetable of N trips, 0 to 2000, to try the program on
-  trial N   make such a timetable, plan it by one worker and 20 cases, check the plan, and tell how it went
+  trial N   make such a timetable, plan it by one worker and 20 cases, check the plan, and report how it went
   --help, --version
             print this, or the version of the program; behind a command, --help prints what that command does
   --quiet   before the command: say nothing on standard error
@@ -130,14 +130,14 @@ Plan as solve does, and write each step of the search in place of the plan's doc
         files: 1,
         options: &[],
         usage: "usage: mdvsp network [TIMETABLE]",
-        about: "Tell how large a timetable's networks are.",
+        about: "Report how large a timetable's networks are.",
     },
     Command {
         name: "peak",
         files: 1,
         options: &[],
         usage: "usage: mdvsp peak [TIMETABLE]",
-        about: "Tell how few vehicles each layer needs for all that it may run, whatever its fleet.",
+        about: "Report how few vehicles each layer needs for all that it may run, whatever its fleet.",
     },
     Command {
         name: "peakcheck",
@@ -158,6 +158,6 @@ Plan as solve does, and write each step of the search in place of the plan's doc
         files: 0,
         options: &[],
         usage: "usage: mdvsp trial N",
-        about: "Make such a timetable, plan it by one worker and 20 cases, check the plan, and tell how it went.",
+        about: "Make such a timetable, plan it by one worker and 20 cases, check the plan, and report how it went.",
     },
 ];

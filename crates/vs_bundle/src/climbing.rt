@@ -162,8 +162,8 @@ impl Ascent {
         self.bundle.keep(&mut self.trial.found, 0, multipliers);
     }
 
-    /// Round after round from these multipliers, which are those that the climb came to, as long as another one may
-    /// gain something that is asked for. Gives how many there were.
+    /// Round after round from these multipliers, as long as another one may gain something that is asked for. The
+    /// multipliers are those that the climb came to. Gives how many rounds there were.
     pub fn go_on(
         &mut self,
         case: &Case<'_>,
