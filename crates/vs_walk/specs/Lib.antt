@@ -3,5 +3,6 @@ pub mod Moves
 pub mod Noted
 pub mod Penalties
 pub mod Rates
+pub mod Rises
 pub mod Tallies
 pub mod Walkers

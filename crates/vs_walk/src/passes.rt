@@ -1,8 +1,11 @@
 //! Passes until the layers nearly agree.
 
+ghost use Rattle.std.specs.Prelude.{◌≡◌, ◌↔◌, ◌<◌, IsTrue};
 ghost use Rattle.vs_circ.specs.shipping.Ready.{IsReadyToRun};
 ghost use Rattle.vs_multi.specs.Rounds.{IsCase};
 ghost use Rattle.vs_walk.specs.Penalties.{ArePenalties};
+ghost use Rattle.vs_walk.specs.Rises.{HasRisen};
+ghost use Rattle.vs_walk.specs.Tallies.{AreAgreed, none_in};
 
 use crate::penalties::Penalties;
 use crate::tally::Tally;
@@ -46,10 +49,16 @@ impl Penalties {
         false
     }
 
-    /// Whether the layers nearly agree. The rate rises where trips are left out.
+    /// Whether the layers nearly agree: every trip is run, and no more than so many by several layers. The rate rises
+    /// where trips are left out.
     pub fn is_agreed(&mut self, instance: &Instance, few: u32) -> bool
         requires { ArePenalties instance.now self.old }
-        ensures { ArePenalties instance.now self.new }
+        ensures agreed { IsTrue result ↔ AreAgreed few self.old.runs.items }
+        ensures raised { 0 < none_in self.old.runs.items → HasRisen self.old.rate self.new.rate }
+        ensures same { none_in self.old.runs.items ≡ 0 → self.new.rate ≡ self.old.rate }
+        ensures multipliers { self.new.multipliers ≡ self.old.multipliers }
+        ensures runs { self.new.runs ≡ self.old.runs }
+        ensures penalties { ArePenalties instance.now self.new }
     {
         prove!(instance.trips() <= MAX_TRIPS);
         let tally = Tally::of(&self.runs);

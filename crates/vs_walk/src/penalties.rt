@@ -56,7 +56,10 @@ impl Penalties {
     pub fn begin(&mut self, multipliers: &[i64])
         requires old { ArePenaltiesOf (length multipliers.now) self.old }
         requires within { AreWithin multipliers.now }
-        ensures { ArePenaltiesOf (length multipliers.now) self.new }
+        ensures multipliers { self.new.multipliers.items ≡ multipliers.now }
+        ensures now { self.new.rate.now ≡ self.old.rate.least }
+        ensures most { self.new.rate.most ≡ self.old.rate.most }
+        ensures penalties { ArePenaltiesOf (length multipliers.now) self.new }
     {
         self.multipliers.copy_from_slice(multipliers);
         empty(&mut self.runs);
@@ -68,7 +71,10 @@ impl Penalties {
         requires old { ArePenaltiesOf (length multipliers.now) self.old }
         requires within { AreWithin multipliers.now }
         requires runs { length runs.now ≡ length multipliers.now }
-        ensures { ArePenaltiesOf (length multipliers.now) self.new }
+        ensures multipliers { self.new.multipliers.items ≡ multipliers.now }
+        ensures runs { self.new.runs.items ≡ runs.now }
+        ensures rate { self.new.rate ≡ self.old.rate }
+        ensures penalties { ArePenaltiesOf (length multipliers.now) self.new }
     {
         self.multipliers.copy_from_slice(multipliers);
         self.runs.copy_from_slice(runs);
@@ -80,6 +86,8 @@ impl Penalties {
         ensures runs { self.new.runs ≡ self.old.runs }
         ensures offers { self.new.offers ≡ self.old.offers }
         ensures marks { self.new.marks ≡ self.old.marks }
+        ensures rate { self.new.rate ≡ self.old.rate }
+        ensures first { self.new.first ≡ count }
     {
         self.first = count;
     }

@@ -1,5 +1,5 @@
 //! By how much layers are offered more or less than a multiplier.
-ghost use Rattle.std.specs.Prelude.{◌≡◌, ◌≢◌, ◌/◌, ◌<◌, ◌≤◌, ◌≤ℤ◌, pos};
+ghost use Rattle.std.specs.Prelude.{◌≡◌, ◌≢◌, ◌/◌, ◌<◌, ◌≤◌, ◌≤ℤ◌, min, pos};
 ghost use Rattle.vs_instance.specs.declared.limits.TheConstants.{MAX_MULTIPLIER};
 ghost use Rattle.vs_walk.specs.Rates.{raised};
 
@@ -26,7 +26,11 @@ impl Rate {
     pub fn new(least: u64, most: u64, growth: u64) -> Rate
         requires most { pos most ≤ℤ MAX_MULTIPLIER }
         requires growth { 0 < growth }
+        ensures now { result.now ≡ min least most }
+        ensures least { result.least ≡ min least most }
         ensures most { result.most ≡ most }
+        ensures growth { result.growth ≡ growth }
+        ensures past { result.past ≡ min least most }
     {
         let least = if least > most { most } else { least };
         Rate {
@@ -42,7 +46,11 @@ impl Rate {
     pub fn up_to(least: u64, most: u64, growth: u64) -> Rate
         requires most { pos most ≤ℤ MAX_MULTIPLIER }
         requires growth { 0 < growth }
+        ensures now { result.now ≡ min least most }
+        ensures least { result.least ≡ min least most }
         ensures most { result.most ≡ most }
+        ensures growth { result.growth ≡ growth }
+        ensures past { result.past ≡ most }
     {
         let mut rate = Rate::new(least, most, growth);
         rate.past = most;
@@ -53,10 +61,12 @@ impl Rate {
     pub fn raise(&mut self)
         ensures raised { raised self.old.growth self.old.now ≤ self.old.most
             → self.new.now ≡ raised self.old.growth self.old.now }
-        ensures past { self.old.most < raised self.old.growth self.old.now
+        ensures beyond { self.old.most < raised self.old.growth self.old.now
             → self.new.now ≡ self.old.past }
         ensures least { self.new.least ≡ self.old.least }
         ensures most { self.new.most ≡ self.old.most }
+        ensures growth { self.new.growth ≡ self.old.growth }
+        ensures past { self.new.past ≡ self.old.past }
     {
         let raised = self.now + self.now / self.growth + 1;
         self.now = if raised > self.most {
@@ -72,6 +82,8 @@ impl Rate {
         ensures again { self.old.now / 8 ≡ 0 → self.new.now ≡ self.old.least }
         ensures least { self.new.least ≡ self.old.least }
         ensures most { self.new.most ≡ self.old.most }
+        ensures growth { self.new.growth ≡ self.old.growth }
+        ensures past { self.new.past ≡ self.old.past }
     {
         let eased = self.now / 8;
         self.now = if eased == 0 { self.least } else { eased };
@@ -82,6 +94,8 @@ impl Rate {
         ensures now { self.new.now ≡ self.old.least }
         ensures least { self.new.least ≡ self.old.least }
         ensures most { self.new.most ≡ self.old.most }
+        ensures growth { self.new.growth ≡ self.old.growth }
+        ensures past { self.new.past ≡ self.old.past }
     {
         self.now = self.least;
     }
