@@ -8,15 +8,8 @@
 # PROGRAM is bin/mdvsp, or what the gate built, where it isn't given. What isn't installed here (man, a shell, dpkg-deb)
 # is named and skipped. It ends with 1 where a part failed, and leaves nothing behind.
 set -u
-program=${1:-}
-[ -n "$program" ] && program=$(realpath "$program")
-cd "$(dirname "$0")/.." || exit 1
-for built in bin/mdvsp crates/mdvsp_main/out/mdvsp_main; do
-  [ -z "$program" ] && [ -x "$built" ] && program=$PWD/$built
-done
-[ -x "$program" ] || { echo "packaging: no program is built: \`make\` builds bin/mdvsp"; exit 1; }
-work=$(mktemp -d)
-trap 'rm -rf "$work"' EXIT
+name=packaging
+. "$(dirname "$0")/program.sh"
 parts=0
 failed=0
 export PYTHONDONTWRITEBYTECODE=1

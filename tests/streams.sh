@@ -12,15 +12,8 @@
 # prints a line for each run that ends otherwise, and at last how many there were; it ends with 1 where there was one.
 # It takes some seconds.
 set -u
-program=${1:-}
-[ -n "$program" ] && program=$(realpath "$program")
-cd "$(dirname "$0")/.." || exit 1
-for built in bin/mdvsp crates/mdvsp_main/out/mdvsp_main; do
-  [ -z "$program" ] && [ -x "$built" ] && program=$PWD/$built
-done
-[ -x "$program" ] || { echo "streams: no program is built: \`make\` builds bin/mdvsp"; exit 1; }
-work=$(mktemp -d)
-trap 'rm -rf "$work"' EXIT
+name=streams
+. "$(dirname "$0")/program.sh"
 export program work
 
 runs=0
