@@ -1,7 +1,6 @@
 //! Whether it is nowhere shorter by a third stop, and the first three stops where it is.
 
 ghost use Rattle.std.specs.Prelude.{◌≡◌, ◌+◌, ◌<◌, ◌↔◌, IfOk, IsTrue, Some};
-ghost use Rattle.std.specs.FinMap as map;
 ghost use Rattle.vs_instance.specs.Misfits.{first_misfit, detour_misfits, apart_misfits, misfits_by, misfits_from, closure_misfits};
 ghost use Rattle.vs_instance.specs.deadheads.Lengths.{AreShort};
 

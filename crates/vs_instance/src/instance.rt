@@ -1,6 +1,6 @@
 //! The instance: parts that were judged, and what is asked of them.
 
-ghost use Rattle.std.specs.Prelude.{◌≡◌, ℕ, ◌<◌, ◌≤◌, length, IfOk, IfErr, OnOk, option_map};
+ghost use Rattle.std.specs.Prelude.{◌≡◌, ◌<◌, length, IfOk, IfErr, OnOk, option_map};
 ghost use Rattle.vs_instance.specs.Instance.{IsInstance};
 ghost use Rattle.vs_instance.specs.Misfits.{AreParts, MakeInstance, problem_of, IsFirstMisfit, IsMisfit};
 ghost use Rattle.vs_instance.specs.Narrowed.{narrowed};

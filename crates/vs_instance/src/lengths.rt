@@ -1,6 +1,6 @@
 //! How long ways are in one measure, in rows that are quick to compare.
 
-ghost use Rattle.std.specs.Prelude.{◌≡◌, ℕ, ◌<◌, ◌≤◌, IfOk, IsTrue, All, length};
+ghost use Rattle.std.specs.Prelude.{◌≡◌, ◌<◌, ◌≤◌, IfOk, IsTrue, All, length};
 ghost use Rattle.vs_instance.specs.deadheads.Lengths.{measured, length_by, IsRow, AreRows, IsNowhereLonger, IsClosedFrom, AreClosed, IsClosedIn, AreShort};
 
 use crate::way::Way;

@@ -1,6 +1,6 @@
 //! The deadheads between stops, looked up by the stop that is left and the one that is reached.
 
-ghost use Rattle.std.specs.Prelude.{◌≡◌, ℕ, ◌<◌, ◌≤◌, Some, IfOk, length};
+ghost use Rattle.std.specs.Prelude.{◌≡◌, ◌<◌, ◌≤◌, Some, IfOk, length};
 ghost use Rattle.std.specs.FinMap as map;
 ghost use Rattle.vs_instance.specs.deadheads.WayMap.{row_of};
 
@@ -19,7 +19,7 @@ pub struct Ways {
 }
 
 impl Model for Ways {
-    ghost use Rattle.std.specs.Prelude.{ℕ, ◌≡◌, ◌*◌, ◌≤◌, length};
+    ghost use Rattle.std.specs.Prelude.{◌≡◌, ◌*◌, ◌≤◌, length};
     ghost use Rattle.vs_instance.specs.deadheads.WayMap.{WayMap, way_map};
     ghost use Rattle.vs_instance.specs.Codes.{coded_way_map};
     ghost use Rattle.vs_instance.specs.declared.limits.TheConstants.{MAX_STOPS};
