@@ -14,6 +14,9 @@ use vs_match::{ArcKind, LayerNet};
 use vs_ship::{Kept, suiting};
 use vs_types::TripNo;
 
+/// One trip in so many is looked at. These tell as well as all of them which start is nearer, in far less time.
+const SAMPLE: u32 = 8;
+
 /// Lets a call begin with the units and prices that the last call left, or with those of the one before it. It takes
 /// those that need fewer changes. Where multipliers swing to and fro, these are of the call before.
 pub(crate) fn recall(net: &LayerNet, offers: &[Option<i64>], kept: &mut Kept)
@@ -31,8 +34,8 @@ pub(crate) fn recall(net: &LayerNet, offers: &[Option<i64>], kept: &mut Kept)
     }
 }
 
-/// Whether fewer trips change between being run and not being run where a call with these offers begins with the
-/// earlier start. The earlier start is what the call before the last one left. This decides only how long the call
+/// Whether fewer trips of a sample change between being run and not being run where a call with these offers begins with
+/// the earlier start. The earlier start is what the call before the last one left. This decides only how long the call
 /// takes.
 fn is_before_nearer(net: &LayerNet, offers: &[Option<i64>], kept: &Kept) -> bool
     requires arcs { HasSmallArcs net.now }
@@ -43,8 +46,8 @@ fn is_before_nearer(net: &LayerNet, offers: &[Option<i64>], kept: &Kept) -> bool
     let _ = net.net().nodes();
     let trips = offers.len().min(MAX_TRIPS as usize) as u32;
     let mut fewer: i32 = 0;
-    for i in 0..trips {
-        fewer += changes_saved(net, offers, kept, TripNo(i));
+    for i in 0..trips / SAMPLE {
+        fewer += changes_saved(net, offers, kept, TripNo(i * SAMPLE));
     }
     0 < fewer
 }

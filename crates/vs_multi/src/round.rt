@@ -1,5 +1,5 @@
 //! A case of a search, and what one round after the other finds in it.
-ghost use Rattle.std.specs.Prelude.{◌≡◌, ◌<◌, ◌≤◌, ◌≤ℤ◌, ℕ, pos, IfOk, OnOk, length, slice_index};
+ghost use Rattle.std.specs.Prelude.{◌<◌, ◌≤◌, ◌≤ℤ◌, ℕ, pos, IfOk, OnOk, slice_index};
 ghost use Rattle.vs_circ.specs.declared.circ.Circ.{Circ};
 ghost use Rattle.vs_types.specs.declared.numbers.TheConstants.{MAX_LAYERS};
 ghost use Rattle.vs_instance.specs.declared.limits.TheConstants.{MAX_MULTIPLIER};

@@ -1,5 +1,5 @@
 //! How many layers run each trip.
-ghost use Rattle.std.specs.Prelude.{◌≡◌, ◌<◌, ◌≤◌, ◌↔◌, ℕ, IsTrue, length, slice_index};
+ghost use Rattle.std.specs.Prelude.{◌≡◌, ◌≤◌, ◌↔◌, ℕ, IsTrue, length, slice_index};
 ghost use Rattle.vs_circ.specs.Circulations.{RunTrip};
 ghost use Rattle.vs_layer.specs.Circulation.{IsCirculation};
 ghost use Rattle.vs_instance.specs.Problem.{Problem};

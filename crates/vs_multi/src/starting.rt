@@ -1,5 +1,5 @@
 //! The multipliers to begin with: what a block of each trip alone costs, or what a table of prices stands for.
-ghost use Rattle.std.specs.Prelude.{◌≡◌, ◌<◌, IfOk, IfSome, length, pos, ◌≤ℤ◌};
+ghost use Rattle.std.specs.Prelude.{◌≡◌, ◌<◌, IfOk, IfSome, length};
 ghost use Rattle.vs_instance.specs.Restriction.{IsRestriction};
 ghost use Rattle.vs_prices.specs.Table.{Fits};
 ghost use Rattle.vs_multi.specs.Multipliers.{AreMultipliers, AreOfTable, AreStarts, IsLeastOwnCost, IsOwnCost, MayCostAlone};

@@ -1,7 +1,6 @@
 //! A climb on a leaf: to better multipliers, and to what shows by which trip the leaf is split.
 
 ghost use Rattle.std.specs.Prelude.{IfOk};
-ghost use Rattle.vs_multi.specs.Multipliers.{AreMultipliers};
 ghost use Rattle.vs_multi.specs.Rounds.{IsCase};
 ghost use Rattle.vs_prices.specs.Bounds.{IsWorthNoLess};
 ghost use Rattle.vs_prices.specs.Table.{Fits, HoldingTable};

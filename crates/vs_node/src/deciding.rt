@@ -1,5 +1,5 @@
 //! Whether a leaf is closed or split.
-ghost use Rattle.std.specs.Prelude.{◌≡◌, ℕ, ◌<◌, ◌≤◌, length};
+ghost use Rattle.std.specs.Prelude.{ℕ, ◌<◌, ◌≤◌, length};
 ghost use Rattle.vs_instance.specs.declared.limits.TheConstants.{MAX_TRIPS};
 ghost use Rattle.vs_node.specs.NextSteps.{IsNextBy};
 ghost use Rattle.vs_node.specs.SplitRule.{AreLeadsFor, HasChoice};

@@ -1,5 +1,5 @@
 //! The better of a leaf's own table and a found one.
-ghost use Rattle.std.specs.Prelude.{◌≡◌, IfOk};
+ghost use Rattle.std.specs.Prelude.{IfOk};
 ghost use Rattle.vs_prices.specs.Bounds.{IsWorthNoLess};
 ghost use Rattle.vs_prices.specs.Table.{Fits, HoldingTable};
 ghost use Rattle.vs_prices.specs.Worth.{IsWorth};

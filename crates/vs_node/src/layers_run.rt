@@ -1,5 +1,5 @@
 //! What the first layers run of trips that have one layer each.
-ghost use Rattle.std.specs.Prelude.{◌≡◌, ◌+◌, ◌<◌, List, length, IfOk, OnOk};
+ghost use Rattle.std.specs.Prelude.{◌+◌, ◌<◌, List, length, IfOk, OnOk};
 ghost use Rattle.vs_types.specs.declared.layer_set.LayerSet.{LayerSet};
 ghost use Rattle.vs_instance.specs.Restriction.{IsRestriction};
 ghost use Rattle.vs_layer.specs.Circulation.{IsCirculation};

@@ -1,7 +1,6 @@
 //! A ray of one layer as a table of all.
-ghost use Rattle.std.specs.Prelude.{◌≡◌, ◌<◌, ◌<ℤ◌, true, pos, List, length, IfOk};
+ghost use Rattle.std.specs.Prelude.{◌<◌, ◌<ℤ◌, true, pos, List, length, IfOk};
 ghost use Rattle.vs_types.specs.declared.layer_set.LayerSet.{LayerSet};
-ghost use Rattle.vs_instance.specs.Instance.{IsInstance};
 ghost use Rattle.vs_instance.specs.Restriction.{IsRestriction};
 ghost use Rattle.vs_prices.specs.Table.{Fits, HoldingTable};
 ghost use Rattle.vs_prices.specs.Worth.{IsWorth};

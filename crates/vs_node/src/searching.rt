@@ -1,5 +1,5 @@
 //! The search of prices for a leaf some trip of which may be run in two layers or more.
-ghost use Rattle.std.specs.Prelude.{◌≡◌, ℕ, ◌<◌, Bool, IfOk, length};
+ghost use Rattle.std.specs.Prelude.{ℕ, ◌<◌, IfOk, length};
 ghost use Rattle.vs_multi.specs.Rounds.{IsCase};
 ghost use Rattle.vs_prices.specs.Table.{Fits, HoldingTable};
 ghost use Rattle.vs_prices.specs.Worth.{IsWorth};

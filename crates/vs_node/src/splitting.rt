@@ -4,7 +4,7 @@ ghost use Rattle.vs_instance.specs.declared.limits.TheConstants.{MAX_TRIPS};
 ghost use Rattle.vs_types.specs.LayerSet.{Has, members};
 ghost use Rattle.vs_types.specs.Parts.{IsProperPart};
 ghost use Rattle.vs_types.specs.declared.numbers.TheConstants.{MAX_LAYERS};
-ghost use Rattle.vs_node.specs.SplitRule.{AreLeadsFor, HasChoice, HoldsOfNone, IsLayerAlone, IsLowest, MaySplit};
+ghost use Rattle.vs_node.specs.SplitRule.{AreLeadsFor, HasChoice, HoldsOfNone, IsLowest, MaySplit};
 
 use crate::leads::{Candidate, Leads};
 use vs_types::{LayerNo, LayerSet, TripNo};

@@ -12,7 +12,7 @@ const OFFERS: u32 = 800_000;
 const LEAST_PASSES: u32 = 200;
 
 /// How many there are at least where a climb is slow: the cheaper the plan that it begins with, the further it comes.
-const LEAST_PASSES_WHERE_SLOW: u32 = 300;
+const LEAST_PASSES_WHERE_SLOW: u32 = 500;
 
 /// How many quick passes there are at most: the layers of a small instance agree long before.
 const MOST_PASSES: u32 = 1_000;
@@ -32,10 +32,7 @@ const DONE_ON_SMALL: i64 = 2_500;
 const NEAR: i64 = 50_000;
 
 /// After how many turns in a row that find no cheaper plan they end.
-const MOST_VAIN: u32 = 2;
-
-/// After how many on a small instance, whose leaves find plans too.
-const MOST_VAIN_ON_SMALL: u32 = 1;
+pub(crate) const MOST_VAIN: u32 = 2;
 
 /// A walker's turn takes as much as so many quick passes.
 const PASSES_A_TURN: u64 = 75;
@@ -44,7 +41,10 @@ const PASSES_A_TURN: u64 = 75;
 const PASSES_A_TURN_ON_SMALL: u64 = 30;
 
 /// It takes no more than this.
-const MOST_A_TURN: u64 = 4_000_000;
+const MOST_A_TURN: u64 = 2_500_000;
+
+/// No more than this where a climb is slow: an agreement takes the more passes the more layers there are.
+const MOST_A_TURN_WHERE_SLOW: u64 = 4_000_000;
 
 /// How little the cheapest plan has to cost above this value for the search at the root to end, in 1/1000 of a cost
 /// unit.
@@ -65,15 +65,6 @@ pub(crate) fn is_small(instance: &Instance) -> bool {
 /// Whether a climb takes many rounds to multipliers near which cheap plans are found.
 pub(crate) fn is_slow(instance: &Instance) -> bool {
     instance.layers() > FEW_LAYERS && !is_small(instance)
-}
-
-/// After how many turns in a row that find no cheaper plan they end.
-pub(crate) fn most_vain(instance: &Instance) -> u32 {
-    if is_small(instance) {
-        MOST_VAIN_ON_SMALL
-    } else {
-        MOST_VAIN
-    }
 }
 
 /// How little for turns to end.
@@ -104,5 +95,10 @@ pub(crate) fn turn_effort(instance: &Instance, of_pass: u64) -> u64 {
     } else {
         PASSES_A_TURN
     };
-    of_pass.saturating_mul(passes).min(MOST_A_TURN)
+    let most = if is_slow(instance) {
+        MOST_A_TURN_WHERE_SLOW
+    } else {
+        MOST_A_TURN
+    };
+    of_pass.saturating_mul(passes).min(most)
 }

@@ -5,7 +5,7 @@ ghost use Rattle.vs_multi.specs.Multipliers.{AreMultipliers};
 ghost use Rattle.vs_multi.specs.Rounds.{IsCase};
 ghost use Rattle.vs_penalty.specs.Seekers.{AreWalkers, CanSeek, IsSeekerFor};
 
-use crate::effort::{is_slow, most_vain, quick_passes, turn_effort};
+use crate::effort::{MOST_VAIN, is_slow, is_small, quick_passes, turn_effort};
 use crate::seeking::Seeker;
 use crate::walkers::Walkers;
 use vs_bundle::{Aim, Ascent};
@@ -35,8 +35,8 @@ struct Stage {
 
 /// From the multipliers of the quick passes: where the climb is slow, and where it isn't.
 const FIRST_SLOW: Stage = Stage {
-    rounds: 250,
-    effort: 40_000_000,
+    rounds: 400,
+    effort: 60_000_000,
 };
 
 const FIRST: Stage = Stage {
@@ -58,6 +58,12 @@ const LAST_SLOW: Stage = Stage {
 
 const LAST: Stage = Stage {
     rounds: 200,
+    effort: 20_000_000,
+};
+
+/// On a small instance climbs on leaves gain what more rounds would.
+const LAST_ON_SMALL: Stage = Stage {
+    rounds: 50,
     effort: 20_000_000,
 };
 
@@ -116,12 +122,11 @@ impl Seeker {
         let most = self.penalties.rate.most;
         let budget = turn_effort(case.instance, self.of_pass);
         let mut walkers = Walkers::new(case, multipliers, most, budget)?;
-        let most_vain = most_vain(case.instance);
         let mut vain = 0;
         let mut climbed_for = self.choices.cost();
         for turn in 0..TURNS {
             climbed_for = self.climb_further(case, ascent, climbed_for, multipliers, work)?;
-            if vain == most_vain || walkers.effort() > WALKS || self.is_over(case.instance) {
+            if vain == MOST_VAIN || walkers.effort() > WALKS || self.is_over(case.instance) {
                 break;
             }
             let is_vain = self.take_turn(case, &mut walkers, turn, multipliers, work)?;
@@ -217,6 +222,8 @@ impl Seeker {
 fn stages(instance: &Instance) -> (Stage, Stage) {
     if is_slow(instance) {
         (FIRST_SLOW, LAST_SLOW)
+    } else if is_small(instance) {
+        (FIRST, LAST_ON_SMALL)
     } else {
         (FIRST, LAST)
     }

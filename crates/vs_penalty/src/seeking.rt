@@ -25,10 +25,10 @@ const GROWTH: u64 = 8;
 const AGREEMENTS: u32 = 10;
 
 /// How much effort quick passes take at most where a plan is known.
-const EFFORT: u64 = 40_000_000;
+const EFFORT: u64 = 60_000_000;
 
 /// So many times their passes and their effort they may take where no plan is known.
-const MORE: u32 = 4;
+const MORE: u32 = 3;
 
 /// What plans are sought with: what the layers are offered, and what was found so far.
 #[derive(Drop)]

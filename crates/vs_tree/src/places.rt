@@ -3,7 +3,7 @@
 ghost use Rattle.std.specs.Prelude.{◌≡◌, ◌≢◌, ℕ, ◌+◌, ◌<◌, ◌≤◌, ◌++◌, ◌∷◌, [], length, IfOk, All, slice_index_or};
 ghost use Rattle.vs_instance.specs.Restriction.{permitted_sets, set_of};
 ghost use Rattle.vs_tree.specs.History.{place_at, with_spot};
-ghost use Rattle.vs_tree.specs.Cuts.{AreCuts, AreLaid, laid, part_at, sets_of, split_at, with_lower};
+ghost use Rattle.vs_tree.specs.Cuts.{AreCuts, AreLaid, laid, sets_of, split_at, with_lower};
 ghost use Rattle.vs_prices.specs.Tree.{with_set};
 ghost use Rattle.vs_tree.specs.declared.spot.Spot.TheVariants.{Free};
 
