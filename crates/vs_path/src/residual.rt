@@ -1,7 +1,6 @@
 //! A net whose arcs carry units: which steps a unit more can take, and what they cost.
 
 ghost use Rattle.std.specs.Prelude.{◌≡◌, ◌<◌, ◌≤◌, ◌↔◌, ◌≤ℤ◌, ◌+ℤ◌, ◌-ℤ◌, ◌^◌, pos, length, IsTrue};
-ghost use Rattle.vs_path.specs.Labels.{IsSmall};
 ghost use Rattle.vs_path.specs.Loads.{AreAlong, AreLoads};
 ghost use Rattle.vs_path.specs.declared.residual.Way.TheVariants.{Back};
 ghost use Rattle.vs_path.specs.Residual.{HasSignRule, IsResidual, IsOpen, IsWithin, AllWithin, arc_no, arcs_along, from_of, to_of, cost_of, reduced, step_along};
@@ -264,23 +263,6 @@ impl<'a> Residual<'a> {
         self.arcs_along(Way::Back, node)
     }
 
-    /// Whether the numbers are small enough for a search by these prices.
-    pub fn is_small(&self, prices: &[i64]) -> bool
-        ensures { IsTrue result ↔ IsSmall self.now prices.now }
-    {
-        if self.net.nodes() > MAX_SEARCH_NODES || prices.len() != self.net.nodes() as usize {
-            return false;
-        }
-        all_within(self.cost, MAX_STEP_COST) && all_within(prices, MAX_SEARCH_PRICE)
-    }
-
-    /// Whether each arc costs little enough for `distances`.
-    pub fn has_path_costs(&self) -> bool
-        ensures { IsTrue result ↔ AllWithin MAX_PATH_ARC_COST self.now.cost }
-    {
-        all_within(self.cost, MAX_PATH_ARC_COST)
-    }
-
     /// Whether no residual step has a negative reduced cost.
     pub fn keeps_sign_rule(&self, prices: &[i64]) -> bool
         requires { length prices.now ≡ self.now.graph.nodes }
@@ -316,17 +298,4 @@ fn above(cost: i128, from: i64, to: i64) -> i128
     ensures { result ≡ (cost +ℤ from) -ℤ to }
 {
     cost + i128::from(from) - i128::from(to)
-}
-
-/// Whether each number is at most so far from 0.
-fn all_within(numbers: &[i64], bound: i64) -> bool
-    requires { pos 0 ≤ℤ bound }
-    ensures { IsTrue result ↔ AllWithin bound numbers.now }
-{
-    for number in numbers {
-        if *number < -bound || bound < *number {
-            return false;
-        }
-    }
-    true
 }
