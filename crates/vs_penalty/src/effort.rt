@@ -38,7 +38,7 @@ pub(crate) const MOST_VAIN: u32 = 2;
 const PASSES_A_TURN: u64 = 75;
 
 /// As many on a small instance, whose leaves find plans too.
-const PASSES_A_TURN_ON_SMALL: u64 = 30;
+const PASSES_A_TURN_ON_SMALL: u64 = 32;
 
 /// It takes no more than this.
 const MOST_A_TURN: u64 = 2_500_000;

@@ -63,7 +63,7 @@ const LAST: Stage = Stage {
 
 /// On a small instance climbs on leaves gain what more rounds would.
 const LAST_ON_SMALL: Stage = Stage {
-    rounds: 50,
+    rounds: 30,
     effort: 20_000_000,
 };
 
