@@ -1,6 +1,6 @@
 //! Least paths in a net of three nodes.
 
-ghost use Rattle.std.specs.Prelude.{◌≡◌, ◌↔◌, length, IfOk, IsTrue, Some};
+ghost use Rattle.std.specs.Prelude.{◌≡◌, ◌↔◌, ◌≤ℤ◌, pos, length, IfOk, IsTrue, Some};
 ghost use Rattle.vs_queue.specs.Keys.{IsBelow};
 ghost use Rattle.vs_path.specs.Labels.{IsSmall};
 ghost use Rattle.vs_path.specs.Residual.{AllWithin, HasSignRule};
@@ -11,8 +11,8 @@ use std::alloc::Global;
 use std::test::Fail;
 use vs_layer::{Arc, Flow, Net};
 use vs_path::{
-    Costs, MAX_PATH_ARC_COST, NodeHeap, Paths, Reach, Residual, Search, Step, distances,
-    sign_rule_leaves_no_negative_cycle,
+    Costs, MAX_PATH_ARC_COST, MAX_SEARCH_PRICE, MAX_STEP_COST, NodeHeap, Paths, Reach, Residual,
+    Search, Step, distances, sign_rule_leaves_no_negative_cycle,
 };
 
 const fn arc(from: u32, to: u32) -> Arc {
@@ -70,6 +70,19 @@ fn made(alloc: Global, units: [u32; 4], cost: [i64; 4], room: [u32; 4]) -> Resul
     })
 }
 
+/// Whether each number is at most so far from 0.
+fn all_within(numbers: &[i64], bound: i64) -> bool
+    requires { pos 0 ≤ℤ bound }
+    ensures { IsTrue result ↔ AllWithin bound numbers.now }
+{
+    for number in numbers {
+        if *number < -bound || bound < *number {
+            return false;
+        }
+    }
+    true
+}
+
 /// Whether prices show that costs are small and no cycle costs less than nothing.
 fn may_search(net: &Net, flow: &Flow, costs: &Costs, prices: &[i64]) -> bool
     requires units { length flow.now.units.items ≡ length net.now.arcs }
@@ -81,7 +94,7 @@ fn may_search(net: &Net, flow: &Flow, costs: &Costs, prices: &[i64]) -> bool
 {
     let residual = Residual::new(net, flow, costs, net.arcs() - 1);
     sign_rule_leaves_no_negative_cycle();
-    if !residual.has_path_costs() {
+    if !all_within(&costs.cost, MAX_PATH_ARC_COST) {
         return false;
     }
     if prices.len() != net.nodes() as usize {
@@ -173,12 +186,17 @@ fn lead_to_the_last_node(rt: HostRuntime) -> Result<(), Fail> {
     Ok(())
 }
 
-/// Whether paths may be found in a net by prices.
-fn may_guide(residual: &Residual, prices: &[i64]) -> bool
+/// Whether paths may be found in a net with these costs by prices.
+fn may_guide(residual: &Residual, costs: &Costs, prices: &[i64]) -> bool
+    requires nodes { residual.now.graph.nodes ≡ 3 }
+    requires costs { residual.now.cost ≡ costs.now.cost.items }
     ensures small { IsTrue result → IsSmall residual.now prices.now }
     ensures sign_rule { IsTrue result → HasSignRule residual.now prices.now }
 {
-    if !residual.is_small(prices) {
+    if prices.len() != 3 {
+        return false;
+    }
+    if !all_within(&costs.cost, MAX_STEP_COST) || !all_within(prices, MAX_SEARCH_PRICE) {
         return false;
     }
     residual.keeps_sign_rule(prices)
@@ -192,12 +210,18 @@ const COSTS: [(u32, [Option<i64>; 3]); 2] = [
 ];
 
 /// What the nodes cost from a node.
-fn costs_from(residual: &Residual, paths: &mut Paths, source: u32) -> Result<[Option<i64>; 3], Fail>
+fn costs_from(
+    residual: &Residual,
+    costs: &Costs,
+    paths: &mut Paths,
+    source: u32,
+) -> Result<[Option<i64>; 3], Fail>
     requires nodes { residual.now.graph.nodes ≡ 3 }
+    requires costs { residual.now.cost ≡ costs.now.cost.items }
     requires size { length paths.old.distances ≡ 3 }
 {
     let prices = [0; 3];
-    if source >= 3 || !may_guide(residual, &prices) {
+    if source >= 3 || !may_guide(residual, costs, &prices) {
         return Err(Fail::new("prices that don't keep the sign rule"));
     }
     paths.find(residual, &prices, source);
@@ -208,7 +232,7 @@ fn costs(alloc: Global, source: u32) -> Result<[Option<i64>; 3], Fail> {
     let example = made(alloc, [0; 4], [2, 1, 5, 0], [1; 4])?;
     let mut paths = Paths::new(alloc, &example.net)?;
     let residual = Residual::new(&example.net, &example.flow, &example.costs, 3);
-    costs_from(&residual, &mut paths, source)
+    costs_from(&residual, &example.costs, &mut paths, source)
 }
 
 #[test]
@@ -264,14 +288,16 @@ const SEARCHED: [Searched; 3] = [
 /// The node that lacks a unit which a search finds, and how many nodes it reaches.
 fn goal(
     residual: &Residual,
+    costs: &Costs,
     search: &mut Search,
     row: &Searched,
     prices: &mut [i64],
 ) -> Result<(Option<u32>, usize), Fail>
     requires nodes { residual.now.graph.nodes ≡ 3 }
+    requires costs { residual.now.cost ≡ costs.now.cost.items }
     requires search { search.old.nodes ≡ 3 }
 {
-    if row.source >= 3 || !may_guide(residual, prices) {
+    if row.source >= 3 || !may_guide(residual, costs, prices) {
         return Err(Fail::new("prices that don't keep the sign rule"));
     }
     if row.surplus[row.source as usize] < 0 {
@@ -290,7 +316,7 @@ fn found(
     let mut search = Search::new(alloc, 3)?;
     let mut prices = row.prices;
     let residual = Residual::new(&example.net, &example.flow, &example.costs, 3);
-    let found = goal(&residual, &mut search, row, &mut prices)?;
+    let found = goal(&residual, &example.costs, &mut search, row, &mut prices)?;
     Ok((found, search.path().to_vec(alloc)?, prices))
 }
 
@@ -305,12 +331,18 @@ fn lead_to_the_nearest_node_that_lacks_a_unit(rt: HostRuntime) -> Result<(), Fai
 }
 
 /// The prices of the nodes once they are raised from a node, by 10 where it doesn't reach.
-fn raise(residual: &Residual, search: &mut Search, source: u32) -> Result<[i64; 3], Fail>
+fn raise(
+    residual: &Residual,
+    costs: &Costs,
+    search: &mut Search,
+    source: u32,
+) -> Result<[i64; 3], Fail>
     requires nodes { residual.now.graph.nodes ≡ 3 }
+    requires costs { residual.now.cost ≡ costs.now.cost.items }
     requires search { search.old.nodes ≡ 3 }
 {
     let mut prices = [0; 3];
-    if source >= 3 || !may_guide(residual, &prices) {
+    if source >= 3 || !may_guide(residual, costs, &prices) {
         return Err(Fail::new("prices that don't keep the sign rule"));
     }
     search.raise(residual, source, 10, &mut prices);
@@ -321,7 +353,7 @@ fn raised(alloc: Global, source: u32) -> Result<[i64; 3], Fail> {
     let example = made(alloc, [0; 4], [2, 1, 5, 0], [1; 4])?;
     let mut search = Search::new(alloc, 3)?;
     let residual = Residual::new(&example.net, &example.flow, &example.costs, 3);
-    raise(&residual, &mut search, source)
+    raise(&residual, &example.costs, &mut search, source)
 }
 
 /// A node, and the prices once they are raised from it.

@@ -1,18 +1,8 @@
-use Rattle.std.proofs.Common.{◌≡◌, ◌∙◌, ◌-◌, ℕ, ℤ, get_or, pos, ap, subst, arith}
-use Rattle.std.proofs.lemmas.Int.{ints}
-use Rattle.vs_path.specs.declared.residual.TheConstants.{MAX_PATH_ARC_COST}
-use Rattle.vs_path.specs.Residual.{ResidualNet, IsWithin}
+use Rattle.std.proofs.Common.{◌≡◌, ◌∙◌, ◌-◌, ℕ, ap, subst}
+use Rattle.vs_path.specs.Residual.{ResidualNet}
 use Rattle.vs_path.specs.PathTree.{HasNoNegativeCycle}
 use Rattle.vs_path.specs.Distances.{without_return}
 use Rattle.test_engine.proofs.paths.may_search.Goals as goal
-
-pub returns-clause-few : goal.returns-clause-few
-returns-clause-few c = λ yes i.
-    let own = c.has_path_costs.ensures.0 c.if-not-has_path_costs.false i in
-    let same : get_or c.new-residual.result.cost i (pos 0) ≡ get_or c.args.costs.now.cost.items i (pos 0) =
-    ap (λ (r : ResidualNet). get_or r.cost i (pos 0)) c.new-residual.ensures in
-    subst (λ (z : ℤ). IsWithin MAX_PATH_ARC_COST z) same
-    (record { low = omega (arith, ints, own.low); high = omega (arith, ints, own.high) })
 
 pub returns-clause-no_negative : goal.returns-clause-no_negative
 returns-clause-no_negative c = λ yes.
