@@ -18,6 +18,7 @@ pages() {
   printf '%s\n' README.md CHANGES.md LICENSE web/judge.html tools/second_check.py
   find docs -type f | LC_ALL=C sort
   find examples -maxdepth 1 -name '*.csv' | LC_ALL=C sort
+  find examples/night -type f | LC_ALL=C sort
 }
 
 remove() {
@@ -44,7 +45,7 @@ install_all() {
   for file in $(pages); do
     install -Dm644 "$file" "$to/$DOC/$file"
   done
-  chmod 755 "$to/$DOC/tools/second_check.py"
+  chmod 755 "$to/$DOC/tools/second_check.py" "$to/$DOC/examples/night/plan.sh" "$to/$DOC/examples/night/array.sh"
 }
 
 case ${1:-} in

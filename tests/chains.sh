@@ -1,6 +1,6 @@
-# What tests/resume_chain.sh and tests/replay_chain.sh begin with: the program that was named, or the one that was
-# built; a folder for what it writes; and a look at the document there. A script that reads this sets $name to its own
-# name before.
+# What the chains of this folder begin with (resume_chain.sh, replay_chain.sh, stopped_chain.sh): the program that was
+# named, or the one that was built; a folder for what it writes; and a look at the document there. A script that reads
+# this sets $name to its own name before.
 program=${1:-bin/mdvsp}
 [ -x "$program" ] || program=crates/mdvsp_main/out/mdvsp_main
 [ -x "$program" ] || { echo "$name: no program is built: \`make\` builds bin/mdvsp"; exit 1; }

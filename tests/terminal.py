@@ -1,7 +1,8 @@
 #!/usr/bin/env python3
 """Runs the program with standard error a terminal, and sees which words stand there and which row is written. They have
 to be the same where standard error is a pipe, and none with --quiet. Where standard input is a terminal too, it has to
-say what it waits for. The line by which mdvsp-quick says what it is counts for nothing.
+say what it waits for. A search has to print how far it has come, there and in a log. The line by which mdvsp-quick says
+what it is counts for nothing.
 
     tests/terminal.py [PROGRAM]
 
@@ -107,8 +108,18 @@ TYPED = [
 # The line of mdvsp-quick.
 QUICK = re.compile(r"\Amdvsp-quick: .*\n")
 
-# The lines that a log has: at least one, and each of this form.
-LOGGED = re.compile(r"(seconds=\d+ cases=\d+\n)+")
+# A line of a log: seconds, cases, open leaves, cost, bound and gap. On a terminal the open leaves are left out.
+NUMBER = r"(-?\d+|none)"
+LOGGED = re.compile(rf"seconds=(\d+) cases=(\d+) open=(\d+) cost={NUMBER} bound={NUMBER} gap=(\d+\.\d{{4}}|none)\n")
+SHOWN = re.compile(rf"\r(\d+) seconds, (\d+) cases, cost {NUMBER}, bound {NUMBER}, gap (\d+\.\d{{4}} %|none) {{4}}")
+
+# What a search reads, its words, its status, and how the last line of its log goes on behind the seconds.
+SEARCHES = [
+    ("two_trips", ["solve"], 0, ("1", "0", "1080", "1080", "0.0000")),
+    ("two_trips", ["solve", "--nodes", "0"], 11, ("0", "1", "1080", "60", "94.4445")),
+    ("two_trips", ["trace", "--workers", "1"], 0, ("1", "0", "1080", "1080", "0.0000")),
+    ("one_vehicle", ["solve", "--workers", "2"], 10, ("1", "0", "none", "none", "none")),
+]
 
 
 def program():
@@ -179,13 +190,59 @@ def said_faults(path, words, text, status, written, said):
             yield f"{' '.join(words)} {how}: {found}, and it has to be {[status, written, wanted]}"
 
 
-def log_faults(path):
-    """Yields what is wrong with a log: before the command, behind it, and beside --quiet."""
-    text = STOPS + LAYER + TRIPS
-    for words in (["--log", "solve"], ["solve", "--log"], ["--quiet", "--log", "trace", "--workers", "1"]):
-        for status, _, said in (ended(path, words, text), piped(path, words, text)):
-            if status != 0 or not LOGGED.fullmatch(said):
-                yield f"{' '.join(words)}: status {status}, and {said[:100]!r} is no log"
+def gap_of(cost, bound):
+    """How far the bound is below the cost, in per cent of the cost: four decimals, rounded up."""
+    if "none" in (cost, bound):
+        return "none"
+    millionths = -((int(bound) - int(cost)) * 1_000_000 // max(int(cost), 1))
+    return f"{millionths // 10_000}.{millionths % 10_000:04}"
+
+
+def line_faults(lines, last):
+    """Yields what is wrong with the lines of a log, each in its fields."""
+    seconds = [int(line[0]) for line in lines]
+    if not lines or lines[-1][1:] != last:
+        yield f"the last line isn't {last}"
+    if any(behind <= before for before, behind in zip(seconds, seconds[1:-1])) or seconds[-1:] < seconds[-2:-1]:
+        yield f"the lines were printed in seconds {seconds}"
+    yield from (f"the gap of {line}" for line in lines if line[5] != gap_of(*line[3:5]))
+
+
+def is_said(rest, reason):
+    """Whether behind the progress stands the sentence that begins so, or nothing where there is no such."""
+    return rest.startswith(reason) if reason else not rest
+
+
+def log_faults(path, text, words, status, last, reason):
+    """Yields what is wrong with a log: asked for before the command, behind it, and beside --quiet."""
+    for run, behind in ((["--log", *words], reason), ([*words, "--log"], reason), (["--quiet", "--log", *words], "")):
+        for found, _, said in (ended(path, run, text), piped(path, run, text)):
+            faults = list(line_faults(LOGGED.findall(said), last))
+            if found != status or faults or not is_said(LOGGED.sub("", said), behind):
+                yield f"{' '.join(run)}: status {found}, {faults}, and in the log stands {said[-300:]!r}"
+
+
+def shown_faults(path, text, words, status, last, reason):
+    """Yields what is wrong with what a search shows on a terminal, where --quiet keeps it still."""
+    found, _, said = ended(path, words, text)
+    cases, _, cost, bound, gap = last
+    wanted = (cases, cost, bound, gap if gap == "none" else f"{gap} %")
+    if found != status or [it[1:] for it in SHOWN.findall(said)][-1:] != [wanted]:
+        yield f"{' '.join(words)}: status {found}, and on the terminal stands {said[-300:]!r}"
+    if not is_said(SHOWN.sub("", said), f"\n{reason}"):
+        yield f"{' '.join(words)}: on the terminal stands {said[-300:]!r}"
+    found, _, said = ended(path, ["--quiet", *words], text)
+    if found != status or said:
+        yield f"--quiet {' '.join(words)}: status {found}, and on the terminal stands {said[-300:]!r}"
+
+
+def search_faults(path, name, words, status, last):
+    """Yields what is wrong with what a search of an example prints of how far it has come."""
+    with open(f"{TOP}/examples/{name}.csv", encoding="ascii") as file:
+        text = file.read()
+    reason = "no plan: " if status == 10 else ""
+    yield from log_faults(path, text, words, status, last, reason)
+    yield from shown_faults(path, text, words, status, last, reason)
 
 
 def about_faults(path):
@@ -217,10 +274,11 @@ def main():
     os.close(theirs)
     faults = [fault for run in RUNS for fault in said_faults(path, *run)]
     faults += [fault for run in TYPED if (fault := typed_fault(path, *run))]
-    faults += [*log_faults(path), *about_faults(path)]
+    faults += [fault for search in SEARCHES for fault in search_faults(path, *search)]
+    faults += about_faults(path)
     for fault in faults:
         print(fault)
-    print(f"terminal: {len(RUNS) + len(TYPED)} inputs, {len(faults)} faults")
+    print(f"terminal: {len(RUNS) + len(TYPED) + len(SEARCHES)} inputs, {len(faults)} faults")
     return 1 if faults else 0
 
 

@@ -36,6 +36,7 @@ else
     "packaging|tests/packaging.sh $program"
     "resumed chain|tests/resume_chain.sh $program"
     "replayed traces|tests/replay_chain.sh $program"
+    "searches that end early|tests/stopped_chain.sh $program"
   )
 fi
 if ! command -v rt > /dev/null; then

@@ -23,7 +23,7 @@ TOP = Path(__file__).resolve().parent.parent
 TABLE = TOP / "packaging" / "commands.txt"
 # The columns of what `--help` prints, and where its texts begin.
 WIDTH, INDENT = 115, 12
-OPTION = re.compile(r"\[(--\w+) N\]")
+OPTION = re.compile(r"\[(--\w+) [A-Z]\]")
 # What stands for a file among the arguments of a command.
 FILE = re.compile(r"\b[A-Z]{2,}\b")
 
@@ -46,6 +46,16 @@ class Entry:
     @property
     def name(self) -> str:
         return self.value.split()[0]
+
+    @property
+    def letter(self) -> str:
+        """The letter for an option's value."""
+        return self.value.split(" ", 2)[1]
+
+    @property
+    def range(self) -> str:
+        """What an option's value may be."""
+        return self.value.split(" ", 2)[2]
 
     @property
     def text(self) -> str:
@@ -143,9 +153,9 @@ def command_text(table: Table, command: Entry) -> str:
     """Returns what `COMMAND --help` prints behind its first line: what the command does, and its options."""
     lines = textwrap.wrap(sentence(command.text), WIDTH, break_on_hyphens=False)
     for option in table.options_of(command):
-        value = option.value.split(" ", 1)[1]
-        lines += textwrap.wrap(f"{option.name} N  {option.text}: {value}", WIDTH, initial_indent="  ",
-                               subsequent_indent=" " * INDENT, break_on_hyphens=False)
+        words = f"{option.name} {option.letter}  {option.text}: {option.range}"
+        lines += textwrap.wrap(words, WIDTH, initial_indent="  ", subsequent_indent=" " * INDENT,
+                               break_on_hyphens=False)
     return "\n".join(lines)
 
 
@@ -173,7 +183,7 @@ def source(table: Table) -> str:
     commands = "".join(command_source(table, command) for command in table.words())
     names = "".join(f"    {rust_text(command.name)},\n" for command in table.words())
     itself = ", ".join(rust_text(word) for word in [*table.about_itself(), "-h"])
-    values = "".join(f"    ({rust_text(it.name)}, {rust_text(it.value.split(' ', 1)[1])}),\n" for it in table.options)
+    values = "".join(f"    ({rust_text(it.name)}, {rust_text(it.range)}),\n" for it in table.options)
     return f'''//! What the program says of itself. tools/usage.py writes this file from packaging/commands.txt.
 
 use crate::command::Command;
@@ -238,8 +248,8 @@ def sections(table: Table) -> Iterator[tuple[str, list[str]]]:
         elif entry.key == "example":
             yield part, [f".PP\n.RS 4\n.EX\n{roff(entry.value)}\n.EE\n.RE"]
         elif entry.key == "option":
-            value = entry.value.split(" ", 1)[1]
-            yield "OPTIONS", [f".TP\n\\fB{roff(entry.name)}\\fR \\fIN\\fR", roff(sentence(f"{entry.text}: {value}"))]
+            head = f".TP\n\\fB{roff(entry.name)}\\fR \\fI{entry.letter}\\fR"
+            yield "OPTIONS", [head, roff(sentence(f"{entry.text}: {entry.range}"))]
         elif entry.key == "own":
             yield "OPTIONS", [f".TP\n\\fB{roff(entry.name)}\\fR", roff(sentence(entry.text))]
         elif entry.key == "status":
@@ -315,7 +325,7 @@ def zsh(table: Table) -> str:
     commands = "".join(f"    '{name}:{words}'\n" for name, words in about.items())
     cases = ""
     for entry in table.words():
-        arguments = [f"'{option.name}[{option.text.split(',')[0]}]:N, {option.value.split(' ', 1)[1]}: '"
+        arguments = [f"'{option.name}[{option.text.split(',')[0]}]:{option.letter}, {option.range}: '"
                      for option in table.options_of(entry)]
         for place, file in enumerate(FILE.findall(entry.value), 1):
             arguments.append(f"'{place}:{file.lower()}:_files'")
@@ -361,7 +371,7 @@ def fish(table: Table) -> str:
     for option in table.options:
         users = " ".join(entry.name for entry in table.words() if option in table.options_of(entry))
         seen = f"__fish_seen_subcommand_from {users}"
-        about = f"{option.text.split(',')[0]}: {option.value.split(' ', 1)[1]}"
+        about = f"{option.text.split(',')[0]}: {option.range}"
         lines.append(f"complete -c {table.name} -n '{seen}' -x -l {option.name.removeprefix('--')} -d '{about}'")
     readers = " ".join(entry.name for entry in table.readers())
     lines.append(f"complete -c {table.name} -n '__fish_seen_subcommand_from {readers}' -F")

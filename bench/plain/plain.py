@@ -31,8 +31,16 @@ LIBRARIES = ["atomic_table", "csv", "indexmap", "itoa", "strsim"]
 
 CLAUSE = re.compile(r"\b(?:requires|ensures)\b ?\*?(?: \w+)?\s*\{")
 GHOST_FIELD = re.compile(r"\bghost \w+: \{")
+DEFAULT_MEMBER = re.compile(r"\bghost \w+: \{[^{}]*\} = \{")
 GHOST_ITEM = re.compile(r"\bghost \w+ = \{")
 PROOF = re.compile(r"\bprove!\(")
+LEFT_OUT = [
+    (CLAUSE, ""),
+    (GHOST_ITEM, r"\s*;"),
+    (DEFAULT_MEMBER, r"\s*;"),
+    (GHOST_FIELD, r"\s*[,;]?"),
+    (PROOF, ";?"),
+]
 TEST = re.compile(r"#\[test\]\nfn (\w+)\(")
 
 
@@ -111,7 +119,7 @@ def derived(found):
 def plain(text, crate, names):
     """Returns a source of a crate as plain Rust in a module of that name; `names` are the crates that there are."""
     text = re.sub(r"ghost use [^;]*;\n", "", text)
-    for pattern, behind in ((CLAUSE, ""), (GHOST_ITEM, r"\s*;"), (GHOST_FIELD, r"\s*[,;]?"), (PROOF, ";?")):
+    for pattern, behind in LEFT_OUT:
         text = without(text, pattern, behind)
     text = text.replace("#![tactic(auto)]", "")
     text = re.sub(r"^ *#\[tactic\(.*\)\]\n", "", text, flags=re.MULTILINE)

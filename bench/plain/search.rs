@@ -130,7 +130,7 @@ fn main() {
         };
         (task.known, task.root) = (known, leaf == 0);
         let passes = taken % TURNS == 0;
-        let found = finding::found((), &instance, &nets, &mut task, passes, &mut work).expect("memory");
+        let found = finding::found((), &instance, &nets, &mut task, passes, &mut work, &vs_multi::NoWatch).expect("memory");
         if let Some(plan) = found.outcome.plan {
             tree.offer(0, plan);
         }

@@ -254,6 +254,10 @@ pub mod sync {
         pub fn lock<R: Wait>(&self, _: &R) -> MutexGuard<'_, T> {
             self.0.lock().unwrap_or_else(PoisonError::into_inner)
         }
+
+        pub fn try_lock(&self) -> Option<MutexGuard<'_, T>> {
+            self.0.try_lock().ok()
+        }
     }
 
     pub struct Condvar(PlainCondvar);

@@ -5,9 +5,9 @@ _mdvsp() {
   COMPREPLY=()
   [ "$COMP_CWORD" -eq 1 ] && words='solve resume trace replay check blocks network peak peakcheck make trial --quiet --log --help --version'
   [ "$COMP_CWORD" -gt 1 ] && case ${COMP_WORDS[1]} in
-    solve) words='--workers --nodes --help' ;;
-    resume) words='--workers --nodes --help' ;;
-    trace) words='--workers --nodes --help' ;;
+    solve) words='--workers --nodes --seconds --gap --help' ;;
+    resume) words='--workers --nodes --seconds --gap --help' ;;
+    trace) words='--workers --nodes --seconds --gap --help' ;;
     replay) words='--help' ;;
     check) words='--help' ;;
     blocks) words='--help' ;;

@@ -18,4 +18,6 @@ complete -c mdvsp -n __fish_use_subcommand -a make -d 'write a timetable of N tr
 complete -c mdvsp -n __fish_use_subcommand -a trial -d 'make such a timetable'
 complete -c mdvsp -n '__fish_seen_subcommand_from solve resume trace' -x -l workers -d 'threads that share the search: 1 to 64, or auto for all processors'
 complete -c mdvsp -n '__fish_seen_subcommand_from solve resume trace' -x -l nodes -d 'cases of the search at most: 0 to 100000'
+complete -c mdvsp -n '__fish_seen_subcommand_from solve resume trace' -x -l seconds -d 'seconds of the search at most: 1 to 86400'
+complete -c mdvsp -n '__fish_seen_subcommand_from solve resume trace' -x -l gap -d 'gap between cost and bound at which the search ends: 0 to 1000000'
 complete -c mdvsp -n '__fish_seen_subcommand_from solve resume trace replay check blocks network peak peakcheck' -F

@@ -6,6 +6,7 @@ import os
 import stat
 import sys
 import unittest
+from fractions import Fraction
 from unittest import mock
 
 from mdvsp import run, timetable
@@ -165,6 +166,42 @@ class FindingTheProgram(FakeProgram):
                 mock.patch.object(run, "__file__", self.path("python/mdvsp/run.py")):
             os.environ.pop("MDVSP", None)
             self.assertEqual(run.find_program(), self.path("bin/mdvsp"))
+
+
+class Limits(unittest.TestCase):
+    """Searches of the program end at a limit, and what they write is judged and resumed."""
+
+    @classmethod
+    def setUpClass(cls):
+        cls.program = program()
+
+    def judged(self, found, plan):
+        verdict = run.check(found, plan, program=self.program)
+        self.assertEqual(verdict.row, ("yes", plan.claim, str(plan.cost), str(plan.bound)))
+
+    def test_a_gap(self):
+        for gap, figures in ((1000000, ("open", 1080, 60, 0)), (944445, ("open", 1080, 60, 0)),
+                             (944444, ("optimal", 1080, 1080, 1)), (0, ("optimal", 1080, 1080, 1))):
+            plan = run.solve(TWO_TRIPS, gap=gap, program=self.program)
+            self.assertEqual((plan.claim, plan.cost, plan.bound, plan.nodes), figures)
+            self.assertLessEqual(plan.gap, Fraction(gap, 1000000))
+            self.judged(TWO_TRIPS, plan)
+
+    def test_a_gap_that_is_met_on_the_way(self):
+        found = timetable.parse(run.call(["make", "60"], "", self.program)[1].encode())
+        for gap in (500000, 100000, 10000):
+            plan = run.solve(found, gap=gap, workers=1, program=self.program)
+            self.assertLessEqual(plan.gap, Fraction(gap, 1000000))
+            self.judged(found, plan)
+
+    def test_seconds(self):
+        found = timetable.parse(run.call(["make", "100"], "", self.program)[1].encode())
+        plan = run.solve(found, seconds=1, workers=2, program=self.program)
+        self.judged(found, plan)
+        further = run.resume(found, plan, seconds=1, nodes=3, gap=0, program=self.program)
+        self.judged(found, further)
+        self.assertLessEqual(further.cost, plan.cost)
+        self.assertGreaterEqual(further.bound, plan.bound)
 
 
 class Duties(unittest.TestCase):

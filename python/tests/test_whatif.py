@@ -66,13 +66,15 @@ class WhatIf(Folder):
     def test_the_town(self):
         given = program()
         town = self.write("town.csv", TOWN_TEXT)
-        status, printed, told = run("whatif", town, "--set", "Bus=1,3", "--unit", "100000", "--csv", "--program", given)
-        self.assertEqual((status, told), (0, ""))
-        self.assertEqual(printed.splitlines(), [
-            "Bus,claim,cost,bound,gap,used,reason",
-            '1,infeasible,none,none,,,"3 trips at 07:35, 2 vehicles of their layers: S2, S3, H2"',
-            "3,optimal,913.48,913.48,0.000 %,4,",
-        ])
+        for limits in ([], ["--seconds", "600", "--gap", "0"]):
+            status, printed, told = run("whatif", town, "--set", "Bus=1,3", "--unit", "100000", "--csv", "--program",
+                                        given, *limits)
+            self.assertEqual((status, told), (0, ""))
+            self.assertEqual(printed.splitlines(), [
+                "Bus,claim,cost,bound,gap,used,reason",
+                '1,infeasible,none,none,,,"3 trips at 07:35, 2 vehicles of their layers: S2, S3, H2"',
+                "3,optimal,913.48,913.48,0.000 %,4,",
+            ])
 
     def test_wrong_arguments(self):
         town = self.write("town.csv", TOWN_TEXT)

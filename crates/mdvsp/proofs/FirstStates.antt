@@ -19,7 +19,7 @@ use Rattle.vs_cert.specs.TreeText.{prices_of_number}
 use Rattle.vs_rows.specs.declared.document.Document.{Document}
 use Rattle.mdvsp.specs.Budgets.{budget_of}
 use Rattle.mdvsp.specs.Laws.{HasGreedyPlan, IsZeroTable}
-use Rattle.mdvsp.specs.SolveAnswer.{IsGreedyPlan, SolveAnswer}
+use Rattle.mdvsp.specs.SolveAnswer.{IsGreedyPlan, StoppedAnswer}
 
 -- at first no leaf is held
 none_held : (o : Opening) (worker k : ℕ) → ¬ (IsHeldBy (first_state o) worker k)
@@ -84,7 +84,7 @@ pub given_budget : (p : Problem) (nodes budget : ℕ) → budget_of p (Some node
 given_budget p nodes budget e = given_nodes nodes budget _ e
 
 -- what the document is like of a search without a budget
-module _ (p : Problem) (workers : ℕ) (d : Document) (solves : SolveAnswer p 0 workers d) where
+module _ (p : Problem) (workers : ℕ) (d : Document) (solves : StoppedAnswer p 0 workers d) where
   abbrev o : Opening
   o = solves.searched.opening
 

@@ -22,9 +22,9 @@ use Rattle.vs_reply.specs.Status.{status_of}
 use Rattle.mdvsp.specs.Owed.{OwesDocument}
 use Rattle.vs_reader.specs.Rows.{Row}
 use Rattle.vs_prices.specs.Tree.{Tree, Leaf, Split, LeafPlace, leaves, splits}
-use Rattle.vs_cert.specs.Answers.{AreWorths, IsAnswer, IsBoundOf}
+use Rattle.vs_cert.specs.Answers.{AreWorths, IsAnswerSoFar, IsBoundOf}
 use Rattle.mdvsp.specs.Budgets.{budget_of}
-use Rattle.mdvsp.specs.SolveAnswer.{SolveAnswer}
+use Rattle.mdvsp.specs.SolveAnswer.{StoppedAnswer}
 use Rattle.mdvsp.proofs.once.SearchesAgree.{optimal_from}
 use Rattle.mdvsp.proofs.FirstStates.{given_budget, greedy_plan, zero_listed}
 
@@ -52,11 +52,11 @@ one_case (Leaf t) none = (t, refl)
 one_case (Split trip left lower upper) none = absurd (omega (arith, none))
 
 -- so is that of a search without a budget
-pub one_leaf : (p : Problem) (d : Document) (s : IsAnswer p 0 d) → (t : ℕ) × (s.holds.tree.tree ≡ Leaf t)
+pub one_leaf : (p : Problem) (d : Document) (s : IsAnswerSoFar p 0 d) → (t : ℕ) × (s.holds.tree.tree ≡ Leaf t)
 one_leaf p d s = one_case s.holds.tree.tree (omega (arith, s.each_split, s.within_budget))
 
 -- the one worth is that of the one table
-worth_is : (p : Problem) (d : Document) (table : Table) (s : IsAnswer p 0 d) → d.tables.items ≡ table ∷ []
+worth_is : (p : Problem) (d : Document) (table : Table) (s : IsAnswerSoFar p 0 d) → d.tables.items ≡ table ∷ []
     → table.ray ≡ false
     → (n : ℤ) × IsWorth p (permitted_sets p) table (AtLeast n) × (s.worths ≡ AtLeast n ∷ [])
 worth_is p d table s one cost =
@@ -121,7 +121,7 @@ done_where_shown effort bytes answer rows owed none =
     let p = owed.problem in
     let d = owed.document in
     let given = given_budget p 0 owed.budget (sym (ap (budget_of p) none) ∙ owed.budget_is) in
-    let solves = subst (λ (n : ℕ). SolveAnswer p n effort.workers d) given owed.solves in
+    let solves = subst (λ (n : ℕ). StoppedAnswer p n effort.workers d) given owed.solves in
     let zero = zero_listed p effort.workers d solves in
     let w = worth_is p d zero.0 solves.answer zero.1 zero.2.cost in
     let bound = subst (λ (ws : List Bound). IsBoundOf d.cost ws d.bound) w.2 solves.answer.bound in

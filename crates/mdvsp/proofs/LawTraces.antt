@@ -15,11 +15,11 @@ use Rattle.vs_trace.specs.TraceRows.{IsOpeningForm, trace_text}
 use Rattle.vs_tree.specs.History.{FullStep, IsHistory, Opening, state_of}
 use Rattle.vs_tree.specs.Sound.{IsOpening}
 use Rattle.vs_tree.specs.Takes.{held_leaves}
-use Rattle.vs_words.specs.Words.{MayBeTaken}
+use Rattle.vs_words.specs.Words.{IsUnlimited, MayBeTaken}
 use Rattle.vs_words.specs.declared.command.Effort.{Effort}
 use Rattle.mdvsp.specs.Laws.{WritesAnswer}
 use Rattle.mdvsp.specs.Owed.{OwesTrace}
-use Rattle.mdvsp.proofs.SearchAnswers.{search_answers}
+use Rattle.mdvsp.proofs.SearchAnswers.{search_answers, stopped_answers}
 use Rattle.mdvsp.proofs.TraceRoom.{budget_few, budget_has_room}
 
 -- what is answered for the trace text of a search
@@ -72,12 +72,12 @@ module _ (effort : Effort) (bytes read : List ℕ) (answer replayed : Status) (r
   answers =
       let made = owed.tells.made in
       replays_as bytes read o owed.steps owed.names owed.text.before owed.text.rest replayed others made.is_opening
-      made.history owed.tells.few_steps form made.over.none_held ends
+      made.history owed.tells.few_steps form made.none_held ends
       (subst (λ (written : List Row). ReplayOwes (read ++ lines written) replayed others) owed.rows_are owes)
       owed.problem made.begins.problem owed.text.instance has room
 
-  pub written_traces_answer : (replayed ≡ Done) × WritesAnswer owed.problem owed.names owed.budget effort.workers
-      owed.opening owed.steps others
+  pub written_traces_answer : (replayed ≡ Done) × WritesAnswer (IsUnlimited effort) owed.problem owed.names
+      owed.budget effort.workers owed.opening owed.steps others
   written_traces_answer =
       let is = answers.1 in
       let same = owed.tells.made.begins.problem in (
@@ -85,8 +85,10 @@ module _ (effort : Effort) (bytes read : List ℕ) (answer replayed : Status) (r
         record {
           document = is.document;
           of_state = is.of_state;
-          solves = search_answers owed.problem owed.budget effort.workers owed.opening owed.steps is.document
+          solves = stopped_answers owed.problem owed.budget effort.workers owed.opening owed.steps is.document
               owed.tells.made is.of_state is.has_text;
+          whole = λ unlimited. search_answers owed.problem owed.budget effort.workers owed.opening owed.steps
+              is.document (owed.whole unlimited).made is.of_state is.has_text;
           lines_are =
               subst (λ (x : Problem). lines others ≡ lines (document_rows x owed.names is.document)) same is.bytes_are;
         },

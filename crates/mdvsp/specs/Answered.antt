@@ -22,8 +22,8 @@ use Rattle.vs_document.specs.Alike.{AreAlike}
 use Rattle.vs_make.specs.Made.{IsWholeText}
 use Rattle.vs_reader.specs.Names.{NameLists}
 use Rattle.vs_reader.specs.Rows.{lines}
-use Rattle.vs_resume.specs.Answers.{ResumeAnswer}
-use Rattle.mdvsp.specs.SolveAnswer.{SolveAnswer, TraceAnswer}
+use Rattle.vs_resume.specs.Answers.{ResumeAnswer, StoppedResume}
+use Rattle.mdvsp.specs.SolveAnswer.{SolveAnswer, StoppedAnswer, StoppedTrace, TraceAnswer}
 use Rattle.mdvsp.specs.Owed.{Owes}
 
 -- the text is the lines of rows that are owed for the bytes, with this answer
@@ -39,19 +39,23 @@ IsSaid (Ok answer) said taken taken_after faults faults_after =
 IsSaid (Err memory) said taken taken_after faults faults_after = (said ≡ NoMemory) × (taken_after ≡ taken)
 
 -- the text is that of a document that a search with this budget and so many workers answers, and the status that of its
--- claim
-pub record AnswersDocument (problem : Problem) (names : NameLists) (budget workers : ℕ) (answer : Answer) : Type 0 where
+-- claim; where it doesn't end early, the search is over
+pub record AnswersDocument (ends : Type 0) (problem : Problem) (names : NameLists) (budget workers : ℕ)
+    (answer : Answer) : Type 0 where
   pub document : Document
-  pub solves : SolveAnswer problem budget workers document
+  pub solves : StoppedAnswer problem budget workers document
+  pub whole : ends → SolveAnswer problem budget workers document
   pub status_is : answer.status ≡ status_of document.claim
   pub text_is : answer.text.items ≡ lines (document_rows problem names document)
 
 -- the text is the trace of such a search, and the status that of what it reports
-pub record AnswersTrace (problem : Problem) (names : NameLists) (budget workers : ℕ) (answer : Answer) : Type 0 where
+pub record AnswersTrace (ends : Type 0) (problem : Problem) (names : NameLists) (budget workers : ℕ) (answer : Answer)
+    : Type 0 where
   pub opening : Opening
   pub steps : List FullStep
   pub report : Report
-  pub tells : TraceAnswer problem budget workers opening steps report
+  pub tells : StoppedTrace problem budget workers opening steps report
+  pub whole : ends → TraceAnswer problem budget workers opening steps report
   pub status_is : answer.status ≡ status_of report.claim
   pub text_is : answer.text.items ≡ lines (trace_text names opening steps)
 
@@ -72,9 +76,10 @@ IsReadOf made written e =
     (p : Problem) (names : NameLists) (d : Document) → AreTextsOf made written p names d → AreAlike p d e
 
 -- the text is that of a document that answers another one within this budget, and the status that of its claim
-pub record IsResumed (problem : Problem) (names : NameLists) (budget : ℕ) (before : Document) (answer : Answer) : Type 0
-  where
-    pub document : Document
-    pub answers : ResumeAnswer problem budget before document
-    pub status_is : answer.status ≡ status_of document.claim
-    pub text_is : answer.text.items ≡ lines (document_rows problem names document)
+pub record IsResumed (ends : Type 0) (problem : Problem) (names : NameLists) (budget : ℕ) (before : Document)
+    (answer : Answer) : Type 0 where
+  pub document : Document
+  pub answers : StoppedResume problem budget before document
+  pub whole : ends → ResumeAnswer problem budget before document
+  pub status_is : answer.status ≡ status_of document.claim
+  pub text_is : answer.text.items ≡ lines (document_rows problem names document)

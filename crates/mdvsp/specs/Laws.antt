@@ -15,7 +15,7 @@ use Rattle.vs_rows.specs.DocumentRows.{document_rows}
 use Rattle.vs_cert.specs.StateDocument.{IsDocumentOf}
 use Rattle.vs_tree.specs.History.{FullStep, Opening, state_of}
 use Rattle.vs_tree.specs.declared.calls.Report.{Report}
-use Rattle.mdvsp.specs.SolveAnswer.{SolveAnswer}
+use Rattle.mdvsp.specs.SolveAnswer.{SolveAnswer, StoppedAnswer}
 use Rattle.vs_words.specs.declared.command.Command.{Command}
 use Rattle.vs_words.specs.declared.command.Command.TheVariants as commands
 use Rattle.vs_words.specs.declared.command.Effort.{Effort}
@@ -69,11 +69,12 @@ abbrev pub MayBothBe : Status → Status → Type 0
 MayBothBe a b = (a ≡ b) ⊎ ((a ≡ status.StillOpen) × IsSettled b) ⊎ ((b ≡ status.StillOpen) × IsSettled a)
 
 -- the rows are written as those of a document of the state that a search came to, which the search may answer
-pub record WritesAnswer (p : Problem) (names : NameLists) (budget workers : ℕ) (opening : Opening)
+pub record WritesAnswer (ends : Type 0) (p : Problem) (names : NameLists) (budget workers : ℕ) (opening : Opening)
     (steps : List FullStep) (rows : List Row) : Type 0 where
   pub document : Document
   pub of_state : IsDocumentOf opening (state_of opening steps) document
-  pub solves : SolveAnswer p budget workers document
+  pub solves : StoppedAnswer p budget workers document
+  pub whole : ends → SolveAnswer p budget workers document
   pub lines_are : lines rows ≡ lines (document_rows p names document)
 
 -- what a search shows of an instance: what its plan costs, where it has one, and what no plan costs less than, where

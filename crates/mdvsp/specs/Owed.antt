@@ -22,15 +22,17 @@ use Rattle.vs_words.specs.declared.command.Plain.TheVariants.{Check, Network, Bl
 use Rattle.vs_words.specs.declared.command.Search.{Search}
 use Rattle.vs_words.specs.declared.command.Search.TheVariants.{Solve, Trial, Resume, Trace}
 use Rattle.vs_make.specs.Generator.{make_rows}
-use Rattle.vs_resume.specs.Answers.{ResumeAnswer}
+use Rattle.vs_resume.specs.Answers.{ResumeAnswer, StoppedResume}
 use Rattle.vs_trace.specs.TraceRows.{trace_text}
 use Rattle.vs_tree.specs.History.{FullStep, Opening}
 use Rattle.vs_tree.specs.declared.calls.Report.{Report}
 use Rattle.mdvsp.specs.Budgets.{budget_of, resumed_budget}
-use Rattle.mdvsp.specs.SolveAnswer.{SolveAnswer, TraceAnswer}
+use Rattle.vs_words.specs.Words.{IsUnlimited}
+use Rattle.mdvsp.specs.SolveAnswer.{SolveAnswer, StoppedAnswer, StoppedTrace, TraceAnswer}
 
 -- `solve` is owed a document that a search of the instance answers, made by as many workers as are asked for within the
--- budget, and that proves what it claims, with the status of its claim
+-- budget, and that proves what it claims, with the status of its claim; where no limit of time or of the gap is given,
+-- the search is over
 pub record OwesDocument (effort : Effort) (bytes : List ℕ) (answer : Status) (rows : List Row) : Type 0 where
   pub problem : Problem
   pub names : NameLists
@@ -38,7 +40,8 @@ pub record OwesDocument (effort : Effort) (bytes : List ℕ) (answer : Status) (
   pub text : SolveText bytes problem names
   pub budget : ℕ
   pub budget_is : budget_of problem effort.nodes ≡ Some budget
-  pub solves : SolveAnswer problem budget effort.workers document
+  pub solves : StoppedAnswer problem budget effort.workers document
+  pub whole : IsUnlimited effort → SolveAnswer problem budget effort.workers document
   pub proves : ProvesItsClaim problem document
   pub status_is : answer ≡ status_of document.claim
   pub rows_are : rows ≡ document_rows problem names document
@@ -88,7 +91,7 @@ TrialOwes n status.StillOpen rows = OwesTrial n status.StillOpen rows
 TrialOwes n _ rows = ⊥
 
 -- `resume` is owed a document that answers the one behind the instance, which holds, within the budget, and that proves
--- what it claims, with the status of its claim
+-- what it claims, with the status of its claim; where no limit of time or of the gap is given, it didn't end early
 pub record OwesResumed (effort : Effort) (bytes : List ℕ) (answer : Status) (rows : List Row) : Type 0 where
   pub problem : Problem
   pub names : NameLists
@@ -98,7 +101,8 @@ pub record OwesResumed (effort : Effort) (bytes : List ℕ) (answer : Status) (r
   pub budget_is : resumed_budget problem before effort.nodes ≡ Some budget
   pub held : HoldingDocument problem before
   pub document : Document
-  pub answers : ResumeAnswer problem budget before document
+  pub answers : StoppedResume problem budget before document
+  pub whole : IsUnlimited effort → ResumeAnswer problem budget before document
   pub proves : ProvesItsClaim problem document
   pub status_is : answer ≡ status_of document.claim
   pub rows_are : rows ≡ document_rows problem names document
@@ -132,7 +136,8 @@ ResumeOwes effort bytes status.BadInput rows = OwesNoTurn effort bytes rows
 ResumeOwes effort bytes _ rows = ⊥
 
 -- `trace` is owed the trace of a search of the instance, made by as many workers as are asked for within the budget,
--- whose document `solve` may be owed, with the status of what it reports
+-- whose document `solve` may be owed, with the status of what it reports; where no limit of time or of the gap is
+-- given, the search is over
 pub record OwesTrace (effort : Effort) (bytes : List ℕ) (answer : Status) (rows : List Row) : Type 0 where
   pub problem : Problem
   pub names : NameLists
@@ -142,7 +147,8 @@ pub record OwesTrace (effort : Effort) (bytes : List ℕ) (answer : Status) (row
   pub opening : Opening
   pub steps : List FullStep
   pub report : Report
-  pub tells : TraceAnswer problem budget effort.workers opening steps report
+  pub tells : StoppedTrace problem budget effort.workers opening steps report
+  pub whole : IsUnlimited effort → TraceAnswer problem budget effort.workers opening steps report
   pub status_is : answer ≡ status_of report.claim
   pub rows_are : rows ≡ trace_text names opening steps
 

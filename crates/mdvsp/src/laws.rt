@@ -14,7 +14,9 @@ ghost use Rattle.mdvsp.specs.Laws.{IsDetermined, IsDoneWhereShown, MayBothBe, Ne
 ghost use Rattle.vs_reply.specs.Owed.{CheckOwes, yes_row};
 ghost use Rattle.mdvsp.specs.Owed.{Owes, OwesDocument, OwesResumed, OwesTrace};
 ghost use Rattle.vs_replay.specs.Owed.{ReplayOwes};
-ghost use Rattle.vs_words.specs.Words.{MayBeTaken, Reads};
+ghost use Rattle.vs_words.specs.Words.{IsUnlimited, MayBeTaken, Reads};
+ghost use Rattle.vs_rows.specs.declared.document.Document.{Document};
+ghost use Rattle.mdvsp.specs.SolveAnswer.{SolveAnswer, StoppedAnswer};
 ghost use Rattle.vs_document.specs.ReadingBack.{ReadsAs};
 ghost use Rattle.vs_reader.specs.Rows.{Row, lines};
 
@@ -52,8 +54,8 @@ pub fn written_traces_replay()
         (owed : OwesTrace effort bytes answer rows) → MayBeTaken effort
         → HasRows read (take owed.text.before owed.text.instance.rows) → EndsInLine read
         → ReplayOwes (read ++ lines rows) replayed others
-        → (replayed ≡ status.Done) × WritesAnswer owed.problem owed.names owed.budget effort.workers
-        owed.opening owed.steps others }
+        → (replayed ≡ status.Done) × WritesAnswer (IsUnlimited effort) owed.problem owed.names owed.budget
+        effort.workers owed.opening owed.steps others }
 {}
 
 /// A command other than `solve`, `trial`, `resume`, `trace` and `peak` must output one thing for the bytes that it
@@ -100,17 +102,23 @@ pub fn done_where_shown()
         → effort.nodes ≡ Some 0 → IsDoneWhereShown effort bytes answer rows owed }
 {}
 
+/// What a search may answer that is over, one that ended early may answer too.
+pub fn solve_answers_are_stopped_answers()
+    ensures { (p : Problem) (budget workers : ℕ) (d : Document) → SolveAnswer p budget workers d
+        → StoppedAnswer p budget workers d }
+{}
+
 /// Each trip's layer can be chosen in so many ways, and all layers together in the product of these numbers. A run with
-/// a budget of twice that product less one, or more, isn't left open.
+/// a budget of twice that product less one, or more, and without a limit of time or of the gap isn't left open.
 pub fn enough_nodes_leave_nothing_open()
     ensures { (effort : Effort) (bytes : List ℕ) (answer : Status) (rows : List Row)
-        (owed : OwesDocument effort bytes answer rows)
+        (owed : OwesDocument effort bytes answer rows) → IsUnlimited effort
         → 2 * choices (permitted_sets owed.problem) ≤ owed.budget + 1 → answer ≢ status.StillOpen }
 {}
 
 /// Nor is a search that is carried on with so many nodes, from whatever document that holds.
 pub fn enough_nodes_end_what_is_resumed()
     ensures { (effort : Effort) (bytes : List ℕ) (answer : Status) (rows : List Row)
-        (owed : OwesResumed effort bytes answer rows)
+        (owed : OwesResumed effort bytes answer rows) → IsUnlimited effort
         → 2 * choices (permitted_sets owed.problem) ≤ owed.budget + 1 → answer ≢ status.StillOpen }
 {}

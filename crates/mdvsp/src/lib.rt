@@ -5,6 +5,7 @@
 mod budget;
 mod crew;
 mod laws;
+mod limits;
 mod resuming;
 mod running;
 mod saying;
@@ -16,7 +17,8 @@ mod trial;
 pub use laws::{
     bounds_never_fall, bounds_never_pass_costs, done_where_shown, enough_nodes_end_what_is_resumed,
     enough_nodes_leave_nothing_open, one_answer, one_input_has_one_instance, one_status,
-    resumed_documents_hold, searches_agree, solved_documents_hold, written_traces_replay,
+    resumed_documents_hold, searches_agree, solve_answers_are_stopped_answers,
+    solved_documents_hold, written_traces_replay,
 };
 pub use running::run;
 pub use vs_make::make_text;

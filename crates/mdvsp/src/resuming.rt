@@ -8,9 +8,9 @@ ghost use Rattle.vs_reader.specs.Names.{HaveCounts};
 ghost use Rattle.vs_reply.specs.Answered.{IsTextOf};
 ghost use Rattle.vs_reply.specs.Cases.{CheckText, input_limit};
 ghost use Rattle.vs_resume.specs.Answers.{HasRoom};
-ghost use Rattle.vs_resume.specs.Deepened.{IsDeepened};
+ghost use Rattle.vs_resume.specs.Deepened.{IsBegunOn, IsDeepened};
 ghost use Rattle.vs_rows.specs.DocumentText.{HasText};
-ghost use Rattle.vs_words.specs.Words.{MayBeTaken};
+ghost use Rattle.vs_words.specs.Words.{IsUnlimited, MayBeTaken};
 ghost use Rattle.mdvsp.specs.Answered.{IsResumed};
 ghost use Rattle.mdvsp.specs.Owed.{ResumeOwes};
 ghost use Rattle.mdvsp.specs.Resuming.{BeginsResuming};
@@ -22,7 +22,7 @@ use std::alloc::Global;
 use std::sync::Wait;
 use std::thread::Threads;
 use vs_check::{Verdict, check};
-use vs_crew::Gate;
+use vs_crew::{Gate, Stand};
 use vs_document::{Document, text_of};
 use vs_instance::Instance;
 use vs_reader::Input;
@@ -31,6 +31,14 @@ use vs_resume::{Deepen, resume};
 use vs_tree::Tree;
 use vs_types::Memory;
 use vs_words::Effort;
+
+/// How far a search has come of which nothing is known.
+const FIRST_STAND: Stand = Stand {
+    finished: 0,
+    open: 0,
+    cost: None,
+    bound: None,
+};
 
 /// Whether a search is carried on from a document.
 #[derive(Drop)]
@@ -46,6 +54,7 @@ impl<'a, R: Threads + Wait + Sync, G: Gate + Sync> Crew<'a, R, G> {
     pub fn resume(&self, alloc: Global, effort: Effort, bytes: &[u8]) -> Result<Answer, Memory>
         requires bytes { length bytes.now ≤ input_limit }
         requires effort { MayBeTaken effort }
+        requires limits { self.now.gate.effort ≡ effort }
         ensures { IfOk result (IsTextOf (ResumeOwes effort bytes.now)) }
     {
         match read_case(alloc, bytes) {
@@ -58,6 +67,7 @@ impl<'a, R: Threads + Wait + Sync, G: Gate + Sync> Crew<'a, R, G> {
     /// The same for the instance and the document that were read.
     fn resume_case(&self, alloc: Global, effort: Effort, case: Case) -> Result<Answer, Memory>
         requires effort { MayBeTaken effort }
+        requires limits { self.now.gate.effort ≡ effort }
         requires read_for { IsReadFor case.input.instance case.document }
         requires counts { HaveCounts case.input.instance case.input.names }
         requires text { HasText case.input.instance case.document }
@@ -88,13 +98,19 @@ impl<'a, R: Threads + Wait + Sync, G: Gate + Sync> Crew<'a, R, G> {
         requires holds { HoldingDocument input.now.instance document }
         requires budget { budget ≤ MAX_BUDGET }
         requires room { HasRoom input.now.instance document budget }
-        ensures { IfOk result (IsResumed input.now.instance input.now.names budget document) }
+        ensures { IfOk result (IsResumed (IsUnlimited self.now.gate.effort) input.now.instance
+            input.now.names budget document) }
     {
-        let search = |part: Instance, nodes: u32| -> Result<Tree, Memory>
+        let search = |part: Instance, nodes: u32, before: Stand| -> Result<Tree, Memory>
             requires { nodes ≤ MAX_BUDGET }
-            ensures { IfOk result (IsDeepened part nodes) }
-        { self.search_part(alloc, &part, nodes) };
-        let mut solver = ByCalls { search };
+            ensures begun { IfOk result (IsBegunOn part nodes) }
+            ensures found { IsUnlimited self.entry.now.gate.effort → IfOk result (IsDeepened part nodes) }
+        { self.within(before).search_part(alloc, &part, nodes) };
+        let mut solver = ByCalls {
+            gate: &self.gate,
+            before: FIRST_STAND,
+            search,
+        };
         resumed(alloc, input, document, budget, &mut solver)
     }
 }
@@ -131,7 +147,8 @@ fn resumed<S: Deepen>(
     requires budget { budget ≤ MAX_BUDGET }
     requires room { HasRoom input.now.instance document budget }
     requires can { S.can_deepen solver.old }
-    ensures { IfOk result (IsResumed input.now.instance input.now.names budget document) }
+    ensures { IfOk result (IsResumed (¬ (S.may_stop solver.old)) input.now.instance input.now.names budget
+        document) }
 {
     let after = resume(alloc, &input.instance, document, budget, solver)?;
     let text = text_of(alloc, &input.instance, &input.names, &after)?;

@@ -128,19 +128,10 @@ fn answer_search<R: Threads + Wait + Sync, G: Gate + Sync>(
     ensures { IfOk result (IsTextOf (SearchOwes search bytes.now)) }
 {
     match search {
-        Search::Solve(effort) => {
-            let workers = effort.workers;
-            Crew { rt, gate, workers }.solve(alloc, effort, bytes)
-        }
+        Search::Solve(effort) => Crew::new(rt, gate, effort).solve(alloc, effort, bytes),
         Search::Trial(n) => answer_trial(rt, alloc, n, gate),
-        Search::Resume(effort) => {
-            let workers = effort.workers;
-            Crew { rt, gate, workers }.resume(alloc, effort, bytes)
-        }
-        Search::Trace(effort) => {
-            let workers = effort.workers;
-            Crew { rt, gate, workers }.trace(alloc, effort, bytes)
-        }
+        Search::Resume(effort) => Crew::new(rt, gate, effort).resume(alloc, effort, bytes),
+        Search::Trace(effort) => Crew::new(rt, gate, effort).trace(alloc, effort, bytes),
     }
 }
 

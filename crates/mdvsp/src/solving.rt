@@ -3,7 +3,7 @@
 ghost use Rattle.std.specs.Prelude.{◌≡◌, ◌≤◌, length, IfOk};
 ghost use Rattle.vs_reader.specs.Names.{HaveCounts};
 ghost use Rattle.vs_tree.specs.Search.{state};
-ghost use Rattle.vs_tree.specs.Takes.{IsOver};
+ghost use Rattle.vs_tree.specs.Takes.{IsOver, held_leaves};
 ghost use Rattle.vs_instance.specs.declared.limits.TheConstants.{MAX_BUDGET};
 ghost use Rattle.vs_node.specs.WorkedHistory.{AreWorked};
 ghost use Rattle.mdvsp.specs.Answered.{AnswersDocument};
@@ -12,7 +12,7 @@ ghost use Rattle.vs_reply.specs.Answered.{IsTextOf};
 ghost use Rattle.vs_reply.specs.Cases.{input_limit};
 ghost use Rattle.vs_reply.specs.Status.{status_of};
 ghost use Rattle.mdvsp.specs.SolveAnswer.{BeginsFor};
-ghost use Rattle.vs_words.specs.Words.{MayBeTaken};
+ghost use Rattle.vs_words.specs.Words.{IsUnlimited, MayBeTaken};
 
 use crate::crew::Crew;
 use crate::searchable::{Searchable, read_to_search};
@@ -35,6 +35,7 @@ impl<'a, R: Threads + Wait + Sync, G: Gate + Sync> Crew<'a, R, G> {
         requires bytes { length bytes.now ≤ input_limit }
         requires effort { MayBeTaken effort }
         requires workers { self.now.workers ≡ effort.workers }
+        requires limits { self.now.gate.effort ≡ effort }
         ensures { IfOk result (IsTextOf (SolveOwes effort bytes.now)) }
     {
         match read_to_search(alloc, effort, bytes)? {
@@ -48,7 +49,8 @@ impl<'a, R: Threads + Wait + Sync, G: Gate + Sync> Crew<'a, R, G> {
         requires counts { HaveCounts timetable.now.instance timetable.now.names }
         requires budget { budget ≤ MAX_BUDGET }
         ensures { IfOk result
-            (AnswersDocument timetable.now.instance timetable.now.names budget self.now.workers) }
+            (AnswersDocument (IsUnlimited self.now.gate.effort) timetable.now.instance timetable.now.names budget
+            self.now.workers) }
     {
         let tree = self.search_anew(alloc, &timetable.instance, budget)?;
         let _instance = tree.instance();
@@ -59,7 +61,7 @@ impl<'a, R: Threads + Wait + Sync, G: Gate + Sync> Crew<'a, R, G> {
         })
     }
 
-    /// A search of the instance that begins with the greedy rule's plan, once it is over.
+    /// A search of the instance that begins with the greedy rule's plan, once it is over, or a limit is reached.
     pub fn search_anew(
         &self,
         alloc: Global,
@@ -70,7 +72,9 @@ impl<'a, R: Threads + Wait + Sync, G: Gate + Sync> Crew<'a, R, G> {
         ensures begins { IfOk result (λ tree.
             BeginsFor instance.now budget self.now.workers tree.opening) }
         ensures worked { IfOk result (λ tree. AreWorked tree.opening tree.steps) }
-        ensures over { IfOk result (λ tree. IsOver tree.opening (state tree)) }
+        ensures none_held { IfOk result (λ tree. held_leaves (state tree) ≡ 0) }
+        ensures over { IsUnlimited self.now.gate.effort
+            → IfOk result (λ tree. IsOver tree.opening (state tree)) }
     {
         let first = greedy(alloc, instance)?;
         self.search(alloc, instance, budget, first)

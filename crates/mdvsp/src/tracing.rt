@@ -4,7 +4,7 @@ ghost use Rattle.std.specs.Prelude.{◌≡◌, ◌<◌, ◌≤◌, ◌^◌, leng
 ghost use Rattle.vs_instance.specs.declared.limits.TheConstants.{MAX_BUDGET};
 ghost use Rattle.vs_reader.specs.Names.{HaveCounts};
 ghost use Rattle.vs_reply.specs.Cases.{input_limit};
-ghost use Rattle.vs_words.specs.Words.{MayBeTaken};
+ghost use Rattle.vs_words.specs.Words.{IsUnlimited, MayBeTaken};
 ghost use Rattle.vs_reply.specs.Answered.{IsTextOf};
 ghost use Rattle.mdvsp.specs.Answered.{AnswersTrace};
 ghost use Rattle.mdvsp.specs.Owed.{TraceOwes};
@@ -29,6 +29,7 @@ impl<'a, R: Threads + Wait + Sync, G: Gate + Sync> Crew<'a, R, G> {
         requires bytes { length bytes.now ≤ input_limit }
         requires effort { MayBeTaken effort }
         requires workers { self.now.workers ≡ effort.workers }
+        requires limits { self.now.gate.effort ≡ effort }
         ensures { IfOk result (IsTextOf (TraceOwes effort bytes.now)) }
     {
         match read_to_search(alloc, effort, bytes)? {
@@ -42,7 +43,8 @@ impl<'a, R: Threads + Wait + Sync, G: Gate + Sync> Crew<'a, R, G> {
         requires counts { HaveCounts timetable.now.instance timetable.now.names }
         requires budget { budget ≤ MAX_BUDGET }
         ensures { IfOk result
-            (AnswersTrace timetable.now.instance timetable.now.names budget self.now.workers) }
+            (AnswersTrace (IsUnlimited self.now.gate.effort) timetable.now.instance timetable.now.names budget
+            self.now.workers) }
     {
         // for the proof: what a report claims is true, and a list has fewer than 2^63 steps.
         reports_are_true();

@@ -22,12 +22,21 @@ use vs_make::make_text;
 use vs_reader::{MAX_BYTES, ReadError, Timetable, read_instance};
 use vs_reply::{Answer, Case, CaseError, read_case};
 use vs_types::Memory;
+use vs_words::Effort;
 
 /// On how many nodes the search of a trial works at most.
 pub const TRIAL_NODES: u32 = 20;
 
 /// How many workers share it.
 pub const TRIAL_WORKERS: u32 = 1;
+
+/// The effort of that search.
+const TRIAL_EFFORT: Effort = Effort {
+    workers: TRIAL_WORKERS,
+    nodes: Some(TRIAL_NODES),
+    seconds: None,
+    gap: None,
+};
 
 /// What `trial n` answers: the generator's instance of n trips is made, read and searched. The document that is written
 /// for it is then read behind its instance and judged.
@@ -57,8 +66,7 @@ fn trial_of<R: Threads + Wait + Sync, G: Gate + Sync>(
     ensures { IfOk result (IsTextOf (TrialOwes n)) }
 {
     let timetable = read_made(alloc, n, made)?;
-    let workers = TRIAL_WORKERS;
-    let crew = Crew { rt, gate, workers };
+    let crew = Crew::new(rt, gate, TRIAL_EFFORT);
     let planned = crew.plan(alloc, &timetable, TRIAL_NODES)?;
     let document = read_back(alloc, made, &planned.text)?;
     let text = summary(alloc, n, &document)?;

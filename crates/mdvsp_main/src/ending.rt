@@ -6,6 +6,7 @@ use crate::stop::{OUT_OF_MEMORY, unread_words};
 use crate::voice::Voice;
 use mdvsp::Status;
 use std::alloc::Global;
+use std::rt::Clock;
 use vs_messages::{reason_text, refusal_text};
 use vs_types::Memory;
 
@@ -17,11 +18,11 @@ const TOO_LONG: &str = "the input is longer than 536870912 bytes";
 
 /// Says how a run ended, where it wasn't done: what was refused or doesn't hold, or why there is no plan, by what was
 /// written, or how a stream failed.
-pub fn say_end<R: Eprint>(
+pub fn say_end<R: Eprint + Clock>(
     alloc: Global,
     voice: &Voice<'_, R>,
     status: &Status,
-    input: &KeptSource<Joined>,
+    input: &KeptSource<'_, Joined, R>,
     written: &Kept,
 ) {
     match status {

@@ -2,8 +2,10 @@
 
 ghost use Rattle.std.specs.Prelude.{None};
 
+use crate::stopwatch::Stopwatch;
 use std::alloc::Global;
 use std::io::Read;
+use std::rt::Clock;
 use vs_io::{Failed, Sink, Source};
 
 /// The bytes that went through a stream, where they are kept at all and there was memory for them.
@@ -39,28 +41,30 @@ impl Kept {
     }
 }
 
-/// A source over a reader, which keeps what it gives. It gives no `left`.
+/// A source over a reader, which keeps what it gives, and restarts a stopwatch at the reader's end. It gives no `left`.
 #[derive(Drop)]
-pub struct KeptSource<R: Read + Drop> {
-    reader: R,
+pub struct KeptSource<'a, I: Read + Drop, R: Clock> {
+    reader: I,
     kept: Kept,
+    watch: &'a Stopwatch<'a, R>,
     calls: u64,
     faults: u64,
 }
 
-impl<R: Read + Drop> KeptSource<R> {
+impl<'a, I: Read + Drop, R: Clock> KeptSource<'a, I, R> {
     /// A source that gives what the reader gives.
-    pub fn new(reader: R, kept: Kept) -> KeptSource<R> {
+    pub fn new(reader: I, kept: Kept, watch: &'a Stopwatch<'a, R>) -> KeptSource<'a, I, R> {
         KeptSource {
             reader,
             kept,
+            watch,
             calls: 0,
             faults: 0,
         }
     }
 
     /// The reader.
-    pub fn reader(&self) -> &R {
+    pub fn reader(&self) -> &I {
         &self.reader
     }
 
@@ -68,9 +72,16 @@ impl<R: Read + Drop> KeptSource<R> {
     pub fn kept(&self) -> &Kept {
         &self.kept
     }
+
+    /// Restarts the stopwatch where the reader, which gave so many bytes, is at its end.
+    fn look_for_end(&self, count: usize) {
+        if count == 0 {
+            self.watch.restart();
+        }
+    }
 }
 
-impl<R: Read + Drop> Source for KeptSource<R> {
+impl<I: Read + Drop, R: Clock> Source for KeptSource<'_, I, R> {
     ghost left = { λ _. None };
 
     ghost calls = { λ s. s.calls };
@@ -82,6 +93,7 @@ impl<R: Read + Drop> Source for KeptSource<R> {
         match self.reader.read(buf) {
             Ok(count) => {
                 self.kept.keep(&buf[..count]);
+                self.look_for_end(count);
                 Ok(count)
             }
             Err(_) => {

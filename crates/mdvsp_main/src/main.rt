@@ -17,6 +17,7 @@ use std::sync::Wait;
 use std::thread::Threads;
 use std::{env, io};
 use stop::Stop;
+use stopwatch::Stopwatch;
 use usage::{TOOLCHAIN, USAGE, USAGE_LINE, VERSION};
 use voice::Voice;
 use vs_crew::NoGate;
@@ -32,7 +33,9 @@ mod nearest;
 mod own;
 mod progress;
 mod refused;
+mod standing;
 mod stop;
+mod stopwatch;
 mod stream;
 mod usage;
 mod voice;
@@ -141,12 +144,13 @@ where
     }
     let form = Form::of(own.log || call.log, own.quiet, streams.on_screen);
     let (words, input) = call.opened(rt.alloc())?;
-    let mut input = KeptSource::new(input, Kept::new(rt.alloc(), !own.quiet));
+    let watch = Stopwatch::new(rt);
+    let mut input = KeptSource::new(input, Kept::new(rt.alloc(), !own.quiet), &watch);
     let mut output = KeptSink::new(
         StdSink::new(streams.stdout),
         Kept::new(rt.alloc(), !own.quiet),
     );
-    let progress = Progress::new(rt, form);
+    let progress = Progress::new(rt, form, &watch);
     let status = run(rt, rt.alloc(), &words, &mut input, &mut output, &progress);
     progress.end();
     say_end(rt.alloc(), voice, &status, &input, output.kept());

@@ -1,9 +1,10 @@
 //! What a run prints of how far it has come.
 
+use crate::standing::{log_words, screen_words};
+use crate::stopwatch::Stopwatch;
 use std::rt::Clock;
-use std::sync::atomic::{AtomicU64, Ordering};
-use std::time::Instant;
-use vs_crew::Gate;
+use std::sync::Mutex;
+use vs_crew::{Gate, Stand};
 
 /// How progress is printed.
 #[derive(Clone, Copy, PartialEq, Eq)]
@@ -29,74 +30,99 @@ impl Form {
     }
 }
 
-/// A gate that is open. It prints on standard error how many cases were taken and for how long the run has lasted, once
-/// a second at most.
-#[derive(Drop)]
-pub struct Progress<'a, R: Eprint + Clock> {
-    rt: &'a R,
-    form: Form,
-    /// When the run began, where anything is printed at all.
-    start: Option<Instant>,
-    taken: AtomicU64,
-    /// The last second of the run in which it printed, counted from 1. It is 0 where it printed nothing.
-    told: AtomicU64,
+/// What was printed last.
+#[derive(Clone, Copy)]
+struct Said {
+    /// Where the search stood when it said so last. None before that.
+    stand: Option<Stand>,
+    /// The second in which it was printed, counted from 1. It is 0 where nothing was printed.
+    second: u64,
 }
 
-impl<'a, R: Eprint + Clock> Progress<'a, R> {
-    /// Of a run that begins now.
-    pub fn new(rt: &'a R, form: Form) -> Progress<'a, R> {
+/// A gate that never ends a search. It prints on standard error where the search stands, once a second at most.
+#[derive(Drop)]
+pub struct Progress<'a, R: AllocGlobal + Eprint + Clock> {
+    rt: &'a R,
+    form: Form,
+    watch: &'a Stopwatch<'a, R>,
+    said: Mutex<Said>,
+}
+
+impl<'a, R: AllocGlobal + Eprint + Clock> Progress<'a, R> {
+    /// Of a run whose time this stopwatch takes.
+    pub fn new(rt: &'a R, form: Form, watch: &'a Stopwatch<'a, R>) -> Progress<'a, R> {
         Progress {
             rt,
             form,
-            start: match form {
-                Form::Nothing => None,
-                Form::Screen | Form::Lines => Instant::now(rt).ok(),
-            },
-            taken: AtomicU64::new(0),
-            told: AtomicU64::new(0),
+            watch,
+            said: Mutex::new(Said {
+                stand: None,
+                second: 0,
+            }),
         }
     }
 
-    /// Ends the line of a terminal, or a log with its last line. Whether standard error takes it doesn't matter.
+    /// Prints where the search stood at last, and ends the line of a terminal.
     pub fn end(&self) {
-        let taken = self.taken.load(Ordering::SeqCst);
-        if self.told.load(Ordering::SeqCst) == 0 {
-            return;
-        }
-        match (self.form, self.seconds()) {
-            (Form::Screen, _) => {
+        if let Some(stand) = self.last() {
+            self.print(&stand, self.watch.seconds());
+            if self.form == Form::Screen {
                 let _ = eprintln!(self.rt; "");
             }
-            (Form::Lines, Some(seconds)) => self.print(taken, seconds),
-            _ => {}
         }
     }
 
-    /// For how many whole seconds the run has lasted. None where nothing is printed, or the clock doesn't say.
-    fn seconds(&self) -> Option<u64> {
-        let start = self.start?;
-        Some(start.elapsed(self.rt).ok()?.as_secs())
+    /// Where the search stood at last. None where it never said so, or nothing is printed.
+    fn last(&self) -> Option<Stand> {
+        match self.said.try_lock() {
+            Some(said) => said.stand,
+            None => None,
+        }
     }
 
-    /// Prints how far the run has come.
-    fn print(&self, taken: u64, seconds: u64) {
-        let _ = match self.form {
-            Form::Nothing => Ok(()),
-            Form::Screen => eprint!(self.rt; "\r{taken} cases taken, {seconds} seconds"),
-            Form::Lines => eprintln!(self.rt; "seconds={seconds} cases={taken}"),
+    /// Keeps where the search stands, and prints it where nothing was printed in this second.
+    fn say(&self, stand: &Stand) {
+        let Some(mut said) = self.said.try_lock() else {
+            return;
         };
+        let seconds = self.watch.seconds();
+        let second = seconds.saturating_add(1);
+        let is_due = said.second != second;
+        *said = Said {
+            stand: Some(*stand),
+            second,
+        };
+        if is_due {
+            self.print(stand, seconds);
+        }
+    }
+
+    /// Prints where the search stands after so many seconds, where there is memory for the words. Whether standard
+    /// error takes them doesn't matter.
+    fn print(&self, stand: &Stand, seconds: u64) {
+        let alloc = self.rt.alloc();
+        if self.form == Form::Lines {
+            if let Ok(words) = log_words(alloc, stand, seconds) {
+                let _ = eprintln!(self.rt; "{words}");
+            }
+        } else if let Ok(words) = screen_words(alloc, stand, seconds) {
+            // A line that is shorter than the last one covers it with blanks.
+            let _ = eprint!(self.rt; "\r{words}    ");
+        }
     }
 }
 
-impl<R: Eprint + Clock> Gate for Progress<'_, R> {
-    fn before(&self, _worker: u32, _leaf: u32) {
-        let taken = self.taken.fetch_add(1, Ordering::SeqCst).saturating_add(1);
-        let Some(seconds) = self.seconds() else {
-            return;
-        };
-        let now = seconds.saturating_add(1);
-        if self.told.swap(now, Ordering::SeqCst) != now {
-            self.print(taken, seconds);
+impl<R: AllocGlobal + Eprint + Clock> Gate for Progress<'_, R> {
+    fn before(&self, _worker: u32, _leaf: u32) {}
+
+    fn seconds(&self) -> u64 {
+        self.watch.seconds()
+    }
+
+    fn is_over(&self, stand: &Stand) -> bool {
+        if self.form != Form::Nothing {
+            self.say(stand);
         }
+        false
     }
 }

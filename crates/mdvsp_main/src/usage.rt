@@ -16,12 +16,13 @@ pub const USAGE: &str = "\
 usage: mdvsp [--quiet] [--log] COMMAND [ARGUMENTS] > output
 
 commands:
-  solve [TIMETABLE] [--workers N] [--nodes N]
+  solve [TIMETABLE] [--workers N] [--nodes N] [--seconds S] [--gap G]
             plan the vehicles of a timetable; so many workers, 1 to 64 or auto, share the search, 4 where none are
-            told, and they work on so many cases, 0 to 100000, at most
-  resume [TIMETABLE] [PLAN] [--workers N] [--nodes N]
+            told. It ends after so many cases, 0 to 100000, after S seconds, 1 to 86400, or at a gap of G parts per
+            million of the cost, 0 to 1000000
+  resume [TIMETABLE] [PLAN] [--workers N] [--nodes N] [--seconds S] [--gap G]
             go on from the plan's document behind the timetable, where it ended, in the same way
-  trace [TIMETABLE] [--workers N] [--nodes N]
+  trace [TIMETABLE] [--workers N] [--nodes N] [--seconds S] [--gap G]
             plan as solve does, and write each step of the search in place of the plan's document
   replay [TIMETABLE] [TRACE]
             make the steps of such a trace behind its timetable again, and write the document to which they lead
@@ -45,7 +46,7 @@ commands:
 exit status:
   0 done, solve, resume, trace, trial: the plan is optimal   1 check, resume, replay, blocks, peakcheck: no
   2 wrong words   3 the input is refused   4 reading failed   5 writing failed   6 no memory
-  7 the input is too long   10 solve, resume, trace, trial: there is no plan   11 they are open, the cases ran out";
+  7 the input is too long   10 solve, resume, trace, trial: there is no plan   11 they are open";
 
 /// The words that are answered of the program itself.
 pub const ABOUT: &[&str] = &["--help", "--version", "-h"];
@@ -69,6 +70,8 @@ pub const NAMES: &[&str] = &[
 pub const OPTIONS: &[(&str, &str)] = &[
     ("--workers", "1 to 64, or auto for all processors"),
     ("--nodes", "0 to 100000"),
+    ("--seconds", "1 to 86400"),
+    ("--gap", "0 to 1000000"),
 ];
 
 /// The commands.
@@ -76,33 +79,40 @@ pub const COMMANDS: &[Command] = &[
     Command {
         name: "solve",
         files: 1,
-        options: &["--workers", "--nodes"],
-        usage: "usage: mdvsp solve [TIMETABLE] [--workers N] [--nodes N]",
+        options: &["--workers", "--nodes", "--seconds", "--gap"],
+        usage: "usage: mdvsp solve [TIMETABLE] [--workers N] [--nodes N] [--seconds S] [--gap G]",
         about: "\
-Plan the vehicles of a timetable; so many workers, 1 to 64 or auto, share the search, 4 where none are told, and
-they work on so many cases, 0 to 100000, at most.
+Plan the vehicles of a timetable; so many workers, 1 to 64 or auto, share the search, 4 where none are told. It
+ends after so many cases, 0 to 100000, after S seconds, 1 to 86400, or at a gap of G parts per million of the cost,
+0 to 1000000.
   --workers N  threads that share the search, 4 where none are given: 1 to 64, or auto for all processors
-  --nodes N  cases of the search at most: 0 to 100000",
+  --nodes N  cases of the search at most: 0 to 100000
+  --seconds S  seconds of the search at most, counted from the end of the input: 1 to 86400
+  --gap G  gap between cost and bound at which the search ends, in parts per million of the cost: 0 to 1000000",
     },
     Command {
         name: "resume",
         files: 2,
-        options: &["--workers", "--nodes"],
-        usage: "usage: mdvsp resume [TIMETABLE] [PLAN] [--workers N] [--nodes N]",
+        options: &["--workers", "--nodes", "--seconds", "--gap"],
+        usage: "usage: mdvsp resume [TIMETABLE] [PLAN] [--workers N] [--nodes N] [--seconds S] [--gap G]",
         about: "\
 Go on from the plan's document behind the timetable, where it ended, in the same way.
   --workers N  threads that share the search, 4 where none are given: 1 to 64, or auto for all processors
-  --nodes N  cases of the search at most: 0 to 100000",
+  --nodes N  cases of the search at most: 0 to 100000
+  --seconds S  seconds of the search at most, counted from the end of the input: 1 to 86400
+  --gap G  gap between cost and bound at which the search ends, in parts per million of the cost: 0 to 1000000",
     },
     Command {
         name: "trace",
         files: 1,
-        options: &["--workers", "--nodes"],
-        usage: "usage: mdvsp trace [TIMETABLE] [--workers N] [--nodes N]",
+        options: &["--workers", "--nodes", "--seconds", "--gap"],
+        usage: "usage: mdvsp trace [TIMETABLE] [--workers N] [--nodes N] [--seconds S] [--gap G]",
         about: "\
 Plan as solve does, and write each step of the search in place of the plan's document.
   --workers N  threads that share the search, 4 where none are given: 1 to 64, or auto for all processors
-  --nodes N  cases of the search at most: 0 to 100000",
+  --nodes N  cases of the search at most: 0 to 100000
+  --seconds S  seconds of the search at most, counted from the end of the input: 1 to 86400
+  --gap G  gap between cost and bound at which the search ends, in parts per million of the cost: 0 to 1000000",
     },
     Command {
         name: "replay",

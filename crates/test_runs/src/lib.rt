@@ -1,5 +1,6 @@
-//! Tests of whole runs: one run of each command, runs over streams that fail, and two workers that meet. Also plans
-//! compared with a count of all plans. Most whole runs stand in tests/cases, and are made of the built program.
+//! Tests of whole runs: one run of each command, runs over streams that fail, two workers that meet, and searches that
+//! are told to stop. Also plans compared with a count of all plans. Most whole runs stand in tests/cases, and are made
+//! of the built program.
 #![tactic(auto)]
 
 #[cfg(test)]
@@ -10,6 +11,8 @@ mod commands;
 mod counted;
 #[cfg(test)]
 mod runs;
+#[cfg(test)]
+mod stopped;
 #[cfg(test)]
 mod streams;
 #[cfg(test)]

@@ -13,7 +13,7 @@ use vs_circ::Work;
 use vs_instance::{Instance, MAX_TRIPS};
 use vs_make::make_text;
 use vs_match::{LayerNet, layer_nets};
-use vs_multi::{Case, few_rounds, rounds, start};
+use vs_multi::{Case, NoWatch, few_rounds, rounds, start};
 use vs_penalty::agree;
 use vs_plan::greedy;
 use vs_prices::{Bound, Table, permitted_sets, worth};
@@ -37,7 +37,7 @@ fn agreed_from(
     ensures fits { Fits instance.now table.new }
 {
     let mut work = Work::new(alloc, nets)?;
-    match agree(alloc, instance, nets, None, table, &mut work)? {
+    match agree(alloc, instance, nets, None, table, &mut work, &NoWatch)? {
         Some(plan) => Ok(Some(plan.cost())),
         None => Ok(None),
     }

@@ -6,6 +6,7 @@ use test_fixtures::instance_of;
 use test_fixtures::texts::{LAYER, STOPS, TRIPS};
 use vs_circ::Work;
 use vs_match::layer_nets;
+use vs_multi::NoWatch;
 use vs_penalty::{agree, seek_plan};
 use vs_prices::{Table, permitted_sets};
 
@@ -27,7 +28,7 @@ fn agreed(alloc: Global, parts: &[&str]) -> Result<(Option<i64>, Table), Fail> {
     let nets = layer_nets(alloc, &instance)?;
     let mut work = Work::new(alloc, &nets)?;
     let mut table = Table::zero(alloc, &instance)?;
-    let plan = agree(alloc, &instance, &nets, None, &mut table, &mut work)?;
+    let plan = agree(alloc, &instance, &nets, None, &mut table, &mut work, &NoWatch)?;
     Ok((plan.as_ref().map(|plan| plan.cost()), table))
 }
 

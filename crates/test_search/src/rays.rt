@@ -4,6 +4,7 @@ use std::alloc::Global;
 use std::test::Fail;
 use test_fixtures::instance_of;
 use test_fixtures::texts::STOPS;
+use vs_multi::NoWatch;
 use vs_penalty::seek_ray;
 use vs_prices::{Table, permitted_sets};
 
@@ -26,7 +27,7 @@ const ROUNDS: u32 = 100;
 fn found(alloc: Global, trips: &str) -> Result<Option<Table>, Fail> {
     let instance = instance_of(alloc, &[STOPS, ONE_EACH, trips])?;
     let sets = permitted_sets(alloc, &instance)?;
-    Ok(seek_ray(alloc, &instance, &sets, ROUNDS)?)
+    Ok(seek_ray(alloc, &instance, &sets, ROUNDS, &NoWatch)?)
 }
 
 #[test]

@@ -14,7 +14,7 @@ use crate::stride::Stride;
 use crate::valuing::Trial;
 use vs_circ::{Work, begin_runs};
 use vs_cuts::{Bundle, Forecast, WHOLE};
-use vs_multi::Case;
+use vs_multi::{Case, NoWatch, Watch};
 use vs_types::Memory;
 
 /// A round gains where it comes to one in so many of what was forecast.
@@ -62,17 +62,19 @@ impl Ascent {
             trial: Trial::new(case.alloc, trips, layers)?,
             stride: Stride::new(unit, i64::from(aim.hundredths)),
             candidate: Vec::from_slice(case.alloc, multipliers)?,
-            top: 0,
+            top: i64::MIN,
             forecast: 0,
         })
     }
 
-    /// A climb from these multipliers, with the first circulations. The aim is that of the first part of the climb.
-    pub fn begin(
+    /// A climb from these multipliers, with the first circulations, unless the watch ends that. The aim is that of the
+    /// first part of the climb.
+    pub fn begin<W: Watch>(
         case: &Case<'_>,
         aim: &Aim,
         multipliers: &[i64],
         work: &mut Work,
+        watch: &W,
     ) -> Result<Ascent, Memory>
         requires case { IsCase case.now.instance.now case.now.nets.now case.now.sets.now }
         requires multipliers { AreMultipliers case.now.instance.now multipliers.now }
@@ -81,34 +83,47 @@ impl Ascent {
     {
         let mut ascent = Ascent::new(case, aim, multipliers)?;
         begin_runs(case.alloc, case.nets, work)?;
-        ascent.find_first(case, multipliers, work);
+        ascent.find_first(case, multipliers, work, watch);
         Ok(ascent)
     }
 
     /// The Lagrangian value at the best multipliers, in 1/1000 of a cost unit, or near it where it is past what fits.
+    /// It is `i64::MIN` where not even the first circulations were found.
     pub fn value(&self) -> i64 {
         self.top
     }
 
-    /// Finds the first circulations.
-    fn find_first(&mut self, case: &Case<'_>, multipliers: &[i64], work: &mut Work)
+    /// Finds the first circulations, unless the watch ends that.
+    fn find_first<W: Watch>(
+        &mut self,
+        case: &Case<'_>,
+        multipliers: &[i64],
+        work: &mut Work,
+        watch: &W,
+    )
         requires can { CanClimb case.now.instance.now case.now.nets.now case.now.sets.now multipliers.now self.old }
         requires ready { IsReadyToRun case.now.nets.now work.old }
         ensures ascent { IsAscentFor case.now.instance.now self.new }
         ensures ready { IsReadyToRun case.now.nets.now work.new }
     {
-        self.top = self.trial.value(case, multipliers, work);
+        let value = self.trial.value(case, multipliers, work, watch);
+        let Some(top) = value else {
+            return;
+        };
+        self.top = top;
+        watch.tell(None, top);
         self.bundle.take(&self.trial.found, multipliers);
         self.bundle.keep(&mut self.trial.found, WHOLE, multipliers);
     }
 
-    /// One round. Gives whether there was one: none where it would gain next to nothing.
-    fn round(
+    /// One round. Gives whether there was one: none where it would gain next to nothing, or the watch ends it.
+    fn round<W: Watch>(
         &mut self,
         case: &Case<'_>,
         aim: &Aim,
         multipliers: &mut [i64],
         work: &mut Work,
+        watch: &W,
     ) -> bool
         requires can { CanClimb case.now.instance.now case.now.nets.now case.now.sets.now multipliers.old self.old }
         requires ready { IsReadyToRun case.now.nets.now work.old }
@@ -125,8 +140,12 @@ impl Ascent {
         }
         self.step(step, multipliers);
         let candidate: &[i64] = &self.candidate;
-        let value = self.trial.value(case, candidate, work);
+        let found = self.trial.value(case, candidate, work, watch);
+        let Some(value) = found else {
+            return false;
+        };
         self.judge(forecast, value, aim, multipliers);
+        watch.tell(None, self.top);
         self.keep(multipliers);
         true
     }
@@ -162,32 +181,34 @@ impl Ascent {
         self.bundle.keep(&mut self.trial.found, 0, multipliers);
     }
 
-    /// Round after round from these multipliers, as long as another one may gain something that is asked for. The
-    /// multipliers are those that the climb came to. Gives how many rounds there were.
-    pub fn go_on(
+    /// Round after round from these multipliers, as long as another one may gain something that is asked for, and the
+    /// watch doesn't end it. The multipliers are those that the climb came to. Gives how many rounds there were.
+    pub fn go_on<W: Watch>(
         &mut self,
         case: &Case<'_>,
         aim: &Aim,
         multipliers: &mut [i64],
         work: &mut Work,
+        watch: &W,
     ) -> u32
         requires can { CanClimb case.now.instance.now case.now.nets.now case.now.sets.now multipliers.old self.old }
         requires ready { IsReadyToRun case.now.nets.now work.old }
         ensures multipliers { AreMultipliers case.now.instance.now multipliers.new }
         ensures ascent { IsAscentFor case.now.instance.now self.new }
     {
-        let rounds = self.take_rounds(case, aim, multipliers, work);
+        let rounds = self.take_rounds(case, aim, multipliers, work, watch);
         self.end_part(case);
         rounds
     }
 
     /// The rounds of a part of the climb. Gives how many there were.
-    fn take_rounds(
+    fn take_rounds<W: Watch>(
         &mut self,
         case: &Case<'_>,
         aim: &Aim,
         multipliers: &mut [i64],
         work: &mut Work,
+        watch: &W,
     ) -> u32
         requires can { CanClimb case.now.instance.now case.now.nets.now case.now.sets.now multipliers.old self.old }
         requires ready { IsReadyToRun case.now.nets.now work.old }
@@ -197,7 +218,8 @@ impl Ascent {
         let begin = self.top;
         for r in 0..aim.rounds {
             let is_vain = r == aim.trial_rounds && self.top <= begin;
-            if is_vain || self.is_over(aim) || !self.round(case, aim, multipliers, work) {
+            let is_over = is_vain || self.is_over(aim) || watch.is_over();
+            if is_over || !self.round(case, aim, multipliers, work, watch) {
                 return r;
             }
         }
@@ -268,8 +290,8 @@ pub fn climb(
     ensures within { AreMultipliers case.now.instance.now multipliers.new }
     ensures shares { IfOk result (λ climbed. AreSharesFor case.now.instance.now climbed.shares) }
 {
-    let mut ascent = Ascent::begin(case, aim, multipliers, work)?;
-    let rounds = ascent.go_on(case, aim, multipliers, work);
+    let mut ascent = Ascent::begin(case, aim, multipliers, work, &NoWatch)?;
+    let rounds = ascent.go_on(case, aim, multipliers, work, &NoWatch);
     Ok(Climbed {
         shares: Shares::of(case, &ascent.bundle)?,
         value: ascent.top,

@@ -11,8 +11,11 @@ ghost use Rattle.vs_bundle.specs.Climbs.{IsTrialFor};
 use std::alloc::Global;
 use vs_circ::{Work, runs};
 use vs_cuts::Found;
-use vs_multi::{Case, offer};
+use vs_multi::{Case, Watch, offer};
 use vs_types::{LayerNo, Memory};
+
+/// A round has taken long after so much effort, which is a tenth of a second.
+const LONG: u64 = 500_000;
 
 /// What the layers found last, and space to find it in.
 #[derive(Drop)]
@@ -46,8 +49,15 @@ impl Trial {
         })
     }
 
-    /// Finds a least circulation in every layer. Gives the Lagrangian value.
-    pub fn value(&mut self, case: &Case<'_>, multipliers: &[i64], work: &mut Work) -> i64
+    /// Finds a least circulation in every layer. Gives the Lagrangian value, or None where the round has taken long,
+    /// and the watch ends it.
+    pub fn value<W: Watch>(
+        &mut self,
+        case: &Case<'_>,
+        multipliers: &[i64],
+        work: &mut Work,
+        watch: &W,
+    ) -> Option<i64>
         requires case { IsCase case.now.instance.now case.now.nets.now case.now.sets.now }
         requires multipliers { AreMultipliers case.now.instance.now multipliers.now }
         requires trial { IsTrialFor case.now.instance.now self.old }
@@ -58,12 +68,16 @@ impl Trial {
         let before = work.effort();
         let mut value = total(multipliers);
         for l in 0..case.instance.layers() {
+            let is_long = work.effort().saturating_sub(before) > LONG;
+            if is_long && watch.is_over() {
+                return None;
+            }
             let part = self.find(case, multipliers, LayerNo(l), work);
             value = value.saturating_add(part);
         }
         let effort = work.effort().saturating_sub(before);
         self.effort = self.effort.saturating_add(effort);
-        value
+        Some(value)
     }
 
     /// Finds a least circulation of layer l. Gives its cost less the multipliers of its trips.

@@ -12,6 +12,6 @@ pub use Rattle.vs_cert.proofs.AnswerWorths.{AreSpotWorths, worths-append}
 pub use Rattle.vs_cert.proofs.EnoughBudgets.{enough_budgets_leave_nothing_open}
 pub use Rattle.vs_cert.proofs.LeafCounts.{few_leaves}
 pub use Rattle.vs_cert.proofs.NamedTables.{named_in_order, renumbered_splits}
-pub use Rattle.vs_cert.proofs.StateAnswers.{bounds_reach_the_start, finished_searches_answer}
+pub use Rattle.vs_cert.proofs.StateAnswers.{bounds_reach_the_start, finished_searches_answer, searches_answer_so_far}
 pub use Rattle.vs_cert.proofs.StateDocuments.{reaches, renumbered_good}
 pub use Rattle.vs_cert.proofs.states.TreeDocument.{vec-items, vec_of}

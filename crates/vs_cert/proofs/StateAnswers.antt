@@ -20,8 +20,8 @@ use Rattle.vs_prices.specs.Tree.{leaves, splits}
 use Rattle.vs_tree.proofs.CallerLemmas.{leaf_within, histories_are_sound}
 use Rattle.vs_cert.specs.StateDocument.{IsDocumentOf}
 use Rattle.vs_rows.specs.declared.document.Document.{Document}
-use Rattle.vs_cert.specs.Answers.{AreNamedInOrder, IsAnswer, IsBoundOf, ReachesStart, count_not_below}
-use Rattle.vs_cert.specs.AnswerLaws.{BoundsReachTheStart, EachReachesTheStart, FinishedSearchesAnswer}
+use Rattle.vs_cert.specs.Answers.{AreNamedInOrder, IsAnswer, IsAnswerSoFar, IsBoundOf, ReachesStart, count_not_below}
+use Rattle.vs_cert.specs.AnswerLaws.{BoundsReachTheStart, EachReachesTheStart, FinishedSearchesAnswer, SearchesAnswerSoFar}
 use Rattle.vs_cert.proofs.AnswerBounds.{IsOneOf, lesser_is_bound, not_open, reaches_start}
 use Rattle.vs_cert.proofs.AnswerCounts.{closed_leaves, kind_counts}
 use Rattle.vs_cert.proofs.AnswerWorths.{HaveWorths, no_less, one_of, worths_at}
@@ -85,6 +85,19 @@ module _ (o : Opening) (s : State) (sound : IsSound o s) (d : Document) (is : Is
       let closed = closed_leaves o s sound spots have_worths.worths is.is_tree.once have_worths.of_spots in
       omega (arith, is.nodes, sound.finished, splits_are, same, closed)
 
+  -- whether it is over or not
+  so_far : IsAnswerSoFar p o.budget d
+  so_far = record {
+    holds = document_holds o s sound d is;
+    written = written;
+    worths = have_worths.worths;
+    are_worths = have_worths.are_worths;
+    bound = bound;
+    within_budget = let budget = sound.budget in omega (arith, budget, is.nodes);
+    each_split = omega (arith, splits_are, is.nodes, sound.finished);
+    each_node = each_node;
+  }
+
   module _ (over : IsOver o s) where
     -- where no more work is left, no leaf is below the cost
     leaf_done : ¬ (IsWorkLeft p s) → (k : ℕ) (worth : Bound) → IsLeaf s k → IsLeafWorth p s k worth
@@ -122,14 +135,14 @@ module _ (o : Opening) (s : State) (sound : IsSound o s) (d : Document) (is : Is
 
     answers : IsAnswer p o.budget d
     answers = record {
-      holds = document_holds o s sound d is;
-      written = written;
-      worths = have_worths.worths;
-      are_worths = have_worths.are_worths;
-      bound = bound;
-      within_budget = let budget = sound.budget in omega (arith, budget, is.nodes);
-      each_split = omega (arith, splits_are, is.nodes, sound.finished);
-      each_node = each_node;
+      holds = so_far.holds;
+      written = so_far.written;
+      worths = so_far.worths;
+      are_worths = so_far.are_worths;
+      bound = so_far.bound;
+      within_budget = so_far.within_budget;
+      each_split = so_far.each_split;
+      each_node = so_far.each_node;
       still_open = still_open;
     }
 
@@ -151,6 +164,10 @@ module _ (o : Opening) (s : State) (sound : IsSound o s) (d : Document) (is : Is
           ]))
 
 -- the laws
+pub searches_answer_so_far : SearchesAnswerSoFar
+searches_answer_so_far o steps d opening history is =
+    so_far o (state_of o steps) (histories_are_sound o steps opening history) d is
+
 pub finished_searches_answer : FinishedSearchesAnswer
 finished_searches_answer o steps d opening history over is =
     answers o (state_of o steps) (histories_are_sound o steps opening history) d is over

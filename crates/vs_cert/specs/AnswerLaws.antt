@@ -13,7 +13,7 @@ use Rattle.vs_rows.specs.DocumentText.{HasText}
 use Rattle.vs_rows.specs.declared.document.Document.{Document}
 use Rattle.vs_cert.specs.StateDocument.{IsDocumentOf}
 use Rattle.vs_check.specs.HoldingDocument.{HoldingDocument}
-use Rattle.vs_cert.specs.Answers.{IsAnswer, ReachesStart, choices}
+use Rattle.vs_cert.specs.Answers.{IsAnswer, IsAnswerSoFar, ReachesStart, choices}
 
 -- the document of any state that a search comes to holds
 abbrev pub DocumentsOfStatesHold : Type 0
@@ -24,6 +24,11 @@ DocumentsOfStatesHold = (o : Opening) (steps : List FullStep) (d : Document) →
 abbrev pub StatesHaveDocuments : Type 0
 StatesHaveDocuments = (o : Opening) (steps : List FullStep) → IsOpening o → IsHistory o steps → o.budget ≤ MAX_BUDGET
     → (d : Document) × IsDocumentOf o (state_of o steps) d × HasText o.problem d
+
+-- the document of any state that a search comes to is an answer so far
+abbrev pub SearchesAnswerSoFar : Type 0
+SearchesAnswerSoFar = (o : Opening) (steps : List FullStep) (d : Document) → IsOpening o → IsHistory o steps
+    → IsDocumentOf o (state_of o steps) d → IsAnswerSoFar o.problem o.budget d
 
 -- the document of a state that a search comes to, where the search is over, is an answer
 abbrev pub FinishedSearchesAnswer : Type 0

@@ -73,6 +73,18 @@ abbrev pub choices : List LayerSet → ℕ
 choices [] = 1
 choices (layers ∷ sets) = length (members layers) * choices sets
 
+-- What the document says of a search with this budget, however far it came: its nodes are no fewer than the splits of
+-- its tree, and no more than these and the leaves that aren't below the cost.
+pub record IsAnswerSoFar (p : Problem) (budget : ℕ) (d : Document) : Type 0 where
+  pub holds : HoldingDocument p d
+  pub written : AreNamedInOrder 0 (leaf_places p d holds) (length d.tables.items)
+  pub worths : List Bound
+  pub are_worths : AreWorths p d (leaf_places p d holds) worths
+  pub bound : IsBoundOf d.cost worths d.bound
+  pub within_budget : d.nodes ≤ budget
+  pub each_split : splits_of p d holds ≤ d.nodes
+  pub each_node : d.nodes ≤ splits_of p d holds + count_not_below d.cost worths
+
 -- What the document says of a search with this budget: its nodes are no fewer than the splits of its tree, and no more
 -- than these and the leaves that aren't below the cost; where the claim is still open they are the whole budget.
 pub record IsAnswer (p : Problem) (budget : ℕ) (d : Document) : Type 0 where

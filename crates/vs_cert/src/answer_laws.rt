@@ -1,6 +1,6 @@
 //! What holds of the document of every search.
 
-ghost use Rattle.vs_cert.specs.AnswerLaws.{BoundsReachTheStart, DocumentsOfStatesHold, EnoughBudgetsLeaveNothingOpen, FinishedSearchesAnswer, StatesHaveDocuments};
+ghost use Rattle.vs_cert.specs.AnswerLaws.{BoundsReachTheStart, DocumentsOfStatesHold, EnoughBudgetsLeaveNothingOpen, FinishedSearchesAnswer, SearchesAnswerSoFar, StatesHaveDocuments};
 
 /// The document of any state that a search comes to holds. It has the state's report, its cheapest plan, its tree of
 /// cases, and the tables that leaves name.
@@ -12,6 +12,12 @@ pub fn documents_of_states_hold()
 /// of every document of a state is said of one at least.
 pub fn states_have_documents()
     ensures { StatesHaveDocuments }
+{}
+
+/// However far a search has come, the document of its state holds, and its bound is the lesser of the least worth of
+/// its leaves and of its cost. Its nodes are within the budget, and no fewer than the splits of its tree.
+pub fn searches_answer_so_far()
+    ensures { SearchesAnswerSoFar }
 {}
 
 /// Where a search is over, the document of its state is what a search with its budget answers. It holds, and its bound

@@ -11,7 +11,7 @@ mod tree_rows;
 
 pub use answer_laws::{
     bounds_reach_the_start, documents_of_states_hold, enough_budgets_leave_nothing_open,
-    finished_searches_answer, states_have_documents,
+    finished_searches_answer, searches_answer_so_far, states_have_documents,
 };
 pub use laws::written_searches_are_read_back;
 pub use numbering::Numbering;

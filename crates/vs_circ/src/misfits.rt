@@ -34,9 +34,9 @@ pub(crate) fn recall(net: &LayerNet, offers: &[Option<i64>], kept: &mut Kept)
     }
 }
 
-/// Whether fewer trips of a sample change between being run and not being run where a call with these offers begins with
-/// the earlier start. The earlier start is what the call before the last one left. This decides only how long the call
-/// takes.
+/// Whether fewer trips of a sample change between being run and not being run where a call with these offers begins
+/// with the earlier start. The earlier start is what the call before the last one left. This decides only how long the
+/// call takes.
 fn is_before_nearer(net: &LayerNet, offers: &[Option<i64>], kept: &Kept) -> bool
     requires arcs { HasSmallArcs net.now }
     requires offers { AreSmallOffers offers.now }

@@ -31,25 +31,25 @@ enlisted-more p crew worker each one k d inside =
     ]
 
 -- where all of a crew are done, so are the last and those before
-pub done-last : (turn : TableId) (start : Search) (crew : List Worker) (worker : Worker)
-    → AreDone turn start (crew ++ worker ∷ []) → IsDone turn start (length crew) worker
-done-last turn start crew worker each =
+pub done-last : (stops : Type 0) (turn : TableId) (start : Search) (crew : List Worker) (worker : Worker)
+    → AreDone stops turn start (crew ++ worker ∷ []) → IsDone stops turn start (length crew) worker
+done-last stops turn start crew worker each =
     let size = length-append crew (worker ∷ []) in
-    subst (IsDone turn start (length crew)) (at-end crew worker worker (length crew) refl)
+    subst (IsDone stops turn start (length crew)) (at-end crew worker worker (length crew) refl)
     (each (length crew) worker (omega (arith, size)))
 
-pub done-before : (turn : TableId) (start : Search) (crew : List Worker) (worker : Worker)
-    → AreDone turn start (crew ++ worker ∷ []) → AreDone turn start crew
-done-before turn start crew worker each k d inside =
+pub done-before : (stops : Type 0) (turn : TableId) (start : Search) (crew : List Worker) (worker : Worker)
+    → AreDone stops turn start (crew ++ worker ∷ []) → AreDone stops turn start crew
+done-before stops turn start crew worker each k d inside =
     let size = length-append crew (worker ∷ []) in
-    subst (IsDone turn start k) (get_or_append_left crew (worker ∷ []) d k inside)
+    subst (IsDone stops turn start k) (get_or_append_left crew (worker ∷ []) d k inside)
     (each k d (omega (arith, size, inside)))
 
 -- what the seat knows of a worker that is done
-pub end_knows : (turn : TableId) (start : Search) (number : ℕ) (worker : Worker) (seat : SeatModel) (over : Bool)
-    → IsDone turn start number worker → worker.seat ≡ Some seat → over ≡ worker.over
-    → Knows turn start number (IsEnd over number) seat
-end_knows turn start number worker seat over done has told =
+pub end_knows : (stops : Type 0) (turn : TableId) (start : Search) (number : ℕ) (worker : Worker) (seat : SeatModel) (over : Bool)
+    → IsDone stops turn start number worker → worker.seat ≡ Some seat → over ≡ worker.over
+    → Knows turn start number (IsEnd stops over number) seat
+end_knows stops turn start number worker seat over done has told =
     let same : done.seat ≡ seat = ap (λ (o : Option SeatModel). unwrap_or o done.seat) (sym done.has ∙ has) in
-    subst (λ (b : Bool). Knows turn start number (IsEnd b number) seat) (sym told)
-    (subst (Knows turn start number (IsEnd worker.over number)) same done.ended)
+    subst (λ (b : Bool). Knows turn start number (IsEnd stops b number) seat) (sym told)
+    (subst (Knows turn start number (IsEnd stops worker.over number)) same done.ended)

@@ -41,6 +41,11 @@ IsTold worker task Wait o s = IsIdle worker o s
 IsTold worker task Done o s = IsOver o s
 IsTold worker task Spent o s = IsOver o s
 
+-- what it knows once it has asked for a leaf, where the gate that may stop it did so, and else
+abbrev pub IsAsked : Type 0 → ℕ → Task → Option Take → Says
+IsAsked stops worker task None o s = stops × IsIdle worker o s
+IsAsked stops worker task (Some take) o s = IsTold worker task take o s
+
 -- the worker offered the plan, where there is one
 abbrev pub HasOffered : ℕ → Search → Option Checked → Search → Type 0
 HasOffered worker old None new = new ≡ old

@@ -1,12 +1,13 @@
 -- How workers share a search: each makes steps in its turn, and from one turn to the next it knows what it had seen.
-use Rattle.std.specs.Prelude.{◌≡◌, ◌≢◌, ℕ, ◌+◌, ◌<◌, ◌≤◌, Bool, true, false, List, [], ◌∷◌, ◌++◌, length, map}
+use Rattle.std.specs.Prelude.{◌≡◌, ◌≢◌, ◌⊎◌, ℕ, ◌+◌, ◌<◌, ◌≤◌, Bool, true, false, List, [], ◌∷◌, ◌++◌, length, map}
 use Rattle.atomic_table.specs.Seated.{TableId}
 use Rattle.vs_tree.specs.Calls.{HoldsSome}
 use Rattle.vs_tree.specs.Entries.{entry_of, opening_entry, worker_of}
 use Rattle.vs_tree.specs.History.{FullStep, Opening, State, IsAmong, IsHeldBy, state_of}
 use Rattle.vs_tree.specs.Search.{Search}
 use Rattle.vs_tree.specs.Takes.{IsOver}
-use Rattle.vs_turn.specs.Seats.{SeatModel}
+use Rattle.vs_turn.specs.Seats.{KnowsCalls, SeatModel}
+use Rattle.vs_turn.specs.Tickets.{tickets_from}
 
 -- what is shared: a search, and how many steps it had when it was handed to the workers
 pub record Shared : Type 0 where
@@ -57,8 +58,10 @@ pub record Knows (turn : TableId) (start : Search) (worker : ℕ) (Q : Says) (se
   pub more : List FullStep
   pub of_turn : seat.turn ≡ turn
   pub opens : seat.opening ≡ length start.steps ∷ opening_entry start.opening
+  pub since : seat.since ≡ length (map entry_of start.steps)
   pub ticket : seat.tickets ≡ worker ∷ []
   pub seen : seat.seen ≡ map entry_of (start.steps ++ more)
+  pub calls : KnowsCalls seat
   pub holds : Q start.opening (state_of start.opening (start.steps ++ more))
 
 -- the worker is one of the search's, holds no leaf, and gave none back
@@ -75,18 +78,20 @@ IsHolding worker o s = HoldsSome s worker
 abbrev pub HasLeft : ℕ → Says
 HasLeft worker o s = IsAmong worker s.gone
 
--- how a worker ends: it was told that the search is over, or it has left
-abbrev pub IsEnd : Bool → ℕ → Says
-IsEnd true worker o s = IsOver o s
-IsEnd false worker o s = HasLeft worker o s
+-- how a worker ends: it was told that the search is over, or was idle where the gate, which may stop it, did so; or it
+-- has left
+abbrev pub IsEnd : Type 0 → Bool → ℕ → Says
+IsEnd stops true worker o s = IsOver o s ⊎ (stops × IsIdle worker o s)
+IsEnd stops false worker o s = HasLeft worker o s
 
--- among the steps there were some after which the worker had ended
-pub record HasEnded (worker : ℕ) (o : Opening) (steps : List FullStep) : Type 0 where
+-- among the steps there were some after which the worker had ended; others alone made the rest
+pub record HasEnded (stops : Type 0) (worker : ℕ) (o : Opening) (steps : List FullStep) : Type 0 where
   pub first : List FullStep
   pub rest : List FullStep
   pub goes_on : first ++ rest ≡ steps
+  pub by_others : AreByOthers worker rest
   pub over : Bool
-  pub is_end : IsEnd over worker o (state_of o first)
+  pub is_end : IsEnd stops over worker o (state_of o first)
 
 -- among the steps there were some after which the search was over
 pub record WasOver (o : Opening) (steps : List FullStep) : Type 0 where
@@ -96,17 +101,19 @@ pub record WasOver (o : Opening) (steps : List FullStep) : Type 0 where
   pub over : IsOver o (state_of o first)
 
 -- a seat of as many workers, from this one on, all of which have ended; and whether one of them was told that the
--- search
--- is over
-pub record KnowsEnds (turn : TableId) (start : Search) (lowest many : ℕ) (told : Bool) (seat : SeatModel) : Type 0 where
+-- search is over, or ended where the gate, which may stop it, did so
+pub record KnowsEnds (stops : Type 0) (turn : TableId) (start : Search) (lowest many : ℕ) (told : Bool)
+    (seat : SeatModel) : Type 0 where
   pub more : List FullStep
   pub of_turn : seat.turn ≡ turn
   pub opens : seat.opening ≡ length start.steps ∷ opening_entry start.opening
-  pub tickets : length seat.tickets ≡ many
+  pub since : seat.since ≡ length (map entry_of start.steps)
+  pub tickets : seat.tickets ≡ tickets_from lowest many
   pub seen : seat.seen ≡ map entry_of (start.steps ++ more)
-  pub ended : (worker : ℕ) → lowest ≤ worker → worker < lowest + many → HasEnded worker start.opening
+  pub calls : KnowsCalls seat
+  pub ended : (worker : ℕ) → lowest ≤ worker → worker < lowest + many → HasEnded stops worker start.opening
       (start.steps ++ more)
-  pub over : told ≡ true → WasOver start.opening (start.steps ++ more)
+  pub over : told ≡ true → WasOver start.opening (start.steps ++ more) ⊎ stops
 
 -- no worker holds a leaf
 abbrev pub NoneIsHeld : State → Type 0

@@ -4,14 +4,14 @@ use Rattle.atomic_table.specs.Seated.{TableId}
 use Rattle.vs_instance.specs.Problem.{Problem}
 use Rattle.vs_match.specs.LayerGraph.{LayerGraph}
 use Rattle.vs_match.specs.LayerNets.{AreLayerNets}
-use Rattle.vs_turn.specs.Seats.{SeatModel}
+use Rattle.vs_turn.specs.Seats.{KnowsCalls, SeatModel}
 use Rattle.vs_turn.specs.Tickets.{all_tickets}
 use Rattle.vs_tree.specs.Entries.{entry_of, opening_entry}
 use Rattle.vs_tree.specs.Search.{Search, state}
 use Rattle.vs_tree.specs.Takes.{IsOver, IsSized}
 use Rattle.vs_crew.specs.Sharing.{HasLeft, IsEnd, IsIdle, Knows, NoneIsHeld, Says}
 use Rattle.vs_crew.specs.declared.worker.After.{After}
-use Rattle.vs_crew.specs.declared.worker.After.TheVariants.{Idle, Over, Left}
+use Rattle.vs_crew.specs.declared.worker.After.TheVariants.{Idle, Over, Stopped, Left}
 use Rattle.vs_crew.specs.declared.worker.Worker.{Worker}
 
 -- the nets are the instance's, of which the search is
@@ -32,17 +32,18 @@ pub record IsReady (turn : TableId) (start : Search) (worker : Worker) : Type 0 
   pub room : HasRoom start.opening.problem worker
 
 -- what it knows once it has asked
-abbrev pub IsAfter : ℕ → After → Says
-IsAfter worker Idle o s = IsIdle worker o s
-IsAfter worker Over o s = IsOver o s
-IsAfter worker Left o s = HasLeft worker o s
+abbrev pub IsAfter : Type 0 → ℕ → After → Says
+IsAfter stops worker Idle o s = IsIdle worker o s
+IsAfter stops worker Over o s = IsOver o s
+IsAfter stops worker Stopped o s = stops × IsIdle worker o s
+IsAfter stops worker Left o s = HasLeft worker o s
 
 -- the worker of this number has ended
-pub record IsDone (turn : TableId) (start : Search) (number : ℕ) (worker : Worker) : Type 0 where
+pub record IsDone (stops : Type 0) (turn : TableId) (start : Search) (number : ℕ) (worker : Worker) : Type 0 where
   pub is_number : worker.number ≡ number
   pub seat : SeatModel
   pub has : worker.seat ≡ Some seat
-  pub ended : Knows turn start number (IsEnd worker.over number) seat
+  pub ended : Knows turn start number (IsEnd stops worker.over number) seat
 
 -- a worker of this number, which has room and no seat yet
 pub record IsEnlisted (p : Problem) (number : ℕ) (worker : Worker) : Type 0 where
@@ -60,16 +61,19 @@ pub record IsSeated (turn : TableId) (start : Search) (number : ℕ) (worker : W
 abbrev pub AreSeated : TableId → Search → List Worker → Type 0
 AreSeated turn start crew = (k : ℕ) (d : Worker) → k < length crew → IsSeated turn start k (slice_index_or crew k d)
 
-abbrev pub AreDone : TableId → Search → List Worker → Type 0
-AreDone turn start crew = (k : ℕ) (d : Worker) → k < length crew → IsDone turn start k (slice_index_or crew k d)
+abbrev pub AreDone : Type 0 → TableId → Search → List Worker → Type 0
+AreDone stops turn start crew =
+    (k : ℕ) (d : Worker) → k < length crew → IsDone stops turn start k (slice_index_or crew k d)
 
 -- a seat for the workers below n, which has seen the search that was handed in and made no step
 pub record IsFirstSeat (turn : TableId) (start : Search) (n : ℕ) (seat : SeatModel) : Type 0 where
   pub of_turn : seat.turn ≡ turn
   pub opens : seat.opening ≡ length start.steps ∷ opening_entry start.opening
+  pub since : seat.since ≡ length (map entry_of start.steps)
   pub tickets : seat.tickets ≡ all_tickets n
   pub seen : seat.seen ≡ map entry_of start.steps
   pub none_made : seat.mine ≡ []
+  pub calls : KnowsCalls seat
 
 -- the search may be handed to as many workers: no leaf is held, and none has left
 pub record IsFresh (workers : ℕ) (start : Search) : Type 0 where

@@ -26,9 +26,9 @@ use vs_turn::{Seat, Turn};
 use vs_types::Memory;
 
 /// Has so many workers take the leaves of a search and work on them, each in a thread of its own where one can be made.
-/// They end where no leaf leaves room for a plan cheaper than the cheapest so far, or the budget is spent. A worker
-/// that finds no memory gives its leaf back and takes no more. Where no other is left, the search comes back as it has
-/// become. Before each leaf is worked on, the worker passes the gate.
+/// They end where no leaf leaves room for a plan cheaper than the cheapest so far, the budget is spent, or the gate
+/// ends the search. A worker that finds no memory gives its leaf back and takes no more. Where no other is left, the
+/// search comes back as it has become. Before each leaf is worked on, the worker passes the gate.
 pub fn run<R: Threads + Wait + Sync, G: Gate + Sync>(
     rt: &R,
     alloc: Global,
@@ -45,7 +45,7 @@ pub fn run<R: Threads + Wait + Sync, G: Gate + Sync>(
     requires none_held { NoneIsHeld (state tree) }
     requires none_gone { (state tree).gone ≡ [] }
     ensures goes_on { IfOk result (HasGoneOn tree) }
-    ensures over { IfOk result (λ after. IsOver after.opening (state after)) }
+    ensures over { ¬ (G.may_stop gate.now) → IfOk result (λ after. IsOver after.opening (state after)) }
     ensures memory { IfErr result (λ e. HasGoneOn tree e.0) }
 {
     let Ok(mut crew) = enlisted(alloc, instance, nets, workers) else {
@@ -146,7 +146,7 @@ fn work_together<R: Threads + Wait + Sync, G: Gate + Sync>(
     requires some { 0 < length crew.old }
     requires seated { AreSeated site.now.turn.now.name site.now.start.now.value crew.old }
     ensures count { length crew.new ≡ length crew.old }
-    ensures done { AreDone site.now.turn.now.name site.now.start.now.value crew.new }
+    ensures done { AreDone (G.may_stop site.now.gate.now) site.now.turn.now.name site.now.start.now.value crew.new }
 {
     let threads = crew.len();
     // Threads share the parts of the site one by one.
@@ -161,7 +161,8 @@ fn work_together<R: Threads + Wait + Sync, G: Gate + Sync>(
     let work = |_place: usize, worker: &mut Worker|
         requires { IsSite instance.now nets.now start.now.value
             × IsReady turn.now.name start.now.value worker.now }
-        ensures { IsDone turn.entry.now.name start.entry.now.value worker.entry.now.number worker.exit.now }
+        ensures { IsDone (G.may_stop gate.entry.now) turn.entry.now.name start.entry.now.value
+            worker.entry.now.number worker.exit.now }
     {
         let site = Site {
             instance,
@@ -176,11 +177,14 @@ fn work_together<R: Threads + Wait + Sync, G: Gate + Sync>(
     for_each_mut(rt, crew, threads, &work);
 }
 
-/// The seat of all workers once each has ended, and whether one of them knows that the search is over.
+/// The seat of all workers once each has ended, and whether one of them knows that the search is over, or the gate
+/// ended it.
 fn joined<G: Gate>(site: &Site<'_, G>, mut crew: Vec<Worker>) -> (Seat, bool)
     requires some { 0 < length crew.items }
-    requires done { AreDone site.now.turn.now.name site.now.start.now.value crew.items }
-    ensures { KnowsEnds site.now.turn.now.name site.now.start.now.value 0 (length crew.items) result.1 result.0 }
+    requires done { AreDone (G.may_stop site.now.gate.now) site.now.turn.now.name site.now.start.now.value
+        crew.items }
+    ensures { KnowsEnds (G.may_stop site.now.gate.now) site.now.turn.now.name site.now.start.now.value 0
+        (length crew.items) result.1 result.0 }
 {
     let (mut seat, mut over) = match crew.pop() {
         Some(worker) => end_of(worker),
@@ -194,7 +198,7 @@ fn joined<G: Gate>(site: &Site<'_, G>, mut crew: Vec<Worker>) -> (Seat, bool)
     (seat, over)
 }
 
-/// The seat of a worker that has ended, and whether it knows that the search is over.
+/// The seat of a worker that has ended, and whether it knows that the search is over, or the gate ended it.
 fn end_of(worker: Worker) -> (Seat, bool)
     requires { (seat : SeatModel) × (worker.seat ≡ Some seat) }
     ensures { (worker.seat ≡ Some result.0) × (result.1 ≡ worker.over) }

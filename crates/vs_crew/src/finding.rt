@@ -1,6 +1,7 @@
 //! What the work on a leaf finds.
 
 ghost use Rattle.std.specs.Prelude.{◌≡◌, true, length, IfOk};
+ghost use Rattle.vs_instance.specs.Restriction.{IsRestriction};
 ghost use Rattle.vs_match.specs.LayerNets.{AreLayerNets};
 ghost use Rattle.vs_prices.specs.Table.{Fits};
 ghost use Rattle.vs_crew.specs.Found.{IsFinding, IsFound, IsLawfulTask};
@@ -10,11 +11,13 @@ use vs_circ::Work;
 use vs_connect::lesser;
 use vs_instance::Instance;
 use vs_match::LayerNet;
+use vs_multi::{NoWatch, Watch};
 use vs_node::{Outcome, Task, work};
 use vs_penalty::{agree, seek_plan, seek_ray};
 use vs_plan::{cheaper, cost_of};
+use vs_prices::{Bound, Table, worth};
 use vs_tree::{Finish, Next};
-use vs_types::Memory;
+use vs_types::{LayerSet, Memory, SCALE};
 
 /// How many rounds prices are sought by on a leaf other than the root that show that there is no plan within its
 /// sets.
@@ -29,14 +32,15 @@ pub(crate) struct Finding {
 }
 
 /// What the work on a leaf finds; on one that is split also by some passes, where these are asked for. The sets of the
-/// task serve as space in the end.
-pub(crate) fn found(
+/// task serve as space in the end. At the root the watch may end the search for plans and prices.
+pub(crate) fn found<W: Watch>(
     alloc: Global,
     instance: &Instance,
     nets: &[LayerNet],
     task: &mut Task,
     passes: bool,
     scratch: &mut Work,
+    watch: &W,
 ) -> Result<Finding, Memory>
     requires nets { AreLayerNets instance.now nets.now }
     requires lawful { IsLawfulTask instance.now task.old }
@@ -44,20 +48,21 @@ pub(crate) fn found(
     ensures sets { length task.new.sets.items ≡ length task.old.sets.items }
     ensures fits { Fits instance.now task.new.table }
 {
-    let outcome = outcome_of(alloc, instance, nets, task, passes, scratch)?;
+    let outcome = outcome_of(alloc, instance, nets, task, passes, scratch, watch)?;
     let sets = task.sets.as_mut_slice();
     let finish = Finish::of(instance, sets, &outcome.table, outcome.next);
     Ok(Finding { outcome, finish })
 }
 
 /// What comes of a leaf. At the root the layers come to agree first.
-fn outcome_of(
+fn outcome_of<W: Watch>(
     alloc: Global,
     instance: &Instance,
     nets: &[LayerNet],
     task: &mut Task,
     passes: bool,
     scratch: &mut Work,
+    watch: &W,
 ) -> Result<Outcome, Memory>
     requires nets { AreLayerNets instance.now nets.now }
     requires lawful { IsLawfulTask instance.now task.old }
@@ -66,7 +71,7 @@ fn outcome_of(
     ensures fits { Fits instance.now task.new.table }
 {
     if task.root {
-        return found_at_root(alloc, instance, nets, task, scratch);
+        return found_at_root(alloc, instance, nets, task, scratch, watch);
     }
     let outcome = found_on_leaf(alloc, instance, nets, task, passes, scratch)?;
     closed_by_ray(alloc, instance, task, outcome)
@@ -108,7 +113,7 @@ fn closed_by_ray(
         return Ok(outcome);
     }
     let sets = task.sets.as_slice();
-    let found = seek_ray(alloc, instance, sets, RAY_ROUNDS)?;
+    let found = seek_ray(alloc, instance, sets, RAY_ROUNDS, &NoWatch)?;
     match found {
         Some(table) => Ok(Outcome {
             table,
@@ -155,12 +160,13 @@ fn found_with_passes(
 }
 
 /// What is found at the root: the layers come to agree before it is worked on.
-fn found_at_root(
+fn found_at_root<W: Watch>(
     alloc: Global,
     instance: &Instance,
     nets: &[LayerNet],
     task: &mut Task,
     scratch: &mut Work,
+    watch: &W,
 ) -> Result<Outcome, Memory>
     requires nets { AreLayerNets instance.now nets.now }
     requires lawful { IsLawfulTask instance.now task.old }
@@ -169,7 +175,9 @@ fn found_at_root(
     ensures sets { task.new.sets.items ≡ task.old.sets.items }
     ensures fits { Fits instance.now task.new.table }
 {
-    let agreed = agree(alloc, instance, nets, task.known, &mut task.table, scratch)?;
+    watch.tell(task.known, value_of(instance, &task.sets, &task.table));
+    let table = &mut task.table;
+    let agreed = agree(alloc, instance, nets, task.known, table, scratch, watch)?;
     task.known = lesser(task.known, cost_of(&agreed));
     let outcome = work(alloc, instance, nets, task, scratch)?;
     let plan = cheaper(agreed, outcome.plan);
@@ -178,4 +186,16 @@ fn found_at_root(
         plan,
         next: outcome.next,
     })
+}
+
+/// What no plan within the sets costs less than by a table, in 1/1000 of a cost unit. Where it shows that there is
+/// none, it is `i64::MIN`.
+fn value_of(instance: &Instance, sets: &[LayerSet], table: &Table) -> i64
+    requires restriction { IsRestriction instance.now sets.now }
+    requires fits { Fits instance.now table.now }
+{
+    match worth(instance, sets, table) {
+        Bound::AtLeast(least) => i64::try_from(least).unwrap_or(0).saturating_mul(SCALE),
+        Bound::NoPlan => i64::MIN,
+    }
 }

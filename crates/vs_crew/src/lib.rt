@@ -7,7 +7,9 @@ mod finding;
 mod shared_tree;
 mod site;
 mod turns;
+mod watching;
 mod worker;
 
 pub use crew::run;
 pub use site::{Gate, NoGate};
+pub use vs_tree::Stand;

@@ -1,5 +1,5 @@
 //! The search that workers share, and what each may do to it in its turn.
-ghost use Rattle.std.specs.Prelude.{◌≡◌, length};
+ghost use Rattle.std.specs.Prelude.{◌≡◌, ℕ, length};
 ghost use Rattle.vs_tree.specs.History.{IsHistory};
 ghost use Rattle.vs_tree.specs.Search.{state};
 ghost use Rattle.vs_tree.specs.Sound.{IsOpening, IsPlanOf};
@@ -15,7 +15,7 @@ use crate::finding::Finding;
 use std::marker::Model;
 use vs_node::Task;
 use vs_plan::CheckedPlan;
-use vs_tree::{Take, Tree};
+use vs_tree::{Stand, Take, Tree};
 use vs_turn::Kept;
 
 /// A search that workers share by a turn. Each leaf that was split or closed since it was handed to them was worked on.
@@ -70,6 +70,16 @@ impl SharedTree {
         // for the proof: what holds of every search.
         let _instance = tree.instance();
         tree
+    }
+
+    /// How far the search has come. Who was idle still is.
+    pub(crate) fn stand(&self) -> Stand
+        ensures { (w : ℕ) → HeldWhenLeft w (IsIdle w) self.now.search
+            → IsIdle w self.now.search.opening (state self.now.search) }
+    {
+        // for the proof: what holds of every search.
+        let _instance = self.tree.instance();
+        self.tree.stand()
     }
 
     /// Gives an idle worker the next leaf, and its task, or the reason why there is none.

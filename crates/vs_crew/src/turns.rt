@@ -2,7 +2,7 @@
 
 ghost use Rattle.std.specs.Prelude.{◌≡◌, length};
 ghost use Rattle.vs_tree.specs.Takes.{IsSized};
-ghost use Rattle.vs_crew.specs.Leaves.{HasFound, IsTold};
+ghost use Rattle.vs_crew.specs.Leaves.{HasFound, IsAsked};
 ghost use Rattle.vs_crew.specs.Sharing.{HasLeft, IsHolding, IsIdle, Knows};
 
 use crate::finding::Finding;
@@ -12,24 +12,29 @@ use vs_node::Task;
 use vs_tree::Take;
 use vs_turn::Seat;
 
-/// Asks for a leaf, for a worker that has none.
+/// Asks for a leaf, for a worker that has none. None where the gate ends the search, which it is asked first.
 pub(crate) fn ask<R: Wait, G: Gate>(
     rt: &R,
     site: &Site<'_, G>,
     seat: Seat,
     w: u32,
     task: &mut Task,
-) -> (Seat, Take)
+) -> (Seat, Option<Take>)
     requires idle { Knows site.now.turn.now.name site.now.start.now.value w (IsIdle w) seat }
     requires sets { length task.old.sets.items ≡ length site.now.start.now.value.opening.problem.trips }
     requires table { IsSized site.now.start.now.value.opening.problem task.old.table }
-    ensures told { Knows site.now.turn.now.name site.now.start.now.value w (IsTold w task.new result.1) result.0 }
+    ensures told { Knows site.now.turn.now.name site.now.start.now.value w
+        (IsAsked (G.may_stop site.now.gate.now) w task.new result.1) result.0 }
     ensures sets { length task.new.sets.items ≡ length task.old.sets.items }
     ensures table { IsSized site.now.start.now.value.opening.problem task.new.table }
 {
     let mut held = site.turn.hold(rt, seat);
+    let stand = held.value().stand();
+    if site.gate.is_over(&stand) {
+        return (held.release(), None);
+    }
     let take = held.value().take(w, task);
-    (held.release(), take)
+    (held.release(), Some(take))
 }
 
 /// Hands in what the work on a worker's leaf found.

@@ -7,6 +7,7 @@ ghost use Rattle.vs_crew.specs.Workers.{HasRoom, IsAfter, IsDone, IsReady, IsSit
 use crate::finding::found;
 use crate::site::{Gate, Site};
 use crate::turns::{ask, give_up, hand_in};
+use crate::watching::RootWatch;
 use std::alloc::Global;
 use std::sync::Wait;
 use vs_circ::Work;
@@ -27,7 +28,7 @@ pub(crate) struct Worker {
     pub scratch: Work,
     /// How many leaves it has taken since it sought plans by passes.
     pub taken: u32,
-    /// Whether it knows that the search is over.
+    /// Whether it knows that the search is over, or the gate ended it.
     pub over: bool,
 }
 
@@ -38,11 +39,13 @@ pub(crate) enum After {
     Idle,
     /// The search is over.
     Over,
+    /// The gate ends the search.
+    Stopped,
     /// It found no memory, gave its leaf back, and takes no more.
     Left,
 }
 
-/// Takes leaves one after another and works on them, until the search is over, or memory is wanting.
+/// Takes leaves one after another and works on them, until the search is over, the gate ends it, or memory is wanting.
 pub(crate) fn take_part<R: Wait, G: Gate>(
     rt: &R,
     alloc: Global,
@@ -51,7 +54,8 @@ pub(crate) fn take_part<R: Wait, G: Gate>(
 )
     requires site { IsSite site.now.instance.now site.now.nets.now site.now.start.now.value }
     requires ready { IsReady site.now.turn.now.name site.now.start.now.value worker.old }
-    ensures done { IsDone site.now.turn.now.name site.now.start.now.value worker.old.number worker.new }
+    ensures done { IsDone (G.may_stop site.now.gate.now) site.now.turn.now.name site.now.start.now.value
+        worker.old.number worker.new }
 {
     match worker.seat.take() {
         Some(seat) => {
@@ -63,7 +67,7 @@ pub(crate) fn take_part<R: Wait, G: Gate>(
     }
 }
 
-/// The same with the seat in hand, and whether the worker knows that the search is over.
+/// The same with the seat in hand, and whether the worker knows that the search is over, or the gate ended it.
 fn go_on<R: Wait, G: Gate>(
     rt: &R,
     alloc: Global,
@@ -77,20 +81,22 @@ fn go_on<R: Wait, G: Gate>(
         (IsIdle worker.old.number) seat }
     ensures number { worker.new.number ≡ worker.old.number }
     ensures ended { Knows site.now.turn.now.name site.now.start.now.value worker.old.number
-        (IsEnd result.1 worker.old.number) result.0 }
+        (IsEnd (G.may_stop site.now.gate.now) result.1 worker.old.number) result.0 }
 {
     for _ in rt.forever() {
         let (next, after) = ask_once(rt, alloc, site, worker, seat);
         match after {
             After::Idle => seat = next,
             After::Over => return (next, true),
+            After::Stopped => return (next, true),
             After::Left => return (next, false),
         }
     }
     unreachable!()
 }
 
-/// Asks for a leaf once, and works on it, or waits where others hold what there is.
+/// Asks for a leaf once, and works on it, or waits where others hold what there is. It takes none where the gate ends
+/// the search.
 fn ask_once<R: Wait, G: Gate>(
     rt: &R,
     alloc: Global,
@@ -105,20 +111,21 @@ fn ask_once<R: Wait, G: Gate>(
     ensures number { worker.new.number ≡ worker.old.number }
     ensures room { HasRoom site.now.instance.now worker.new }
     ensures after { Knows site.now.turn.now.name site.now.start.now.value worker.old.number
-        (IsAfter worker.old.number result.1) result.0 }
+        (IsAfter (G.may_stop site.now.gate.now) worker.old.number result.1) result.0 }
 {
     let changes = site.changes.count(rt);
     let (seat, take) = ask(rt, site, seat, worker.number, &mut worker.task);
     match take {
-        Take::Node { leaf, .. } => {
+        Some(Take::Node { leaf, .. }) => {
             site.gate.before(worker.number, leaf);
             work_on(rt, alloc, site, worker, seat, leaf)
         }
-        Take::Wait => {
+        Some(Take::Wait) => {
             site.changes.wait(rt, changes);
             (seat, After::Idle)
         }
-        Take::Done | Take::Spent => (seat, After::Over),
+        Some(Take::Done | Take::Spent) => (seat, After::Over),
+        None => (seat, After::Stopped),
     }
 }
 
@@ -138,13 +145,22 @@ fn work_on<R: Wait, G: Gate>(
     ensures number { worker.new.number ≡ worker.old.number }
     ensures room { HasRoom site.now.instance.now worker.new }
     ensures after { Knows site.now.turn.now.name site.now.start.now.value worker.old.number
-        (IsAfter worker.old.number result.1) result.0 }
+        (IsAfter (G.may_stop site.now.gate.now) worker.old.number result.1) result.0 }
 {
     let number = worker.number;
     let passes = worker.taken >= TURNS - 1;
     worker.taken = if passes { 0 } else { worker.taken + 1 };
     let (task, scratch) = (&mut worker.task, &mut worker.scratch);
-    match found(alloc, site.instance, site.nets, task, passes, scratch) {
+    let watch = RootWatch::new(site.gate);
+    match found(
+        alloc,
+        site.instance,
+        site.nets,
+        task,
+        passes,
+        scratch,
+        &watch,
+    ) {
         Ok(finding) => (hand_in(rt, site, seat, number, leaf, finding), After::Idle),
         Err(Memory) => (give_up(rt, site, seat, number), After::Left),
     }

@@ -13,6 +13,7 @@ mod round;
 mod running;
 mod starting;
 mod steps;
+mod watch;
 
 pub use best::{Best, few_rounds, greatest_step, keep_better, rounds};
 pub use offering::offer;
@@ -20,3 +21,4 @@ pub use raising::raise;
 pub use round::Case;
 pub use starting::{multipliers_of, of_table, start};
 pub use steps::moved;
+pub use watch::{NoWatch, Untold, Watch};

@@ -16,7 +16,7 @@ use vs_circ::Work;
 use vs_connect::lesser;
 use vs_instance::Instance;
 use vs_match::LayerNet;
-use vs_multi::{Case, few_rounds, keep_better, multipliers_of, raise};
+use vs_multi::{Case, Watch, few_rounds, keep_better, multipliers_of, raise};
 use vs_plan::CheckedPlan;
 use vs_prices::{Table, permitted_sets, worth};
 use vs_types::{Memory, TripNo};
@@ -30,14 +30,16 @@ const RAY_ROUNDS: u32 = 100;
 /// Brings the layers to agree on which of them runs which trip, and gives the cheapest plan that was found on the way,
 /// if any. The table becomes what the multipliers show in the end, where that is worth more. Where no plan of this cost
 /// is known and the first passes find none, it becomes what shows that there is none, if that is found. Where no trip
-/// has two layers there is nothing to agree on: no plan is given, and the table stays.
-pub fn agree(
+/// has two layers there is nothing to agree on: no plan is given, and the table stays. Where the watch ends it early,
+/// what was found so far counts.
+pub fn agree<W: Watch>(
     alloc: Global,
     instance: &Instance,
     nets: &[LayerNet],
     known: Option<i64>,
     table: &mut Table,
     work: &mut Work,
+    watch: &W,
 ) -> Result<Option<CheckedPlan>, Memory>
     requires nets { AreLayerNets instance.now nets.now }
     requires fits { Fits instance.now table.old }
@@ -58,16 +60,17 @@ pub fn agree(
         nets,
         sets,
     };
-    let plan = agree_on(&case, known, table, work)?;
+    let plan = agree_on(&case, known, table, work, watch)?;
     Ok(plan)
 }
 
 /// The same in the layers of these sets.
-fn agree_on(
+fn agree_on<W: Watch>(
     case: &Case<'_>,
     known: Option<i64>,
     table: &mut Table,
     work: &mut Work,
+    watch: &W,
 ) -> Result<Option<CheckedPlan>, Memory>
     requires case { IsCase case.now.instance.now case.now.nets.now case.now.sets.now }
     requires fits { Fits case.now.instance.now table.old }
@@ -79,19 +82,24 @@ fn agree_on(
 {
     let mut multipliers = multipliers_of(case, table)?;
     let mut seeker = Seeker::new(case, &multipliers)?;
-    seeker.begin(case, work)?;
-    if take_ray(case, lesser(known, seeker.choices.cost()), table)? {
+    seeker.begin(case, work, watch)?;
+    if take_ray(case, lesser(known, seeker.choices.cost()), table, watch)? {
         return Ok(None);
     }
-    seeker.go_on(case, &mut multipliers, work)?;
-    improve(case, &mut multipliers, table, work)?;
+    seeker.go_on(case, &mut multipliers, work, watch)?;
+    improve(case, &mut multipliers, table, work, watch)?;
     let best = seeker.choices.best.take();
     Ok(best)
 }
 
 /// Makes the table prices that show that there is no plan, where no plan is known, of this cost, and such prices are
 /// found. Gives whether they are.
-fn take_ray(case: &Case<'_>, known: Option<i64>, table: &mut Table) -> Result<bool, Memory>
+fn take_ray<W: Watch>(
+    case: &Case<'_>,
+    known: Option<i64>,
+    table: &mut Table,
+    watch: &W,
+) -> Result<bool, Memory>
     requires restriction { IsRestriction case.now.instance.now case.now.sets.now }
     requires fits { Fits case.now.instance.now table.old }
     requires holds { HoldingTable case.now.instance.now table.old }
@@ -102,7 +110,7 @@ fn take_ray(case: &Case<'_>, known: Option<i64>, table: &mut Table) -> Result<bo
     if known.is_some() {
         return Ok(false);
     }
-    let found = seek_ray(case.alloc, case.instance, case.sets, RAY_ROUNDS)?;
+    let found = seek_ray(case.alloc, case.instance, case.sets, RAY_ROUNDS, watch)?;
     match found {
         Some(mut ray) => {
             swap(table, &mut ray);
@@ -112,12 +120,14 @@ fn take_ray(case: &Case<'_>, known: Option<i64>, table: &mut Table) -> Result<bo
     }
 }
 
-/// Makes the table what these multipliers and sweeps from there show, where that is worth more.
-fn improve(
+/// Makes the table what these multipliers and sweeps from there show, where that is worth more. There are no sweeps
+/// where the watch ends the work.
+fn improve<W: Watch>(
     case: &Case<'_>,
     multipliers: &mut [i64],
     table: &mut Table,
     work: &mut Work,
+    watch: &W,
 ) -> Result<(), Memory>
     requires case { IsCase case.now.instance.now case.now.nets.now case.now.sets.now }
     requires multipliers { AreMultipliers case.now.instance.now multipliers.old }
@@ -131,6 +141,9 @@ fn improve(
     let own_worth = worth(case.instance, case.sets, table);
     let greatest = keep_better(&mut best.table, best.worth, table, own_worth);
     swap(table, &mut best.table);
+    if watch.is_over() {
+        return Ok(());
+    }
     raise(case, table, greatest, work)?;
     Ok(())
 }

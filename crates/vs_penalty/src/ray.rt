@@ -10,11 +10,11 @@ ghost use Rattle.vs_penalty.specs.Rays.{ShowsNoPlan};
 use crate::paying::evenly;
 use crate::reasons::plain_reason;
 use std::alloc::Global;
-use vs_bundle::{Aim, climb};
+use vs_bundle::{Aim, Ascent};
 use vs_circ::Work;
 use vs_instance::Instance;
 use vs_match::layer_nets;
-use vs_multi::{Case, few_rounds};
+use vs_multi::{Case, Untold, Watch, few_rounds};
 use vs_prices::{Bound, Table, worth};
 use vs_types::{LayerSet, Memory, SCALE};
 
@@ -37,27 +37,29 @@ const LAST_ROUNDS: u32 = 1;
 
 /// Prices that show that no plan runs each trip in a layer of its set, where a climb of so many rounds finds any. They
 /// are those of the instance without rates. Nothing costs anything there, so that its plans are worth nothing, and
-/// prices that bound them above nothing leave none.
-pub fn seek_ray(
+/// prices that bound them above nothing leave none. The climb ends early where the watch says so.
+pub fn seek_ray<W: Watch>(
     alloc: Global,
     instance: &Instance,
     sets: &[LayerSet],
     rounds: u32,
+    watch: &W,
 ) -> Result<Option<Table>, Memory>
     requires { IsRestriction instance.now sets.now }
     ensures { IfOk result (λ ray. IfSome ray (ShowsNoPlan instance.now sets.now)) }
 {
     let unrated = instance.without_rates(alloc)?;
-    let table = unrated_table(alloc, &unrated, sets, rounds)?;
+    let table = unrated_table(alloc, &unrated, sets, rounds, watch)?;
     Ok(read_as_ray(instance, sets, table))
 }
 
 /// The prices at the multipliers that a climb of so many rounds leaves.
-fn unrated_table(
+fn unrated_table<W: Watch>(
     alloc: Global,
     unrated: &Instance,
     sets: &[LayerSet],
     rounds: u32,
+    watch: &W,
 ) -> Result<Table, Memory>
     requires { IsRestriction unrated.now sets.now }
     ensures fits { IfOk result (Fits unrated.now) }
@@ -71,11 +73,16 @@ fn unrated_table(
         nets: &nets,
         sets,
     };
-    climbed_table(&case, rounds, &mut work)
+    climbed_table(&case, rounds, &mut work, &Untold { watch })
 }
 
 /// The same in this case, or the prices that give a plain reason, where such are found.
-fn climbed_table(case: &Case<'_>, rounds: u32, work: &mut Work) -> Result<Table, Memory>
+fn climbed_table<W: Watch>(
+    case: &Case<'_>,
+    rounds: u32,
+    work: &mut Work,
+    watch: &W,
+) -> Result<Table, Memory>
     requires { IsCase case.now.instance.now case.now.nets.now case.now.sets.now }
     ensures fits { IfOk result (Fits case.now.instance.now) }
     ensures holds { IfOk result (HoldingTable case.now.instance.now) }
@@ -89,11 +96,12 @@ fn climbed_table(case: &Case<'_>, rounds: u32, work: &mut Work) -> Result<Table,
         trial_rounds: rounds,
         effort: EFFORT,
     };
-    if let Some(table) = plain_reason(case, work)? {
+    if let Some(table) = plain_reason(case, work, watch)? {
         return Ok(table);
     }
     let mut multipliers = evenly(case, FIRST)?;
-    climb(case, &aim, &mut multipliers, work)?;
+    let mut ascent = Ascent::begin(case, &aim, &multipliers, work, watch)?;
+    ascent.go_on(case, &aim, &mut multipliers, work, watch);
     let best = few_rounds(case, LAST_ROUNDS, &mut multipliers, work)?;
     Ok(best.table)
 }

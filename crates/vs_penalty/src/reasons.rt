@@ -12,7 +12,7 @@ use std::alloc::Global;
 use vs_circ::Work;
 use vs_connect::{in_cost, out_cost};
 use vs_instance::Instance;
-use vs_multi::{Case, few_rounds};
+use vs_multi::{Case, Watch, few_rounds};
 use vs_prices::{Bound, Table};
 use vs_types::{LayerNo, LayerSet, Memory, TripNo};
 
@@ -20,25 +20,37 @@ use vs_types::{LayerNo, LayerSet, Memory, TripNo};
 const TRIALS: u32 = 10;
 
 /// Prices at multipliers that pay one trip alone, or those under way at one minute, where these can't be run all; of an
-/// instance without rates.
-pub(crate) fn plain_reason(case: &Case<'_>, work: &mut Work) -> Result<Option<Table>, Memory>
+/// instance without rates. Once the watch says that it is over, nothing more is tried.
+pub(crate) fn plain_reason<W: Watch>(
+    case: &Case<'_>,
+    work: &mut Work,
+    watch: &W,
+) -> Result<Option<Table>, Memory>
     requires { IsCase case.now.instance.now case.now.nets.now case.now.sets.now }
     ensures { IfOk result (λ found. IfSome found (IsHolding case.now.instance.now)) }
 {
-    let found = one_trip(case, work)?;
+    let found = one_trip(case, work, watch)?;
     if found.is_some() {
         return Ok(found);
     }
-    one_minute(case, work)
+    one_minute(case, work, watch)
 }
 
 /// The prices of this trial, where they show that the trips that are paid can't be run all.
-fn trial(case: &Case<'_>, multipliers: &mut [i64], work: &mut Work) -> Result<Option<Table>, Memory>
+fn trial<W: Watch>(
+    case: &Case<'_>,
+    multipliers: &mut [i64],
+    work: &mut Work,
+    watch: &W,
+) -> Result<Option<Table>, Memory>
     requires case { IsCase case.now.instance.now case.now.nets.now case.now.sets.now }
     requires multipliers { AreMultipliers case.now.instance.now multipliers.old }
     ensures found { IfOk result (λ found. IfSome found (IsHolding case.now.instance.now)) }
     ensures multipliers { AreMultipliers case.now.instance.now multipliers.new }
 {
+    if watch.is_over() {
+        return Ok(None);
+    }
     let best = few_rounds(case, 1, multipliers, work)?;
     if Bound::AtLeast(0).is_no_less(best.worth) {
         return Ok(None);
@@ -47,7 +59,7 @@ fn trial(case: &Case<'_>, multipliers: &mut [i64], work: &mut Work) -> Result<Op
 }
 
 /// Tries trips alone, those that no vehicle of their layers reaches from its depot and brings back there.
-fn one_trip(case: &Case<'_>, work: &mut Work) -> Result<Option<Table>, Memory>
+fn one_trip<W: Watch>(case: &Case<'_>, work: &mut Work, watch: &W) -> Result<Option<Table>, Memory>
     requires { IsCase case.now.instance.now case.now.nets.now case.now.sets.now }
     ensures { IfOk result (λ found. IfSome found (IsHolding case.now.instance.now)) }
 {
@@ -58,7 +70,7 @@ fn one_trip(case: &Case<'_>, work: &mut Work) -> Result<Option<Table>, Memory>
         if left > 0 && !is_run_alone(case.instance, case.sets[i.0 as usize], i) {
             left -= 1;
             pay_one(case.instance, i, &mut multipliers);
-            let found = trial(case, &mut multipliers, work)?;
+            let found = trial(case, &mut multipliers, work, watch)?;
             if found.is_some() {
                 return Ok(found);
             }
@@ -85,7 +97,11 @@ fn is_run_alone(instance: &Instance, set: LayerSet, i: TripNo) -> bool
 }
 
 /// Tries the minutes at which most trips are under way.
-fn one_minute(case: &Case<'_>, work: &mut Work) -> Result<Option<Table>, Memory>
+fn one_minute<W: Watch>(
+    case: &Case<'_>,
+    work: &mut Work,
+    watch: &W,
+) -> Result<Option<Table>, Memory>
     requires { IsCase case.now.instance.now case.now.nets.now case.now.sets.now }
     ensures { IfOk result (λ found. IfSome found (IsHolding case.now.instance.now)) }
 {
@@ -96,7 +112,7 @@ fn one_minute(case: &Case<'_>, work: &mut Work) -> Result<Option<Table>, Memory>
         let minute = fullest(case.instance, &counts);
         leave_out(case.instance, minute, &mut counts);
         pay_at(case.instance, minute, &mut multipliers);
-        let found = trial(case, &mut multipliers, work)?;
+        let found = trial(case, &mut multipliers, work, watch)?;
         if found.is_some() {
             return Ok(found);
         }

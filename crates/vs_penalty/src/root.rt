@@ -11,7 +11,7 @@ use crate::walkers::Walkers;
 use vs_bundle::{Aim, Ascent};
 use vs_circ::{Work, begin_runs};
 use vs_instance::Instance;
-use vs_multi::Case;
+use vs_multi::{Case, Watch};
 use vs_types::Memory;
 
 /// The first step of a climb, in per cent of the greatest. The multipliers are known to within some per cent of it.
@@ -69,21 +69,27 @@ const LAST_ON_SMALL: Stage = Stage {
 
 impl Seeker {
     /// Seeks plans by passes from the first multipliers.
-    pub fn begin(&mut self, case: &Case<'_>, work: &mut Work) -> Result<(), Memory>
+    pub fn begin<W: Watch>(
+        &mut self,
+        case: &Case<'_>,
+        work: &mut Work,
+        watch: &W,
+    ) -> Result<(), Memory>
         requires case { IsCase case.now.instance.now case.now.nets.now case.now.sets.now }
         requires seeker { IsSeekerFor case.now.instance.now self.old }
         ensures { IsSeekerFor case.now.instance.now self.new }
     {
-        self.seek(case, quick_passes(case.instance), work)
+        self.seek(case, quick_passes(case.instance), work, watch)
     }
 
     /// Seeks plans and ever better multipliers from where the first passes end. There is a climb, turns of walkers, and
-    /// more of the climb, which a cheaper plan guides better.
-    pub fn go_on(
+    /// more of the climb, which a cheaper plan guides better. All of that ends early where the watch says so.
+    pub fn go_on<W: Watch>(
         &mut self,
         case: &Case<'_>,
         multipliers: &mut [i64],
         work: &mut Work,
+        watch: &W,
     ) -> Result<(), Memory>
         requires { CanSeek case.now.instance.now case.now.nets.now case.now.sets.now multipliers.old self.old }
         ensures multipliers { AreMultipliers case.now.instance.now multipliers.new }
@@ -91,24 +97,28 @@ impl Seeker {
     {
         let (first, last) = stages(case.instance);
         multipliers.copy_from_slice(&self.penalties.multipliers);
-        let aim = self.aim(first);
-        let mut ascent = Ascent::begin(case, &aim, multipliers, work)?;
-        self.climb(case, &mut ascent, first, multipliers, work)?;
-        self.take_turns(case, &mut ascent, multipliers, work)?;
-        if self.is_done(case.instance) {
+        if watch.is_over() {
             return Ok(());
         }
-        self.climb(case, &mut ascent, last, multipliers, work)
+        let aim = self.aim(first);
+        let mut ascent = Ascent::begin(case, &aim, multipliers, work, watch)?;
+        self.climb(case, &mut ascent, first, multipliers, work, watch)?;
+        self.take_turns(case, &mut ascent, multipliers, work, watch)?;
+        if self.is_done(case.instance) || watch.is_over() {
+            return Ok(());
+        }
+        self.climb(case, &mut ascent, last, multipliers, work, watch)
     }
 
     /// Turns of walkers, until several find no cheaper plan or none can cost much less. Before a turn the climb goes on
     /// where a cheaper plan is known than it had.
-    fn take_turns(
+    fn take_turns<W: Watch>(
         &mut self,
         case: &Case<'_>,
         ascent: &mut Ascent,
         multipliers: &mut [i64],
         work: &mut Work,
+        watch: &W,
     ) -> Result<(), Memory>
         requires can { CanSeek case.now.instance.now case.now.nets.now case.now.sets.now multipliers.old self.old }
         requires ascent { IsAscentFor case.now.instance.now ascent.old }
@@ -116,7 +126,7 @@ impl Seeker {
         ensures seeker { IsSeekerFor case.now.instance.now self.new }
         ensures ascent { IsAscentFor case.now.instance.now ascent.new }
     {
-        if self.is_over(case.instance) {
+        if self.is_over(case.instance, watch) {
             return Ok(());
         }
         let most = self.penalties.rate.most;
@@ -125,24 +135,26 @@ impl Seeker {
         let mut vain = 0;
         let mut climbed_for = self.choices.cost();
         for turn in 0..TURNS {
-            climbed_for = self.climb_further(case, ascent, climbed_for, multipliers, work)?;
-            if vain == MOST_VAIN || walkers.effort() > WALKS || self.is_over(case.instance) {
+            climbed_for = self.climb_further(case, ascent, climbed_for, multipliers, work, watch)?;
+            let is_spent = vain == MOST_VAIN || walkers.effort() > WALKS;
+            if is_spent || self.is_over(case.instance, watch) {
                 break;
             }
-            let is_vain = self.take_turn(case, &mut walkers, turn, multipliers, work)?;
+            let is_vain = self.take_turn(case, &mut walkers, turn, multipliers, work, watch)?;
             vain = if is_vain { vain.saturating_add(1) } else { 0 };
         }
         Ok(())
     }
 
     /// A part of the climb, where a cheaper plan is known than one of this cost. Gives what the cheapest one costs.
-    fn climb_further(
+    fn climb_further<W: Watch>(
         &mut self,
         case: &Case<'_>,
         ascent: &mut Ascent,
         climbed_for: Option<i64>,
         multipliers: &mut [i64],
         work: &mut Work,
+        watch: &W,
     ) -> Result<Option<i64>, Memory>
         requires can { CanSeek case.now.instance.now case.now.nets.now case.now.sets.now multipliers.old self.old }
         requires ascent { IsAscentFor case.now.instance.now ascent.old }
@@ -152,19 +164,20 @@ impl Seeker {
     {
         let cost = self.choices.cost();
         if cost != climbed_for {
-            self.climb(case, ascent, FURTHER, multipliers, work)?;
+            self.climb(case, ascent, FURTHER, multipliers, work, watch)?;
         }
         Ok(cost)
     }
 
     /// A turn of the walkers. Gives whether a plan is known and no cheaper one was found.
-    fn take_turn(
+    fn take_turn<W: Watch>(
         &mut self,
         case: &Case<'_>,
         walkers: &mut Walkers,
         turn: u32,
         multipliers: &[i64],
         work: &mut Work,
+        watch: &W,
     ) -> Result<bool, Memory>
         requires can { CanSeek case.now.instance.now case.now.nets.now case.now.sets.now multipliers.now self.old }
         requires walkers { AreWalkers case.now.instance.now walkers.old }
@@ -172,24 +185,27 @@ impl Seeker {
         ensures walkers { AreWalkers case.now.instance.now walkers.new }
     {
         let before = self.choices.cost();
-        walkers.take_turn(case, turn, multipliers, &mut self.choices.pool, work)?;
+        let pool = &mut self.choices.pool;
+        walkers.take_turn(case, turn, multipliers, pool, work, watch)?;
         self.choices.draw_cheapest(case, work)?;
+        watch.tell(self.choices.cost(), i64::MIN);
         Ok(before.is_some() && self.choices.cost() == before)
     }
 
-    /// Whether there is little left to gain for turns.
-    fn is_over(&self, instance: &Instance) -> bool {
-        self.is_done(instance) || self.is_near()
+    /// Whether there is little left to gain for turns, or the watch ends them.
+    fn is_over<W: Watch>(&self, instance: &Instance, watch: &W) -> bool {
+        self.is_done(instance) || self.is_near() || watch.is_over()
     }
 
     /// A part of the climb, from these multipliers, which it came to.
-    fn climb(
+    fn climb<W: Watch>(
         &mut self,
         case: &Case<'_>,
         ascent: &mut Ascent,
         stage: Stage,
         multipliers: &mut [i64],
         work: &mut Work,
+        watch: &W,
     ) -> Result<(), Memory>
         requires can { CanSeek case.now.instance.now case.now.nets.now case.now.sets.now multipliers.old self.old }
         requires ascent { IsAscentFor case.now.instance.now ascent.old }
@@ -199,7 +215,7 @@ impl Seeker {
     {
         begin_runs(case.alloc, case.nets, work)?;
         let aim = self.aim(stage);
-        ascent.go_on(case, &aim, multipliers, work);
+        ascent.go_on(case, &aim, multipliers, work, watch);
         self.value = ascent.value();
         Ok(())
     }

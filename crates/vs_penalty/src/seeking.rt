@@ -10,7 +10,7 @@ use crate::choices::Choices;
 use crate::effort::{margin, turn_margin};
 use vs_circ::{Work, begin_runs};
 use vs_instance::Instance;
-use vs_multi::{Case, greatest_step};
+use vs_multi::{Case, Watch, greatest_step};
 use vs_types::Memory;
 use vs_walk::{ALL, FEW, Penalties, Rate};
 
@@ -68,9 +68,15 @@ impl Seeker {
         self.choices.is_within(self.value, turn_margin(self.value))
     }
 
-    /// So many quick passes, or more while no plan is known. Each time the layers nearly agree, the plan of that is
-    /// found, and the rate falls.
-    pub fn seek(&mut self, case: &Case<'_>, passes: u32, work: &mut Work) -> Result<(), Memory>
+    /// So many quick passes, or more while no plan is known, unless the watch ends them. Each time the layers nearly
+    /// agree, the plan of that is found, and the rate falls.
+    pub fn seek<W: Watch>(
+        &mut self,
+        case: &Case<'_>,
+        passes: u32,
+        work: &mut Work,
+        watch: &W,
+    ) -> Result<(), Memory>
         requires case { IsCase case.now.instance.now case.now.nets.now case.now.sets.now }
         requires seeker { IsSeekerFor case.now.instance.now self.old }
         ensures { IsSeekerFor case.now.instance.now self.new }
@@ -80,7 +86,7 @@ impl Seeker {
         let start = work.effort();
         for k in 0..passes.saturating_mul(MORE) {
             let effort = work.effort().saturating_sub(start);
-            if left == 0 || self.is_sought(k >= passes, effort) {
+            if left == 0 || self.is_sought(k >= passes, effort) || watch.is_over() {
                 break;
             }
             self.penalties.pass(case, ALL, work);
@@ -91,6 +97,7 @@ impl Seeker {
                 left -= 1;
                 self.penalties.rate.ease();
                 self.draw(case, work)?;
+                watch.tell(self.choices.cost(), i64::MIN);
             }
             self.of_pass = work.effort().saturating_sub(start) / (u64::from(k) + 1);
         }

@@ -10,7 +10,7 @@ ghost use Rattle.vs_penalty.specs.Seekers.{AreWalkers};
 use crate::effort::is_small;
 use vs_circ::Work;
 use vs_match::LayerNet;
-use vs_multi::Case;
+use vs_multi::{Case, Watch};
 use vs_types::Memory;
 use vs_walk::{Pool, Walker};
 
@@ -55,13 +55,14 @@ impl Walkers {
 
     /// A turn of each. In even turns they begin with the choices of the pool, in odd ones each with its own. What they
     /// know in the end goes into the pool, in their order.
-    pub fn take_turn(
+    pub fn take_turn<W: Watch>(
         &mut self,
         case: &Case<'_>,
         turn: u32,
         multipliers: &[i64],
         pool: &mut Pool,
         work: &mut Work,
+        watch: &W,
     ) -> Result<(), Memory>
         requires case { IsCase case.now.instance.now case.now.nets.now case.now.sets.now }
         requires multipliers { AreMultipliers case.now.instance.now multipliers.now }
@@ -72,7 +73,7 @@ impl Walkers {
     {
         let count = self.count_in(case, turn);
         for k in 0..count {
-            self.take_turn_of(case, k, turn, multipliers, pool, work)?;
+            self.take_turn_of(case, k, turn, multipliers, pool, work, watch)?;
         }
         self.share(case, pool)
     }
@@ -90,7 +91,7 @@ impl Walkers {
     }
 
     /// A turn of the one in this place.
-    fn take_turn_of(
+    fn take_turn_of<W: Watch>(
         &mut self,
         case: &Case<'_>,
         k: usize,
@@ -98,6 +99,7 @@ impl Walkers {
         multipliers: &[i64],
         pool: &Pool,
         work: &mut Work,
+        watch: &W,
     ) -> Result<(), Memory>
         requires case { IsCase case.now.instance.now case.now.nets.now case.now.sets.now }
         requires multipliers { AreMultipliers case.now.instance.now multipliers.now }
@@ -109,8 +111,8 @@ impl Walkers {
     {
         let walker = &mut self.walkers[k];
         match self.works.get_mut(k) {
-            Some(own) => walk(walker, case, turn, multipliers, pool, own),
-            None => walk(walker, case, turn, multipliers, pool, work),
+            Some(own) => walk(walker, case, turn, multipliers, pool, own, watch),
+            None => walk(walker, case, turn, multipliers, pool, work, watch),
         }
     }
 
@@ -137,13 +139,14 @@ impl Walkers {
 }
 
 /// A turn of a walker. In even turns it begins with the choices of the pool, in odd ones with its own.
-fn walk(
+fn walk<W: Watch>(
     walker: &mut Walker,
     case: &Case<'_>,
     turn: u32,
     multipliers: &[i64],
     pool: &Pool,
     work: &mut Work,
+    watch: &W,
 ) -> Result<(), Memory>
     requires case { IsCase case.now.instance.now case.now.nets.now case.now.sets.now }
     requires multipliers { AreMultipliers case.now.instance.now multipliers.now }
@@ -154,7 +157,7 @@ fn walk(
     if turn % 2 == 0 {
         walker.take_over(case, pool)?;
     }
-    walker.walk(case, turn, multipliers, work)
+    walker.walk(case, turn, multipliers, work, watch)
 }
 
 /// What the walkers keep for the nets.

@@ -32,6 +32,20 @@ pub record IsCarriedOn (p : Problem) (budget : ℕ) (d e : Document) : Type 0 wh
   pub nodes : e.nodes ≡ nodes_of turns
   pub written : IsWrittenFor last e
 
+-- A document that answers another one, which holds, as far as a search within a budget came before it ended early. It
+-- has a text, holds, and its tables are those that leaves name, in the order in which they first do; its bound is the
+-- lesser of the least worth of its leaves and of its cost; its nodes are within the budget; and turns of so many nodes
+-- lead to it.
+pub record StoppedResume (p : Problem) (budget : ℕ) (d e : Document) : Type 0 where
+  pub has_text : HasText p e
+  pub holds : HoldingDocument p e
+  pub in_order : AreNamedInOrder 0 (leaf_places p e holds) (length e.tables.items)
+  pub worths : List Bound
+  pub are_worths : AreWorths p e (leaf_places p e holds) worths
+  pub bound : IsBoundOf e.cost worths e.bound
+  pub within_budget : e.nodes ≤ budget
+  pub carried_on : IsCarriedOn p budget d e
+
 -- A document that answers another one, which holds, within a budget: it has a text, holds, and its tables are those
 -- that leaves name, in the order in which they first do; its bound is the lesser of the least worth of its leaves and
 -- of its cost; its nodes are within the budget, and are all of it where the claim is still open; and turns of so many

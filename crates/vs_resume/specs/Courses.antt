@@ -1,11 +1,12 @@
 -- What stands in memory between two turns, and how a turn changes it.
-use Rattle.std.specs.Prelude.{◌≡◌, ◌⊎◌, ℕ, ◌+◌, ◌<◌, ◌≤◌, ◌^◌, List, [], ◌++◌, length, map, All, slice_get, Option, Some, MatchOption, IfSome, ℤ, pos}
+use Rattle.std.specs.Prelude.{◌≡◌, ◌⊎◌, ℕ, ◌+◌, ◌<◌, ◌≤◌, ◌^◌, true, List, [], ◌++◌, length, map, All, slice_get, Option, Some, MatchOption, IfSome, ℤ, pos}
 use Rattle.vs_types.specs.declared.layer_set.LayerSet.{LayerSet}
 use Rattle.vs_instance.specs.Plan.{IsPlan, LayerBlock, plan_cost}
 use Rattle.vs_instance.specs.Problem.{Problem}
 use Rattle.vs_instance.specs.Restriction.{permitted_sets}
 use Rattle.vs_plan.specs.Blocks.{blocks_of}
 use Rattle.vs_plan.specs.CheckedPlan.{Checked}
+use Rattle.vs_prices.specs.Bounds.{IsBelow}
 use Rattle.vs_prices.specs.Table.{Fits, HoldingTable}
 use Rattle.vs_prices.specs.declared.table.Table.{Table}
 use Rattle.vs_prices.specs.Tree.{IsGoodTree, leaves}
@@ -20,6 +21,7 @@ use Rattle.vs_cert.specs.TreeRows.{AreRowsOf}
 use Rattle.vs_resume.specs.declared.cases.Case.{Case}
 use Rattle.vs_resume.specs.declared.course.Course.{Course}
 use Rattle.vs_resume.specs.declared.deepen.TheConstants.{MAX_TURN}
+use Rattle.vs_resume.specs.declared.turning.Ended.{Ended}
 use Rattle.vs_resume.specs.Cases.{AreCasesOf, AreCasesOfRows, AreSettled}
 use Rattle.vs_resume.specs.InPlace.{in_place, row_of_leaf}
 use Rattle.vs_resume.specs.Order.{worths_in}
@@ -120,3 +122,16 @@ pub record IsTurnedOn (p : Problem) (left nodes : ℕ) (s : Standing) (new : Cou
 
 abbrev pub TurnsOn : Problem → ℕ → Course → Course → ℕ → Type 0
 TurnsOn p left old new nodes = (s : Standing) → IsCourseOf p old s → IsTurnedOn p left nodes s new
+
+-- the same where a turn ended so: one that finished no node was stopped, and changed nothing
+abbrev pub TurnsFurther : Problem → ℕ → Course → Course → Ended → Type 0
+TurnsFurther p left old new ended = ((ended.finished ≡ 0) × (ended.stopped ≡ true) × (new ≡ old))
+    ⊎ ((1 ≤ ended.finished) × (ended.finished ≤ left) × TurnsOn p left old new ended.finished)
+
+-- no leaf is below the cost
+abbrev pub NoneIsBelow : Course → Type 0
+NoneIsBelow c = All (λ found. ¬ (IsBelow found.worth c.cost)) c.cases.items
+
+-- turns end only where that is so
+abbrev pub EndsOnly : Course → Ended → Type 0
+EndsOnly c ended = ended.stopped ≡ true → NoneIsBelow c

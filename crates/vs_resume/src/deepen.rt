@@ -1,12 +1,12 @@
 //! Who searches the part of a leaf, and how much work that may be.
 
-ghost use Rattle.std.specs.Prelude.{◌*◌, ◌≤◌, length, IfOk};
+ghost use Rattle.std.specs.Prelude.{◌≡◌, ◌*◌, ◌≤◌, length, true, IfOk};
 ghost use Rattle.vs_instance.specs.declared.limits.TheConstants.{MAX_BUDGET};
-ghost use Rattle.vs_resume.specs.Deepened.{IsDeepened};
+ghost use Rattle.vs_resume.specs.Deepened.{IsBegunOn, IsDeepened};
 
 use std::alloc::Global;
 use vs_instance::Instance;
-use vs_tree::Tree;
+use vs_tree::{Stand, Tree};
 use vs_types::Memory;
 
 /// How many nodes a turn finishes at most. They are few enough that the search soon comes back to the leaf of least
@@ -22,12 +22,28 @@ pub trait Deepen {
     /// What is so of a solver that may be called, and stays so.
     ghost can_deepen: { Self → Type 0 };
 
-    /// A search of the part with this budget that began with no plan: it is over, and finished some node.
+    /// What is so of a solver that may end a search early. It is so of none where this isn't said.
+    ghost may_stop: { Self → Type 0 } = { λ _. ⊥ };
+
+    /// A search of the part with this budget that began with no plan: it is over, and finished some node. Where the
+    /// solver may end it early, it is as far as it came, and may have finished none.
     fn deepen(&mut self, alloc: Global, part: Instance, budget: u32) -> Result<Tree, Memory>
         requires can { can_deepen self.old }
         requires some { 1 ≤ budget }
         requires budget { budget ≤ MAX_BUDGET }
         requires room { length part.trips * length part.layers * budget ≤ MAX_PART_ENTRIES }
         ensures stays { can_deepen self.new }
-        ensures found { IfOk result (IsDeepened part budget) };
+        ensures may { may_stop self.new → may_stop self.old }
+        ensures begun { IfOk result (IsBegunOn part budget) }
+        ensures found { ¬ (may_stop self.old) → IfOk result (IsDeepened part budget) };
+
+    /// Whether the whole search is to end before its next turn, where it has come so far.
+    fn is_over(&mut self, _stand: &Stand) -> bool
+        requires can { can_deepen self.old }
+        ensures stays { can_deepen self.new }
+        ensures may { may_stop self.new → may_stop self.old }
+        ensures over { result ≡ true → may_stop self.old }
+    {
+        false
+    }
 }

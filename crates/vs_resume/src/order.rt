@@ -39,6 +39,18 @@ fn first_least(cases: &[Case]) -> usize
     best
 }
 
+/// How many leaves are worth less than the cost, or, where there is none, worth a number at all. Where they are more
+/// than `u32::MAX`, it is that.
+pub(crate) fn count_below(cases: &[Case], cost: Option<i64>) -> u32 {
+    let mut count: u32 = 0;
+    for case in cases {
+        if case.worth.is_below(cost) {
+            count = count.saturating_add(1);
+        }
+    }
+    count
+}
+
 /// The lesser of the least worth and the cost, None where neither is a number.
 pub(crate) fn bound_with(cases: &[Case], cost: Option<i64>) -> Option<i128>
     ensures { IsLeastWith cost (worths_in cases.now) (bound_of result) }

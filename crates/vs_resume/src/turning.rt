@@ -1,11 +1,11 @@
 //! A turn: the next leaf gives place to a search of its part.
 
-ghost use Rattle.std.specs.Prelude.{◌≡◌, ◌<◌, ◌≤◌, length, IfOk, OnOk};
+ghost use Rattle.std.specs.Prelude.{◌≡◌, ◌<◌, ◌≤◌, false, length, IfOk, OnOk};
 ghost use Rattle.vs_instance.specs.Narrowed.{narrowed};
 ghost use Rattle.vs_instance.specs.Restriction.{IsRestriction};
 ghost use Rattle.vs_resume.specs.declared.deepen.TheConstants.{MAX_TURN};
-ghost use Rattle.vs_resume.specs.Courses.{AreNext, HasFewTables, HasNewTables, HasSetsAt, IsPartPut, IsPlanTaken, IsSomeCourse, TurnsOn};
-ghost use Rattle.vs_resume.specs.Deepened.{IsDeepened};
+ghost use Rattle.vs_resume.specs.Courses.{AreNext, HasFewTables, HasNewTables, HasSetsAt, IsPartPut, IsPlanTaken, IsSomeCourse, TurnsFurther};
+ghost use Rattle.vs_resume.specs.Deepened.{IsBegunOn, IsDeepened};
 
 use crate::cases::{cases_of, settle};
 use crate::course::Course;
@@ -20,7 +20,17 @@ use vs_prices::Table;
 use vs_tree::Tree;
 use vs_types::{LayerSet, Memory};
 
-/// Takes a turn at leaf k, which is the next one, where so many nodes are left. Gives how many it finished.
+/// How a turn ended.
+#[derive(Clone, Copy, Debug, PartialEq, Eq)]
+pub(crate) struct Ended {
+    /// How many nodes it finished.
+    pub finished: u32,
+    /// Whether the solver ended it early.
+    pub stopped: bool,
+}
+
+/// Takes a turn at leaf k, which is the next one, where so many nodes are left. A turn that finished no node changes
+/// nothing.
 pub(crate) fn turn<S: Deepen>(
     alloc: Global,
     instance: &Instance,
@@ -28,15 +38,17 @@ pub(crate) fn turn<S: Deepen>(
     k: usize,
     left: u32,
     solver: &mut S,
-) -> Result<u32, Memory>
+) -> Result<Ended, Memory>
     requires course { IsSomeCourse instance.now course.old }
     requires next { AreNext course.old k }
     requires left { 1 ≤ left }
     requires few { HasFewTables course.old }
     requires can { S.can_deepen solver.old }
     ensures stays { S.can_deepen solver.new }
-    ensures turn { IfOk result (TurnsOn instance.now left course.old course.new) }
+    ensures may { S.may_stop solver.new → S.may_stop solver.old }
+    ensures turn { IfOk result (TurnsFurther instance.now left course.old course.new) }
     ensures few { OnOk result (HasNewTables course.old course.new) }
+    ensures goes_on { ¬ (S.may_stop solver.old) → IfOk result (λ ended. ended.stopped ≡ false) }
 {
     // for the proof: the instance is within its limits
     prove!(instance.trips() <= MAX_TRIPS);
@@ -46,9 +58,18 @@ pub(crate) fn turn<S: Deepen>(
     // for the proof: the steps of a search are a history from an opening
     let _part = tree.instance();
     let finished = tree.report().finished;
+    if finished == 0 {
+        return Ok(Ended {
+            finished: 0,
+            stopped: true,
+        });
+    }
     put_part(alloc, instance, course, k, sets, &tree)?;
     take_plan(alloc, course, &tree)?;
-    Ok(finished)
+    Ok(Ended {
+        finished,
+        stopped: !tree.is_over(),
+    })
 }
 
 /// A search of the part that these sets leave, with this budget.
@@ -64,7 +85,10 @@ fn deepened<S: Deepen>(
     requires few { budget ≤ MAX_TURN }
     requires can { S.can_deepen solver.old }
     ensures stays { S.can_deepen solver.new }
-    ensures found { IfOk result (IsDeepened (narrowed instance.now sets.now) budget) }
+    ensures may { S.may_stop solver.new → S.may_stop solver.old }
+    ensures begun { IfOk result (IsBegunOn (narrowed instance.now sets.now) budget) }
+    ensures found { ¬ (S.may_stop solver.old)
+        → IfOk result (IsDeepened (narrowed instance.now sets.now) budget) }
 {
     let part = instance.narrow(alloc, sets)?;
     // for the proof: the part is within its limits

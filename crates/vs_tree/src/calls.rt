@@ -48,3 +48,16 @@ pub struct Report {
     /// How many leaves were worked on.
     pub finished: u32,
 }
+
+/// How far a search has come. Costs and bounds are in cost units.
+#[derive(Clone, Copy, Debug, PartialEq, Eq)]
+pub struct Stand {
+    /// How many leaves were worked on.
+    pub finished: u32,
+    /// How many leaves leave room for a plan cheaper than the cheapest so far.
+    pub open: u32,
+    /// What the cheapest plan so far costs, None where none was found.
+    pub cost: Option<i64>,
+    /// No plan costs less than this; None where there is no plan.
+    pub bound: Option<i128>,
+}

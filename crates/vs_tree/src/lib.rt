@@ -13,7 +13,7 @@ mod spot;
 mod step;
 mod tree;
 
-pub use calls::{Hand, Next, Report, Take};
+pub use calls::{Hand, Next, Report, Stand, Take};
 pub use finishing::{Finish, Parting};
 pub use laws::{
     entries_differ, histories_are_sound, leaves_bound_plans, reports_are_true, states_are_trees,

@@ -5,16 +5,16 @@ ghost use Rattle.vs_tree.specs.History as full;
 ghost use Rattle.vs_tree.specs.History.{IsAmong, IsHeldBy, IsHistory, MayClose, MayCome, MaySplit, MayTake, IsCheaper, IsLeafWorth, incumbent, is_inner, known, prices_at, sets_at, spot_at};
 ghost use Rattle.vs_tree.specs.Free.{with_parts};
 ghost use Rattle.vs_tree.specs.Calls.{GivesBack, HoldsSome, finishing, offering, with_step};
-ghost use Rattle.vs_prices.specs.Bounds.{IsNoLess};
+ghost use Rattle.vs_prices.specs.Bounds.{IsBelow, IsNoLess};
 ghost use Rattle.vs_tree.specs.Finishes.{AreWorths, IsNextIn, IsParting, next_in};
-ghost use Rattle.vs_tree.specs.Report.{IsLeastOf, IsReport, bound_of};
-ghost use Rattle.vs_tree.specs.Takes.{AreBuffersKept, IsSized, IsTake, held_leaves, taking};
+ghost use Rattle.vs_tree.specs.Report.{IsLeastOf, IsOpenCount, IsReport, IsStand, bound_of};
+ghost use Rattle.vs_tree.specs.Takes.{AreBuffersKept, IsOver, IsSized, IsTake, held_leaves, taking};
 ghost use Rattle.vs_tree.specs.Log.{IsOfLog, full_step, plain_step};
 ghost use Rattle.vs_tree.specs.Prices.{AreLawful, AreWorth, no_prices, prices_of};
 ghost use Rattle.vs_tree.specs.Search.{IsHand, IsHandOf, hand_at, is_busy, state};
 ghost use Rattle.vs_tree.specs.Sound.{IsOpening, IsPlanOf};
 
-use crate::calls::{Hand, Next, Report, Take};
+use crate::calls::{Hand, Next, Report, Stand, Take};
 use crate::entry::Entry;
 use crate::finishing::{Finish, Parting};
 use crate::first::First;
@@ -405,6 +405,36 @@ impl Tree {
         }
     }
 
+    /// Whether the search is over: no leaf is held, and none leaves room for a plan cheaper than the cheapest so far,
+    /// or as many were worked on as the budget allows.
+    pub fn is_over(&self) -> bool
+        ensures { IsTrue result ↔ IsOver self.now.opening (state self.now) }
+    {
+        if busy(&self.hands) > 0 {
+            return false;
+        }
+        if self.finished == self.budget {
+            return true;
+        }
+        match self.free.next() {
+            Some(next) => !next.worth.is_below(self.log.known()),
+            None => true,
+        }
+    }
+
+    /// How far the search has come.
+    pub fn stand(&self) -> Stand
+        ensures { IsStand self.now.opening.problem (state self.now) result }
+    {
+        let report = self.report();
+        Stand {
+            finished: report.finished,
+            open: open_leaves(&self.places, &self.worths, report.cost),
+            cost: report.cost,
+            bound: report.bound,
+        }
+    }
+
     /// The steps that the search made. With the tables and the accepted plans that they name they are its full steps.
     pub fn history(&self) -> &[Step]
         ensures steps { result.now ≡ map plain_step self.now.steps }
@@ -546,6 +576,31 @@ fn least_bound(places: &Places, worths: &[Bound], known: Option<i64>) -> Bound
         least = lesser(least, worths[k as usize]);
     }
     least
+}
+
+/// How many leaves are worth less than the cost that is known, or, where none is, worth a number at all.
+fn open_leaves(places: &Places, worths: &[Bound], known: Option<i64>) -> u32
+    requires sized { length places.now.places ≤ length worths.now }
+    requires few { length places.now.places < 2 ^ 32 }
+    ensures { IsOpenCount places.now.places worths.now known (length places.now.places) result }
+{
+    let mut count: u32 = 0;
+    for k in 0..places.len() as u32 {
+        if is_open(places.spot(k), worths[k as usize], known) {
+            count += 1;
+        }
+    }
+    count
+}
+
+/// Whether a spot is a leaf that is worth less than the cost that is known, or, where none is, worth a number at all.
+fn is_open(spot: Spot, worth: Bound, known: Option<i64>) -> bool
+    ensures { IsTrue result ↔ ((is_inner spot ≡ false) × IsBelow worth known) }
+{
+    match spot {
+        Spot::Inner { .. } => false,
+        _ => worth.is_below(known),
+    }
 }
 
 /// The number of a bound, None where it says that there is no plan.

@@ -5,7 +5,7 @@ use Rattle.std.proofs.Math.Seq.{drop-length}
 use Rattle.vs_turn.specs.Calls.{maker, has_ticket, calls_from, calls_of, AreCalls, NoCalls, AreMadeBelow, numbered}
 use Rattle.vs_turn.proofs.TicketLists.{true_or_false, true_not_false}
 
-abbrev E : Type 0
+abbrev pub E : Type 0
 E = List ℕ
 
 -- the calls where the first entry is one
@@ -50,7 +50,7 @@ no_calls at ts [] h = refl
 no_calls at ts (e ∷ es) h = calls_from-no at ts e es h.0 ∙ no_calls (suc at) ts es h.1
 
 -- where there is no call, none of the entries is one
-no_calls_back : (at : ℕ) (ts : List ℕ) (es : List E) → calls_from at ts es ≡ [] → NoCalls ts es
+pub no_calls_back : (at : ℕ) (ts : List ℕ) (es : List E) → calls_from at ts es ≡ [] → NoCalls ts es
 no_calls_back at ts [] h = tt
 no_calls_back at ts (e ∷ es) h = ⊎_elim
     (λ y. let bad : (at, e) ∷ calls_from (suc at) ts es ≡ [] = sym (calls_from-yes at ts e es y) ∙ h in

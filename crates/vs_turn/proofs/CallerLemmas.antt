@@ -1,8 +1,10 @@
--- For the crates above: what a holder adds, for callers of `release`, and how all tickets are split.
+-- For the crates above: what a holder adds, for callers of `release`, how all tickets are split, and what a seat that
+-- was joined has not made.
 use Rattle.std.proofs.Common.{◌≡◌, ℕ, true, List, [], ◌∷◌, ◌++◌, length, ap, ◌∙◌, append-nil}
 use Rattle.std.proofs.Math.Seq.{drop-append_seam, drop-length}
 use Rattle.vs_turn.specs.Calls.{maker, has_ticket, GoOn, numbered, new_calls}
 pub use Rattle.vs_turn.proofs.TicketLists.{length-tickets_from, without_highest-all, only_highest-all}
+pub use Rattle.vs_turn.proofs.JoinedCalls.{next_apart, next_merged, none_of_one, none_unseen}
 
 -- nothing was added
 pub adds_none : (tickets : List ℕ) (before after : List (List ℕ)) → before ≡ after → GoOn tickets before after

@@ -10,4 +10,5 @@ pub mod Closing
 pub mod MergedCalls
 pub mod AtRest
 pub mod Joining
+pub mod JoinedCalls
 pub mod CallerLemmas

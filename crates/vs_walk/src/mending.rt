@@ -14,7 +14,7 @@ use crate::scope::{Scope, count_free, free_within, offer_free};
 use crate::walker::{FEW, FEW_LAYERS, Walker};
 use vs_circ::Work;
 use vs_instance::Instance;
-use vs_multi::Case;
+use vs_multi::{Case, Watch};
 use vs_types::{LayerNo, LayerSet, Memory, TripNo};
 
 /// The rate rises by one part in so many.
@@ -31,11 +31,12 @@ const MOST_VAIN: u32 = 10;
 
 impl Walker {
     /// Mends the cheapest choice that is kept, up to this effort.
-    pub(crate) fn mend_cheapest(
+    pub(crate) fn mend_cheapest<W: Watch>(
         &mut self,
         case: &Case<'_>,
         end: u64,
         work: &mut Work,
+        watch: &W,
     ) -> Result<(), Memory>
         requires case { IsCase case.now.instance.now case.now.nets.now case.now.sets.now }
         requires walker { IsWalkerFor case.now.instance.now self.old }
@@ -47,11 +48,11 @@ impl Walker {
             return Ok(());
         };
         self.next.layers.copy_from_slice(&choice.layers);
-        self.adopt(case, i64::MAX, end, work)
+        self.adopt(case, i64::MAX, end, work, watch)
     }
 
-    /// Mends the choice that is worked on, up to this effort.
-    pub(crate) fn mend(&mut self, case: &Case<'_>, end: u64, work: &mut Work)
+    /// Mends the choice that is worked on, up to this effort, or until the watch ends it.
+    pub(crate) fn mend<W: Watch>(&mut self, case: &Case<'_>, end: u64, work: &mut Work, watch: &W)
         requires case { IsCase case.now.instance.now case.now.nets.now case.now.sets.now }
         requires walker { IsWalkerFor case.now.instance.now self.old }
         requires ready { IsReadyToRun case.now.nets.now work.old }
@@ -61,17 +62,24 @@ impl Walker {
         let (trips, layers) = (case.instance.trips(), case.instance.layers());
         let mut vain: u32 = 0;
         for k in 0..MOST_TRIES {
-            if work.effort() >= end || vain == MOST_VAIN || trips == 0 || layers == 0 {
+            let is_over = work.effort() >= end || watch.is_over();
+            if is_over || vain == MOST_VAIN || trips == 0 || layers == 0 {
                 break;
             }
-            let is_tried = self.mend_once(case, (k % 2) as usize, work);
+            let is_tried = self.mend_once(case, (k % 2) as usize, work, watch);
             vain = if is_tried { 0 } else { vain.saturating_add(1) };
         }
     }
 
     /// Lets some layers share out their trips anew, and takes what they agree on where it costs no more. There are two
     /// kinds of it. False where the layers have no two trips to share out.
-    fn mend_once(&mut self, case: &Case<'_>, kind: usize, work: &mut Work) -> bool
+    fn mend_once<W: Watch>(
+        &mut self,
+        case: &Case<'_>,
+        kind: usize,
+        work: &mut Work,
+        watch: &W,
+    ) -> bool
         requires case { IsCase case.now.instance.now case.now.nets.now case.now.sets.now }
         requires trips { 0 < length case.now.instance.now.trips }
         requires layers { 0 < length case.now.instance.now.layers }
@@ -87,7 +95,7 @@ impl Walker {
         if free < 2 {
             return false;
         }
-        if !self.agree_in(case, scope, kind, free / FEW, work) {
+        if !self.agree_in(case, scope, kind, free / FEW, work, watch) {
             self.mends[kind].lower();
             return true;
         }
@@ -102,13 +110,14 @@ impl Walker {
 
     /// Passes of these layers from the choice that is worked on. Gives whether they agree: no more than a few trips are
     /// run by several.
-    fn agree_in(
+    fn agree_in<W: Watch>(
         &mut self,
         case: &Case<'_>,
         scope: Scope,
         kind: usize,
         few: u32,
         work: &mut Work,
+        watch: &W,
     ) -> bool
         requires case { IsCase case.now.instance.now case.now.nets.now case.now.sets.now }
         requires layers { 0 < length case.now.instance.now.layers }
@@ -132,7 +141,8 @@ impl Walker {
         let first = self.draws.below(case.instance.layers());
         self.penalties.set_first(first);
         let sets: &[LayerSet] = &self.sets;
-        self.penalties.agree(&Case { sets, ..*case }, course, work)
+        self.penalties
+            .agree(&Case { sets, ..*case }, course, work, watch)
     }
 }
 

@@ -11,7 +11,7 @@ use crate::penalties::Penalties;
 use crate::tally::Tally;
 use vs_circ::Work;
 use vs_instance::{Instance, MAX_TRIPS};
-use vs_multi::Case;
+use vs_multi::{Case, Watch};
 use vs_types::LayerSet;
 
 /// What passes are made by, and where they end.
@@ -29,8 +29,14 @@ pub(crate) struct Course {
 
 impl Penalties {
     /// Passes until the layers nearly agree. The rate rises while trips are left out. False where they don't agree
-    /// within the course.
-    pub(crate) fn agree(&mut self, case: &Case<'_>, course: Course, work: &mut Work) -> bool
+    /// within the course, or before the watch ends it.
+    pub(crate) fn agree<W: Watch>(
+        &mut self,
+        case: &Case<'_>,
+        course: Course,
+        work: &mut Work,
+        watch: &W,
+    ) -> bool
         requires case { IsCase case.now.instance.now case.now.nets.now case.now.sets.now }
         requires penalties { ArePenalties case.now.instance.now self.old }
         requires ready { IsReadyToRun case.now.nets.now work.old }
@@ -38,7 +44,7 @@ impl Penalties {
         ensures ready { IsReadyToRun case.now.nets.now work.new }
     {
         for _ in 0..course.passes {
-            if work.effort() > course.end {
+            if work.effort() > course.end || watch.is_over() {
                 return false;
             }
             self.pass(case, course.layers, work);

@@ -10,7 +10,7 @@ use crate::rate::Rate;
 use crate::scope::{ALL, free_among};
 use crate::walker::{FEW, Walker};
 use vs_circ::Work;
-use vs_multi::Case;
+use vs_multi::{Case, Watch};
 use vs_types::{LayerSet, Memory};
 
 /// Passes begin alternately from so many of the cheapest choices.
@@ -33,8 +33,13 @@ const SHARE: u64 = 4;
 const MOST_TRIES: u32 = 10_000;
 
 impl Walker {
-    /// Passes from kept choices, until they have taken their share of the turn.
-    pub(crate) fn restart_all(&mut self, case: &Case<'_>, work: &mut Work) -> Result<(), Memory>
+    /// Passes from kept choices, until they have taken their share of the turn, or the watch ends it.
+    pub(crate) fn restart_all<W: Watch>(
+        &mut self,
+        case: &Case<'_>,
+        work: &mut Work,
+        watch: &W,
+    ) -> Result<(), Memory>
         requires case { IsCase case.now.instance.now case.now.nets.now case.now.sets.now }
         requires walker { IsWalkerFor case.now.instance.now self.old }
         requires ready { IsReadyToRun case.now.nets.now work.old }
@@ -43,17 +48,23 @@ impl Walker {
     {
         let end = work.effort().saturating_add(self.budget / 16 * SHARE);
         for _ in 0..MOST_TRIES {
-            if work.effort() >= end || self.pool.count() == 0 {
+            let is_over = work.effort() >= end || watch.is_over();
+            if is_over || self.pool.count() == 0 {
                 break;
             }
-            self.restart(case, work)?;
+            self.restart(case, work, watch)?;
         }
         Ok(())
     }
 
     /// Passes from a kept choice to the next agreement. The choice of that is mended where it is nearly as cheap, and
     /// kept.
-    fn restart(&mut self, case: &Case<'_>, work: &mut Work) -> Result<(), Memory>
+    fn restart<W: Watch>(
+        &mut self,
+        case: &Case<'_>,
+        work: &mut Work,
+        watch: &W,
+    ) -> Result<(), Memory>
         requires case { IsCase case.now.instance.now case.now.nets.now case.now.sets.now }
         requires walker { IsWalkerFor case.now.instance.now self.old }
         requires ready { IsReadyToRun case.now.nets.now work.old }
@@ -64,7 +75,7 @@ impl Walker {
         let place = self.tries.saturating_add(self.number) as usize % bases;
         let kind = self.tries as usize / bases % 2;
         let worth = self.take_base(case, place);
-        if !self.agree_again(case, kind, work) {
+        if !self.agree_again(case, kind, work, watch) {
             self.restarts[kind].lower();
             return Ok(());
         }
@@ -74,7 +85,7 @@ impl Walker {
             return Ok(());
         }
         let end = work.effort().saturating_add(self.budget / 16);
-        self.adopt(case, worth, end, work)
+        self.adopt(case, worth, end, work, watch)
     }
 
     /// Works on with the kept choice that so many are cheaper than. Gives below which cost one that comes of it is
@@ -94,7 +105,13 @@ impl Walker {
 
     /// Passes from the choice that is worked on: in all layers, or in those of the cheapest choices alone. Gives
     /// whether they agree.
-    fn agree_again(&mut self, case: &Case<'_>, kind: usize, work: &mut Work) -> bool
+    fn agree_again<W: Watch>(
+        &mut self,
+        case: &Case<'_>,
+        kind: usize,
+        work: &mut Work,
+        watch: &W,
+    ) -> bool
         requires case { IsCase case.now.instance.now case.now.nets.now case.now.sets.now }
         requires kind { kind < 2 }
         requires walker { IsWalkerFor case.now.instance.now self.old }
@@ -115,7 +132,7 @@ impl Walker {
         self.penalties.set_first(first);
         self.tries = self.tries.saturating_add(1);
         if kind == 0 {
-            return self.penalties.agree(case, course, work);
+            return self.penalties.agree(case, course, work, watch);
         }
         free_among(
             case.instance,
@@ -124,6 +141,7 @@ impl Walker {
             &mut self.sets,
         );
         let sets: &[LayerSet] = &self.sets;
-        self.penalties.agree(&Case { sets, ..*case }, course, work)
+        self.penalties
+            .agree(&Case { sets, ..*case }, course, work, watch)
     }
 }

@@ -18,7 +18,7 @@ use crate::rate::Rate;
 use crate::scope::ALL;
 use std::mem::swap;
 use vs_circ::{Work, begin_runs};
-use vs_multi::Case;
+use vs_multi::{Case, Watch};
 use vs_types::{LayerNo, LayerSet, MAX_LAYERS, Memory};
 
 /// A choice is made where no more than one trip in so many is run by several layers. Where more are, giving each to one
@@ -114,13 +114,15 @@ impl Walker {
     }
 
     /// A turn, from these multipliers on. Where it is the first turn or no choice is known, it begins with passes to a
-    /// first agreement. Passes from kept choices follow. What is left of the budget mends the cheapest choice.
-    pub fn walk(
+    /// first agreement. Passes from kept choices follow. What is left of the budget mends the cheapest choice. Each of
+    /// these ends where the watch says so.
+    pub fn walk<W: Watch>(
         &mut self,
         case: &Case<'_>,
         turn: u32,
         multipliers: &[i64],
         work: &mut Work,
+        watch: &W,
     ) -> Result<(), Memory>
         requires case { IsCase case.now.instance.now case.now.nets.now case.now.sets.now }
         requires multipliers { AreMultipliers case.now.instance.now multipliers.now }
@@ -131,36 +133,48 @@ impl Walker {
         begin_runs(case.alloc, case.nets, work)?;
         let before = work.effort();
         if turn == 0 || self.pool.count() == 0 {
-            self.begin_anew(case, turn, work)?;
+            self.begin_anew(case, turn, work, watch)?;
         }
         let end = work.effort().saturating_add(self.budget);
-        self.restart_all(case, work)?;
-        self.mend_cheapest(case, end, work)?;
+        self.restart_all(case, work, watch)?;
+        self.mend_cheapest(case, end, work, watch)?;
         let effort = work.effort().saturating_sub(before);
         self.effort = self.effort.saturating_add(effort);
         Ok(())
     }
 
     /// Passes from where no layer runs a trip, to the first agreement. The choice is mended and kept.
-    fn begin_anew(&mut self, case: &Case<'_>, turn: u32, work: &mut Work) -> Result<(), Memory>
+    fn begin_anew<W: Watch>(
+        &mut self,
+        case: &Case<'_>,
+        turn: u32,
+        work: &mut Work,
+        watch: &W,
+    ) -> Result<(), Memory>
         requires case { IsCase case.now.instance.now case.now.nets.now case.now.sets.now }
         requires walker { IsWalkerFor case.now.instance.now self.old }
         requires ready { IsReadyToRun case.now.nets.now work.old }
         ensures walker { IsWalkerFor case.now.instance.now self.new }
         ensures ready { IsReadyToRun case.now.nets.now work.new }
     {
-        if !self.agree_anew(case, turn, work) {
+        if !self.agree_anew(case, turn, work, watch) {
             self.agreed = self.penalties.rate.most / 16;
             return Ok(());
         }
         self.agreed = self.penalties.rate.now;
         self.choose(case);
         let end = work.effort().saturating_add(self.budget / 8);
-        self.adopt(case, i64::MAX, end, work)
+        self.adopt(case, i64::MAX, end, work, watch)
     }
 
     /// Passes from where no layer runs a trip. Gives whether the layers agree.
-    fn agree_anew(&mut self, case: &Case<'_>, turn: u32, work: &mut Work) -> bool
+    fn agree_anew<W: Watch>(
+        &mut self,
+        case: &Case<'_>,
+        turn: u32,
+        work: &mut Work,
+        watch: &W,
+    ) -> bool
         requires case { IsCase case.now.instance.now case.now.nets.now case.now.sets.now }
         requires walker { IsWalkerFor case.now.instance.now self.old }
         requires ready { IsReadyToRun case.now.nets.now work.old }
@@ -177,7 +191,7 @@ impl Walker {
         self.penalties.begin(&self.best);
         let first = self.number.saturating_add(turn.saturating_mul(3));
         self.penalties.set_first(first);
-        self.penalties.agree(case, course, work)
+        self.penalties.agree(case, course, work, watch)
     }
 
     /// The rate with which passes begin that begin anew: a small part of the greatest, the greater the later the walker
@@ -201,12 +215,13 @@ impl Walker {
 
     /// Works on with the choice that comes next: mends it up to this effort, where it costs less than so much, and
     /// keeps it. Nothing of that where a layer can't run its trips.
-    pub(crate) fn adopt(
+    pub(crate) fn adopt<W: Watch>(
         &mut self,
         case: &Case<'_>,
         worth: i64,
         end: u64,
         work: &mut Work,
+        watch: &W,
     ) -> Result<(), Memory>
         requires case { IsCase case.now.instance.now case.now.nets.now case.now.sets.now }
         requires walker { IsWalkerFor case.now.instance.now self.old }
@@ -219,7 +234,7 @@ impl Walker {
         }
         self.take_next();
         if self.draft.cost() < worth {
-            self.mend(case, end, work);
+            self.mend(case, end, work, watch);
         }
         self.keep(case)
     }

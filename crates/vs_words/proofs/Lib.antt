@@ -1,3 +1,4 @@
 pub mod CommandWords
+pub mod OptionWords
 pub mod ShortNumbers
 pub mod WordLaws

@@ -9,9 +9,10 @@ use Rattle.vs_reader.proofs.CallerLemmas.{digits_short, numerals}
 use Rattle.vs_words.specs.Words.{Word}
 
 -- what is read from few digits is the number that they write
-pub parses_number : {E : Type 0} (word : Word) (r : Result ℕ E) → AreDigits word 6 → ParsesUnsigned 32 10 word r
-    → r ≡ Ok (digits_value 10 word)
-parses_number word r digits parses =
-    let few : digits_value 10 word < 10 ^ 6 = digits_short word 6 digits.digits digits.few in
+pub parses_number : {E : Type 0} (count : ℕ) (word : Word) (r : Result ℕ E) → count ≤ 7 → AreDigits word count
+    → ParsesUnsigned 32 10 word r → r ≡ Ok (digits_value 10 word)
+parses_number count word r short digits parses =
+    let size = digits.few in
+    let few : digits_value 10 word < 10 ^ 7 = digits_short word 7 digits.digits (omega (arith, size, short)) in
     parse_gives numerals 32 word r parses (λ i within. All-get_or IsAsciiDigit word i 0 within digits.digits)
     digits.some (omega arith)

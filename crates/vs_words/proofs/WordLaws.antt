@@ -7,49 +7,8 @@ use Rattle.vs_words.specs.declared.command.Command.TheVariants as commands
 use Rattle.vs_words.specs.declared.command.Effort.{Effort}
 use Rattle.vs_words.specs.declared.command.Plain.TheVariants.{Check, Network, Blocks, Make, Peak, PeakCheck, Replay}
 use Rattle.vs_words.specs.declared.command.Search.TheVariants.{Solve, Trial, Resume, Trace}
-use Rattle.vs_words.specs.declared.words.Setting.{Setting}
-use Rattle.vs_words.specs.Words.{Word, AreAccepted, AreBadAt, AreFurther, AreOptions, AskFor, Begin, IsCount, IsNumberFor, command_name, other_setting, setting_name}
-use Rattle.vs_words.proofs.CommandWords.{same_setting}
-
--- a word writes one number of an option
-one_number : (s t : Setting) (v w : Word) (m n : ℕ) → v ≡ w → IsNumberFor s v m → IsNumberFor t w n → m ≡ n
-one_number s t v w m n same a b = a.number.value ∙ ap (digits_value 10) same ∙ sym b.number.value
-
--- options set one effort
-one_effort : (words : List Word) (c d : Effort) → AreOptions c words → AreOptions d words → c ≡ d
-one_effort words c d (inl none) (inl also) = none.1 ∙ sym also.1
-one_effort words c d (inl none) (inr (inl one)) = let e = none.0 in let f = one.words_are in cc
-one_effort words c d (inl none) (inr (inr both)) = let e = none.0 in let f = both.words_are in cc
-one_effort words c d (inr (inl one)) (inl none) = let e = none.0 in let f = one.words_are in cc
-one_effort words c d (inr (inl one)) (inr (inl also)) =
-    let all : setting_name one.setting ∷ one.word ∷ [] ≡ setting_name also.setting ∷ also.word ∷ [] =
-    sym one.words_are ∙ also.words_are in
-    let name : setting_name one.setting ≡ setting_name also.setting = cc in
-    let word : one.word ≡ also.word = cc in
-    let setting = same_setting one.setting also.setting name in
-    let number = one_number one.setting also.setting one.word also.word one.n also.n word one.number_is
-    also.number_is in
-    let e = one.effort_is in
-    let f = also.effort_is in
-    cc
-one_effort words c d (inr (inl one)) (inr (inr both)) =
-    absurd (omega (arith, ap length one.words_are, ap length both.words_are))
-one_effort words c d (inr (inr both)) (inl none) = let e = none.0 in let f = both.words_are in cc
-one_effort words c d (inr (inr both)) (inr (inl one)) =
-    absurd (omega (arith, ap length one.words_are, ap length both.words_are))
-one_effort words c d (inr (inr both)) (inr (inr also)) =
-    let all = sym both.words_are ∙ also.words_are in
-    let name : setting_name both.first ≡ setting_name also.first = cc in
-    let first_word : both.first_word ≡ also.first_word = cc in
-    let second_word : both.second_word ≡ also.second_word = cc in
-    let first = same_setting both.first also.first name in
-    let m = one_number both.first also.first both.first_word also.first_word both.m also.m first_word both.first_is
-    also.first_is in
-    let n = one_number (other_setting both.first) (other_setting also.first) both.second_word also.second_word both.n
-    also.n second_word both.second_is also.second_is in
-    let e = both.effort_is in
-    let f = also.effort_is in
-    cc
+use Rattle.vs_words.specs.Words.{Word, AreAccepted, AreBadAt, AreFurther, AskFor, Begin, IsCount, command_name}
+use Rattle.vs_words.proofs.OptionWords.{one_effort}
 
 -- one word writes one count
 one_count : (words : List Word) (m n : ℕ) → IsCount m words → IsCount n words → m ≡ n

@@ -1,5 +1,5 @@
 -- What words ask for, and at which word they are bad.
-use Rattle.std.specs.Prelude.{◌≡◌, ℕ, ◌+◌, ◌-◌, ◌<◌, ◌≤◌, List, [], ◌∷◌, ◌++◌, length, map, take, codes, String, string_bytes, slice_index_or, Result, MatchResult, Some, None, IfSome, ◌⊎◌}
+use Rattle.std.specs.Prelude.{◌≡◌, ◌≢◌, ℕ, ◌+◌, ◌-◌, ◌<◌, ◌≤◌, List, [], ◌∷◌, ◌++◌, length, map, take, All, codes, String, string_bytes, slice_index_or, Option, Result, MatchResult, Some, None, IfSome, MatchOption}
 use Rattle.std.specs.Str.Parse.{digits_value}
 use Rattle.std.specs.declared.alloc.Global.{Global}
 use Rattle.vs_instance.specs.declared.limits.TheConstants.{MAX_TRIPS}
@@ -14,10 +14,11 @@ use Rattle.vs_words.specs.declared.command.Search.TheVariants.{Solve, Trial, Res
 use Rattle.vs_words.specs.declared.words.BadWord.{BadWord}
 use Rattle.vs_words.specs.declared.words.Counting.{Counting}
 use Rattle.vs_words.specs.declared.words.Counting.TheVariants as counting
+use Rattle.vs_words.specs.declared.words.Given.{Given}
 use Rattle.vs_words.specs.declared.words.Searching.{Searching}
 use Rattle.vs_words.specs.declared.words.Searching.TheVariants as searching
 use Rattle.vs_words.specs.declared.words.Setting.{Setting}
-use Rattle.vs_words.specs.declared.words.Setting.TheVariants.{Workers, Nodes}
+use Rattle.vs_words.specs.declared.words.Setting.TheVariants.{Workers, Nodes, Seconds, Gap}
 
 -- a word, as bytes
 abbrev pub Word : Type 0
@@ -54,9 +55,9 @@ searched searching.Solve effort = commands.Search (Solve effort)
 searched searching.Resume effort = commands.Search (Resume effort)
 searched searching.Trace effort = commands.Search (Trace effort)
 
--- 1 to 6 digits, with leading zeros or without, that write n, which is no greater than `most`
-pub record IsNumberUpTo (most : ℕ) (word : Word) (n : ℕ) : Type 0 where
-  pub digits : AreDigits word 6
+-- 1 to so many digits, with leading zeros or without, that write n, which is no greater than `most`
+pub record IsNumberUpTo (count most : ℕ) (word : Word) (n : ℕ) : Type 0 where
+  pub digits : AreDigits word count
   pub value : n ≡ digits_value 10 word
   pub few : n ≤ most
 
@@ -64,29 +65,38 @@ pub record IsNumberUpTo (most : ℕ) (word : Word) (n : ℕ) : Type 0 where
 abbrev pub setting_name : Setting → Word
 setting_name Workers = codes "--workers"
 setting_name Nodes = codes "--nodes"
+setting_name Seconds = codes "--seconds"
+setting_name Gap = codes "--gap"
 
--- the option that isn't this one
-abbrev pub other_setting : Setting → Setting
-other_setting Workers = Nodes
-other_setting Nodes = Workers
-
--- the least number and the greatest one that the option takes: 1 to 64 workers, and 0 to 100,000 nodes
+-- the least number and the greatest one that the option takes: 1 to 64 workers, 0 to 100,000 nodes, 1 to 86,400
+-- seconds, and a gap of 0 to 1,000,000 parts per million
 abbrev pub least_of : Setting → ℕ
 least_of Workers = 1
 least_of Nodes = 0
+least_of Seconds = 1
+least_of Gap = 0
 
 abbrev pub most_of : Setting → ℕ
 most_of Workers = 64
 most_of Nodes = 100000
+most_of Seconds = 86400
+most_of Gap = 1000000
 
--- 1 to 6 digits that write n, which is one of the option's numbers
+-- how many digits its number has at most
+abbrev pub digits_of : Setting → ℕ
+digits_of Workers = 6
+digits_of Nodes = 6
+digits_of Seconds = 7
+digits_of Gap = 7
+
+-- few enough digits that write n, which is one of the option's numbers
 pub record IsNumberFor (setting : Setting) (word : Word) (n : ℕ) : Type 0 where
-  pub number : IsNumberUpTo (most_of setting) word n
+  pub number : IsNumberUpTo (digits_of setting) (most_of setting) word n
   pub many : least_of setting ≤ n
 
--- the effort of a search where the words don't say: 4 workers, and no number of nodes
+-- the effort of a search where the words don't say: 4 workers, no number of nodes, and no limit of time or of the gap
 abbrev pub default_effort : Effort
-default_effort = record { workers = 4; nodes = None }
+default_effort = record { workers = 4; nodes = None; seconds = None; gap = None }
 
 -- the name of a search, whatever its effort
 abbrev pub search_name : Searching → Word
@@ -96,35 +106,45 @@ search_name kind = command_name (searched kind default_effort)
 abbrev pub with_setting : Setting → Effort → ℕ → Effort
 with_setting Workers effort n = record effort { workers = n }
 with_setting Nodes effort n = record effort { nodes = Some n }
+with_setting Seconds effort n = record effort { seconds = Some n }
+with_setting Gap effort n = record effort { gap = Some n }
 
--- one option and a number
-pub record SetOne (effort : Effort) (words : List Word) : Type 0 where
+-- an option as it is given: the word behind its name writes this number
+pub record GivenOption : Type 0 where
   pub setting : Setting
   pub word : Word
   pub n : ℕ
-  pub words_are : words ≡ setting_name setting ∷ word ∷ []
-  pub number_is : IsNumberFor setting word n
-  pub effort_is : effort ≡ with_setting setting default_effort n
 
--- one option and a number, and then the other one and a number
-pub record SetBoth (effort : Effort) (words : List Word) : Type 0 where
-  pub first : Setting
-  pub first_word : Word
-  pub second_word : Word
-  pub m : ℕ
-  pub n : ℕ
-  pub words_are : words ≡ setting_name first ∷ first_word ∷ setting_name (other_setting first) ∷ second_word ∷ []
-  pub first_is : IsNumberFor first first_word m
-  pub second_is : IsNumberFor (other_setting first) second_word n
-  pub effort_is : effort ≡ with_setting (other_setting first) (with_setting first default_effort m) n
+-- the words of options, one after the other
+abbrev pub option_words : List GivenOption → List Word
+option_words [] = []
+option_words (o ∷ options) = setting_name o.setting ∷ o.word ∷ option_words options
 
--- the options of a search: none, one, or both in either order
-abbrev pub AreOptions : Effort → List Word → Type 0
-AreOptions effort words = ((words ≡ []) × (effort ≡ default_effort)) ⊎ SetOne effort words ⊎ SetBoth effort words
+-- each of them is given with one of its numbers
+abbrev pub HaveNumbers : List GivenOption → Type 0
+HaveNumbers options = All (λ o. IsNumberFor o.setting o.word o.n) options
+
+-- and none is given twice
+abbrev pub AreOnce : List GivenOption → Type 0
+AreOnce [] = Unit {0}
+AreOnce (o ∷ options) = All (λ other. other.setting ≢ o.setting) options × AreOnce options
+
+-- the effort with their numbers in it
+abbrev pub with_options : Effort → List GivenOption → Effort
+with_options effort [] = effort
+with_options effort (o ∷ options) = with_options (with_setting o.setting effort o.n) options
+
+-- the options of a search, in any order, each once at most
+pub record AreOptions (effort : Effort) (words : List Word) : Type 0 where
+  pub options : List GivenOption
+  pub words_are : words ≡ option_words options
+  pub numbers : HaveNumbers options
+  pub once : AreOnce options
+  pub effort_is : effort ≡ with_options default_effort options
 
 -- one word, which writes how many trips
 abbrev pub IsCount : ℕ → List Word → Type 0
-IsCount n words = (count : Word) × (words ≡ count ∷ []) × IsNumberUpTo MAX_TRIPS count n
+IsCount n words = (count : Word) × (words ≡ count ∷ []) × IsNumberUpTo 6 MAX_TRIPS count n
 
 -- the words behind the first
 abbrev pub AreFurther : Command → List Word → Type 0
@@ -167,11 +187,17 @@ abbrev pub IsAlone : Plain → Type 0
 IsAlone (Make n) = ⊥
 IsAlone _ = Unit {0}
 
--- a search may have so many workers and nodes: 1 to 64, and where a number of nodes is given, 100,000 at most
+-- a search may have so many workers and nodes, 1 to 64, and where a number of nodes is given, 100,000 at most; and,
+-- where they are given, as many seconds, 1 to 86,400, and such a gap, 1,000,000 parts per million at most
 abbrev pub MayBeTaken : Effort → Type 0
 MayBeTaken effort = (1 ≤ effort.workers) × (effort.workers ≤ 64) × IfSome effort.nodes (λ n. n ≤ 100000)
+    × IfSome effort.seconds (λ s. (1 ≤ s) × (s ≤ 86400)) × IfSome effort.gap (λ g. g ≤ 1000000)
 
--- a search may have as many workers and nodes as the command asks for, and an instance as many trips
+-- no limit of time or of the gap is given
+abbrev pub IsUnlimited : Effort → Type 0
+IsUnlimited effort = (effort.seconds ≡ None) × (effort.gap ≡ None)
+
+-- a search may have as much as the command asks for, and an instance as many trips
 abbrev pub IsSearchWithin : Search → Type 0
 IsSearchWithin (Solve effort) = MayBeTaken effort
 IsSearchWithin (Trial n) = n ≤ MAX_TRIPS
@@ -200,6 +226,55 @@ AskToRead words = (command : Command) × AskFor words command × Reads command
 pub record IsWordAt (words : List Word) (place : ℕ) (word : Word) : Type 0 where
   pub within : place < length words
   pub word_is : slice_index_or words place [] ≡ word
+
+-- the number that was given for the option, if any
+abbrev pub number_in : Setting → Given → Option ℕ
+number_in Workers given = given.workers
+number_in Nodes given = given.nodes
+number_in Seconds given = given.seconds
+number_in Gap given = given.gap
+
+-- the same with the option's number
+abbrev pub given_with : Setting → Given → ℕ → Given
+given_with Workers given n = record given { workers = Some n }
+given_with Nodes given n = record given { nodes = Some n }
+given_with Seconds given n = record given { seconds = Some n }
+given_with Gap given n = record given { gap = Some n }
+
+-- no option was given
+abbrev pub none_given : Given
+none_given = record { workers = None; nodes = None; seconds = None; gap = None }
+
+abbrev pub given_by : Given → List GivenOption → Given
+given_by given [] = given
+given_by given (o ∷ options) = given_by (given_with o.setting given o.n) options
+
+-- the workers that were asked for, or 4
+abbrev pub workers_in : Option ℕ → ℕ
+workers_in None = 4
+workers_in (Some n) = n
+
+-- the effort of what was given
+abbrev pub effort_of : Given → Effort
+effort_of given = record {
+  workers = workers_in given.workers;
+  nodes = given.nodes;
+  seconds = given.seconds;
+  gap = given.gap;
+}
+
+-- the words before a place are the name of a search and options behind it, which give this
+pub record AreTaken (kind : Searching) (words : List Word) (place : ℕ) (given : Given) : Type 0 where
+  pub options : List GivenOption
+  pub within : place ≤ length words
+  pub words_are : take place words ≡ search_name kind ∷ option_words options
+  pub numbers : HaveNumbers options
+  pub once : AreOnce options
+  pub given_is : given ≡ given_by none_given options
+
+-- one option more was taken, or the words are bad there
+abbrev pub Takes : Searching → List Word → ℕ → Result Given BadWord → Type 0
+Takes kind words place result = MatchResult result (AreTaken kind words (place + 2)) (λ bad. AreBadAt words bad.0)
 
 -- words as bytes
 abbrev pub words_of : List (String Global) → List Word

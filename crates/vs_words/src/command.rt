@@ -1,11 +1,14 @@
 //! What the program is asked to do.
 
-/// How much a search may take: how many workers share it, 1 to 64, and, where it is given, a limit. The limit is the
-/// most nodes that it may work on, 0 to 100,000.
+/// How much a search may take: how many workers share it, 1 to 64, and the limits that are given. It may work on so
+/// many nodes at most, 0 to 100,000. It ends after so many seconds, 1 to 86,400, or once the gap between plan and bound
+/// is so small: 0 to 1,000,000 parts per million of the plan's cost.
 #[derive(Clone, Copy, Debug, PartialEq, Eq)]
 pub struct Effort {
     pub workers: u32,
     pub nodes: Option<u32>,
+    pub seconds: Option<u32>,
+    pub gap: Option<u32>,
 }
 
 /// What the program is asked to do.

@@ -7,4 +7,7 @@ mod words;
 
 pub use command::{Command, Effort, Plain, Search};
 pub use laws::words_mean_one_thing;
-pub use words::{BadWord, Counting, DEFAULT_WORKERS, MAX_DIGITS, Searching, Setting, command_of};
+pub use words::{
+    BadWord, Counting, DEFAULT_WORKERS, MAX_DIGITS, MAX_GAP, MAX_LIMIT_DIGITS, MAX_SECONDS,
+    Searching, Setting, command_of,
+};

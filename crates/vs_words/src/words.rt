@@ -1,7 +1,9 @@
 //! Words, read as a command.
 
-ghost use Rattle.std.specs.Prelude.{◌≡◌, ℕ, ◌≤◌, IsTrue, MatchOption, ◌↔◌};
-ghost use Rattle.vs_words.specs.Words.{Answers, IsAlone, IsNumberFor, IsNumberUpTo, IsWordAt, Word, command_name, counted, least_of, most_of, other_setting, search_name, searched, setting_name, with_setting, words_of};
+ghost use Rattle.std.specs.Prelude.{◌≡◌, ℕ, ◌<◌, ◌≤◌, length, IsSome, IsTrue, MatchOption, ◌↔◌};
+ghost use Rattle.vs_words.specs.Words.{Answers, AreTaken, IsAlone, IsNumberFor, IsNumberUpTo, IsWordAt, Takes, Word, command_name, counted, digits_of, effort_of, given_with, least_of, most_of, number_in, search_name, searched, setting_name, words_of};
+ghost use Rattle.vs_words.specs.declared.words.Searching.{Searching};
+ghost use Rattle.vs_words.specs.declared.words.Setting.{Setting};
 
 use crate::command::{Command, Effort, Plain, Search};
 use vs_instance::{MAX_BUDGET, MAX_TRIPS, MAX_WORKERS};
@@ -10,17 +12,20 @@ use vs_instance::{MAX_BUDGET, MAX_TRIPS, MAX_WORKERS};
 #[derive(Clone, Copy, Debug, PartialEq, Eq)]
 pub struct BadWord(pub usize);
 
-/// How many digits a number among the words has at most.
+/// How many digits a count of trips, workers or nodes has at most.
 pub const MAX_DIGITS: usize = 6;
+
+/// How many digits a limit in seconds, or of a gap, has at most.
+pub const MAX_LIMIT_DIGITS: usize = 7;
 
 /// How many workers share a search where the words don't say.
 pub const DEFAULT_WORKERS: u32 = 4;
 
-/// The effort of a search where the words don't say.
-const DEFAULT_EFFORT: Effort = Effort {
-    workers: DEFAULT_WORKERS,
-    nodes: None,
-};
+/// After how many seconds a search may be told to end at most: those of a day.
+pub const MAX_SECONDS: u32 = 86_400;
+
+/// The gap between plan and bound that every plan with a cost has, in parts per million of that cost.
+pub const MAX_GAP: u32 = 1_000_000;
 
 /// An option of a search, behind which a number stands.
 #[derive(Clone, Copy, Debug, PartialEq, Eq)]
@@ -29,6 +34,10 @@ pub enum Setting {
     Workers,
     /// On how many nodes it may work at most.
     Nodes,
+    /// After how many seconds it ends.
+    Seconds,
+    /// At which gap between plan and bound it ends, in parts per million of the plan's cost.
+    Gap,
 }
 
 impl Setting {
@@ -39,6 +48,8 @@ impl Setting {
         match self {
             Setting::Workers => "--workers",
             Setting::Nodes => "--nodes",
+            Setting::Seconds => "--seconds",
+            Setting::Gap => "--gap",
         }
     }
 
@@ -47,8 +58,8 @@ impl Setting {
         ensures { result ≡ least_of self }
     {
         match self {
-            Setting::Workers => 1,
-            Setting::Nodes => 0,
+            Setting::Workers | Setting::Seconds => 1,
+            Setting::Nodes | Setting::Gap => 0,
         }
     }
 
@@ -59,32 +70,86 @@ impl Setting {
         match self {
             Setting::Workers => MAX_WORKERS,
             Setting::Nodes => MAX_BUDGET,
+            Setting::Seconds => MAX_SECONDS,
+            Setting::Gap => MAX_GAP,
         }
     }
 
-    /// The option that may still be given behind this one.
-    fn other(self) -> Setting
-        ensures { result ≡ other_setting self }
+    /// How many digits its number has at most.
+    fn digits(self) -> usize
+        ensures digits { result ≡ digits_of self }
+        ensures few { result ≤ MAX_LIMIT_DIGITS }
     {
         match self {
-            Setting::Workers => Setting::Nodes,
-            Setting::Nodes => Setting::Workers,
+            Setting::Workers | Setting::Nodes => MAX_DIGITS,
+            Setting::Seconds | Setting::Gap => MAX_LIMIT_DIGITS,
+        }
+    }
+}
+
+/// The numbers of the options that were given so far.
+#[derive(Clone, Copy)]
+struct Given {
+    workers: Option<u32>,
+    nodes: Option<u32>,
+    seconds: Option<u32>,
+    gap: Option<u32>,
+}
+
+/// No option was given.
+const NONE_GIVEN: Given = Given {
+    workers: None,
+    nodes: None,
+    seconds: None,
+    gap: None,
+};
+
+impl Given {
+    /// Whether the option was.
+    fn has(self, setting: Setting) -> bool
+        ensures { IsTrue result ↔ IsSome (number_in setting self) }
+    {
+        match setting {
+            Setting::Workers => self.workers.is_some(),
+            Setting::Nodes => self.nodes.is_some(),
+            Setting::Seconds => self.seconds.is_some(),
+            Setting::Gap => self.gap.is_some(),
         }
     }
 
-    /// The effort with this number in it.
-    fn set(self, effort: Effort, n: u32) -> Effort
-        ensures { result ≡ with_setting self effort n }
+    /// The same with the option's number.
+    fn with(self, setting: Setting, n: u32) -> Given
+        ensures { result ≡ given_with setting self n }
     {
-        match self {
-            Setting::Workers => Effort {
-                workers: n,
-                ..effort
+        match setting {
+            Setting::Workers => Given {
+                workers: Some(n),
+                ..self
             },
-            Setting::Nodes => Effort {
+            Setting::Nodes => Given {
                 nodes: Some(n),
-                ..effort
+                ..self
             },
+            Setting::Seconds => Given {
+                seconds: Some(n),
+                ..self
+            },
+            Setting::Gap => Given {
+                gap: Some(n),
+                ..self
+            },
+        }
+    }
+
+    /// The effort of a search with these options.
+    fn effort(self) -> Effort
+        ensures { result ≡ effort_of self }
+    {
+        Effort {
+            workers: self.workers.unwrap_or(DEFAULT_WORKERS),
+            nodes: self.nodes,
+            seconds: self.seconds,
+            gap: self.gap,
         }
     }
 }
@@ -181,43 +246,52 @@ fn search_of(words: &[String], kind: Searching) -> Result<Command, BadWord>
     requires { IsWordAt (words_of words.now) 0 (search_name kind) }
     ensures { Answers (words_of words.now) result }
 {
-    let workers_first = is_word(words, 1, "--workers");
-    let nodes_first = is_word(words, 1, "--nodes");
-    if words.len() == 1 {
-        Ok(kind.command(DEFAULT_EFFORT))
-    } else if workers_first {
-        options_of(words, kind, Setting::Workers)
-    } else if nodes_first {
-        options_of(words, kind, Setting::Nodes)
-    } else {
-        Err(BadWord(2))
+    let mut given = NONE_GIVEN;
+    let mut place = 1;
+    while place < words.len() {
+        given = with_option(words, place, given)?;
+        place += 2;
+    }
+    Ok(kind.command(given.effort()))
+}
+
+/// The options that were given, with the one that stands at this place, counted from 0, and its number behind it.
+fn with_option(words: &[String], place: usize, given: Given) -> Result<Given, BadWord>
+    requires { place < length words.now }
+    ensures { (kind : Searching) → AreTaken kind (words_of words.now) place given
+        → Takes kind (words_of words.now) place result }
+{
+    let Some(setting) = setting_at(words, place) else {
+        return Err(BadWord(place + 1));
+    };
+    if given.has(setting) {
+        return Err(BadWord(place + 1));
+    }
+    match number_at(words, place + 1, setting) {
+        Some(n) => Ok(given.with(setting, n)),
+        None => Err(BadWord(place + 2)),
     }
 }
 
-/// A search with this option first, and maybe the other one behind its number.
-fn options_of(words: &[String], kind: Searching, first: Setting) -> Result<Command, BadWord>
-    requires name { IsWordAt (words_of words.now) 0 (search_name kind) }
-    requires option { IsWordAt (words_of words.now) 1 (setting_name first) }
-    ensures { Answers (words_of words.now) result }
+/// The option whose name stands at this place, counted from 0. None where no option's does.
+fn setting_at(words: &[String], place: usize) -> Option<Setting>
+    ensures { MatchOption result ((s : Setting) → ¬ (IsWordAt (words_of words.now) place (setting_name s)))
+        (λ s. IsWordAt (words_of words.now) place (setting_name s)) }
 {
-    let Some(n) = number_at(words, 2, first) else {
-        return Err(BadWord(3));
-    };
-    let effort = first.set(DEFAULT_EFFORT, n);
-    if words.len() == 3 {
-        return Ok(kind.command(effort));
-    }
-    let second = first.other();
-    if !is_word(words, 3, second.name()) {
-        return Err(BadWord(4));
-    }
-    let Some(m) = number_at(words, 4, second) else {
-        return Err(BadWord(5));
-    };
-    if words.len() == 5 {
-        Ok(kind.command(second.set(effort, m)))
+    let workers = is_word(words, place, "--workers");
+    let nodes = is_word(words, place, "--nodes");
+    let seconds = is_word(words, place, "--seconds");
+    let gap = is_word(words, place, "--gap");
+    if workers {
+        Some(Setting::Workers)
+    } else if nodes {
+        Some(Setting::Nodes)
+    } else if seconds {
+        Some(Setting::Seconds)
+    } else if gap {
+        Some(Setting::Gap)
     } else {
-        Err(BadWord(6))
+        None
     }
 }
 
@@ -230,7 +304,7 @@ fn number_at(words: &[String], place: usize, setting: Setting) -> Option<u32>
         (λ n. (word : Word) × IsWordAt (words_of words.now) place word × IsNumberFor setting word n) }
 {
     let word = words.get(place)?;
-    let n = number_up_to(word.as_str(), setting.most())?;
+    let n = number_up_to(word.as_str(), setting.digits(), setting.most())?;
     if setting.least() <= n { Some(n) } else { None }
 }
 
@@ -242,19 +316,20 @@ fn count_of(words: &[String], kind: Counting) -> Result<Command, BadWord>
     let Some(count) = words.get(1) else {
         return Err(BadWord(2));
     };
-    match number_up_to(count.as_str(), MAX_TRIPS) {
+    match number_up_to(count.as_str(), MAX_DIGITS, MAX_TRIPS) {
         None => Err(BadWord(2)),
         Some(n) if words.len() == 2 => Ok(kind.command(n)),
         _ => Err(BadWord(3)),
     }
 }
 
-/// The number that a word of 1 to 6 digits writes. None where it isn't one, or the number is greater than `most`.
-fn number_up_to(word: &str, most: u32) -> Option<u32>
-    ensures { MatchOption result ((n : ℕ) → ¬ (IsNumberUpTo most word.now n))
-        (IsNumberUpTo most word.now) }
+/// The number that a word of 1 to so many digits writes. None where it isn't one, or the number is greater than `most`.
+fn number_up_to(word: &str, digits: usize, most: u32) -> Option<u32>
+    requires { digits ≤ MAX_LIMIT_DIGITS }
+    ensures { MatchOption result ((n : ℕ) → ¬ (IsNumberUpTo digits most word.now n))
+        (IsNumberUpTo digits most word.now) }
 {
-    if word.is_empty() || word.len() > MAX_DIGITS {
+    if word.is_empty() || word.len() > digits {
         return None;
     }
     if !word.bytes().all(|byte| byte.is_ascii_digit()) {

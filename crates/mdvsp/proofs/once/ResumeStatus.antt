@@ -16,6 +16,7 @@ use Rattle.vs_cert.specs.Answers.{choices}
 use Rattle.vs_resume.specs.Answers.{is_leaf}
 use Rattle.vs_resume.proofs.CallerLemmas.{enough_nodes_leave_nothing_open}
 use Rattle.vs_words.specs.declared.command.Effort.{Effort}
+use Rattle.vs_words.specs.Words.{IsUnlimited}
 use Rattle.mdvsp.specs.Budgets.{resumed_budget, resumed_nodes, room_for}
 use Rattle.mdvsp.specs.Laws.{MayBothBe}
 use Rattle.mdvsp.specs.Owed.{OwesNoResuming, OwesNoTurn, OwesResumed, ResumeOwes}
@@ -104,9 +105,9 @@ module _ (effort : Effort) (bytes : List ℕ) where
 
 -- enough nodes leave nothing open
 pub enough_nodes_end_what_is_resumed : (effort : Effort) (bytes : List ℕ) (answer : Status) (rows : List Row)
-    (owed : OwesResumed effort bytes answer rows)
+    (owed : OwesResumed effort bytes answer rows) → IsUnlimited effort
     → 2 * choices (permitted_sets owed.problem) ≤ owed.budget + 1 → answer ≢ status.StillOpen
-enough_nodes_end_what_is_resumed effort bytes answer rows owed enough still =
-    (enough_nodes_leave_nothing_open owed.problem owed.budget owed.before owed.document owed.answers
+enough_nodes_end_what_is_resumed effort bytes answer rows owed unlimited enough still =
+    (enough_nodes_leave_nothing_open owed.problem owed.budget owed.before owed.document (owed.whole unlimited)
     owed.text.instance.text.makes.instance enough).claim
     (open_claim owed.document.claim (sym owed.status_is ∙ still))

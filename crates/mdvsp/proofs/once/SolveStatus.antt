@@ -14,6 +14,7 @@ use Rattle.vs_cert.specs.Answers.{choices}
 use Rattle.vs_check.specs.HoldingDocument.{ProvesItsClaim}
 use Rattle.vs_cert.proofs.CallerLemmas.{enough_budgets_leave_nothing_open}
 use Rattle.vs_words.specs.declared.command.Effort.{Effort}
+use Rattle.vs_words.specs.Words.{IsUnlimited}
 use Rattle.vs_reply.specs.Cases.{SolveText}
 use Rattle.vs_reply.specs.declared.status.Status.{Status}
 use Rattle.vs_reply.specs.declared.status.Status.TheVariants as status
@@ -136,10 +137,10 @@ open_claim Infeasible e = cc
 open_claim StillOpen e = refl
 
 pub enough_nodes_leave_nothing_open : (effort : Effort) (bytes : List ℕ) (answer : Status) (rows : List Row)
-    (owed : OwesDocument effort bytes answer rows)
+    (owed : OwesDocument effort bytes answer rows) → IsUnlimited effort
     → 2 * choices (permitted_sets owed.problem) ≤ owed.budget + 1 → answer ≢ status.StillOpen
-enough_nodes_leave_nothing_open effort bytes answer rows owed enough still =
-    let by = owed.solves.searched in
+enough_nodes_leave_nothing_open effort bytes answer rows owed unlimited enough still =
+    let by = (owed.whole unlimited).searched in
     let of_state = by.of_state in
     let made = by.made in
     enough_budgets_leave_nothing_open by.opening by.steps owed.document made.is_opening made.history made.over of_state

@@ -22,6 +22,7 @@ use Rattle.vs_reply.specs.declared.answer.Answer.{Answer}
 use Rattle.vs_reply.specs.declared.case.Case.{Case}
 use Rattle.vs_reply.specs.declared.status.Status.TheVariants as status
 use Rattle.vs_reply.proofs.CallerLemmas.{owed_so}
+use Rattle.vs_words.specs.Words.{IsUnlimited}
 use Rattle.vs_words.specs.declared.command.Effort.{Effort}
 use Rattle.mdvsp.specs.Answered.{IsResumed}
 use Rattle.mdvsp.specs.Budgets.{resumed_budget}
@@ -74,7 +75,7 @@ module _ (effort : Effort) (bytes : List ℕ) (p : Problem) (names : NameLists) 
   resume_owes StillOpen rows o = o
 
   pub resumed_owed : (budget : ℕ) (r : Result Answer Memory) → resumed_budget p d effort.nodes ≡ Some budget
-      → HoldingDocument p d → IfOk r (IsResumed p names budget d) → IfOk r (IsTextOf (ResumeOwes effort bytes))
+      → HoldingDocument p d → IfOk r (IsResumed (IsUnlimited effort) p names budget d) → IfOk r (IsTextOf (ResumeOwes effort bytes))
   resumed_owed budget (Ok a) budget_is held is =
       owed_so (ResumeOwes effort bytes) a (status_of is.document.claim) (document_rows p names is.document)
       (resume_owes is.document.claim (document_rows p names is.document) (record {
@@ -87,6 +88,7 @@ module _ (effort : Effort) (bytes : List ℕ) (p : Problem) (names : NameLists) 
         held = held;
         document = is.document;
         answers = is.answers;
+        whole = is.whole;
         proves = prove_their_claims p is.document text.instance.text.makes.instance is.answers.holds;
         status_is = refl;
         rows_are = refl;

@@ -15,6 +15,7 @@ use Rattle.vs_reply.specs.Answered.{IsTextOf, RefusesText, TellsRow}
 use Rattle.vs_reply.specs.Cases.{SolveText}
 use Rattle.vs_reply.specs.Status.{status_of}
 use Rattle.vs_reply.proofs.CallerLemmas.{owed_so}
+use Rattle.vs_words.specs.Words.{IsUnlimited}
 use Rattle.vs_words.specs.declared.command.Effort.{Effort}
 use Rattle.mdvsp.specs.Answered.{AnswersDocument}
 use Rattle.mdvsp.specs.Budgets.{budget_of}
@@ -55,7 +56,7 @@ solve_owes effort bytes StillOpen rows o = o
 
 pub document_owed : (effort : Effort) (bytes : List ℕ) (p : Problem) (names : NameLists) (budget : ℕ)
     (r : Result Answer Memory) → SolveText bytes p names → budget_of p effort.nodes ≡ Some budget
-    → IfOk r (AnswersDocument p names budget effort.workers) → IfOk r (IsTextOf (SolveOwes effort bytes))
+    → IfOk r (AnswersDocument (IsUnlimited effort) p names budget effort.workers) → IfOk r (IsTextOf (SolveOwes effort bytes))
 document_owed effort bytes p names budget (Ok a) text budget_is d =
     owed_so (SolveOwes effort bytes) a (status_of d.document.claim) (document_rows p names d.document)
     (solve_owes effort bytes d.document.claim (document_rows p names d.document) (record {
@@ -66,6 +67,7 @@ document_owed effort bytes p names budget (Ok a) text budget_is d =
       budget = budget;
       budget_is = budget_is;
       solves = d.solves;
+      whole = d.whole;
       proves = prove_their_claims p d.document text.instance.text.makes.instance d.solves.answer.holds;
       status_is = refl;
       rows_are = refl;

@@ -13,6 +13,7 @@ use Rattle.vs_reply.specs.Cases.{SolveText}
 use Rattle.vs_reply.specs.Status.{status_of}
 use Rattle.vs_reply.proofs.CallerLemmas.{owed_so}
 use Rattle.vs_trace.specs.TraceRows.{trace_text}
+use Rattle.vs_words.specs.Words.{IsUnlimited}
 use Rattle.vs_words.specs.declared.command.Effort.{Effort}
 use Rattle.mdvsp.specs.Answered.{AnswersTrace}
 use Rattle.mdvsp.specs.Budgets.{budget_of}
@@ -34,7 +35,7 @@ trace_owes effort bytes StillOpen rows o = o
 
 pub trace_owed : (effort : Effort) (bytes : List ℕ) (p : Problem) (names : NameLists) (budget : ℕ)
     (r : Result Answer Memory) → SolveText bytes p names → budget_of p effort.nodes ≡ Some budget
-    → IfOk r (AnswersTrace p names budget effort.workers) → IfOk r (IsTextOf (TraceOwes effort bytes))
+    → IfOk r (AnswersTrace (IsUnlimited effort) p names budget effort.workers) → IfOk r (IsTextOf (TraceOwes effort bytes))
 trace_owed effort bytes p names budget (Ok a) text budget_is t =
     owed_so (TraceOwes effort bytes) a (status_of t.report.claim) (trace_text names t.opening t.steps)
     (trace_owes effort bytes t.report.claim (trace_text names t.opening t.steps) (record {
@@ -47,6 +48,7 @@ trace_owed effort bytes p names budget (Ok a) text budget_is t =
       steps = t.steps;
       report = t.report;
       tells = t.tells;
+      whole = t.whole;
       status_is = refl;
       rows_are = refl;
     })) t.status_is t.text_is

@@ -1,5 +1,5 @@
 -- The search once the turn was closed by the seat of all workers.
-use Rattle.std.proofs.Common.{◌≡◌, ℕ, ◌<◌, Bool, true, List, [], ◌∷◌, ◌++◌, length, map, drop, refl, sym, ap, ◌∙◌, subst, arith, append-nil}
+use Rattle.std.proofs.Common.{◌≡◌, ◌⊎◌, inl, inr, ℕ, ◌<◌, Bool, true, List, [], ◌∷◌, ◌++◌, length, map, drop, refl, sym, ap, ◌∙◌, subst, arith, append-nil}
 use Rattle.std.proofs.Math.Seq.{take-append_seam}
 use Rattle.atomic_table.specs.Seated.{TableId}
 use Rattle.vs_turn.specs.Seats.{SeatModel}
@@ -42,8 +42,8 @@ unchanged t new none same =
       none_held = none;
     })
 
-module _ (turn : TableId) (start after : Search) (workers : ℕ) (over : Bool) (seat : SeatModel)
-    (ends : KnowsEnds turn start 0 workers over seat) (closed : Shared) (opens : shared_opening closed ≡ seat.opening)
+module _ (stops : Type 0) (turn : TableId) (start after : Search) (workers : ℕ) (over : Bool) (seat : SeatModel)
+    (ends : KnowsEnds stops turn start 0 workers over seat) (closed : Shared) (opens : shared_opening closed ≡ seat.opening)
     (entries : shared_entries closed ≡ seat.seen) (is : after ≡ closed.search)
     (workers_are : start.opening.workers ≡ workers) (worked : AreWorkedAfter after.opening closed.before after.steps)
     (opening : IsOpening after.opening) (history : IsHistory after.opening after.steps) where
@@ -74,12 +74,12 @@ module _ (turn : TableId) (start after : Search) (workers : ℕ) (over : Bool) (
       AreWorkedFrom start.opening (state_of start.opening l) (drop (length start.steps) (start.steps ++ ends.more)))
       (take-append_seam start.steps ends.more) whole)
 
-  all_ended : (worker : ℕ) → worker < after.opening.workers → HasEnded worker after.opening after.steps
+  all_ended : (worker : ℕ) → worker < after.opening.workers → HasEnded stops worker after.opening after.steps
   all_ended worker inside =
       let few = ap (λ (o : Opening). o.workers) opening_is ∙ workers_are in
       let ended = ends.ended worker (omega arith) (omega (arith, inside, few)) in
-      subst (λ (o : Opening). HasEnded worker o after.steps) (sym opening_is)
-      (subst (HasEnded worker start.opening) (sym steps_are) ended)
+      subst (λ (o : Opening). HasEnded stops worker o after.steps) (sym opening_is)
+      (subst (HasEnded stops worker start.opening) (sym steps_are) ended)
 
   -- it has gone on from the one that was handed in
   pub has_gone_on : HasGoneOn start after
@@ -88,12 +88,16 @@ module _ (turn : TableId) (start after : Search) (workers : ℕ) (over : Bool) (
     added = ends.more;
     goes_on = sym steps_are;
     worked = worked_since;
-    none_held = none_held after.opening after.steps opening history all_ended;
+    none_held = none_held stops after.opening after.steps opening history all_ended;
   }
 
-  -- and is over where a worker was told so
-  pub is_over : over ≡ true → IsOver after.opening (state after)
-  is_over told =
-      still_over after.opening after.steps history
-      (subst (λ (o : Opening). WasOver o after.steps) (sym opening_is)
-      (subst (WasOver start.opening) (sym steps_are) (ends.over told)))
+  -- and is over where a worker was told so and wasn't stopped
+  pub is_over : over ≡ true → ¬ stops → IsOver after.opening (state after)
+  is_over told never =
+      elim (ends.over told) [
+        | inl was ↦
+            still_over after.opening after.steps history
+            (subst (λ (o : Opening). WasOver o after.steps) (sym opening_is)
+            (subst (WasOver start.opening) (sym steps_are) was))
+        | inr may ↦ absurd (never may)
+      ]

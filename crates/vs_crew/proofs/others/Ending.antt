@@ -8,7 +8,7 @@ use Rattle.vs_tree.specs.Sound.{IsOpening}
 use Rattle.vs_tree.specs.Takes.{IsOver, IsWorkLeft}
 use Rattle.vs_tree.proofs.CallerLemmas.{histories_are_sound, not_held, state-append}
 use Rattle.vs_crew.specs.Sharing.{HasEnded, IsEnd, NoneIsHeld, WasOver}
-use Rattle.vs_crew.proofs.others.Histories.{follow-rest}
+use Rattle.vs_crew.proofs.others.Histories.{follow-first, follow-rest, steps_keep}
 use Rattle.vs_crew.proofs.others.Keeping.{step_keeps}
 
 -- where a spot is held, the held ones are some
@@ -60,19 +60,6 @@ still_over o steps history was =
     sym (append-nil was.first) ∙ (ap (λ (l : List FullStep). was.first ++ l) (sym none) ∙ was.goes_on) in
     subst (λ (l : List FullStep). IsOver o (state_of o l)) same was.over
 
--- a worker that left has left
-step_left : (s : State) (step : FullStep) (worker : ℕ) → IsAmong worker s.gone → IsAmong worker (after s step).gone
-step_left s (Took other leaf) worker among = among
-step_left s (Split other leaf table trip left prices) worker among = among
-step_left s (Closed other leaf table prices) worker among = among
-step_left s (Offered other cost number added) worker among = among
-step_left s (GaveBack other leaf) worker among = (suc among.0, among.1)
-
-still_left : (s : State) (steps : List FullStep) (worker : ℕ) → IsAmong worker s.gone
-    → IsAmong worker (state_after s steps).gone
-still_left s [] worker among = among
-still_left s (step ∷ steps) worker among = still_left (after s step) steps worker (step_left s step worker among)
-
 -- the worker of a step is one of the search's, where those that hold leaves are
 step_worker : (o : Opening) (s : State) (step : FullStep) → ((worker leaf : ℕ) → IsHeldBy s worker leaf → worker
     < o.workers)
@@ -100,21 +87,28 @@ pub holders_are_workers : (o : Opening) (steps : List FullStep) → IsOpening o 
 holders_are_workers o steps opening history =
     holders_after o (first_state o) steps (λ worker leaf held. absurd (not_held o opening worker leaf held)) history
 
+-- a worker that has ended holds no leaf
+ends_without : (stops : Type 0) (worker : ℕ) (over : Bool) (o : Opening) (steps : List FullStep) → IsOpening o
+    → IsHistory o steps → IsEnd stops over worker o (state_of o steps) → (leaf : ℕ)
+    → ¬ (IsHeldBy (state_of o steps) worker leaf)
+ends_without stops worker true o steps opening history (inl over) leaf held =
+    over-none o (state_of o steps) over worker leaf held
+ends_without stops worker true o steps opening history (inr stopped) leaf held = stopped.1.holds_none leaf held
+ends_without stops worker false o steps opening history left leaf held =
+    (histories_are_sound o steps opening history).gone worker leaf left held
+
 -- once all workers have ended, none holds a leaf
-pub none_held : (o : Opening) (steps : List FullStep) → IsOpening o → IsHistory o steps
-    → ((worker : ℕ) → worker < o.workers → HasEnded worker o steps) → NoneIsHeld (state_of o steps)
-none_held o steps opening history ended worker leaf held =
+pub none_held : (stops : Type 0) (o : Opening) (steps : List FullStep) → IsOpening o → IsHistory o steps
+    → ((worker : ℕ) → worker < o.workers → HasEnded stops worker o steps) → NoneIsHeld (state_of o steps)
+none_held stops o steps opening history ended worker leaf held =
     let end = ended worker (holders_are_workers o steps opening history worker leaf held) in
-    by_end end end.over end.is_end
-  where
-    by_end : (end : HasEnded worker o steps) (over : Bool) → IsEnd over worker o (state_of o end.first) → ⊥
-    by_end end true is =
-        over-none o (state_of o steps) (still_over o steps history
-        (record { first = end.first; rest = end.rest; goes_on = end.goes_on; over = is })) worker leaf held
-    by_end end false is =
-        let later : IsAmong worker (state_of o (end.first ++ end.rest)).gone =
-        subst (λ (s : State). IsAmong worker s.gone) (sym (state-append (first_state o) end.first end.rest))
-        (still_left (state_of o end.first) end.rest worker is) in
-        let now : IsAmong worker (state_of o steps).gone =
-        subst (λ (l : List FullStep). IsAmong worker (state_of o l).gone) end.goes_on later in
-        (histories_are_sound o steps opening history).gone worker leaf now held
+    let whole : IsHistory o (end.first ++ end.rest) = subst (λ (l : List FullStep). IsHistory o l) (sym end.goes_on)
+    history in
+    let first = follow-first o (first_state o) end.first end.rest whole in
+    let rest = follow-rest o (first_state o) end.first end.rest whole in
+    let keeps = steps_keep o (state_of o end.first) end.rest worker rest end.by_others in
+    let later : IsHeldBy (state_of o (end.first ++ end.rest)) worker leaf =
+    subst (λ (l : List FullStep). IsHeldBy (state_of o l) worker leaf) (sym end.goes_on) held in
+    let now : IsHeldBy (state_after (state_of o end.first) end.rest) worker leaf =
+    subst (λ (s : State). IsHeldBy s worker leaf) (state-append (first_state o) end.first end.rest) later in
+    ends_without stops worker end.over o end.first opening first end.is_end leaf (keeps.back leaf now)

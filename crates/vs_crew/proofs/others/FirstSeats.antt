@@ -4,7 +4,7 @@ use Rattle.std.proofs.lemmas.Bool.{cases_eq}
 use Rattle.std.proofs.lemmas.List.{get_or-set_other, get_or-set_same}
 use Rattle.atomic_table.specs.Seated.{TableId}
 use Rattle.vs_instance.specs.Problem.{Problem}
-use Rattle.vs_turn.specs.Seats.{SeatModel, with_tickets}
+use Rattle.vs_turn.specs.Seats.{KnowsCalls, SeatModel, with_tickets}
 use Rattle.vs_turn.specs.Tickets.{only_highest, without_highest}
 use Rattle.vs_turn.proofs.CallerLemmas.{only_highest-all, without_highest-all}
 use Rattle.vs_tree.specs.Entries.{entry_of, opening_entry}
@@ -25,14 +25,16 @@ module _ (turn : TableId) (start : Search) (workers : ℕ) (fresh : IsFresh work
 
   -- what the worker of one ticket knows by a seat like the first
   knows_first : (k : ℕ) (seat : SeatModel) → k < workers → seat.turn ≡ turn → seat.opening ≡ length start.steps ∷
-      opening_entry start.opening → seat.tickets ≡ k ∷ []
-      → seat.seen ≡ map entry_of start.steps → Knows turn start k (IsIdle k) seat
-  knows_first k seat inside of_turn opens ticket seen = record {
+      opening_entry start.opening → seat.since ≡ length (map entry_of start.steps) → seat.tickets ≡ k ∷ []
+      → seat.seen ≡ map entry_of start.steps → KnowsCalls seat → Knows turn start k (IsIdle k) seat
+  knows_first k seat inside of_turn opens since ticket seen calls = record {
     more = [];
     of_turn = of_turn;
     opens = opens;
+    since = since;
     ticket = ticket;
     seen = seen ∙ ap (map entry_of) (sym (append-nil start.steps));
+    calls = calls;
     holds = subst (λ (l : List FullStep). IsIdle k start.opening (state_of start.opening l))
         (sym (append-nil start.steps))
         (fresh_idle k inside);
@@ -40,27 +42,31 @@ module _ (turn : TableId) (start : Search) (workers : ℕ) (fresh : IsFresh work
 
   -- the seat that is split off
   pub split_off : (k : ℕ) (seat last : SeatModel) → IsFirstSeat turn start (k + 1) seat → k < workers
-      → last ≡ with_tickets seat (only_highest seat.tickets) → Knows turn start k (IsIdle k) last
-  split_off k seat last first inside is =
+      → last ≡ with_tickets seat (only_highest seat.tickets) → KnowsCalls last → Knows turn start k (IsIdle k) last
+  split_off k seat last first inside is calls =
       knows_first k last inside (ap (λ (s : SeatModel). s.turn) is ∙ first.of_turn)
       (ap (λ (s : SeatModel). s.opening) is ∙ first.opens)
+      (ap (λ (s : SeatModel). s.since) is ∙ first.since)
       (ap (λ (s : SeatModel). s.tickets) is ∙ (ap only_highest first.tickets ∙ only_highest-all k))
-      (ap (λ (s : SeatModel). s.seen) is ∙ first.seen)
+      (ap (λ (s : SeatModel). s.seen) is ∙ first.seen) calls
 
   -- the one that is left for the others
   pub left_over : (k : ℕ) (seat rest : SeatModel) → IsFirstSeat turn start (k + 1) seat
-      → rest ≡ with_tickets seat (without_highest seat.tickets) → IsFirstSeat turn start k rest
-  left_over k seat rest first is = record {
+      → rest ≡ with_tickets seat (without_highest seat.tickets) → KnowsCalls rest → IsFirstSeat turn start k rest
+  left_over k seat rest first is calls = record {
     of_turn = ap (λ (s : SeatModel). s.turn) is ∙ first.of_turn;
     opens = ap (λ (s : SeatModel). s.opening) is ∙ first.opens;
+    since = ap (λ (s : SeatModel). s.since) is ∙ first.since;
     tickets = ap (λ (s : SeatModel). s.tickets) is ∙ (ap without_highest first.tickets ∙ without_highest-all k);
     seen = ap (λ (s : SeatModel). s.seen) is ∙ first.seen;
     none_made = ap (λ (s : SeatModel). s.mine) is ∙ first.none_made;
+    calls = calls;
   }
 
   -- and the last one
   pub own_seat : (seat : SeatModel) → IsFirstSeat turn start 1 seat → 0 < workers → Knows turn start 0 (IsIdle 0) seat
-  own_seat seat first some = knows_first 0 seat some first.of_turn first.opens first.tickets first.seen
+  own_seat seat first some =
+      knows_first 0 seat some first.of_turn first.opens first.since first.tickets first.seen first.calls
 
 -- a worker that is given such a seat may begin
 pub seated : (turn : TableId) (start : Search) (p : Problem) (k : ℕ) (worker : Worker) (seat : SeatModel)
@@ -105,8 +111,9 @@ module _ (turn : TableId) (start : Search) (p : Problem) (crew : List Worker) (f
   -- where the highest ticket is given away
   pub given_one : (k : ℕ) (rest last : SeatModel) → IsGiven turn start p k crew seat → 1 < k → k ≤ length crew
       → rest ≡ with_tickets seat (without_highest seat.tickets) → last ≡ with_tickets seat (only_highest seat.tickets)
+      → KnowsCalls rest × KnowsCalls last
       → IsGiven turn start p (k - 1) (set crew (k - 1) (record (get_or crew (k - 1) d) { seat = Some last })) rest
-  given_one k rest last given two few rest_is last_is =
+  given_one k rest last given two few rest_is last_is knows =
       let i = k - 1 in
       let same : k ≡ i + 1 = omega (arith, two) in
       let worker : Worker = record (get_or crew i d) { seat = Some last } in
@@ -115,10 +122,10 @@ module _ (turn : TableId) (start : Search) (p : Problem) (crew : List Worker) (f
       let within : i < length crew = omega (arith, same, few) in
       let has : IsSeated turn start i worker =
       seated turn start p i (get_or crew i d) last problem (given.others i d (omega (arith, same)))
-      (split_off turn start (length crew) fresh i seat last first within last_is) in
+      (split_off turn start (length crew) fresh i seat last first within last_is knows.1) in
       record {
         some = omega (arith, two);
-        first = left_over turn start (length crew) fresh i seat rest first rest_is;
+        first = left_over turn start (length crew) fresh i seat rest first rest_is knows.0;
         have = from-set (IsSeated turn start) crew i worker within has
             (λ j e from inside. given.have j e (omega (arith, from, same)) inside);
         others = λ j e below.

@@ -3,7 +3,7 @@ use Rattle.std.proofs.Common.{◌≡◌, ℕ, List, [], ◌∷◌, ◌++◌, len
 use mathlib.Core.List.{IsPrefix}
 use Rattle.atomic_table.specs.Seated.{TableId}
 use Rattle.vs_turn.specs.Calls.{AreCalls, GoOn, NoCalls}
-use Rattle.vs_turn.specs.Seats.{SeatModel, released_seat}
+use Rattle.vs_turn.specs.Seats.{KnowsCalls, SeatModel, released_seat}
 use Rattle.vs_tree.specs.Entries.{entry_of, opening_entry}
 use Rattle.vs_tree.specs.History.{FullStep, Opening, State, state_of}
 use Rattle.vs_tree.specs.Search.{Search, state}
@@ -19,7 +19,7 @@ pub record AtHold (start : Search) (worker : ℕ) (Q : Says) (a : Shared) : Type
   pub opening : a.search.opening ≡ start.opening
   pub left : HeldWhenLeft worker Q a.search
 
-entries-append : (xs ys : List FullStep) → map entry_of (xs ++ ys) ≡ map entry_of xs ++ map entry_of ys
+pub entries-append : (xs ys : List FullStep) → map entry_of (xs ++ ys) ≡ map entry_of xs ++ map entry_of ys
 entries-append [] ys = refl
 entries-append (x ∷ xs) ys = ap (λ (l : List (List ℕ)). entry_of x ∷ l) (entries-append xs ys)
 
@@ -89,9 +89,9 @@ module _ (turn : TableId) (start : Search) (worker : ℕ) (Q : Says) (seat : Sea
 
     -- the worker has seen its own steps then
     pub released : (R : Says) (found : List (List ℕ)) → IsPrefix seat.seen (shared_entries old)
-        → R new.search.opening (state new.search)
+        → R new.search.opening (state new.search) → KnowsCalls (released_seat seat found (shared_entries new))
         → Knows turn start worker R (released_seat seat found (shared_entries new))
-    released R found begins now =
+    released R found begins now calls =
         let rest = steps_begin seen old.search.steps
         (subst (λ (l : List (List ℕ)). IsPrefix l (shared_entries old)) knows.seen begins) in
         let opens : old.before ∷ opening_entry old.search.opening ≡ length start.steps ∷ opening_entry start.opening =
@@ -105,8 +105,10 @@ module _ (turn : TableId) (start : Search) (worker : ℕ) (Q : Says) (seat : Sea
           more = knows.more ++ (rest.0 ++ goes_on.added);
           of_turn = knows.of_turn;
           opens = knows.opens;
+          since = knows.since;
           ticket = knows.ticket;
           seen = ap (map entry_of) steps;
+          calls = calls;
           holds =
               subst (λ (o : Opening). R o (state_of o (start.steps ++ (knows.more ++ (rest.0 ++ goes_on.added)))))
               opening
@@ -147,11 +149,12 @@ module _ (turn : TableId) (start : Search) (worker : ℕ) (Q : Says) (seat held_
 
     -- and the worker knows then what holds of the search that it leaves
     pub turn_knows : (R : Says) (after : SeatModel) → R new.search.opening (state new.search)
-        → after ≡ released_seat held_seat found (shared_entries new) → Knows turn start worker R after
-    turn_knows R after now is =
-        subst (Knows turn start worker R)
-        (sym (is ∙ ap (λ (x : SeatModel). released_seat x found (shared_entries new)) same_seat))
-        (released turn start worker Q seat knows a new opens goes_on_from R found begins now)
+        → after ≡ released_seat held_seat found (shared_entries new) → KnowsCalls after → Knows turn start worker R after
+    turn_knows R after now is calls =
+        let whole = is ∙ ap (λ (x : SeatModel). released_seat x found (shared_entries new)) same_seat in
+        subst (Knows turn start worker R) (sym whole)
+        (released turn start worker Q seat knows a new opens goes_on_from R found begins now
+        (subst KnowsCalls whole calls))
 
 -- a worker that knows something knows what follows from it
 pub knows_more : (turn : TableId) (start : Search) (worker : ℕ) (Q R : Says) (seat : SeatModel)
@@ -161,7 +164,9 @@ knows_more turn start worker Q R seat knows follows = record {
   more = knows.more;
   of_turn = knows.of_turn;
   opens = knows.opens;
+  since = knows.since;
   ticket = knows.ticket;
   seen = knows.seen;
+  calls = knows.calls;
   holds = follows (state_of start.opening (start.steps ++ knows.more)) knows.holds;
 }

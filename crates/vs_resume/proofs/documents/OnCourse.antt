@@ -1,11 +1,12 @@
 -- How far turns have led from what a document prints.
-use Rattle.std.proofs.Common.{◌≡◌, ℕ, ◌+◌, ◌-◌, ◌*◌, ◌≤◌, List, [], ◌∷◌, ◌++◌, length, refl, sym, ap, ◌∙◌, subst, arith}
+use Rattle.std.proofs.Common.{◌≡◌, ℕ, ◌+◌, ◌-◌, ◌*◌, ◌≤◌, List, [], ◌∷◌, ◌++◌, length, refl, sym, ap, ◌∙◌, subst, arith, inl, inr}
 use Rattle.std.proofs.lemmas.List.Sums.{sum_by-append, sum_by-cons}
 use Rattle.vs_instance.specs.Problem.{Problem}
 use Rattle.vs_rows.specs.declared.document.Document.{Document}
 use Rattle.vs_resume.specs.declared.course.Course.{Course}
 use Rattle.vs_resume.specs.declared.deepen.TheConstants.{MAX_TURN}
-use Rattle.vs_resume.specs.Courses.{HasNewTables, IsBegun, IsCourseOf, IsTurnedOn}
+use Rattle.vs_resume.specs.Courses.{HasNewTables, IsBegun, IsCourseOf, IsTurnedOn, TurnsFurther}
+use Rattle.vs_resume.specs.declared.turning.Ended.{Ended}
 use Rattle.vs_resume.specs.Standing.{IsPrinted, Standing}
 use Rattle.vs_resume.specs.Turns.{AreTurns, IsTurn, Turned, nodes_of}
 
@@ -72,3 +73,14 @@ one_more p budget d old new left nodes on turned few =
       nodes = omega (arith, all, on.nodes, within);
       tables = omega (arith, all, on.tables, few, some);
     }
+
+-- where a turn was taken, or none
+pub further : (p : Problem) (budget : ℕ) (d : Document) (old new : Course) (left : ℕ) (ended : Ended)
+    → IsOnCourse p budget d old left → TurnsFurther p left old new ended → HasNewTables old new
+    → IsOnCourse p budget d new (left - ended.finished)
+further p budget d old new left ended on (inl none) few =
+    let same : left - ended.finished ≡ left = omega (arith, none.0) in
+    subst (λ (n : ℕ). IsOnCourse p budget d new n) (sym same)
+    (subst (λ (c : Course). IsOnCourse p budget d c left) (sym none.2) on)
+further p budget d old new left ended on (inr turned) few =
+    one_more p budget d old new left ended.finished on (turned.2 on.last on.course) few

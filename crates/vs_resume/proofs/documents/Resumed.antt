@@ -37,7 +37,7 @@ use Rattle.vs_resume.specs.declared.cases.Case.{Case}
 use Rattle.vs_resume.specs.declared.course.Course.{Course}
 use Rattle.vs_resume.specs.declared.resuming.TheConstants.{MAX_RESUMED_ENTRIES}
 use Rattle.vs_resume.specs.Cases.{AreCasesOf}
-use Rattle.vs_resume.specs.Answers.{HasRoom, IsCarriedOn, ResumeAnswer, is_leaf}
+use Rattle.vs_resume.specs.Answers.{HasRoom, IsCarriedOn, ResumeAnswer, StoppedResume, is_leaf}
 use Rattle.vs_resume.specs.Courses.{HasPlanOf}
 use Rattle.vs_resume.specs.InPlace.{count_leaves}
 use Rattle.vs_resume.specs.Order.{IsLeastWith, worths_in}
@@ -108,8 +108,7 @@ cases_named p tables (leaf ∷ places) (found ∷ cases) are =
 
 module _ (p : Problem) (is : IsInstance p) (budget : ℕ) (small : budget ≤ MAX_BUDGET) (d : Document)
     (room : HasRoom p d budget) (c : Course) (left : ℕ) (on : IsOnCourse p budget d c left) (e : Document)
-    (prints : IsPrintedOf c (budget - left) e)
-    (done : (left ≡ 0) ⊎ All (λ found. ¬ (IsBelow found.worth c.cost)) c.cases.items) where
+    (prints : IsPrintedOf c (budget - left) e) where
   abbrev s : Standing
   s = on.last
 
@@ -246,14 +245,6 @@ module _ (p : Problem) (is : IsInstance p) (budget : ℕ) (small : budget ≤ MA
         | inr has ↦ inr (All-contains Out worths (bound_of e.bound) out has)
       ]) (sym prints.claim ∙ claims)
 
-  still_open : e.claim ≡ StillOpen → e.nodes ≡ budget
-  still_open claims =
-      let is_now = prints.nodes in
-      elim done [
-        | inl spent ↦ omega (arith, is_now, spent)
-        | inr all ↦ absurd (none_below all claims)
-      ]
-
   carried_on : IsCarriedOn p budget d e
   carried_on = record {
     first = on.first;
@@ -265,8 +256,9 @@ module _ (p : Problem) (is : IsInstance p) (budget : ℕ) (small : budget ≤ MA
     written = written;
   }
 
-  pub answers : ResumeAnswer p budget d e
-  answers = record {
+  -- wherever it ended
+  pub so_far : StoppedResume p budget d e
+  so_far = record {
     has_text = has_text;
     holds = holds;
     in_order = in_order;
@@ -274,6 +266,28 @@ module _ (p : Problem) (is : IsInstance p) (budget : ℕ) (small : budget ≤ MA
     are_worths = are_worths;
     bound = bound_is;
     within_budget = let is_now = prints.nodes in omega (arith, is_now);
-    still_open = still_open;
     carried_on = carried_on;
   }
+
+  -- and where the nodes are spent, or no leaf is below the cost
+  module _ (done : (left ≡ 0) ⊎ All (λ found. ¬ (IsBelow found.worth c.cost)) c.cases.items) where
+    still_open : e.claim ≡ StillOpen → e.nodes ≡ budget
+    still_open claims =
+        let is_now = prints.nodes in
+        elim done [
+          | inl spent ↦ omega (arith, is_now, spent)
+          | inr all ↦ absurd (none_below all claims)
+        ]
+
+    pub answers : ResumeAnswer p budget d e
+    answers = record {
+      has_text = has_text;
+      holds = holds;
+      in_order = in_order;
+      worths = worths;
+      are_worths = are_worths;
+      bound = bound_is;
+      within_budget = so_far.within_budget;
+      still_open = still_open;
+      carried_on = carried_on;
+    }

@@ -41,7 +41,7 @@ use Rattle.vs_resume.specs.declared.course.Course.{Course}
 use Rattle.vs_resume.specs.declared.deepen.TheConstants.{MAX_TURN}
 use Rattle.vs_resume.specs.Cases.{AreCasesOf, AreSettled, IsCaseOf, IsSettled}
 use Rattle.vs_resume.specs.Courses.{AreNext, HasPlanOf, IsCourseOf, IsPartPut, IsPlanNow, IsPlanTaken, IsSamePlan, IsTurnedOn}
-use Rattle.vs_resume.specs.Deepened.{IsDeepened}
+use Rattle.vs_resume.specs.Deepened.{IsBegunOn}
 use Rattle.vs_resume.specs.InPlace.{count_leaves, in_place, with_part}
 use Rattle.vs_resume.specs.Order.{worths_in}
 use Rattle.vs_resume.specs.Outlines.{plain}
@@ -97,8 +97,8 @@ all_reach value (m ∷ more) (w ∷ worths) no_less reach =
 module _ (p : Problem) (is : IsInstance p) (left nodes k : ℕ) (t : Search) (old mid new : Course)
     (put : IsPartPut p k t old mid) (taken : IsPlanTaken t mid new) (opening : IsOpening t.opening)
     (history : IsHistory t.opening t.steps) (few : nodes ≤ MAX_TURN) (within : nodes ≤ left)
-    (finished : nodes ≡ (state t).finished) (budget : ℕ)
-    (deep : IsDeepened (narrowed p put.leaf.sets.items) budget t) (next : AreNext old k) (s : Standing)
+    (finished : nodes ≡ (state t).finished) (some_node : 1 ≤ nodes) (budget : ℕ)
+    (deep : IsBegunOn (narrowed p put.leaf.sets.items) budget t) (next : AreNext old k) (s : Standing)
     (course : IsCourseOf p old s) where
   abbrev st : State
   st = state t
@@ -426,7 +426,7 @@ module _ (p : Problem) (is : IsInstance p) (left nodes k : ℕ) (t : Search) (ol
       by_spots (j ∷ spots) [] are = absurd are
       by_spots (j ∷ spots) (w ∷ worths) are =
           All-cons (λ (worth : Bound). ReachesValue worth value) w worths
-          (deep.reaches value (subst (λ (q : Problem). IsStartingValue q value) (sym deep.problem) starts) j w are.0
+          (deep.reaches (omega (arith, some_node, finished)) value (subst (λ (q : Problem). IsStartingValue q value) (sym deep.problem) starts) j w are.0
           are.1)
           (by_spots spots worths are.2)
 
@@ -485,7 +485,7 @@ module _ (p : Problem) (is : IsInstance p) (left nodes k : ℕ) (t : Search) (ol
     worths = worths_in put.settled;
     are_worths = named_worths p new.tables.items (leaves sets shape) put.settled shape_cases;
     deeper = deeper;
-    some = let one = deep.some in omega (arith, one, finished);
+    some = some_node;
     few = few;
     within = within;
     each_split = omega (arith, finished, sound.finished, splits_are);

@@ -1,10 +1,10 @@
 -- What a search reports is the least of what its leaves are worth and of the cheapest plan's cost.
-use Rattle.std.proofs.Common.{◌≡◌, ◌⊎◌, ℕ, ◌+◌, true, false, arith, List, length, refl, sym, ap, ◌∙◌, subst, inl, inr, Option, ℤ}
-use Rattle.vs_prices.specs.Bounds.{IsNoLess}
+use Rattle.std.proofs.Common.{◌≡◌, ◌⊎◌, ℕ, ◌+◌, ◌<◌, true, false, arith, List, length, refl, sym, ap, ◌∙◌, subst, inl, inr, Option, ℤ}
+use Rattle.vs_prices.specs.Bounds.{IsBelow, IsNoLess}
 use Rattle.vs_prices.specs.declared.bound.Bound.{Bound}
 use Rattle.vs_prices.proofs.CallerLemmas.{no_less-trans}
 use Rattle.vs_tree.specs.History.{Opening, Place, State, IsLeafWorth, is_inner, known, place_at, prices_at, sets_at, spot_at, state_of}
-use Rattle.vs_tree.specs.Report.{IsLeastOf, IsLesser, bound_of}
+use Rattle.vs_tree.specs.Report.{IsBelowAmong, IsLeastOf, IsLesser, IsOpenCount, IsOpenLeaf, bound_of}
 use Rattle.vs_tree.specs.Search.{IsSearch, Parts, worth_at}
 use Rattle.std.proofs.lemmas.Bool.{cases_lt}
 use Rattle.vs_types.specs.declared.layer_set.LayerSet.{LayerSet}
@@ -91,3 +91,81 @@ module _ (places : List Place) (worths : List Bound) (cost : Option ℤ) (k : �
       | inr new ↦ inr (k, omega arith, leaf, is ∙ sym new)
     ];
   }
+
+-- no place is open among none
+pub no_place_open : (places : List Place) (worths : List Bound) (cost : Option ℤ) → IsOpenCount places worths cost 0 0
+no_place_open places worths cost = record {
+  few = omega arith;
+  some = λ some. absurd (omega (arith, some));
+  none = λ none among. let before = among.before in omega (arith, before);
+}
+
+module _ (places : List Place) (worths : List Bound) (cost : Option ℤ) (k found : ℕ)
+    (of : IsOpenCount places worths cost k found) where
+  -- one more leaf that is open
+  pub one_open : is_inner (place_at places k).spot ≡ false → IsBelow (worth_at worths k) cost
+      → IsOpenCount places worths cost (k + 1) (found + 1)
+  one_open leaf below = record {
+    few = let few = of.few in omega (arith, few);
+    some = λ some. record { place = k; before = omega arith; is_leaf = leaf; below = below };
+    none = λ none. absurd (omega (arith, none));
+  }
+
+  -- one more place that isn't
+  pub one_shut : (is_inner (place_at places k).spot ≡ false → ¬ (IsBelow (worth_at worths k) cost))
+      → IsOpenCount places worths cost (k + 1) found
+  one_shut shut = record {
+    few = let few = of.few in omega (arith, few);
+    some = λ some.
+        let among = of.some some in
+        let before = among.before in
+        record { place = among.place; before = omega (arith, before); is_leaf = among.is_leaf; below = among.below };
+    none = λ none among. elim (cases_lt among.place k) [
+      | inl before ↦
+          of.none none (record {
+            place = among.place;
+            before = before;
+            is_leaf = among.is_leaf;
+            below = among.below;
+          })
+      | inr past ↦
+          let last = among.before in
+          let here : among.place ≡ k = omega (arith, past, last) in
+          shut (ap (λ (i : ℕ). is_inner (place_at places i).spot) (sym here) ∙ among.is_leaf)
+          (subst (λ (i : ℕ). IsBelow (worth_at worths i) cost) here among.below)
+    ];
+  }
+
+module _ (o : Opening) (a : Parts) (is : IsSearch o a) (cost : Option ℤ) (found : ℕ)
+    (knows : cost ≡ known (state_of o a.log.steps))
+    (of : IsOpenCount a.places.places a.worths cost (length a.places.places) found) where
+  abbrev now : State
+  now = state_of o a.log.steps
+
+  -- where some are counted, a leaf is open
+  pub some_leaf : 0 < found → IsOpenLeaf o.problem now
+  some_leaf some =
+      let among = of.some some in
+      let leaf : is_inner (spot_at now among.place) ≡ false = ap is_inner (spot-is o a is among.place) ∙ among.is_leaf in
+      record {
+        leaf = among.place;
+        worth = worth_at a.worths among.place;
+        is_leaf = leaf;
+        is_worth = is.parts.worths among.place leaf;
+        below = subst (IsBelow (worth_at a.worths among.place)) knows among.below;
+      }
+
+  -- and none where there are none
+  pub no_leaf : found ≡ 0 → ¬ (IsOpenLeaf o.problem now)
+  no_leaf none open_leaf =
+      let k = open_leaf.leaf in
+      let same : worth_at a.worths k ≡ open_leaf.worth =
+      one_worth o.problem (sets_at now k) (prices_at now k) (worth_at a.worths k) open_leaf.worth
+      (is.parts.worths k open_leaf.is_leaf) open_leaf.is_worth in
+      of.none none (record {
+        place = k;
+        before = leaf_is o a is k open_leaf.is_leaf;
+        is_leaf = ap is_inner (sym (spot-is o a is k)) ∙ open_leaf.is_leaf;
+        below = subst (IsBelow (worth_at a.worths k)) (sym knows)
+            (subst (λ (x : Bound). IsBelow x (known now)) (sym same) open_leaf.below);
+      })

@@ -17,7 +17,7 @@ loop-k-preserved-in-loop-k g c =
     (subst (λ (n : ℕ). IsFresh n start) (sym c.loop-k.auto.crew) c.requires.fresh) c.requires.problem c.loop-k.seat
     c.index-crew-k.result c.loop-k.k c.split-first.result.0 c.split-first.result.1 c.loop-k.invariant
     c.loop-k-test.true (let few = c.loop-k.auto.k in let size = c.loop-k.auto.crew in omega (arith, few, size))
-    c.split-first.ensures.first c.split-first.ensures.second
+    c.split-first.ensures.first c.split-first.ensures.second c.split-first.ensures.knows
 
 pub loop-k-preserved : goal.loop-k-preserved
 loop-k-preserved g c =
@@ -26,7 +26,7 @@ loop-k-preserved g c =
     (subst (λ (n : ℕ). IsFresh n start) (sym c.loop-k.auto.crew) c.requires.fresh) c.requires.problem c.loop-k.seat
     c.index-crew-k.result c.loop-k.k c.split-first.result.0 c.split-first.result.1 c.loop-k.invariant
     c.loop-k-test.true (let few = c.loop-k.auto.k in let size = c.loop-k.auto.crew in omega (arith, few, size))
-    c.split-first.ensures.first c.split-first.ensures.second
+    c.split-first.ensures.first c.split-first.ensures.second c.split-first.ensures.knows
 
 pub returns-clause-each : goal.returns-clause-each
 returns-clause-each g c =

@@ -35,7 +35,7 @@ pub joined-seat-requires-clause-done : goal.joined-seat-requires-clause-done
 joined-seat-requires-clause-done g c =
     let second = with_items_is (with_items c.in-Ok.crew c.give_seats.new.crew) c.work_together.new.crew
     (c.work_together.auto.crew ∙ c.as_mut_slice-together.ensures.len) in
-    subst (AreDone c.in-Ok-new.made.0.name c.of-start.result.value) (sym second) c.work_together.ensures.done
+    subst (AreDone (g.G.Gate.may_stop c.args.gate.now) c.in-Ok-new.made.0.name c.of-start.result.value) (sym second) c.work_together.ensures.done
 
 pub returns-then-over-clause-goes_on : goal.returns-then-over-clause-goes_on
 returns-then-over-clause-goes_on g c =
@@ -48,17 +48,18 @@ returns-then-over-clause-goes_on g c =
     (c.as_mut_slice-together.ensures.value ∙ written)
     ∙ (c.give_seats.ensures.count ∙ (ap (λ (l : List Worker). length l) c.deref_mut.ensures.value
     ∙ c.in-Ok.ensures.count)))) in
+    let stops = g.G.Gate.may_stop c.args.gate.now in
     let start = c.of-start.result.value in
     let after = c.into_tree-tree.result in
     let workers_are = ap (λ (t : Search). t.opening.workers) c.of-start.ensures ∙ (c.requires.workers ∙ sym count) in
     subst (λ (t : Search). HasGoneOn t after) c.of-start.ensures
-    (has_gone_on c.in-Ok-new.made.0.name start after _ c.joined-seat.result.1 c.joined-seat.result.0
+    (has_gone_on stops c.in-Ok-new.made.0.name start after _ c.joined-seat.result.1 c.joined-seat.result.0
     c.joined-seat.ensures
     c.close.result c.close.ensures.seen c.close.ensures.entries c.into_tree-tree.ensures.tree workers_are
     c.into_tree-tree.ensures.worked c.into_tree-tree.ensures.opening c.into_tree-tree.ensures.history)
 
 pub returns-then-over-clause-over : goal.returns-then-over-clause-over
-returns-then-over-clause-over g c =
+returns-then-over-clause-over g c never =
     let written = with_items_is c.in-Ok.crew c.give_seats.new.crew (c.give_seats.auto.crew ∙ c.deref_mut.ensures.len) in
     let second = with_items_is (with_items c.in-Ok.crew c.give_seats.new.crew) c.work_together.new.crew
     (c.work_together.auto.crew ∙ c.as_mut_slice-together.ensures.len) in
@@ -68,12 +69,13 @@ returns-then-over-clause-over g c =
     (c.as_mut_slice-together.ensures.value ∙ written)
     ∙ (c.give_seats.ensures.count ∙ (ap (λ (l : List Worker). length l) c.deref_mut.ensures.value
     ∙ c.in-Ok.ensures.count)))) in
+    let stops = g.G.Gate.may_stop c.args.gate.now in
     let start = c.of-start.result.value in
     let after = c.into_tree-tree.result in
     let workers_are = ap (λ (t : Search). t.opening.workers) c.of-start.ensures ∙ (c.requires.workers ∙ sym count) in
-    is_over c.in-Ok-new.made.0.name start after _ c.joined-seat.result.1 c.joined-seat.result.0 c.joined-seat.ensures
+    is_over stops c.in-Ok-new.made.0.name start after _ c.joined-seat.result.1 c.joined-seat.result.0 c.joined-seat.ensures
     c.close.result c.close.ensures.seen c.close.ensures.entries c.into_tree-tree.ensures.tree workers_are
-    c.into_tree-tree.ensures.worked c.into_tree-tree.ensures.opening c.into_tree-tree.ensures.history c.if-over.true
+    c.into_tree-tree.ensures.worked c.into_tree-tree.ensures.opening c.into_tree-tree.ensures.history c.if-over.true never
 
 pub returns-clause-memory : goal.returns-clause-memory
 returns-clause-memory g c =
@@ -86,11 +88,12 @@ returns-clause-memory g c =
     (c.as_mut_slice-together.ensures.value ∙ written)
     ∙ (c.give_seats.ensures.count ∙ (ap (λ (l : List Worker). length l) c.deref_mut.ensures.value
     ∙ c.in-Ok.ensures.count)))) in
+    let stops = g.G.Gate.may_stop c.args.gate.now in
     let start = c.of-start.result.value in
     let after = c.into_tree-tree.result in
     let workers_are = ap (λ (t : Search). t.opening.workers) c.of-start.ensures ∙ (c.requires.workers ∙ sym count) in
     subst (λ (t : Search). HasGoneOn t after) c.of-start.ensures
-    (has_gone_on c.in-Ok-new.made.0.name start after _ c.joined-seat.result.1 c.joined-seat.result.0
+    (has_gone_on stops c.in-Ok-new.made.0.name start after _ c.joined-seat.result.1 c.joined-seat.result.0
     c.joined-seat.ensures
     c.close.result c.close.ensures.seen c.close.ensures.entries c.into_tree-tree.ensures.tree workers_are
     c.into_tree-tree.ensures.worked c.into_tree-tree.ensures.opening c.into_tree-tree.ensures.history)

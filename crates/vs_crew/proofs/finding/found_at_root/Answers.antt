@@ -9,7 +9,7 @@ use Rattle.vs_crew.proofs.leaves.Finding.{next-lesser, plan-either, plan-turned,
 use Rattle.vs_crew.proofs.finding.found_at_root.Goals as goal
 
 pub returns-clause-found : goal.returns-clause-found
-returns-clause-found c =
+returns-clause-found g c =
     let p = c.args.instance.now in
     let task = c.args.task.now in
     let agreed = c.in_ok-agreed.agreed in

@@ -27,5 +27,5 @@ returns g c =
           c.args.seat c.hold-held.result.seat c.hold-held.result.found c.hold-held.result.value c.value.result.now
           c.requires.holds held.seat held.opening held.begins held.unmade held.found c.value.ensures.value
           c.give_back.new.self c.give_back.ensures.steps (HasLeft c.args.w) c.release-seat.result
-          c.give_back.ensures.left c.release-seat.ensures.seat;
+          c.give_back.ensures.left c.release-seat.ensures.seat c.release-seat.ensures.knows;
     }

@@ -31,5 +31,5 @@ returns g c =
           c.args.seat c.hold-held.result.seat c.hold-held.result.found c.hold-held.result.value c.value.result.now
           c.requires.found held.seat held.opening held.begins held.unmade held.found c.value.ensures.value
           c.finish.new.self c.finish.ensures.steps (IsIdle c.args.w) c.release-seat.result
-          c.finish.ensures.idle c.release-seat.ensures.seat;
+          c.finish.ensures.idle c.release-seat.ensures.seat c.release-seat.ensures.knows;
     }

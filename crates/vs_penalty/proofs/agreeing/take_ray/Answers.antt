@@ -6,7 +6,7 @@ use Rattle.vs_penalty.proofs.CallerLemmas.{shown-no_less}
 use Rattle.vs_penalty.proofs.agreeing.take_ray.Goals as goal
 
 pub returns-in-Some-clause-worth : goal.returns-in-Some-clause-worth
-returns-in-Some-clause-worth c =
+returns-in-Some-clause-worth g c =
     let p = c.args.case.now.instance.now in
     let sets = c.args.case.now.sets.now in
     let shows = subst (λ (ray : Option Table). IfSome ray (ShowsNoPlan p sets)) c.in-Some.is c.in_ok-found.ensures in

@@ -6,14 +6,14 @@ use Rattle.vs_penalty.proofs.ShownRays.{unrated-IsRestriction}
 use Rattle.vs_penalty.proofs.ray.seek_ray.Goals as goal
 
 pub unrated_table-requires : goal.unrated_table-requires
-unrated_table-requires c =
+unrated_table-requires g c =
     subst (λ (q : Problem). IsRestriction q c.args.sets.now) (sym c.in_ok-unrated.ensures)
     (unrated-IsRestriction c.args.instance.now c.args.sets.now c.requires)
 
 pub read_as_ray-requires-clause-fits : goal.read_as_ray-requires-clause-fits
-read_as_ray-requires-clause-fits c =
+read_as_ray-requires-clause-fits g c =
     subst (λ (q : Problem). Fits q c.in_ok-table.table) c.in_ok-unrated.ensures c.in_ok-table.ensures.fits
 
 pub read_as_ray-requires-clause-holds : goal.read_as_ray-requires-clause-holds
-read_as_ray-requires-clause-holds c =
+read_as_ray-requires-clause-holds g c =
     subst (λ (q : Problem). HoldingTable q c.in_ok-table.table) c.in_ok-unrated.ensures c.in_ok-table.ensures.holds

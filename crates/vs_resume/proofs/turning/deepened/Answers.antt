@@ -1,7 +1,7 @@
 use Rattle.std.proofs.Common.{◌*◌, length, subst, arith, IfOk}
 use Rattle.std.proofs.lemmas.Nat.{mul-le}
 use Rattle.vs_instance.specs.Problem.{Problem}
-use Rattle.vs_resume.specs.Deepened.{IsDeepened}
+use Rattle.vs_resume.specs.Deepened.{IsBegunOn, IsDeepened}
 use Rattle.vs_resume.proofs.turning.deepened.Goals as goal
 
 pub deepen-requires : goal.deepen-requires
@@ -21,6 +21,9 @@ deepen-requires g c =
 pub returns : goal.returns
 returns g c = record {
   stays = c.deepen.ensures.stays;
-  found = subst (λ (q : Problem). IfOk c.deepen.result (IsDeepened q c.args.budget)) c.in_ok-part.ensures
-      c.deepen.ensures.found;
+  may = c.deepen.ensures.may;
+  begun = subst (λ (q : Problem). IfOk c.deepen.result (IsBegunOn q c.args.budget)) c.in_ok-part.ensures
+      c.deepen.ensures.begun;
+  found = λ never. subst (λ (q : Problem). IfOk c.deepen.result (IsDeepened q c.args.budget)) c.in_ok-part.ensures
+      (c.deepen.ensures.found never);
 }

@@ -1,9 +1,9 @@
-use Rattle.std.proofs.Common.{◌≡◌, ◌≤◌, List, length, sym, ap, ◌∙◌, subst, arith}
+use Rattle.std.proofs.Common.{◌≡◌, ◌≤◌, ℕ, zero, suc, List, length, refl, sym, ap, ◌∙◌, subst, arith, inl, inr, not}
 use Rattle.vs_types.specs.declared.layer_set.LayerSet.{LayerSet}
 use Rattle.vs_instance.specs.Narrowed.{narrowed}
 use Rattle.vs_instance.specs.Restriction.{IsRestriction}
 use Rattle.vs_tree.proofs.CallerLemmas.{histories_are_sound}
-use Rattle.vs_resume.specs.Deepened.{IsDeepened}
+use Rattle.vs_resume.specs.Deepened.{IsBegunOn}
 use Rattle.vs_resume.proofs.parts.PartPut.{case_at, leaf_restricts, next_within, same_sets}
 use Rattle.vs_resume.proofs.parts.PartTurn.{turned_on}
 use Rattle.vs_resume.proofs.turning.turn.Goals as goal
@@ -35,8 +35,8 @@ put_part-requires g c =
     let inside = next_within old c.args.k c.requires.next in
     let found = c.index.result.now in
     let here = case_at p old c.requires.course c.args.k inside found c.index.ensures in
-    let deep : IsDeepened (narrowed p c.deref-layers.result.now) c.min.result c.in_ok-tree.tree =
-    c.in_ok-tree.ensures.found in
+    let deep : IsBegunOn (narrowed p c.deref-layers.result.now) c.min.result c.in_ok-tree.tree =
+    c.in_ok-tree.ensures.begun in
     let budget = deep.budget in
     record {
       course = c.requires.course;
@@ -48,6 +48,24 @@ put_part-requires g c =
       few = c.requires.few;
     }
 
+-- what isn't 0 is 1 at least
+some_of : (n : ℕ) → ¬ (n ≡ 0) → 1 ≤ n
+some_of zero none = absurd (none refl)
+some_of (suc n) none = omega arith
+
+-- a turn that finished no node changed nothing
+pub returns-then-finished-eq0 : goal.returns-then-finished-eq0
+returns-then-finished-eq0 g c = record {
+  stays = c.deepened.ensures.stays;
+  may = c.deepened.ensures.may;
+  turn = inl (refl, refl, refl);
+  few = omega arith;
+  goes_on = λ never.
+      let some = (c.in_ok-tree.ensures.found never).some in
+      let finished = c.report-finished.ensures.finished in
+      absurd (omega (arith, some, finished, c.if-finished-eq0.true));
+}
+
 pub returns : goal.returns
 returns g c =
     let p = c.args.instance.now in
@@ -58,7 +76,7 @@ returns g c =
     let found = c.index.result.now in
     let here = case_at p old c.requires.course c.args.k inside found c.index.ensures in
     let t = c.in_ok-tree.tree in
-    let deep : IsDeepened (narrowed p c.deref-layers.result.now) c.min.result t = c.in_ok-tree.ensures.found in
+    let deep : IsBegunOn (narrowed p c.deref-layers.result.now) c.min.result t = c.in_ok-tree.ensures.begun in
     let known = c.instance-part.ensures in
     let sound = histories_are_sound t.opening t.steps known.opening known.history in
     let nodes = c.report-finished.result.finished in
@@ -70,13 +88,20 @@ returns g c =
     let layers : put.leaf.sets.items ≡ c.deref-layers.result.now =
     same_sets old c.args.k found put.leaf here put.is_leaf
     ∙ sym (c.deref-layers.ensures.value ∙ c.in_ok-sets.ensures.items ∙ c.deref.ensures.value) in
-    let of_leaf = subst (λ (s : List LayerSet). IsDeepened (narrowed p s) c.min.result t) (sym layers) deep in
+    let of_leaf = subst (λ (s : List LayerSet). IsBegunOn (narrowed p s) c.min.result t) (sym layers) deep in
+    let some_node : 1 ≤ nodes = some_of nodes c.if-finished-eq0.false in
     let few_nodes : nodes ≤ c.min.result = omega (arith, finished, spent, budget) in
     let same = ap (λ ts. length ts.items) taken.tables in
     record {
       stays = c.deepened.ensures.stays;
-      turn = λ s course. turned_on p c.trips.ensures.instance c.args.left nodes c.args.k t old mid new put taken
-          known.opening known.history (omega (arith, few_nodes, c.min.ensures))
-          (omega (arith, few_nodes, c.min.ensures)) finished c.min.result of_leaf c.requires.next s course;
+      may = c.deepened.ensures.may;
+      turn = inr (
+        some_node,
+        omega (arith, few_nodes, c.min.ensures),
+        λ s course. turned_on p c.trips.ensures.instance c.args.left nodes c.args.k t old mid new put taken
+            known.opening known.history (omega (arith, few_nodes, c.min.ensures))
+            (omega (arith, few_nodes, c.min.ensures)) finished some_node c.min.result of_leaf c.requires.next s course,
+      );
       few = omega (arith, same, c.in_ok-put_part.ensures.few);
+      goes_on = λ never. ap not (c.is_over.ensures.1 (c.in_ok-tree.ensures.found never).over);
     }

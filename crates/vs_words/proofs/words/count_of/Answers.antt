@@ -18,7 +18,7 @@ returns-in-None c =
     let found = c.in-Some.ensures.lookup in
     let read = word_read c.args.words.now 1 c.in-Some.count.now (ltb-true _ _ (sym found.0)) found.1 in
     count_bad_second c.args.kind _ c.requires (λ count second n is. c.in-None.ensures n
-    (subst (λ (x : Word). IsNumberUpTo MAX_TRIPS x n) (sym second.word_is ∙ read.word_is ∙ sym
+    (subst (λ (x : Word). IsNumberUpTo 6 MAX_TRIPS x n) (sym second.word_is ∙ read.word_is ∙ sym
     c.as_str.ensures.value) is))
 
 pub returns-in_default-number_up_to : goal.returns-in_default-number_up_to
@@ -26,7 +26,7 @@ returns-in_default-number_up_to c =
     let found = c.in-Some.ensures.lookup in
     let read = word_read c.args.words.now 1 c.in-Some.count.now (ltb-true _ _ (sym found.0)) found.1 in
     count_bad_third c.args.kind _ _ c.in-Some-number_up_to.n c.requires read
-    (subst (λ (x : Word). IsNumberUpTo MAX_TRIPS x c.in-Some-number_up_to.n) c.as_str.ensures.value
+    (subst (λ (x : Word). IsNumberUpTo 6 MAX_TRIPS x c.in-Some-number_up_to.n) c.as_str.ensures.value
     c.in-Some-number_up_to.ensures)
     (λ two. c.if-words-eq2.false (sym (length-words c.args.words.now) ∙ two))
 
@@ -35,6 +35,6 @@ returns-in-Some-number_up_to c =
     let found = c.in-Some.ensures.lookup in
     let read = word_read c.args.words.now 1 c.in-Some.count.now (ltb-true _ _ (sym found.0)) found.1 in
     count_accepted c.args.kind _ _ c.in-Some-number_up_to.n c.command.result c.requires read
-    (subst (λ (x : Word). IsNumberUpTo MAX_TRIPS x c.in-Some-number_up_to.n) c.as_str.ensures.value
+    (subst (λ (x : Word). IsNumberUpTo 6 MAX_TRIPS x c.in-Some-number_up_to.n) c.as_str.ensures.value
     c.in-Some-number_up_to.ensures)
     (length-words c.args.words.now ∙ c.if-words-eq2.true) c.command.ensures

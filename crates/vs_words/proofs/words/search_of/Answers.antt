@@ -1,17 +1,27 @@
-use Rattle.std.proofs.Common.{◌∙◌, subst, sym}
-use Rattle.vs_words.specs.Words.{AskFor, words_of}
-use Rattle.vs_words.proofs.CommandWords.{length-words, no_option, search_alone, search_bad_second}
+use Rattle.std.proofs.Common.{subst, sym, arith}
+use Rattle.std.proofs.lemmas.Result.{err_from_is_err_and}
+use Rattle.vs_words.specs.declared.command.Effort.{Effort}
+use Rattle.vs_words.specs.Words.{AskFor, searched, words_of}
+use Rattle.vs_words.proofs.CommandWords.{length-words}
+use Rattle.vs_words.proofs.OptionWords.{taken_all, taken_none}
 use Rattle.vs_words.proofs.words.search_of.Goals as goal
 
-pub returns-then-words-eq1 : goal.returns-then-words-eq1
-returns-then-words-eq1 c =
-    subst (AskFor (words_of c.args.words.now)) (sym c.command.ensures)
-    (search_alone c.args.kind _ c.requires (length-words c.args.words.now ∙ c.if-words-eq1.true))
+pub loop-place-init : goal.loop-place-init
+loop-place-init c = taken_none c.args.kind _ c.requires
 
-pub returns-else-nodes_first : goal.returns-else-nodes_first
-returns-else-nodes_first c =
-    search_bad_second c.args.kind _ c.requires
-    (no_option _
-    (λ second. let is = c.is_word-workers_first.ensures.1 second in let no = c.if-workers_first.false in cc)
-    (λ second. let is = c.is_word-nodes_first.ensures.1 second in let no = c.if-nodes_first.false in cc))
-    (λ one. c.if-words-eq1.false (sym (length-words c.args.words.now) ∙ one))
+pub loop-place-preserved : goal.loop-place-preserved
+loop-place-preserved c = c.in_ok-given.ensures c.args.kind c.loop-place.invariant
+
+pub returns-in_err-given : goal.returns-in_err-given
+returns-in_err-given c =
+    let p = err_from_is_err_and c.from_residual.result c.from_residual.ensures.1 in
+    rw (p.1, p.2) (c.in_err-given.ensures c.args.kind c.loop-place.invariant)
+
+pub returns : goal.returns
+returns c =
+    let words = words_of c.args.words.now in
+    subst (AskFor words) (sym c.command.ensures)
+    (subst (λ (e : Effort). AskFor words (searched c.args.kind e)) (sym c.effort.ensures)
+    (taken_all c.args.kind words c.loop-place.place c.loop-place.given c.loop-place.invariant
+    (λ within. let size = length-words c.args.words.now in
+    omega (arith, within, size, c.loop-place-test.false, c.len.ensures))))

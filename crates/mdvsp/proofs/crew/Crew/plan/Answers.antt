@@ -4,7 +4,7 @@ use Rattle.vs_reader.specs.Rows.{lines}
 use Rattle.vs_tree.specs.Search.{state}
 use Rattle.vs_rows.specs.DocumentRows.{document_rows}
 use Rattle.vs_reply.specs.Status.{status_of}
-use Rattle.mdvsp.proofs.SearchAnswers.{one_claim, search_answers}
+use Rattle.mdvsp.proofs.SearchAnswers.{one_claim, search_answers, stopped_answers}
 use Rattle.mdvsp.proofs.crew.Crew.plan.Goals as goal
 
 pub returns : goal.returns
@@ -15,14 +15,23 @@ returns g c =
     let text = c.in_ok-text.ensures in
     record {
       document = text.document;
-      solves = search_answers c.args.timetable.now.instance c.args.budget c.args.self.now.workers t.opening t.steps
+      solves = stopped_answers c.args.timetable.now.instance c.args.budget c.args.self.now.workers t.opening t.steps
           text.document
           (record {
             begins = made.begins;
             is_opening = known.opening;
             history = known.history;
             worked = made.worked;
-            over = made.over;
+            none_held = made.none_held;
+          }) text.of_state text.has_text;
+      whole = λ unlimited. search_answers c.args.timetable.now.instance c.args.budget c.args.self.now.workers t.opening
+          t.steps text.document
+          (record {
+            begins = made.begins;
+            is_opening = known.opening;
+            history = known.history;
+            worked = made.worked;
+            over = made.over unlimited;
           }) text.of_state text.has_text;
       status_is = c.claim_status.ensures
           ∙ ap status_of (one_claim t.opening.problem (state t) c.report.result text.of_state.report c.report.ensures

@@ -1,6 +1,7 @@
 use Rattle.std.proofs.Common.{◌≡◌, ℕ, zero, suc, ◌≤◌, ap, arith}
 use Rattle.vs_tree.specs.History.{Opening}
 use Rattle.vs_tree.specs.Search.{state}
+use Rattle.vs_cert.specs.AnswerLaws.{EachReachesTheStart}
 use Rattle.vs_node.proofs.CallerLemmas.{worked_searches_reach_the_start}
 use Rattle.mdvsp.proofs.crew.Crew.search_part.Goals as goal
 
@@ -14,15 +15,23 @@ returns g c =
     let t = c.in_ok-tree.tree in
     let begins = c.in_ok-tree.ensures.begins in
     let known = c.instance-instance.ensures in
-    let some : 1 ≤ (state t).finished =
-    some_of c.report.result.finished (state t).finished c.report.ensures.finished c.if-report-eq0.false in
+    let problem = ap (λ (o : Opening). o.problem) begins in
+    let budget = ap (λ (o : Opening). o.budget) begins in
+    let first = ap (λ (o : Opening). o.first) begins in
+    let reaches : 1 ≤ (state t).finished → EachReachesTheStart t.opening (state t) =
+    λ some value start k worth leaf is_worth.
+    worked_searches_reach_the_start t.opening t.steps k worth value known.opening known.history
+    c.in_ok-tree.ensures.worked some leaf is_worth start in
     record {
-      problem = ap (λ (o : Opening). o.problem) begins;
-      budget = ap (λ (o : Opening). o.budget) begins;
-      first = ap (λ (o : Opening). o.first) begins;
-      over = c.in_ok-tree.ensures.over;
-      some = some;
-      reaches = λ value start k worth leaf is_worth.
-          worked_searches_reach_the_start t.opening t.steps k worth value known.opening known.history
-          c.in_ok-tree.ensures.worked some leaf is_worth start;
+      begun = record { problem = problem; budget = budget; first = first; reaches = reaches };
+      found = λ unlimited.
+          let some : 1 ≤ (state t).finished = ? in
+          record {
+            problem = problem;
+            budget = budget;
+            first = first;
+            over = c.in_ok-tree.ensures.over unlimited;
+            some = some;
+            reaches = reaches some;
+          };
     }

@@ -1,4 +1,6 @@
 use Rattle.std.proofs.Common.{ℕ, IfOk, subst}
+use Rattle.vs_words.specs.Words.{IsUnlimited}
+use Rattle.vs_words.specs.declared.command.Effort.{Effort}
 use Rattle.mdvsp.specs.Answered.{AnswersDocument}
 use Rattle.mdvsp.specs.Searching.{IsSearchable}
 use Rattle.mdvsp.proofs.owing.SearchOwed.{document_owed, no_search_owed}
@@ -10,8 +12,10 @@ returns-in-With g c =
     let found = subst (IsSearchable c.args.effort c.args.bytes.now) c.in-With.is c.in_ok-timetable.ensures in
     document_owed c.args.effort c.args.bytes.now timetable.instance timetable.names c.in-With.budget c.plan.result
     found.text found.budget_is
-    (subst (λ (w : ℕ). IfOk c.plan.result (AnswersDocument timetable.instance timetable.names c.in-With.budget w))
-    c.requires.workers c.plan.ensures)
+    (subst (λ (e : Effort). IfOk c.plan.result
+    (AnswersDocument (IsUnlimited e) timetable.instance timetable.names c.in-With.budget c.args.effort.workers)) c.requires.limits
+    (subst (λ (w : ℕ). IfOk c.plan.result (AnswersDocument (IsUnlimited c.args.self.now.gate.effort) timetable.instance
+    timetable.names c.in-With.budget w)) c.requires.workers c.plan.ensures))
 
 pub returns-in-Not : goal.returns-in-Not
 returns-in-Not g c =

@@ -3,7 +3,7 @@ use Rattle.vs_walk.specs.Penalties.{ArePenalties}
 use Rattle.vs_walk.proofs.penalties.Penalties.agree.Given as goal
 
 abbrev pub invariant-loop : goal.invariant-loop
-invariant-loop l = record {
+invariant-loop g l = record {
   penalties : ArePenalties l.case.instance.now l.self;
   ready : IsReadyToRun l.case.nets.now l.work;
 }

@@ -4,7 +4,7 @@ use Rattle.vs_multi.specs.Multipliers.{AreMultipliers}
 use Rattle.vs_walk.proofs.walker.Walker.agree_in.Goals as goal
 
 pub returns-clause-walker : goal.returns-clause-walker
-returns-clause-walker c =
+returns-clause-walker g c =
     let old = c.requires.walker in
     let offered = c.args.self.now.offered in
     let new = c.offer_free.new.offered in

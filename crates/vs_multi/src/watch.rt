@@ -1,0 +1,37 @@
+//! Who may end the work at the root of a search early.
+
+/// Who may end the work at the root of a search before its effort is spent. When it ends decides how good plans and
+/// multipliers become, and nothing else.
+pub trait Watch {
+    /// Takes notice of what a plan costs that was found, in cost units, and of a value that no plan costs less than, in
+    /// 1/1000 of a cost unit. They are None and `i64::MIN` where there is nothing new.
+    fn tell(&self, cost: Option<i64>, value: i64);
+
+    /// Whether the work is to end.
+    fn is_over(&self) -> bool;
+}
+
+/// A watch that ends nothing.
+pub struct NoWatch;
+
+impl Watch for NoWatch {
+    fn tell(&self, _cost: Option<i64>, _value: i64) {}
+
+    fn is_over(&self) -> bool {
+        false
+    }
+}
+
+/// A watch that is told nothing, since those who ask it work on another instance.
+#[derive(Drop)]
+pub struct Untold<'a, W: Watch> {
+    pub watch: &'a W,
+}
+
+impl<W: Watch> Watch for Untold<'_, W> {
+    fn tell(&self, _cost: Option<i64>, _value: i64) {}
+
+    fn is_over(&self) -> bool {
+        self.watch.is_over()
+    }
+}
