@@ -152,7 +152,8 @@ count_asks kind a b n is number =
 
 count_begins : (kind : Counting) (a : Word) → a ≡ command_name (counted kind 0) → Begin (a ∷ [])
 count_begins kind a is =
-    (codes "1" ∷ [], (counted kind 1, count_asks kind a (codes "1") 1 is (one_up_to 6 MAX_TRIPS (omega arith) (omega arith))))
+    let one = one_up_to 6 MAX_TRIPS (omega arith) (omega arith) in
+    (codes "1" ∷ [], (counted kind 1, count_asks kind a (codes "1") 1 is one))
 
 -- it is missing, or is none
 pub count_bad_second : (kind : Counting) (words : List Word) → IsWordAt words 0 (command_name (counted kind 0))

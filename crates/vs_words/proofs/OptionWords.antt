@@ -319,13 +319,16 @@ module _ (kind : Searching) (words : List Word) (place : ℕ) (given : Given) (t
       module _ (s : Setting) (name : IsWordAt words place (setting_name s)) where
         -- the name of an option that was given
         pub bad_again : IsSome (number_in s given) → AreBadAt words (place + 1)
-        bad_again some = bad_next (λ rest goes_on. not_again rest goes_on.tail goes_on.words_are (goes_on.fresh s not_new))
+        bad_again some =
+            bad_next (λ rest goes_on. not_again rest goes_on.tail goes_on.words_are (goes_on.fresh s not_new))
           where
             not_new : ¬ (IsNew s taken.options)
             not_new new =
-                no_number s (subst IsSome (ap (number_in s) taken.given_is ∙ new-kept s none_given taken.options new) some)
+                no_number s
+                (subst IsSome (ap (number_in s) taken.given_is ∙ new-kept s none_given taken.options new) some)
 
-            not_again : (rest : List Word) (tail : List GivenOption) → option_words tail ≡ word ∷ rest → ¬ (IsNew s tail)
+            not_again : (rest : List Word) (tail : List GivenOption) → option_words tail ≡ word ∷ rest
+                → ¬ (IsNew s tail)
             not_again rest [] same new = cc
             not_again rest (o ∷ tail) same new =
                 let own : setting_name o.setting ≡ word = cc in
