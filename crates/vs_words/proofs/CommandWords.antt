@@ -1,5 +1,5 @@
 -- Words that ask for commands, word by word.
-use Rattle.std.proofs.Common.{Bool, true, String, string_bytes, codes, ◌≡◌, ℕ, ◌<◌, ◌≤◌, List, [], ◌∷◌, ◌++◌, length, get_or, sum, refl, ap, sym, ◌∙◌, subst, arith, inl, inr}
+use Rattle.std.proofs.Common.{Bool, true, String, string_bytes, codes, ◌≡◌, ℕ, ◌<◌, ◌≤◌, List, [], ◌∷◌, ◌++◌, length, get_or, sum, refl, ap, sym, ◌∙◌, subst, arith}
 use Rattle.std.specs.Char.{IsAsciiDigit}
 use Rattle.std.specs.Str.{bytes_eq}
 use Rattle.std.specs.declared.alloc.Global.{Global}
@@ -128,12 +128,6 @@ one_up_to count most some few = record {
   value = refl;
   few = few;
 }
-
-pub begun_search : (kind : Searching) (a : Word) (words : List Word) → a ≡ search_name kind → Begin (a ∷ words)
-    → (more : List Word) × SearchWords (words ++ more)
-begun_search kind a words is begin =
-    let b = begun_as a words begin in
-    (b.0, search_further kind b.1.command (words ++ b.0) (b.1.name_is ∙ is) b.1.are_further)
 
 pub accepted_search : (kind : Searching) (a : Word) (words : List Word) → a ≡ search_name kind → AreAccepted (a ∷ words)
     → SearchWords words

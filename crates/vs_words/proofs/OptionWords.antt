@@ -1,10 +1,10 @@
 -- Words that ask for a search by its options, one after the other.
-use Rattle.std.proofs.Common.{◌≡◌, ◌≢◌, ◌⊎◌, ℕ, ◌+◌, ◌-◌, ◌<◌, ◌≤◌, List, [], ◌∷◌, ◌++◌, length, take, get_or, sum, codes, Some, None, refl, ap, sym, ◌∙◌, subst, arith, inl, inr, append-nil, append_assoc, length-append}
+use Rattle.std.proofs.Common.{◌≡◌, ◌≢◌, ◌⊎◌, ℕ, ◌+◌, ◌<◌, List, [], ◌∷◌, ◌++◌, length, take, get_or, sum, codes, refl, ap, sym, ◌∙◌, subst, arith, inl, inr, append-nil, append_assoc}
 use Rattle.std.specs.List.{All}
 use Rattle.std.specs.Prelude.{IsSome}
 use Rattle.std.specs.Str.Parse.{digits_value}
 use Rattle.std.proofs.Math.Seq.{take-length}
-use Rattle.std.proofs.lemmas.List.{length-take-le, take_more}
+use Rattle.std.proofs.lemmas.List.{take_more}
 use Rattle.std.proofs.lemmas.List.Elements.{All-append, All-cons, All-head, All-nil, All-tail}
 use Rattle.vs_words.specs.declared.command.Effort.{Effort}
 use Rattle.vs_words.specs.declared.words.Given.{Given}
@@ -106,10 +106,10 @@ apart-kept Gap Nodes g n apart = refl
 apart-kept Gap Seconds g n apart = refl
 
 given-there : (s : Setting) (g : Given) (n : ℕ) → IsSome (number_in s (given_with s g n))
-given-there Workers g n = tt
-given-there Nodes g n = tt
-given-there Seconds g n = tt
-given-there Gap g n = tt
+given-there Workers g n = refl
+given-there Nodes g n = refl
+given-there Seconds g n = refl
+given-there Gap g n = refl
 
 -- what was given stays given
 given-stays : (s : Setting) (g : Given) (os : List GivenOption) → IsSome (number_in s g)
@@ -141,10 +141,10 @@ not_given-new s g (o ∷ os) none =
     (not_given-new s (given_with o.setting g o.n) os none)
 
 no_number : (s : Setting) → ¬ (IsSome (number_in s none_given))
-no_number Workers some = some
-no_number Nodes some = some
-no_number Seconds some = some
-no_number Gap some = some
+no_number Workers some = cc
+no_number Nodes some = cc
+no_number Seconds some = cc
+no_number Gap some = cc
 
 -- the effort of what was given is the usual one with the options in it
 effort-with : (s : Setting) (g : Given) (n : ℕ) → effort_of (given_with s g n) ≡ with_setting s (effort_of g) n
@@ -338,12 +338,11 @@ module _ (kind : Searching) (words : List Word) (place : ℕ) (given : Given) (t
               not_given-new s none_given taken.options
               (λ some. fresh (subst (λ (g : Given). IsSome (number_in s g)) (sym taken.given_is) some))
 
-          with_one : (value : Word) (n : ℕ) → List GivenOption
+          abbrev with_one : Word → ℕ → List GivenOption
           with_one value n = taken.options ++ record { setting = s; word = value; n = n } ∷ []
 
           words_with : (value : Word) (n : ℕ)
-              → search_name kind ∷ option_words (taken.options ++ record { setting = s; word = value; n = n } ∷ [])
-              ≡ (take place words ++ word ∷ []) ++ value ∷ []
+              → search_name kind ∷ option_words (with_one value n) ≡ (take place words ++ word ∷ []) ++ value ∷ []
           words_with value n =
               ap (λ (l : List Word). search_name kind ∷ l)
               (words-append taken.options (record { setting = s; word = value; n = n } ∷ []))
@@ -352,7 +351,7 @@ module _ (kind : Searching) (words : List Word) (place : ℕ) (given : Given) (t
               ∙ sym (append_assoc (take place words) (word ∷ []) (value ∷ []))))
 
           numbers_with : (value : Word) (n : ℕ) → IsNumberFor s value n
-              → HaveNumbers (taken.options ++ record { setting = s; word = value; n = n } ∷ [])
+              → HaveNumbers (with_one value n)
           numbers_with value n is =
               let o : GivenOption = record { setting = s; word = value; n = n } in
               All-append HasNumber taken.options (o ∷ []) taken.numbers (All-cons HasNumber o [] is (All-nil HasNumber))
@@ -368,7 +367,7 @@ module _ (kind : Searching) (words : List Word) (place : ℕ) (given : Given) (t
               ∙ (take_more words (place + 1) [] behind
               ∙ (λ i. next_word i ++ at.word_is i ∷ [])) in
               record {
-                options = taken.options ++ o ∷ [];
+                options = with_one value n;
                 within = omega (arith, behind);
                 words_are = two ∙ sym (words_with value n);
                 numbers = numbers_with value n is;
@@ -380,7 +379,7 @@ module _ (kind : Searching) (words : List Word) (place : ℕ) (given : Given) (t
           name_begins : Begin (take (place + 1) words)
           name_begins =
               let o : GivenOption = record { setting = s; word = codes "1"; n = 1 } in
-              let options = taken.options ++ o ∷ [] in
+              let options = with_one (codes "1") 1 in
               let accepted : AreAccepted (search_name kind ∷ option_words options) = (
                 searched kind (with_options default_effort options),
                 asks_with kind options

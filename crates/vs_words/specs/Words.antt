@@ -1,5 +1,5 @@
 -- What words ask for, and at which word they are bad.
-use Rattle.std.specs.Prelude.{◌≡◌, ◌≢◌, ℕ, ◌+◌, ◌-◌, ◌<◌, ◌≤◌, List, [], ◌∷◌, ◌++◌, length, map, take, All, codes, String, string_bytes, slice_index_or, Option, Result, MatchResult, Some, None, IfSome, MatchOption}
+use Rattle.std.specs.Prelude.{◌≡◌, ◌≢◌, ℕ, ◌+◌, ◌-◌, ◌<◌, ◌≤◌, List, [], ◌∷◌, ◌++◌, length, map, take, All, codes, String, string_bytes, slice_index_or, Option, Result, MatchResult, Some, None, IfSome}
 use Rattle.std.specs.Str.Parse.{digits_value}
 use Rattle.std.specs.declared.alloc.Global.{Global}
 use Rattle.vs_instance.specs.declared.limits.TheConstants.{MAX_TRIPS}

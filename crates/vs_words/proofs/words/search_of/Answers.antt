@@ -24,4 +24,4 @@ returns c =
     (subst (λ (e : Effort). AskFor words (searched c.args.kind e)) (sym c.effort.ensures)
     (taken_all c.args.kind words c.loop-place.place c.loop-place.given c.loop-place.invariant
     (λ within. let size = length-words c.args.words.now in
-    omega (arith, within, size, c.loop-place-test.false, c.len.ensures))))
+    omega (arith, within, size, c.loop-place-test.false))))
