@@ -45,6 +45,20 @@ impl Shares {
         })
     }
 
+    /// No layer runs any trip.
+    pub fn none(case: &Case<'_>) -> Result<Shares, Memory>
+        ensures { IfOk result (AreSharesFor case.now.instance.now) }
+    {
+        prove!(case.instance.trips() <= MAX_TRIPS && case.instance.layers() <= MAX_LAYERS);
+        let trips = case.instance.trips() as usize;
+        let layers = case.instance.layers();
+        Ok(Shares {
+            each: vec![in case.alloc; 0; trips * layers as usize]?,
+            trips,
+            layers,
+        })
+    }
+
     /// How much of a trip a layer runs.
     #[tactic(auto, using(crate::proofs::Places::place_inside))]
     pub fn get(&self, l: LayerNo, i: TripNo) -> u32

@@ -78,10 +78,14 @@ IsHolding worker o s = HoldsSome s worker
 abbrev pub HasLeft : ℕ → Says
 HasLeft worker o s = IsAmong worker s.gone
 
--- how a worker ends: it was told that the search is over, or was idle where the gate, which may stop it, did so; or it
--- has left
+-- it holds no leaf
+abbrev pub IsFreeOfLeaves : ℕ → Says
+IsFreeOfLeaves worker o s = IsIdle worker o s ⊎ HasLeft worker o s
+
+-- how a worker ends: it was told that the search is over, or held no leaf where the gate, which may stop it, did so; or
+-- it has left
 abbrev pub IsEnd : Type 0 → Bool → ℕ → Says
-IsEnd stops true worker o s = IsOver o s ⊎ (stops × IsIdle worker o s)
+IsEnd stops true worker o s = IsOver o s ⊎ (stops × IsFreeOfLeaves worker o s)
 IsEnd stops false worker o s = HasLeft worker o s
 
 -- among the steps there were some after which the worker had ended; others alone made the rest

@@ -9,7 +9,7 @@ use Rattle.vs_turn.specs.Tickets.{all_tickets}
 use Rattle.vs_tree.specs.Entries.{entry_of, opening_entry}
 use Rattle.vs_tree.specs.Search.{Search, state}
 use Rattle.vs_tree.specs.Takes.{IsOver, IsSized}
-use Rattle.vs_crew.specs.Sharing.{HasLeft, IsEnd, IsIdle, Knows, NoneIsHeld, Says}
+use Rattle.vs_crew.specs.Sharing.{HasLeft, IsEnd, IsFreeOfLeaves, IsIdle, Knows, NoneIsHeld, Says}
 use Rattle.vs_crew.specs.declared.worker.After.{After}
 use Rattle.vs_crew.specs.declared.worker.After.TheVariants.{Idle, Over, Stopped, Left}
 use Rattle.vs_crew.specs.declared.worker.Worker.{Worker}
@@ -35,7 +35,7 @@ pub record IsReady (turn : TableId) (start : Search) (worker : Worker) : Type 0 
 abbrev pub IsAfter : Type 0 → ℕ → After → Says
 IsAfter stops worker Idle o s = IsIdle worker o s
 IsAfter stops worker Over o s = IsOver o s
-IsAfter stops worker Stopped o s = stops × IsIdle worker o s
+IsAfter stops worker Stopped o s = stops × IsFreeOfLeaves worker o s
 IsAfter stops worker Left o s = HasLeft worker o s
 
 -- the worker of this number has ended

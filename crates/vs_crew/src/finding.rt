@@ -1,7 +1,6 @@
 //! What the work on a leaf finds.
 
-ghost use Rattle.std.specs.Prelude.{◌≡◌, true, length, IfOk};
-ghost use Rattle.vs_instance.specs.Restriction.{IsRestriction};
+ghost use Rattle.std.specs.Prelude.{◌≡◌, true, length, IfOk, IfSome, None};
 ghost use Rattle.vs_match.specs.LayerNets.{AreLayerNets};
 ghost use Rattle.vs_prices.specs.Table.{Fits};
 ghost use Rattle.vs_crew.specs.Found.{IsFinding, IsFound, IsLawfulTask};
@@ -12,7 +11,7 @@ use vs_connect::lesser;
 use vs_instance::Instance;
 use vs_match::LayerNet;
 use vs_multi::{NoWatch, Watch};
-use vs_node::{Outcome, Task, work};
+use vs_node::{Outcome, Task, begin, has_choice, work, work_from};
 use vs_penalty::{agree, seek_plan, seek_ray};
 use vs_plan::{cheaper, cost_of};
 use vs_prices::{Bound, Table, worth};
@@ -32,7 +31,8 @@ pub(crate) struct Finding {
 }
 
 /// What the work on a leaf finds; on one that is split also by some passes, where these are asked for. The sets of the
-/// task serve as space in the end. At the root the watch may end the search for plans and prices.
+/// task serve as space in the end. At the root the watch may end the search for plans and prices. None where it ends
+/// the first round there.
 pub(crate) fn found<W: Watch>(
     alloc: Global,
     instance: &Instance,
@@ -41,20 +41,24 @@ pub(crate) fn found<W: Watch>(
     passes: bool,
     scratch: &mut Work,
     watch: &W,
-) -> Result<Finding, Memory>
+) -> Result<Option<Finding>, Memory>
     requires nets { AreLayerNets instance.now nets.now }
     requires lawful { IsLawfulTask instance.now task.old }
-    ensures found { IfOk result (IsFinding instance.now task.old) }
+    ensures found { IfOk result (λ found. IfSome found (IsFinding instance.now task.old)) }
+    ensures ended { IfOk result (λ found. found ≡ None → W.may_end watch.now) }
     ensures sets { length task.new.sets.items ≡ length task.old.sets.items }
     ensures fits { Fits instance.now task.new.table }
 {
-    let outcome = outcome_of(alloc, instance, nets, task, passes, scratch, watch)?;
+    let found = outcome_of(alloc, instance, nets, task, passes, scratch, watch)?;
+    let Some(outcome) = found else {
+        return Ok(None);
+    };
     let sets = task.sets.as_mut_slice();
     let finish = Finish::of(instance, sets, &outcome.table, outcome.next);
-    Ok(Finding { outcome, finish })
+    Ok(Some(Finding { outcome, finish }))
 }
 
-/// What comes of a leaf. At the root the layers come to agree first.
+/// What comes of a leaf. At the root the layers come to agree first, unless the watch ends the first round.
 fn outcome_of<W: Watch>(
     alloc: Global,
     instance: &Instance,
@@ -63,10 +67,11 @@ fn outcome_of<W: Watch>(
     passes: bool,
     scratch: &mut Work,
     watch: &W,
-) -> Result<Outcome, Memory>
+) -> Result<Option<Outcome>, Memory>
     requires nets { AreLayerNets instance.now nets.now }
     requires lawful { IsLawfulTask instance.now task.old }
-    ensures found { IfOk result (IsFound instance.now task.old) }
+    ensures found { IfOk result (λ found. IfSome found (IsFound instance.now task.old)) }
+    ensures ended { IfOk result (λ found. found ≡ None → W.may_end watch.now) }
     ensures sets { task.new.sets.items ≡ task.old.sets.items }
     ensures fits { Fits instance.now task.new.table }
 {
@@ -74,7 +79,8 @@ fn outcome_of<W: Watch>(
         return found_at_root(alloc, instance, nets, task, scratch, watch);
     }
     let outcome = found_on_leaf(alloc, instance, nets, task, passes, scratch)?;
-    closed_by_ray(alloc, instance, task, outcome)
+    let closed = closed_by_ray(alloc, instance, task, outcome)?;
+    Ok(Some(closed))
 }
 
 /// What is found on a leaf other than the root.
@@ -159,7 +165,8 @@ fn found_with_passes(
     }
 }
 
-/// What is found at the root: the layers come to agree before it is worked on.
+/// What is found at the root. The layers come to agree between the first round and the rest of the work on it, which is
+/// brief where the watch ends the search. None where it ends the first round.
 fn found_at_root<W: Watch>(
     alloc: Global,
     instance: &Instance,
@@ -167,34 +174,44 @@ fn found_at_root<W: Watch>(
     task: &mut Task,
     scratch: &mut Work,
     watch: &W,
-) -> Result<Outcome, Memory>
+) -> Result<Option<Outcome>, Memory>
     requires nets { AreLayerNets instance.now nets.now }
     requires lawful { IsLawfulTask instance.now task.old }
     requires root { task.old.root ≡ true }
-    ensures found { IfOk result (IsFound instance.now task.old) }
+    ensures found { IfOk result (λ found. IfSome found (IsFound instance.now task.old)) }
+    ensures ended { IfOk result (λ found. found ≡ None → W.may_end watch.now) }
     ensures sets { task.new.sets.items ≡ task.old.sets.items }
     ensures fits { Fits instance.now task.new.table }
 {
-    watch.tell(task.known, value_of(instance, &task.sets, &task.table));
+    if !has_choice(&task.sets) {
+        let outcome = work(alloc, instance, nets, task, scratch)?;
+        return Ok(Some(outcome));
+    }
+    watch.tell(
+        task.known,
+        value_of(worth(instance, &task.sets, &task.table)),
+    );
+    let first = begin(alloc, instance, nets, &task.sets, scratch, watch)?;
+    let Some(begun) = first else {
+        return Ok(None);
+    };
+    watch.tell(None, value_of(begun.worth));
     let table = &mut task.table;
     let agreed = agree(alloc, instance, nets, task.known, table, scratch, watch)?;
     task.known = lesser(task.known, cost_of(&agreed));
-    let outcome = work(alloc, instance, nets, task, scratch)?;
+    let brief = watch.is_over();
+    let outcome = work_from(alloc, instance, nets, task, begun, brief, scratch)?;
     let plan = cheaper(agreed, outcome.plan);
-    Ok(Outcome {
+    Ok(Some(Outcome {
         table: outcome.table,
         plan,
         next: outcome.next,
-    })
+    }))
 }
 
-/// What no plan within the sets costs less than by a table, in 1/1000 of a cost unit. Where it shows that there is
-/// none, it is `i64::MIN`.
-fn value_of(instance: &Instance, sets: &[LayerSet], table: &Table) -> i64
-    requires restriction { IsRestriction instance.now sets.now }
-    requires fits { Fits instance.now table.now }
-{
-    match worth(instance, sets, table) {
+/// What no plan costs less than by a bound, in 1/1000 of a cost unit. Where there is none, it is `i64::MIN`.
+fn value_of(bound: Bound) -> i64 {
+    match bound {
         Bound::AtLeast(least) => i64::try_from(least).unwrap_or(0).saturating_mul(SCALE),
         Bound::NoPlan => i64::MIN,
     }

@@ -1,7 +1,7 @@
 //! How the work at the root asks the gate whether the search is to end.
 
 use crate::site::Gate;
-use std::sync::atomic::{AtomicBool, AtomicI64, Ordering};
+use std::sync::atomic::{AtomicI64, Ordering};
 use vs_multi::Watch;
 use vs_tree::Stand;
 use vs_types::SCALE;
@@ -9,8 +9,7 @@ use vs_types::SCALE;
 /// What the least cost is while no plan is known: no plan costs as much.
 const NO_COST: i64 = i64::MAX;
 
-/// Asks the gate within the work at the root, with what was told so far. Once it says that the search is over, it isn't
-/// asked again.
+/// Asks the gate within the work at the root, with what was told so far.
 #[derive(Drop)]
 pub(crate) struct RootWatch<'a, G: Gate> {
     gate: &'a G,
@@ -18,7 +17,6 @@ pub(crate) struct RootWatch<'a, G: Gate> {
     cost: AtomicI64,
     /// The greatest value, in 1/1000 of a cost unit.
     value: AtomicI64,
-    is_over: AtomicBool,
 }
 
 impl<'a, G: Gate> RootWatch<'a, G> {
@@ -28,7 +26,6 @@ impl<'a, G: Gate> RootWatch<'a, G> {
             gate,
             cost: AtomicI64::new(NO_COST),
             value: AtomicI64::new(i64::MIN),
-            is_over: AtomicBool::new(false),
         }
     }
 
@@ -46,6 +43,8 @@ impl<'a, G: Gate> RootWatch<'a, G> {
 }
 
 impl<G: Gate> Watch for RootWatch<'_, G> {
+    ghost may_end = { λ watch. G.may_stop watch.gate.now };
+
     fn tell(&self, cost: Option<i64>, value: i64) {
         if let Some(cost) = cost {
             let least = self.cost.load(Ordering::SeqCst).min(cost);
@@ -56,14 +55,7 @@ impl<G: Gate> Watch for RootWatch<'_, G> {
     }
 
     fn is_over(&self) -> bool {
-        if self.is_over.load(Ordering::SeqCst) {
-            return true;
-        }
-        let is_over = self.gate.is_over(&self.stand());
-        if is_over {
-            self.is_over.store(true, Ordering::SeqCst);
-        }
-        is_over
+        self.gate.is_over(&self.stand())
     }
 }
 

@@ -39,7 +39,7 @@ pub(crate) enum After {
     Idle,
     /// The search is over.
     Over,
-    /// The gate ends the search.
+    /// The gate ends the search. The worker holds no leaf.
     Stopped,
     /// It found no memory, gave its leaf back, and takes no more.
     Left,
@@ -129,7 +129,8 @@ fn ask_once<R: Wait, G: Gate>(
     }
 }
 
-/// Works on the leaf that the worker holds, and hands in what is found. Where memory is wanting the leaf is given back.
+/// Works on the leaf that the worker holds, and hands in what is found. The leaf is given back where memory is wanting,
+/// and where the gate ends the first round at the root.
 fn work_on<R: Wait, G: Gate>(
     rt: &R,
     alloc: Global,
@@ -161,7 +162,8 @@ fn work_on<R: Wait, G: Gate>(
         scratch,
         &watch,
     ) {
-        Ok(finding) => (hand_in(rt, site, seat, number, leaf, finding), After::Idle),
+        Ok(Some(finding)) => (hand_in(rt, site, seat, number, leaf, finding), After::Idle),
+        Ok(None) => (give_up(rt, site, seat, number), After::Stopped),
         Err(Memory) => (give_up(rt, site, seat, number), After::Left),
     }
 }

@@ -1,5 +1,5 @@
 //! The best table of rounds, by which layers are paid ever better for the trips that they run.
-ghost use Rattle.std.specs.Prelude.{◌<◌, ◌≤◌, ◌≤ℤ◌, pos, IfOk};
+ghost use Rattle.std.specs.Prelude.{◌≡◌, ◌<◌, ◌≤◌, ◌≤ℤ◌, pos, IfOk, IfSome, None};
 ghost use Rattle.vs_instance.specs.declared.limits.TheConstants.{MAX_MULTIPLIER};
 ghost use Rattle.vs_instance.specs.Restriction.{IsRestriction};
 ghost use Rattle.vs_match.specs.LayerNets.{AreLayerNets};
@@ -15,12 +15,13 @@ ghost use Rattle.vs_multi.specs.declared.steps.TheConstants.{ROUNDS};
 use crate::round::{Case, Round};
 use crate::starting::start;
 use crate::steps::{Steps, mean};
+use crate::watch::Watch;
 use std::alloc::Global;
 use std::mem::swap;
 use vs_circ::Work;
 use vs_instance::Instance;
 use vs_match::LayerNet;
-use vs_prices::{Bound, Table};
+use vs_prices::{Bound, Table, worth};
 use vs_types::{LayerSet, Memory};
 
 /// What rounds found.
@@ -150,4 +151,33 @@ pub fn few_rounds(
     ensures within { AreMultipliers case.now.instance.now multipliers.new }
 {
     best_of(case, Steps::Near { rounds }, multipliers, work)
+}
+
+/// The table of one round at these multipliers, which stay. None where the watch ends the round between two layers.
+pub fn one_round<W: Watch>(
+    case: &Case<'_>,
+    multipliers: &[i64],
+    work: &mut Work,
+    watch: &W,
+) -> Result<Option<Best>, Memory>
+    requires case { IsCase case.now.instance.now case.now.nets.now case.now.sets.now }
+    requires multipliers { AreMultipliers case.now.instance.now multipliers.now }
+    ensures fits { IfOk result (λ found. IfSome found (λ best. Fits case.now.instance.now best.table)) }
+    ensures holds { IfOk result (λ found. IfSome found (λ best. HoldingTable case.now.instance.now best.table)) }
+    ensures worth { IfOk result (λ found. IfSome found (λ best.
+        IsWorth case.now.instance.now case.now.sets.now best.table best.worth)) }
+    ensures lagrangian { IfOk result (λ found. IfSome found (λ best.
+        ReachesLagrangian case.now.instance.now case.now.sets.now multipliers.now best.table)) }
+    ensures ended { IfOk result (λ found. found ≡ None → W.may_end watch.now) }
+{
+    let mut round = Round::new(case.alloc, case.instance)?;
+    if !round.run_unless_over(case, multipliers, work, watch)? {
+        return Ok(None);
+    }
+    let worth = worth(case.instance, case.sets, &round.table);
+    Ok(Some(Best {
+        table: round.table,
+        worth,
+        covers: round.covers,
+    }))
 }

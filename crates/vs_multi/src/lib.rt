@@ -15,7 +15,7 @@ mod starting;
 mod steps;
 mod watch;
 
-pub use best::{Best, few_rounds, greatest_step, keep_better, rounds};
+pub use best::{Best, few_rounds, greatest_step, keep_better, one_round, rounds};
 pub use offering::offer;
 pub use raising::raise;
 pub use round::Case;

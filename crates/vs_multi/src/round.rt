@@ -1,5 +1,5 @@
 //! A case of a search, and what one round after the other finds in it.
-ghost use Rattle.std.specs.Prelude.{◌<◌, ◌≤◌, ◌≤ℤ◌, ℕ, pos, IfOk, OnOk, slice_index};
+ghost use Rattle.std.specs.Prelude.{◌≡◌, ◌<◌, ◌≤◌, ◌≤ℤ◌, ℕ, true, false, pos, IfOk, OnOk, slice_index};
 ghost use Rattle.vs_circ.specs.declared.circ.Circ.{Circ};
 ghost use Rattle.vs_types.specs.declared.numbers.TheConstants.{MAX_LAYERS};
 ghost use Rattle.vs_instance.specs.declared.limits.TheConstants.{MAX_MULTIPLIER};
@@ -14,6 +14,7 @@ use crate::exchanging::exchange;
 use crate::offering::circulation;
 use crate::running::{clear, count_runs};
 use crate::steps::move_all;
+use crate::watch::Watch;
 use std::alloc::Global;
 use vs_circ::Work;
 use vs_instance::Instance;
@@ -99,6 +100,33 @@ impl Round {
             self.run_layer(case, net, multipliers, LayerNo(l), work)?;
         }
         Ok(())
+    }
+
+    /// The same, unless the watch ends it between two layers. Gives whether the round was made.
+    pub(crate) fn run_unless_over<W: Watch>(
+        &mut self,
+        case: &Case<'_>,
+        multipliers: &[i64],
+        work: &mut Work,
+        watch: &W,
+    ) -> Result<bool, Memory>
+        requires case { IsCase case.now.instance.now case.now.nets.now case.now.sets.now }
+        requires multipliers { AreMultipliers case.now.instance.now multipliers.now }
+        requires round { IsRoundFor case.now.instance.now self.old }
+        ensures lagrangian { IfOk result (λ made. made ≡ true
+            → ReachesLagrangian case.now.instance.now case.now.sets.now multipliers.now self.new.table) }
+        ensures ended { IfOk result (λ made. made ≡ false → W.may_end watch.now) }
+        ensures round { IsRoundFor case.now.instance.now self.new }
+    {
+        clear(&mut self.covers);
+        for l in 0..case.instance.layers() {
+            if watch.is_over() {
+                return Ok(false);
+            }
+            let net = &case.nets[l as usize];
+            self.run_layer(case, net, multipliers, LayerNo(l), work)?;
+        }
+        Ok(true)
     }
 
     /// A round at these multipliers, each of which then moves by the step. Gives what the round's table is worth.

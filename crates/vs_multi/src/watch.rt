@@ -1,14 +1,20 @@
 //! Who may end the work at the root of a search early.
 
+ghost use Rattle.std.specs.Prelude.{◌≡◌, true};
+
 /// Who may end the work at the root of a search before its effort is spent. When it ends decides how good plans and
 /// multipliers become, and nothing else.
 pub trait Watch {
+    /// What is so of a watch that may end the work. It is so of none where this isn't said.
+    ghost may_end: { Self → Type 0 } = { λ _. ⊥ };
+
     /// Takes notice of what a plan costs that was found, in cost units, and of a value that no plan costs less than, in
     /// 1/1000 of a cost unit. They are None and `i64::MIN` where there is nothing new.
     fn tell(&self, cost: Option<i64>, value: i64);
 
     /// Whether the work is to end.
-    fn is_over(&self) -> bool;
+    fn is_over(&self) -> bool
+        ensures { result ≡ true → may_end self.now };
 }
 
 /// A watch that ends nothing.
@@ -29,6 +35,8 @@ pub struct Untold<'a, W: Watch> {
 }
 
 impl<W: Watch> Watch for Untold<'_, W> {
+    ghost may_end = { λ untold. W.may_end untold.watch.now };
+
     fn tell(&self, _cost: Option<i64>, _value: i64) {}
 
     fn is_over(&self) -> bool {

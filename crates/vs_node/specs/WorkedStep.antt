@@ -19,6 +19,10 @@ abbrev pub IsWorked : Problem → Bool → List LayerSet → Table → Table →
 IsWorked p root sets old new =
     (multipliers : List ℤ) → AreBegunWith p root sets old multipliers → ReachesLagrangian p sets multipliers new
 
+-- within these sets the table is worth no less than the Lagrangian value at the starting multipliers
+abbrev pub IsBegun : Problem → List LayerSet → Table → Type 0
+IsBegun p sets table = (multipliers : List ℤ) → AreStarts p multipliers → ReachesLagrangian p sets multipliers table
+
 -- within these sets the table is worth no less than the value at the starting multipliers, where each trip may be run
 -- in every layer that permits it
 abbrev pub ReachesStart : Problem → List LayerSet → Table → Type 0

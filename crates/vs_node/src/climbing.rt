@@ -1,6 +1,6 @@
 //! A climb on a leaf: to better multipliers, and to what shows by which trip the leaf is split.
 
-ghost use Rattle.std.specs.Prelude.{IfOk};
+ghost use Rattle.std.specs.Prelude.{◌≡◌, IfOk};
 ghost use Rattle.vs_multi.specs.Rounds.{IsCase};
 ghost use Rattle.vs_prices.specs.Bounds.{IsWorthNoLess};
 ghost use Rattle.vs_prices.specs.Table.{Fits, HoldingTable};
@@ -8,10 +8,10 @@ ghost use Rattle.vs_prices.specs.Worth.{IsWorth};
 ghost use Rattle.vs_node.specs.SplitRule.{AreLeadsFor};
 
 use crate::leads::Leads;
-use vs_bundle::{Aim, climb};
+use vs_bundle::{Aim, Shares, climb};
 use vs_circ::Work;
 use vs_instance::{Instance, MAX_LAYERS, MAX_TRIPS};
-use vs_multi::{Case, few_rounds, greatest_step, keep_better, multipliers_of};
+use vs_multi::{Case, few_rounds, greatest_step, keep_better, multipliers_of, raise};
 use vs_prices::{Bound, Table};
 use vs_types::{Memory, SCALE};
 
@@ -52,9 +52,57 @@ pub(crate) struct Climb {
     pub leads: Leads,
 }
 
+/// Makes a table, which is worth so much, better by a climb from the multipliers that it stands for, and by sweeps. In
+/// brief it stays as it is, and nothing is known of how layers share trips.
+pub(crate) fn refine(
+    case: &Case<'_>,
+    known: Option<i64>,
+    brief: bool,
+    table: &mut Table,
+    own_worth: Bound,
+    work: &mut Work,
+) -> Result<Climb, Memory>
+    requires case { IsCase case.now.instance.now case.now.nets.now case.now.sets.now }
+    requires fits { Fits case.now.instance.now table.old }
+    requires holds { HoldingTable case.now.instance.now table.old }
+    requires worth { IsWorth case.now.instance.now case.now.sets.now table.old own_worth }
+    ensures fits { Fits case.now.instance.now table.new }
+    ensures holds { HoldingTable case.now.instance.now table.new }
+    ensures no_less { IsWorthNoLess case.now.instance.now case.now.sets.now table.new table.old }
+    ensures worth { IfOk result (λ climb.
+        IsWorth case.now.instance.now case.now.sets.now table.new climb.worth) }
+    ensures leads { IfOk result (λ climb. AreLeadsFor case.now.sets.now climb.leads) }
+{
+    if brief {
+        return as_it_is(case, table, own_worth);
+    }
+    let climbed = climb_on(case, known, table, own_worth, work)?;
+    let worth = raise(case, table, climbed.worth, work)?;
+    Ok(Climb {
+        worth,
+        leads: climbed.leads,
+    })
+}
+
+/// A table as it is, which is worth so much.
+fn as_it_is(case: &Case<'_>, table: &Table, worth: Bound) -> Result<Climb, Memory>
+    requires case { IsCase case.now.instance.now case.now.nets.now case.now.sets.now }
+    requires fits { Fits case.now.instance.now table.now }
+    ensures worth { IfOk result (λ climb. climb.worth ≡ worth) }
+    ensures leads { IfOk result (λ climb. AreLeadsFor case.now.sets.now climb.leads) }
+{
+    Ok(Climb {
+        worth,
+        leads: Leads {
+            multipliers: multipliers_of(case, table)?,
+            shares: Shares::none(case)?,
+        },
+    })
+}
+
 /// Climbs from the multipliers that a table stands for, which is worth so much. The table becomes what the best ones
 /// show, where that is worth more.
-pub(crate) fn climb_on(
+fn climb_on(
     case: &Case<'_>,
     known: Option<i64>,
     table: &mut Table,

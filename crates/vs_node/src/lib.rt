@@ -18,4 +18,4 @@ mod working;
 
 pub use outcome::{Outcome, Task};
 pub use settling::{Settled, settle};
-pub use working::{work, worked_searches_reach_the_start};
+pub use working::{begin, has_choice, work, work_from, worked_searches_reach_the_start};

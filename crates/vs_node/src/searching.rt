@@ -7,11 +7,11 @@ ghost use Rattle.vs_node.specs.Outcomes.{IsAtHand, IsFollowedBy, IsOutcome};
 ghost use Rattle.vs_node.specs.SplitRule.{HasChoice};
 ghost use Rattle.vs_node.specs.WorkedStep.{IsWorked};
 
-use crate::climbing::climb_on;
+use crate::climbing::refine;
 use crate::keeping::better;
 use crate::outcome::{Outcome, Task, outcome_of};
 use vs_circ::Work;
-use vs_multi::{Best, Case, few_rounds, of_table, raise, start};
+use vs_multi::{Best, Case, few_rounds, of_table, start};
 use vs_prices::Table;
 use vs_types::Memory;
 
@@ -27,11 +27,31 @@ pub(crate) fn search(case: &Case<'_>, task: &Task, work: &mut Work) -> Result<Ou
     ensures next { IfOk result (λ outcome.
         IsFollowedBy case.now.instance.now task.now outcome) }
 {
-    let best = first_round(case, task.root, &task.table, work)?;
-    let (mut table, worth) = better(case, &task.table, best.table, best.worth)?;
-    let climbed = climb_on(case, task.known, &mut table, worth, work)?;
-    let raised = raise(case, &mut table, climbed.worth, work)?;
-    let outcome = outcome_of(case, task.known, table, raised, &climbed.leads, work)?;
+    let first = first_round(case, task.root, &task.table, work)?;
+    search_from(case, task, first, false, work)
+}
+
+/// The same where the first round was made. In brief there is no climb, and nothing is raised.
+pub(crate) fn search_from(
+    case: &Case<'_>,
+    task: &Task,
+    first: Best,
+    brief: bool,
+    work: &mut Work,
+) -> Result<Outcome, Memory>
+    requires leaf { IsAtHand case.now.instance.now case.now.nets.now case.now.sets.now task.now }
+    requires choice { (i : ℕ) × (i < length case.now.sets.now) × HasChoice case.now.sets.now i }
+    requires fits { Fits case.now.instance.now first.table }
+    requires holds { HoldingTable case.now.instance.now first.table }
+    requires worth { IsWorth case.now.instance.now case.now.sets.now first.table first.worth }
+    requires worked { IsWorked case.now.instance.now task.now.root case.now.sets.now task.now.table first.table }
+    ensures found { IfOk result (IsOutcome case.now.instance.now task.now) }
+    ensures next { IfOk result (λ outcome.
+        IsFollowedBy case.now.instance.now task.now outcome) }
+{
+    let (mut table, worth) = better(case, &task.table, first.table, first.worth)?;
+    let climbed = refine(case, task.known, brief, &mut table, worth, work)?;
+    let outcome = outcome_of(case, task.known, table, climbed.worth, &climbed.leads, work)?;
     Ok(outcome)
 }
 
