@@ -10,7 +10,7 @@ use Rattle.vs_prices.specs.declared.bound.Bound.{Bound}
 use Rattle.vs_prices.specs.declared.bound.Bound.TheVariants.{AtLeast, NoPlan}
 use Rattle.vs_prices.specs.declared.table.Table.{Table}
 use Rattle.vs_prices.specs.Bounds.{IsNoLess}
-use Rattle.vs_prices.specs.Worth.{IsRoundedUp, IsWorth, least, least_price, table_value, trip_price}
+use Rattle.vs_prices.specs.Worth.{IsRoundedUp, IsWorth, least_price, table_value, trip_price}
 use Rattle.vs_prices.proofs.CallerLemmas.{least-le, least_above}
 use Rattle.vs_types.proofs.CallerLemmas.{Contains-members_below}
 use Rattle.vs_tree.proofs.SetMembers.{member}

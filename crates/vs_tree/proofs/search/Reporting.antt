@@ -4,7 +4,7 @@ use Rattle.vs_prices.specs.Bounds.{IsBelow, IsNoLess}
 use Rattle.vs_prices.specs.declared.bound.Bound.{Bound}
 use Rattle.vs_prices.proofs.CallerLemmas.{no_less-trans}
 use Rattle.vs_tree.specs.History.{Opening, Place, State, IsLeafWorth, is_inner, known, place_at, prices_at, sets_at, spot_at, state_of}
-use Rattle.vs_tree.specs.Report.{IsBelowAmong, IsLeastOf, IsLesser, IsOpenCount, IsOpenLeaf, bound_of}
+use Rattle.vs_tree.specs.Report.{IsLeastOf, IsLesser, IsOpenCount, IsOpenLeaf, bound_of}
 use Rattle.vs_tree.specs.Search.{IsSearch, Parts, worth_at}
 use Rattle.std.proofs.lemmas.Bool.{cases_lt}
 use Rattle.vs_types.specs.declared.layer_set.LayerSet.{LayerSet}

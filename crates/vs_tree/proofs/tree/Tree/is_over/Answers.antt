@@ -3,7 +3,7 @@ use Rattle.vs_prices.specs.Bounds.{IsBelow}
 use Rattle.vs_tree.specs.declared.calls.Hand.{Hand}
 use Rattle.vs_tree.specs.History.{known, state_of}
 use Rattle.vs_tree.specs.Search.{Search, is_busy, state}
-use Rattle.vs_tree.specs.Takes.{IsOver, IsWorkLeft, held_leaves}
+use Rattle.vs_tree.specs.Takes.{IsOver, held_leaves}
 use Rattle.vs_tree.proofs.search.Inside.{opening_of, parts_of}
 use Rattle.vs_tree.proofs.search.Next.{known-is, next_is_left, next_leaf, none_is_left, nothing_below}
 use Rattle.vs_tree.proofs.tree.Tree.is_over.Goals as goal
@@ -23,8 +23,8 @@ returns-then-busy-gt0 c =
     )
 
 -- the budget is spent
-pub returns-then-self-eq : goal.returns-then-self-eq
-returns-then-self-eq c =
+pub returns-then-self : goal.returns-then-self
+returns-then-self c =
     let i = c.self.inside in
     let is = c.self.invariant in
     let held : c.busy.result ≡ held_leaves (state_of (opening_of i) (parts_of i).log.steps) =
@@ -33,7 +33,7 @@ returns-then-self-eq c =
     omega (arith, held, c.if-busy-gt0.false) in (
       λ yes. subst (λ (t : Search). IsOver t.opening (state t)) c.self.view_is (record {
         none_held = none;
-        no_more = inr (is.parts.finished ∙ c.if-self-eq.true);
+        no_more = inr (is.parts.finished ∙ c.if-self.true);
       }),
       λ over. refl,
     )
@@ -65,7 +65,7 @@ returns-in-Some c =
           (subst (λ (q : Option ℤ). IsBelow c.in-Some.next.worth q) knows (c.is_below.ensures.0 below))) in
           elim was.no_more [
             | inl nothing ↦ nothing left
-            | inr spent ↦ c.if-self-eq.false (sym is.parts.finished ∙ spent)
+            | inr spent ↦ c.if-self.false (sym is.parts.finished ∙ spent)
           ]),
     )
   where
@@ -74,8 +74,8 @@ returns-in-Some c =
     not_true false e = refl
 
     not_below : (b : Bool) → ¬ (b ≡ true) → not b ≡ true
-    not_below true no = absurd (no refl)
-    not_below false no = refl
+    not_below true never = absurd (never refl)
+    not_below false never = refl
 
 -- no leaf is free
 pub returns-in-None : goal.returns-in-None

@@ -1,7 +1,7 @@
-use Rattle.std.proofs.Common.{◌≡◌, List, Option, ℤ, length, ap, sym, ◌∙◌, subst, arith}
+use Rattle.std.proofs.Common.{◌≡◌, List, length, ap, sym, ◌∙◌, subst, arith}
 use Rattle.vs_prices.specs.declared.bound.Bound.{Bound}
 use Rattle.vs_tree.specs.History.{known, state_of}
-use Rattle.vs_tree.specs.Report.{IsOpenCount, IsOpenLeaf, IsReport}
+use Rattle.vs_tree.specs.Report.{IsOpenCount, IsOpenLeaf}
 use Rattle.vs_tree.specs.Search.{Search, state}
 use Rattle.vs_tree.proofs.search.Facts.{places_within}
 use Rattle.vs_tree.proofs.search.Inside.{opening_of, parts_of}
