@@ -1,6 +1,5 @@
 -- The better of two tables.
 use Rattle.std.proofs.Common.{All, List, [], ◌∷◌, suc, refl, sym, subst, arith, inl, inr, ℤ}
-use Rattle.std.proofs.lemmas.Int.{ints}
 use Rattle.std.proofs.lemmas.List.Elements.{All-cons, All-nil}
 use Rattle.vs_types.specs.declared.layer_set.LayerSet.{LayerSet}
 use Rattle.vs_instance.specs.Problem.{Problem}

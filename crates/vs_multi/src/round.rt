@@ -14,7 +14,7 @@ use crate::exchanging::exchange;
 use crate::offering::circulation;
 use crate::running::{clear, count_runs};
 use crate::steps::move_all;
-use crate::watch::Watch;
+use crate::watch::{NoWatch, Watch};
 use std::alloc::Global;
 use vs_circ::Work;
 use vs_instance::Instance;
@@ -82,27 +82,8 @@ impl Round {
         Ok(())
     }
 
-    /// Finds a least circulation in every layer, at these multipliers.
-    fn run(&mut self, case: &Case<'_>, multipliers: &[i64], work: &mut Work) -> Result<(), Memory>
-        requires case { IsCase case.now.instance.now case.now.nets.now case.now.sets.now }
-        requires multipliers { AreMultipliers case.now.instance.now multipliers.now }
-        requires round { IsRoundFor case.now.instance.now self.old }
-        ensures lagrangian { OnOk result
-            (ReachesLagrangian case.now.instance.now case.now.sets.now multipliers.now self.new.table) }
-        ensures ran { OnOk result (IsRound case.now.instance.now case.now.nets.now case.now.sets.now
-            multipliers.now self.new.table self.new.covers.items) }
-        ensures round { IsRoundFor case.now.instance.now self.new }
-        ensures few { OnOk result ((i : ℕ) → slice_index self.new.covers.items i ≤ MAX_LAYERS) }
-    {
-        clear(&mut self.covers);
-        for l in 0..case.instance.layers() {
-            let net = &case.nets[l as usize];
-            self.run_layer(case, net, multipliers, LayerNo(l), work)?;
-        }
-        Ok(())
-    }
-
-    /// The same, unless the watch ends it between two layers. Gives whether the round was made.
+    /// Finds a least circulation in every layer, at these multipliers, unless the watch ends it between two layers.
+    /// Gives whether the round was made.
     pub(crate) fn run_unless_over<W: Watch>(
         &mut self,
         case: &Case<'_>,
@@ -115,8 +96,12 @@ impl Round {
         requires round { IsRoundFor case.now.instance.now self.old }
         ensures lagrangian { IfOk result (λ made. made ≡ true
             → ReachesLagrangian case.now.instance.now case.now.sets.now multipliers.now self.new.table) }
+        ensures ran { IfOk result (λ made. made ≡ true → IsRound case.now.instance.now case.now.nets.now
+            case.now.sets.now multipliers.now self.new.table self.new.covers.items) }
         ensures ended { IfOk result (λ made. made ≡ false → W.may_end watch.now) }
         ensures round { IsRoundFor case.now.instance.now self.new }
+        ensures few { IfOk result (λ made. made ≡ true
+            → (i : ℕ) → slice_index self.new.covers.items i ≤ MAX_LAYERS) }
     {
         clear(&mut self.covers);
         for l in 0..case.instance.layers() {
@@ -127,6 +112,22 @@ impl Round {
             self.run_layer(case, net, multipliers, LayerNo(l), work)?;
         }
         Ok(true)
+    }
+
+    /// The same, which no watch ends.
+    fn run(&mut self, case: &Case<'_>, multipliers: &[i64], work: &mut Work) -> Result<(), Memory>
+        requires case { IsCase case.now.instance.now case.now.nets.now case.now.sets.now }
+        requires multipliers { AreMultipliers case.now.instance.now multipliers.now }
+        requires round { IsRoundFor case.now.instance.now self.old }
+        ensures lagrangian { OnOk result
+            (ReachesLagrangian case.now.instance.now case.now.sets.now multipliers.now self.new.table) }
+        ensures ran { OnOk result (IsRound case.now.instance.now case.now.nets.now case.now.sets.now
+            multipliers.now self.new.table self.new.covers.items) }
+        ensures round { IsRoundFor case.now.instance.now self.new }
+        ensures few { OnOk result ((i : ℕ) → slice_index self.new.covers.items i ≤ MAX_LAYERS) }
+    {
+        self.run_unless_over(case, multipliers, work, &NoWatch)?;
+        Ok(())
     }
 
     /// A round at these multipliers, each of which then moves by the step. Gives what the round's table is worth.

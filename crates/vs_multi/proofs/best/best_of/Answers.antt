@@ -1,4 +1,4 @@
-use Rattle.std.proofs.Common.{◌≡◌, ℕ, ◌∙◌, arith, rules, subst, sym}
+use Rattle.std.proofs.Common.{◌≡◌, ℕ, arith, rules, subst, sym}
 use Rattle.vs_prices.specs.declared.table.Table.{Table}
 use Rattle.vs_multi.specs.Raising.{IsCostTable}
 use Rattle.vs_multi.specs.Steps.{AreMoved, rounds_in}
