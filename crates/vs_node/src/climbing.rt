@@ -1,6 +1,6 @@
 //! A climb on a leaf: to better multipliers, and to what shows by which trip the leaf is split.
 
-ghost use Rattle.std.specs.Prelude.{◌≡◌, IfOk};
+ghost use Rattle.std.specs.Prelude.{IfOk};
 ghost use Rattle.vs_multi.specs.Rounds.{IsCase};
 ghost use Rattle.vs_prices.specs.Bounds.{IsWorthNoLess};
 ghost use Rattle.vs_prices.specs.Table.{Fits, HoldingTable};
@@ -88,7 +88,9 @@ pub(crate) fn refine(
 fn as_it_is(case: &Case<'_>, table: &Table, worth: Bound) -> Result<Climb, Memory>
     requires case { IsCase case.now.instance.now case.now.nets.now case.now.sets.now }
     requires fits { Fits case.now.instance.now table.now }
-    ensures worth { IfOk result (λ climb. climb.worth ≡ worth) }
+    requires worth { IsWorth case.now.instance.now case.now.sets.now table.now worth }
+    ensures worth { IfOk result (λ climb.
+        IsWorth case.now.instance.now case.now.sets.now table.now climb.worth) }
     ensures leads { IfOk result (λ climb. AreLeadsFor case.now.sets.now climb.leads) }
 {
     Ok(Climb {

@@ -105,9 +105,10 @@ pub fn begin<W: Watch>(
         nets,
         sets,
     };
-    let mut multipliers = vec![in alloc; 0; instance.trips() as usize]?;
-    start(instance, &mut multipliers);
-    one_round(&case, &multipliers, work, watch)
+    let mut room = vec![in alloc; 0; instance.trips() as usize]?;
+    let multipliers = room.as_mut_slice();
+    start(instance, multipliers);
+    one_round(&case, multipliers, work, watch)
 }
 
 /// The same as `work` at the root, whose first step was made. In brief there is no climb, and nothing is raised: that

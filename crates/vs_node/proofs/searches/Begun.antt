@@ -1,9 +1,10 @@
 -- The multipliers that a leaf is worked on from.
-use Rattle.std.proofs.Common.{◌≡◌, refl, ℕ, ◌<◌, Bool, true, false, List, length, get_or, sym, ap, ◌∙◌, subst, arith, inl, inr, ℤ, pos, ◌≤ℤ◌}
+use Rattle.std.proofs.Common.{◌≡◌, refl, ℕ, ◌<◌, Bool, true, false, List, length, get_or, sym, ap, ◌∙◌, subst, arith, inl, inr, ℤ, pos, ◌≤ℤ◌, Option, Some, None, Result, Ok, Err, IfOk, IfSome}
 use Rattle.std.proofs.lemmas.Int.{ints}
 use Rattle.std.proofs.lemmas.List.{ext_get_or}
 use Rattle.vs_types.specs.LayerSet.{Has}
 use Rattle.vs_types.specs.declared.layer_set.LayerSet.{LayerSet}
+use Rattle.vs_types.specs.declared.memory.Memory.{Memory}
 use Rattle.vs_types.specs.declared.numbers.LayerNo.{LayerNo}
 use Rattle.vs_types.specs.declared.numbers.TripNo.{TripNo}
 use Rattle.vs_instance.specs.Problem.{Problem}
@@ -18,7 +19,8 @@ use Rattle.vs_prices.specs.Bounds.{ReachesLagrangian, ReachesValue}
 use Rattle.vs_circ.proofs.CallerLemmas.{over_range}
 use Rattle.vs_multi.proofs.CallerLemmas.{total-by_place}
 use Rattle.vs_multi.specs.Multipliers.{AreOfTable, AreStarts}
-use Rattle.vs_node.specs.WorkedStep.{AreBegunWith, IsWorked, ReachesStart}
+use Rattle.vs_multi.specs.declared.best.Best.{Best}
+use Rattle.vs_node.specs.WorkedStep.{AreBegunWith, IsBegun, IsWorked, ReachesStart}
 
 -- a trip has one starting multiplier
 start_once : (p : Problem) (i : TripNo) (a b : ℤ) → IsStart p i a → IsStart p i b → a ≡ b
@@ -61,6 +63,16 @@ pub worked-by : (p : Problem) (root : Bool) (sets : List LayerSet) (old new : Ta
 worked-by p root sets old new multipliers begun reaches others begun_too =
     subst (λ (m : List ℤ). ReachesLagrangian p sets m new)
     (begun_once p root sets old multipliers others begun begun_too) reaches
+
+-- what a round found at the starting multipliers, if it was made
+pub begun_of : (p : Problem) (sets : List LayerSet) (multipliers : List ℤ) → AreStarts p multipliers
+    → (found : Result (Option Best) Memory)
+    → IfOk found (λ begun. IfSome begun (λ best. ReachesLagrangian p sets multipliers best.table))
+    → IfOk found (λ begun. IfSome begun (λ best. IsBegun p sets best.table))
+begun_of p sets multipliers starts (Err e) reaches = tt
+begun_of p sets multipliers starts (Ok None) reaches = tt
+begun_of p sets multipliers starts (Ok (Some best)) reaches =
+    worked-by p true sets best.table best.table multipliers starts reaches
 
 -- there is a multiplier for each trip
 pub begun-each_trip : (p : Problem) (root : Bool) (sets : List LayerSet) (table : Table) (multipliers : List ℤ)
