@@ -1,4 +1,5 @@
 pub mod SearchAnswers
+pub mod NoneHeld
 pub mod FirstStates
 pub mod LawDocuments
 pub mod LawBounds
