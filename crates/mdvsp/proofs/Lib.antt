@@ -1,4 +1,6 @@
+pub mod AskedLimits
 pub mod SearchAnswers
+pub mod NoneHeld
 pub mod FirstStates
 pub mod LawDocuments
 pub mod LawBounds

@@ -25,6 +25,7 @@ use Rattle.vs_reply.proofs.CallerLemmas.{case_refused, owed_so, same_case}
 use Rattle.mdvsp.specs.Answered.{AreWritten, AnswersDocument, IsReadOf, AreTextsOf}
 use Rattle.vs_reply.specs.Cases.{CheckText}
 use Rattle.mdvsp.specs.Owed.{OwesTrial, TrialOwes, trial_row}
+use Rattle.mdvsp.specs.SolveAnswer.{SolveAnswer}
 
 -- a text that was made isn't refused
 pub made_stands : (n : ℕ) (made : List ℕ) → n ≤ 2000 → made ≡ lines (make_rows n)
@@ -81,20 +82,20 @@ module _ (made written : List ℕ) (p : Problem) (names : NameLists) (d : Docume
   not_refused answer none = case_refused (made ++ written) p names d none.rows written_case none.owed
 
 -- the document that was planned was written
-written_so : (ends : Type 0) (made : List ℕ) (p : Problem) (names : NameLists) (answer : Answer)
-    → IsWholeText made p names → (planned : AnswersDocument ends p names 20 1 answer)
+written_so : (ends : Type 0) (workers : ℕ) (made : List ℕ) (p : Problem) (names : NameLists) (answer : Answer)
+    → IsWholeText made p names → (planned : AnswersDocument ends p names 20 workers answer)
     → AreTextsOf made answer.text.items p names planned.document
-written_so ends made p names answer whole planned = record {
+written_so ends workers made p names answer whole planned = record {
   whole = whole;
   has_text = planned.solves.has_text;
   holds = planned.solves.answer.holds;
   written_is = planned.text_is;
 }
 
-pub planned_written : (ends : Type 0) (made : List ℕ) (p : Problem) (names : NameLists) (answer : Answer)
-    → IsWholeText made p names → AnswersDocument ends p names 20 1 answer → AreWritten made answer.text.items
-planned_written ends made p names answer whole planned =
-    (p, names, planned.document, written_so ends made p names answer whole planned)
+pub planned_written : (ends : Type 0) (workers : ℕ) (made : List ℕ) (p : Problem) (names : NameLists) (answer : Answer)
+    → IsWholeText made p names → AnswersDocument ends p names 20 workers answer → AreWritten made answer.text.items
+planned_written ends workers made p names answer whole planned =
+    (p, names, planned.document, written_so ends workers made p names answer whole planned)
 
 -- rows that tell the same figures
 abbrev told : ℕ → Claim → Option ℤ → Option ℤ → ℕ → Row
@@ -115,14 +116,14 @@ trial_owes n Infeasible rows owed = owed
 trial_owes n StillOpen rows owed = owed
 
 -- the row of the document that was read is owed
-pub trial_owed : (ends : Type 0) → ends → (n : ℕ) (made : List ℕ) (p : Problem) (names : NameLists) (planned answer : Answer)
-    (e : Document) → made ≡ lines (make_rows n) → IsWholeText made p names
-    → AnswersDocument ends p names 20 1 planned → IsReadOf made planned.text.items e
+pub trial_owed : (ends : Type 0) (workers n : ℕ) (made : List ℕ) (p : Problem) (names : NameLists)
+    (planned answer : Answer) (e : Document) → ends → workers ≡ 1 → made ≡ lines (make_rows n)
+    → IsWholeText made p names → AnswersDocument ends p names 20 workers planned → IsReadOf made planned.text.items e
     → answer.status ≡ planned.status → answer.text.items ≡ lines (trial_row n e ∷ [])
     → IsTextOf (TrialOwes n) answer
-trial_owed ends unlimited n made p names planned answer e made_is whole by read status_is text_is =
+trial_owed ends workers n made p names planned answer e unlimited one made_is whole by read status_is text_is =
     let d = by.document in
-    let alike = read p names d (written_so ends made p names planned whole by) in
+    let alike = read p names d (written_so ends workers made p names planned whole by) in
     let stands = subst (λ (text : List ℕ). StandsFor text p names whole.before []) made_is whole.stands in
     owed_so (TrialOwes n) answer (status_of d.claim) (trial_row n d ∷ [])
     (trial_owes n d.claim (trial_row n d ∷ []) (record {
@@ -130,7 +131,7 @@ trial_owed ends unlimited n made p names planned answer e made_is whole by read 
       names = names;
       document = d;
       text = record { before = whole.before; rest = []; instance = stands };
-      solves = by.whole unlimited;
+      solves = subst (λ (w : ℕ). SolveAnswer p 20 w d) one (by.whole unlimited);
       proves = prove_their_claims p d whole.stands.text.makes.instance by.solves.answer.holds;
       status_is = refl;
       rows_are = refl;

@@ -4,6 +4,7 @@ use Rattle.vs_tree.specs.Search.{state}
 use Rattle.vs_cert.specs.AnswerLaws.{EachReachesTheStart}
 use Rattle.vs_node.proofs.CallerLemmas.{worked_searches_reach_the_start}
 use Rattle.mdvsp.proofs.crew.Crew.search_part.Goals as goal
+use Rattle.mdvsp.proofs.crew.Crew.search_part.Goals.{else-report-eq0-via-then-report-eq0+else-not-is_given, else-report-eq0-via-else-report-eq0}
 
 -- what isn't 0 is 1 at least
 some_of : (n m : ℕ) → n ≡ m → ¬ (n ≡ 0) → 1 ≤ m
@@ -25,7 +26,12 @@ returns g c =
     record {
       begun = record { problem = problem; budget = budget; first = first; reaches = reaches };
       found = λ unlimited.
-          let some : 1 ≤ (state t).finished = ? in
+          let some : 1 ≤ (state t).finished = elim c.else-report-eq0.branch [
+            | else-report-eq0-via-then-report-eq0+else-not-is_given w ↦
+                absurd (w.is_given.ensures.0 w.if-not-is_given.false unlimited)
+            | else-report-eq0-via-else-report-eq0 w ↦
+                some_of c.report.result.finished (state t).finished c.report.ensures.finished w.if-report-eq0.false
+          ] in
           record {
             problem = problem;
             budget = budget;
