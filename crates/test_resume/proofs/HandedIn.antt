@@ -1,9 +1,7 @@
 -- A leaf that the only worker finishes.
 use Rattle.std.proofs.Common.{◌≡◌, ℕ, ◌+◌, refl, sym, ap, ◌∙◌, subst, arith, Option, Some, IfSome}
 use Rattle.vs_instance.specs.Problem.{Problem}
-use Rattle.vs_plan.specs.CheckedPlan.{Checked}
 use Rattle.vs_prices.specs.Bounds.{IsBelow}
-use Rattle.vs_prices.specs.declared.table.Table.{Table}
 use Rattle.vs_tree.specs.Calls.{finishing, with_step}
 use Rattle.vs_tree.specs.History.{FullStep, IsHistory, MayCome, Opening, State, after, first_state}
 use Rattle.vs_tree.specs.Prices.{Prices, prices_of}
@@ -12,10 +10,9 @@ use Rattle.vs_tree.specs.Sound.{IsOpening}
 use Rattle.vs_tree.specs.declared.calls.Next.{Next}
 use Rattle.vs_tree.specs.declared.calls.Next.TheVariants.{Close, Split}
 use Rattle.vs_node.specs.WorkedHistory.{AreWorked}
-use Rattle.vs_node.specs.Outcomes.{HasNext}
 use Rattle.vs_node.specs.declared.outcome.Outcome.{Outcome}
 use Rattle.vs_node.specs.declared.outcome.Task.{Task}
-use Rattle.vs_crew.specs.Found.{IsLawfulNext, IsLawfulTask}
+use Rattle.vs_crew.specs.Found.{IsLawfulTask}
 use Rattle.vs_crew.specs.Leaves.{HasOffered}
 use Rattle.vs_crew.proofs.CallerLemmas.{IsReadyLeaf, after_offer, finished_idle, finished_opening, finished_steps, finished_worked, may_come, state_last, worked-append}
 use Rattle.test_resume.specs.Alone.{HasOutcome, IsAtLeaf, IsBetweenLeaves, begun_alone}
@@ -86,12 +83,6 @@ module _ (old new : Search) (leaf : ℕ) (outcome : Outcome) (opening : IsOpenin
               holds.lawful.restriction has.found offers last adds holds.is_worker;
           worked = worked;
         }
-
--- what the work on a leaf says of its end
-pub lawful_next : (p : Problem) (task : Task) (table : Table) (plan : Option Checked) (next : Next)
-    → HasNext p task table plan next → IsLawfulNext p task.sets.items task.known table plan next
-lawful_next p task table plan Close has = has
-lawful_next p task table plan (Split trip left) has = (has.1.inside, has.1.part)
 
 -- the leaf that was taken, and its task
 pub taken_leaf : (new : Search) (task : Task) (taken : Option ℕ) (leaf : ℕ) → taken ≡ Some leaf

@@ -17,7 +17,7 @@ use Rattle.vs_words.specs.declared.words.Counting.{Counting}
 use Rattle.vs_words.specs.declared.words.Counting.TheVariants as counting
 use Rattle.vs_words.specs.declared.words.Searching.{Searching}
 use Rattle.vs_words.specs.declared.words.Searching.TheVariants as searching
-use Rattle.vs_words.specs.Words.{Word, AreAccepted, AreBadAt, AreFurther, AreOptions, AskFor, Begin, IsAlone, IsCount, IsNumberUpTo, IsWordAt, command_name, counted, first_of_plain, search_name, searched, words_of}
+use Rattle.vs_words.specs.Words.{Word, AreAccepted, AreBadAt, AreFurther, AreOptions, AskFor, Begin, IsAlone, IsTripCount, IsNumberUpTo, IsWordAt, command_name, counted, first_of_plain, search_name, searched, words_of}
 
 -- words that ask for a command have its name first
 pub record BeginsAs (name : Word) (further : List Word) : Type 0 where
@@ -113,7 +113,7 @@ counted_name : (kind : Counting) (n : ℕ) → command_name (counted kind 0) ≡
 counted_name counting.Make n = refl
 counted_name counting.Trial n = refl
 
-takes_count : (kind : Counting) (n : ℕ) (words : List Word) → IsCount n words → AreFurther (counted kind n) words
+takes_count : (kind : Counting) (n : ℕ) (words : List Word) → IsTripCount n words → AreFurther (counted kind n) words
 takes_count counting.Make n words is = is
 takes_count counting.Trial n words is = is
 

@@ -11,7 +11,7 @@ use Rattle.vs_words.specs.declared.words.Given.{Given}
 use Rattle.vs_words.specs.declared.words.Searching.{Searching}
 use Rattle.vs_words.specs.declared.words.Setting.{Setting}
 use Rattle.vs_words.specs.declared.words.Setting.TheVariants.{Workers, Nodes, Seconds, Gap}
-use Rattle.vs_words.specs.Words.{Word, AreAccepted, AreBadAt, AreOnce, AreOptions, AreTaken, AskFor, Begin, GivenOption, HaveNumbers, IsNumberFor, IsWordAt, default_effort, effort_of, given_by, given_with, none_given, number_in, option_words, search_name, searched, setting_name, with_options, with_setting}
+use Rattle.vs_words.specs.Words.{Word, AreAccepted, AreBadAt, AreOnce, AreOptions, AreOptionsTaken, AskFor, Begin, GivenOption, HaveNumbers, IsNumberFor, IsWordAt, default_effort, effort_of, given_by, given_with, none_given, number_in, option_words, search_name, searched, setting_name, with_options, with_setting}
 use Rattle.vs_words.proofs.CommandWords.{accepted_search, asks_search, one_up_to}
 
 -- options of one name are one option
@@ -230,7 +230,7 @@ one_effort words c d a b =
 
 -- before any option
 pub taken_none : (kind : Searching) (words : List Word) → IsWordAt words 0 (search_name kind)
-    → AreTaken kind words 1 none_given
+    → AreOptionsTaken kind words 1 none_given
 taken_none kind [] first = absurd (let w = first.within in omega (arith, w))
 taken_none kind (a ∷ words) first = record {
   options = [];
@@ -248,7 +248,8 @@ asks_with kind options numbers once =
     asks_search kind (search_name kind) (with_options default_effort options) (option_words options) refl
     (record { options = options; words_are = refl; numbers = numbers; once = once; effort_is = refl })
 
-module _ (kind : Searching) (words : List Word) (place : ℕ) (given : Given) (taken : AreTaken kind words place given)
+module _ (kind : Searching) (words : List Word) (place : ℕ) (given : Given)
+    (taken : AreOptionsTaken kind words place given)
   where
     abbrev before : List Word
     before = search_name kind ∷ option_words taken.options
@@ -361,7 +362,7 @@ module _ (kind : Searching) (words : List Word) (place : ℕ) (given : Given) (t
 
           -- one option more was taken
           pub taken_more : (n : ℕ) → (value : Word) × IsWordAt words (place + 1) value × IsNumberFor s value n
-              → AreTaken kind words (place + 2) (given_with s given n)
+              → AreOptionsTaken kind words (place + 2) (given_with s given n)
           taken_more n (value, at, is) =
               let o : GivenOption = record { setting = s; word = value; n = n } in
               let behind = at.within in

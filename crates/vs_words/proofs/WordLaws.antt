@@ -6,11 +6,11 @@ use Rattle.vs_words.specs.declared.command.Command.{Command}
 use Rattle.vs_words.specs.declared.command.Command.TheVariants as commands
 use Rattle.vs_words.specs.declared.command.Plain.TheVariants.{Check, Network, Blocks, Make, Peak, PeakCheck, Replay}
 use Rattle.vs_words.specs.declared.command.Search.TheVariants.{Solve, Trial, Resume, Trace}
-use Rattle.vs_words.specs.Words.{Word, AreAccepted, AreBadAt, AreFurther, AskFor, Begin, IsCount, command_name}
+use Rattle.vs_words.specs.Words.{Word, AreAccepted, AreBadAt, AreFurther, AskFor, Begin, IsTripCount, command_name}
 use Rattle.vs_words.proofs.OptionWords.{one_effort}
 
 -- one word writes one count
-one_count : (words : List Word) (m n : ℕ) → IsCount m words → IsCount n words → m ≡ n
+one_count : (words : List Word) (m n : ℕ) → IsTripCount m words → IsTripCount n words → m ≡ n
 one_count words m n f g =
     let count : f.0 ≡ g.0 = let h : words ≡ f.0 ∷ [] = f.1 in let k : words ≡ g.0 ∷ [] = g.1 in cc in
     f.2.value ∙ ap (digits_value 10) count ∙ sym g.2.value

@@ -143,16 +143,16 @@ pub record AreOptions (effort : Effort) (words : List Word) : Type 0 where
   pub effort_is : effort ≡ with_options default_effort options
 
 -- one word, which writes how many trips
-abbrev pub IsCount : ℕ → List Word → Type 0
-IsCount n words = (count : Word) × (words ≡ count ∷ []) × IsNumberUpTo 6 MAX_TRIPS count n
+abbrev pub IsTripCount : ℕ → List Word → Type 0
+IsTripCount n words = (count : Word) × (words ≡ count ∷ []) × IsNumberUpTo 6 MAX_TRIPS count n
 
 -- the words behind the first
 abbrev pub AreFurther : Command → List Word → Type 0
 AreFurther (commands.Search (Solve effort)) words = AreOptions effort words
-AreFurther (commands.Search (Trial n)) words = IsCount n words
+AreFurther (commands.Search (Trial n)) words = IsTripCount n words
 AreFurther (commands.Search (Resume effort)) words = AreOptions effort words
 AreFurther (commands.Search (Trace effort)) words = AreOptions effort words
-AreFurther (commands.Plain (Make n)) words = IsCount n words
+AreFurther (commands.Plain (Make n)) words = IsTripCount n words
 AreFurther (commands.Plain _) words = words ≡ []
 
 -- the words ask for the command
@@ -264,7 +264,7 @@ effort_of given = record {
 }
 
 -- the words before a place are the name of a search and options behind it, which give this
-pub record AreTaken (kind : Searching) (words : List Word) (place : ℕ) (given : Given) : Type 0 where
+pub record AreOptionsTaken (kind : Searching) (words : List Word) (place : ℕ) (given : Given) : Type 0 where
   pub options : List GivenOption
   pub within : place ≤ length words
   pub words_are : take place words ≡ search_name kind ∷ option_words options
@@ -273,8 +273,9 @@ pub record AreTaken (kind : Searching) (words : List Word) (place : ℕ) (given 
   pub given_is : given ≡ given_by none_given options
 
 -- one option more was taken, or the words are bad there
-abbrev pub Takes : Searching → List Word → ℕ → Result Given BadWord → Type 0
-Takes kind words place result = MatchResult result (AreTaken kind words (place + 2)) (λ bad. AreBadAt words bad.0)
+abbrev pub TakesOption : Searching → List Word → ℕ → Result Given BadWord → Type 0
+TakesOption kind words place result =
+    MatchResult result (AreOptionsTaken kind words (place + 2)) (λ bad. AreBadAt words bad.0)
 
 -- words as bytes
 abbrev pub words_of : List (String Global) → List Word

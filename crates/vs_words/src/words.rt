@@ -1,7 +1,7 @@
 //! Words, read as a command.
 
 ghost use Rattle.std.specs.Prelude.{◌≡◌, ℕ, ◌<◌, ◌≤◌, length, IsSome, IsTrue, MatchOption, ◌↔◌};
-ghost use Rattle.vs_words.specs.Words.{Answers, AreTaken, IsAlone, IsNumberFor, IsNumberUpTo, IsWordAt, Takes, Word, command_name, counted, digits_of, effort_of, given_with, least_of, most_of, number_in, search_name, searched, setting_name, words_of};
+ghost use Rattle.vs_words.specs.Words.{Answers, AreOptionsTaken, IsAlone, IsNumberFor, IsNumberUpTo, IsWordAt, TakesOption, Word, command_name, counted, digits_of, effort_of, given_with, least_of, most_of, number_in, search_name, searched, setting_name, words_of};
 ghost use Rattle.vs_words.specs.declared.words.Searching.{Searching};
 ghost use Rattle.vs_words.specs.declared.words.Setting.{Setting};
 
@@ -258,8 +258,8 @@ fn search_of(words: &[String], kind: Searching) -> Result<Command, BadWord>
 /// The options that were given, with the one that stands at this place, counted from 0, and its number behind it.
 fn with_option(words: &[String], place: usize, given: Given) -> Result<Given, BadWord>
     requires { place < length words.now }
-    ensures { (kind : Searching) → AreTaken kind (words_of words.now) place given
-        → Takes kind (words_of words.now) place result }
+    ensures { (kind : Searching) → AreOptionsTaken kind (words_of words.now) place given
+        → TakesOption kind (words_of words.now) place result }
 {
     let Some(setting) = setting_at(words, place) else {
         return Err(BadWord(place + 1));

@@ -8,7 +8,8 @@ use Rattle.vs_crew.proofs.CallerLemmas.{fits_sized, plan_of}
 use Rattle.test_resume.specs.Alone.{IsBetweenLeaves, begun_alone}
 use Rattle.test_resume.proofs.AloneSearches.{begins}
 use Rattle.test_resume.proofs.Ends.{spent, stopped}
-use Rattle.test_resume.proofs.HandedIn.{lawful_next, taken_leaf, taken_task}
+use Rattle.vs_crew.proofs.leaves.Finding.{next-worked}
+use Rattle.test_resume.proofs.HandedIn.{taken_leaf, taken_task}
 use Rattle.test_resume.proofs.searching.searched.Goals as goal
 use Rattle.test_resume.proofs.searching.searched.Goals.{else-loop-left-test, then-loop-left-test+in_default}
 
@@ -79,7 +80,7 @@ hand_in-requires c =
             no_less = made.no_less;
             worked = made.worked;
             plan = plan_of p task.sets.items outcome.table outcome.plan made.plan;
-            next = lawful_next p task outcome.table outcome.plan outcome.next made.next;
+            next = next-worked p task outcome.table outcome.plan outcome.next made.next;
           });
     }
 

@@ -1,6 +1,6 @@
 use Rattle.std.proofs.Common.{ℕ, ◌+◌, ◌<◌, subst, sym}
 use Rattle.vs_words.specs.declared.words.Given.{Given}
-use Rattle.vs_words.specs.Words.{AreTaken, words_of}
+use Rattle.vs_words.specs.Words.{AreOptionsTaken, words_of}
 use Rattle.vs_words.proofs.CommandWords.{length-words}
 use Rattle.vs_words.proofs.OptionWords.{bad_again, bad_name, bad_number, taken_more}
 use Rattle.vs_words.proofs.words.with_option.Goals as goal
@@ -25,7 +25,7 @@ returns-in-None c kind taken =
 pub returns-in-Some-number_at : goal.returns-in-Some-number_at
 returns-in-Some-number_at c kind taken =
     let words = words_of c.args.words.now in
-    subst (λ (g : Given). AreTaken kind words (c.args.place + 2) g) (sym c.with.ensures)
+    subst (λ (g : Given). AreOptionsTaken kind words (c.args.place + 2) g) (sym c.with.ensures)
     (taken_more kind words c.args.place c.args.given taken
     (subst (λ (n : ℕ). c.args.place < n) (sym (length-words c.args.words.now)) c.requires) c.in-Some.setting
     c.in-Some.ensures (λ some. let is = c.has.ensures.1 some in let no = c.if-has.false in cc)
