@@ -48,7 +48,7 @@ pub fn run<R: Threads + Wait + Sync, G: Gate + Sync>(
     ensures over { ¬ (G.may_stop gate.now) → IfOk result (λ after. IsOver after.opening (state after)) }
     ensures memory { IfErr result (λ e. HasGoneOn tree e.0) }
 {
-    let Ok(mut crew) = enlisted(alloc, instance, nets, workers) else {
+    let Ok(crew) = enlisted(alloc, instance, nets, workers) else {
         return Err((tree, Memory));
     };
     let start = Snapshot::of(&tree);
@@ -65,10 +65,7 @@ pub fn run<R: Threads + Wait + Sync, G: Gate + Sync>(
         changes: &changes,
         gate,
     };
-    give_seats(&site, seat, &mut crew);
-    let together = crew.as_mut_slice();
-    work_together(rt, alloc, &site, together);
-    let (seat, over) = joined(&site, crew);
+    let (seat, over) = work_to_end(rt, alloc, &site, seat, crew);
     drop(site);
     let tree = turn.close(seat).into_tree();
     if over { Ok(tree) } else { Err((tree, Memory)) }
@@ -133,6 +130,29 @@ fn give_seats<G: Gate>(site: &Site<'_, G>, mut seat: Seat, crew: &mut [Worker])
     }
     let foremost = 0;
     crew[foremost].seat = Some(seat);
+}
+
+/// Gives the workers their seats and has them work. Gives the seat of all of them once each has ended, and whether one
+/// of them knows that the search is over, or the gate ended it.
+fn work_to_end<R: Threads + Wait + Sync, G: Gate + Sync>(
+    rt: &R,
+    alloc: Global,
+    site: &Site<'_, G>,
+    seat: Seat,
+    mut crew: Vec<Worker>,
+) -> (Seat, bool)
+    requires site { IsSite site.now.instance.now site.now.nets.now site.now.start.now.value }
+    requires fresh { IsFresh (length crew.items) site.now.start.now.value }
+    requires some { 0 < length crew.items }
+    requires crew { AreEnlisted site.now.instance.now crew.items }
+    requires seat { IsFirstSeat site.now.turn.now.name site.now.start.now.value (length crew.items) seat }
+    ensures { KnowsEnds (G.may_stop site.now.gate.now) site.now.turn.now.name site.now.start.now.value 0
+        (length crew.items) result.1 result.0 }
+{
+    give_seats(site, seat, &mut crew);
+    let together = crew.as_mut_slice();
+    work_together(rt, alloc, site, together);
+    joined(site, crew)
 }
 
 /// Has all workers work, each in a thread of its own where one can be made, until each has ended.

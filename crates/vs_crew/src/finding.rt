@@ -14,9 +14,9 @@ use vs_multi::{NoWatch, Watch};
 use vs_node::{Outcome, Task, begin, has_choice, work, work_from};
 use vs_penalty::{agree, seek_plan, seek_ray};
 use vs_plan::{cheaper, cost_of};
-use vs_prices::{Bound, Table, worth};
+use vs_prices::{Bound, worth};
 use vs_tree::{Finish, Next};
-use vs_types::{LayerSet, Memory, SCALE};
+use vs_types::{Memory, SCALE};
 
 /// How many rounds prices are sought by on a leaf other than the root that show that there is no plan within its
 /// sets.

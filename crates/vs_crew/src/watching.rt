@@ -1,5 +1,7 @@
 //! How the work at the root asks the gate whether the search is to end.
 
+ghost use Rattle.std.specs.Prelude.{◌≡◌};
+
 use crate::site::Gate;
 use std::sync::atomic::{AtomicI64, Ordering};
 use vs_multi::Watch;
@@ -21,7 +23,9 @@ pub(crate) struct RootWatch<'a, G: Gate> {
 
 impl<'a, G: Gate> RootWatch<'a, G> {
     /// Nothing was told or asked yet.
-    pub(crate) fn new(gate: &'a G) -> RootWatch<'a, G> {
+    pub(crate) fn new(gate: &'a G) -> RootWatch<'a, G>
+        ensures { result.gate.now ≡ gate.now }
+    {
         RootWatch {
             gate,
             cost: AtomicI64::new(NO_COST),

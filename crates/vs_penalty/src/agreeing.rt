@@ -6,6 +6,7 @@ ghost use Rattle.vs_multi.specs.Rounds.{IsCase};
 ghost use Rattle.vs_match.specs.LayerNets.{AreLayerNets};
 ghost use Rattle.vs_prices.specs.Bounds.{IsWorthNoLess};
 ghost use Rattle.vs_prices.specs.Table.{Fits, HoldingTable};
+ghost use Rattle.vs_prices.specs.Worth.{IsWorth};
 ghost use Rattle.vs_penalty.specs.Seekers.{IsPlanOf};
 
 use crate::ray::seek_ray;
@@ -18,7 +19,7 @@ use vs_instance::Instance;
 use vs_match::LayerNet;
 use vs_multi::{Case, Watch, few_rounds, keep_better, multipliers_of, raise};
 use vs_plan::CheckedPlan;
-use vs_prices::{Table, permitted_sets, worth};
+use vs_prices::{Bound, Table, permitted_sets, worth};
 use vs_types::{Memory, TripNo};
 
 /// One round shows what the multipliers are worth; they are the best already.
@@ -137,15 +138,35 @@ fn improve<W: Watch>(
     ensures holds { HoldingTable case.now.instance.now table.new }
     ensures worth { IsWorthNoLess case.now.instance.now case.now.sets.now table.new table.old }
 {
-    let mut best = few_rounds(case, ROUNDS, multipliers, work)?;
-    let own_worth = worth(case.instance, case.sets, table);
-    let greatest = keep_better(&mut best.table, best.worth, table, own_worth);
-    swap(table, &mut best.table);
+    let greatest = take_shown(case, multipliers, table, work)?;
     if watch.is_over() {
         return Ok(());
     }
     raise(case, table, greatest, work)?;
     Ok(())
+}
+
+/// Makes the table what these multipliers show, where that is worth more. Gives what it is worth then.
+fn take_shown(
+    case: &Case<'_>,
+    multipliers: &mut [i64],
+    table: &mut Table,
+    work: &mut Work,
+) -> Result<Bound, Memory>
+    requires case { IsCase case.now.instance.now case.now.nets.now case.now.sets.now }
+    requires multipliers { AreMultipliers case.now.instance.now multipliers.old }
+    requires fits { Fits case.now.instance.now table.old }
+    requires holds { HoldingTable case.now.instance.now table.old }
+    ensures fits { Fits case.now.instance.now table.new }
+    ensures holds { HoldingTable case.now.instance.now table.new }
+    ensures no_less { IsWorthNoLess case.now.instance.now case.now.sets.now table.new table.old }
+    ensures worth { IfOk result (IsWorth case.now.instance.now case.now.sets.now table.new) }
+{
+    let mut best = few_rounds(case, ROUNDS, multipliers, work)?;
+    let own_worth = worth(case.instance, case.sets, table);
+    let greatest = keep_better(&mut best.table, best.worth, table, own_worth);
+    swap(table, &mut best.table);
+    Ok(greatest)
 }
 
 /// Whether two layers may run some trip.

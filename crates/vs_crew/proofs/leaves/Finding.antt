@@ -59,6 +59,12 @@ next-lesser p task known table first plan best Close has lesser cost = λ worth 
 next-lesser p task known table first plan best (Split trip left) has lesser cost =
     (has.1.inside, has.1.part)
 
+-- what becomes of a leaf by the work on it is lawful
+pub next-worked : (p : Problem) (task : Task) (table : Table) (plan : Option Checked) (next : Next)
+    → HasNext p task table plan next → IsLawfulNext p task.sets.items task.known table plan next
+next-worked p task table plan Close has = has
+next-worked p task table plan (Split trip left) has = (has.1.inside, has.1.part)
+
 -- a lawful split is one by a trip of the instance
 pub next-in : (p : Problem) (sets : List LayerSet) (known : Option ℤ) (table : Table) (plan : Option Checked)
     → IsRestriction p sets → (next : Next) → IsLawfulNext p sets known table plan next → IsNextIn p sets next
@@ -78,10 +84,3 @@ plan-either p first plan best one other (inr same) =
 pub plan-turned : (p : Problem) (plan : Option Checked) → IfSome plan (IsAgreed p) → IfSome plan (IsPlanOf p)
 plan-turned p None is = tt
 plan-turned p (Some c) is = (is.1, is.0)
-
--- the work at the root doesn't depend on the table that it begins with
-pub worked-root : (p : Problem) (root : Bool) (sets : List LayerSet) (old other new : Table) → root ≡ true
-    → IsWorked p root sets old new → IsWorked p root sets other new
-worked-root p root sets old other new is worked =
-    subst (λ (b : Bool). IsWorked p b sets other new) (sym is)
-    (subst (λ (b : Bool). IsWorked p b sets old new) is worked)

@@ -93,7 +93,9 @@ ends_without : (stops : Type 0) (worker : ℕ) (over : Bool) (o : Opening) (step
     → ¬ (IsHeldBy (state_of o steps) worker leaf)
 ends_without stops worker true o steps opening history (inl over) leaf held =
     over-none o (state_of o steps) over worker leaf held
-ends_without stops worker true o steps opening history (inr stopped) leaf held = stopped.1.holds_none leaf held
+ends_without stops worker true o steps opening history (inr (may, inl idle)) leaf held = idle.holds_none leaf held
+ends_without stops worker true o steps opening history (inr (may, inr left)) leaf held =
+    (histories_are_sound o steps opening history).gone worker leaf left held
 ends_without stops worker false o steps opening history left leaf held =
     (histories_are_sound o steps opening history).gone worker leaf left held
 

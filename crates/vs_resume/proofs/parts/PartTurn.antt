@@ -426,8 +426,8 @@ module _ (p : Problem) (is : IsInstance p) (left nodes k : ℕ) (t : Search) (ol
       by_spots (j ∷ spots) [] are = absurd are
       by_spots (j ∷ spots) (w ∷ worths) are =
           All-cons (λ (worth : Bound). ReachesValue worth value) w worths
-          (deep.reaches (omega (arith, some_node, finished)) value (subst (λ (q : Problem). IsStartingValue q value) (sym deep.problem) starts) j w are.0
-          are.1)
+          (deep.reaches (omega (arith, some_node, finished)) value
+          (subst (λ (q : Problem). IsStartingValue q value) (sym deep.problem) starts) j w are.0 are.1)
           (by_spots spots worths are.2)
 
   deeper : AreDeeper p sets next.0 (worths_in put.settled)

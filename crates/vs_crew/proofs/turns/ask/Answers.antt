@@ -1,33 +1,20 @@
-use Rattle.std.proofs.Common.{length, refl, sym, ap, ◌∙◌, subst, append-nil, Some, None, []}
+use Rattle.std.proofs.Common.{ℕ, length, refl, sym, ap, ◌∙◌, subst, append-nil, Some, None, []}
 use Rattle.vs_tree.specs.History.{Opening}
 use Rattle.vs_tree.specs.Takes.{IsSized}
 use Rattle.vs_crew.specs.Leaves.{IsAsked}
-use Rattle.vs_crew.specs.Sharing.{GoesOnBy, IsIdle}
+use Rattle.vs_crew.specs.Sharing.{GoesOnBy, IsIdle, Shared}
 use Rattle.vs_crew.proofs.others.Turns.{turn_entries, turn_knows, turn_left, turn_problem}
 use Rattle.vs_crew.proofs.turns.ask.Goals as goal
 
-pub take-take-requires-clause-idle : goal.take-take-requires-clause-idle
-take-take-requires-clause-idle g c =
-    let held = c.hold-held.ensures in
-    turn_left c.args.site.now.turn.now.name c.args.site.now.start.now.value c.args.w (IsIdle c.args.w)
-    c.args.seat c.hold-held.result.seat c.hold-held.result.found c.hold-held.result.value c.value.result.now
-    c.requires.idle held.seat held.opening held.begins held.unmade held.found c.value.ensures.value
-
-pub take-take-requires-clause-sets : goal.take-take-requires-clause-sets
-take-take-requires-clause-sets g c =
-    let held = c.hold-held.ensures in
-    let opening = turn_problem c.args.site.now.turn.now.name c.args.site.now.start.now.value c.args.w (IsIdle c.args.w)
-    c.args.seat c.hold-held.result.seat c.hold-held.result.found c.hold-held.result.value c.value.result.now
-    c.requires.idle held.seat held.opening held.begins held.unmade held.found c.value.ensures.value in
-    c.requires.sets ∙ ap (λ (o : Opening). length o.problem.trips) (sym opening)
-
-pub take-take-requires-clause-table : goal.take-take-requires-clause-table
-take-take-requires-clause-table g c =
-    let held = c.hold-held.ensures in
-    let opening = turn_problem c.args.site.now.turn.now.name c.args.site.now.start.now.value c.args.w (IsIdle c.args.w)
-    c.args.seat c.hold-held.result.seat c.hold-held.result.found c.hold-held.result.value c.value.result.now
-    c.requires.idle held.seat held.opening held.begins held.unmade held.found c.value.ensures.value in
-    subst (λ (o : Opening). IsSized o.problem c.args.task.now.table) (sym opening) c.requires.table
+-- a turn in which nothing is changed
+unchanged : (worker : ℕ) (a : Shared) → GoesOnBy worker a a
+unchanged worker a = record {
+  before = refl;
+  opening = refl;
+  added = [];
+  goes_on = append-nil a.search.steps;
+  by_worker = tt;
+}
 
 pub release-requires-clause-entries : goal.release-requires-clause-entries
 release-requires-clause-entries g c =
@@ -35,43 +22,7 @@ release-requires-clause-entries g c =
     turn_entries c.args.site.now.turn.now.name c.args.site.now.start.now.value c.args.w (IsIdle c.args.w)
     c.args.seat c.hold-held.result.seat c.hold-held.result.found c.hold-held.result.value c.value.result.now
     c.requires.idle held.seat held.opening held.begins held.unmade held.found c.value.ensures.value
-    c.take-take.new.self c.take-take.ensures.steps
-
-pub returns-clause-told : goal.returns-clause-told
-returns-clause-told g c =
-    let held = c.hold-held.ensures in
-    turn_knows c.args.site.now.turn.now.name c.args.site.now.start.now.value c.args.w (IsIdle c.args.w)
-    c.args.seat c.hold-held.result.seat c.hold-held.result.found c.hold-held.result.value c.value.result.now
-    c.requires.idle held.seat held.opening held.begins held.unmade held.found c.value.ensures.value
-    c.take-take.new.self c.take-take.ensures.steps
-    (IsAsked (g.G.Gate.may_stop c.args.site.now.gate.now) c.args.w c.take-take.new.task (Some c.take-take.result))
-    c.release.result c.take-take.ensures.told c.release.ensures.seat c.release.ensures.knows
-
-pub returns-clause-table : goal.returns-clause-table
-returns-clause-table g c =
-    let held = c.hold-held.ensures in
-    let opening = turn_problem c.args.site.now.turn.now.name c.args.site.now.start.now.value c.args.w (IsIdle c.args.w)
-    c.args.seat c.hold-held.result.seat c.hold-held.result.found c.hold-held.result.value c.value.result.now
-    c.requires.idle held.seat held.opening held.begins held.unmade held.found c.value.ensures.value in
-    subst (λ (o : Opening). IsSized o.problem c.take-take.new.task.table) opening c.take-take.ensures.table
-
--- a turn in which nothing is changed
-none_made : (g : goal.Given) (c : goal.In-then-is_over) → GoesOnBy c.args.w c.value.result.now c.value.result.now
-none_made g c = record {
-  before = refl;
-  opening = refl;
-  added = [];
-  goes_on = append-nil c.value.result.now.search.steps;
-  by_worker = tt;
-}
-
-pub release-in-then-is_over-requires-clause-entries : goal.release-in-then-is_over-requires-clause-entries
-release-in-then-is_over-requires-clause-entries g c =
-    let held = c.hold-held.ensures in
-    turn_entries c.args.site.now.turn.now.name c.args.site.now.start.now.value c.args.w (IsIdle c.args.w)
-    c.args.seat c.hold-held.result.seat c.hold-held.result.found c.hold-held.result.value c.value.result.now
-    c.requires.idle held.seat held.opening held.begins held.unmade held.found c.value.ensures.value
-    c.value.result.now (none_made g c)
+    c.value.result.now (unchanged c.args.w c.value.result.now)
 
 pub returns-then-is_over-clause-told : goal.returns-then-is_over-clause-told
 returns-then-is_over-clause-told g c =
@@ -82,7 +33,60 @@ returns-then-is_over-clause-told g c =
     turn_knows c.args.site.now.turn.now.name c.args.site.now.start.now.value c.args.w (IsIdle c.args.w)
     c.args.seat c.hold-held.result.seat c.hold-held.result.found c.hold-held.result.value c.value.result.now
     c.requires.idle held.seat held.opening held.begins held.unmade held.found c.value.ensures.value
-    c.value.result.now (none_made g c)
+    c.value.result.now (unchanged c.args.w c.value.result.now)
     (IsAsked (g.G.Gate.may_stop c.args.site.now.gate.now) c.args.w c.args.task.now None)
-    c.release-in-then-is_over.result (c.is_over.ensures c.if-is_over.true, c.stand-stand.ensures c.args.w left)
-    c.release-in-then-is_over.ensures.seat c.release-in-then-is_over.ensures.knows
+    c.release.result (c.is_over.ensures c.if-is_over.true, c.stand-stand.ensures c.args.w left)
+    c.release.ensures.seat c.release.ensures.knows
+
+pub take-take-requires-clause-idle : goal.take-take-requires-clause-idle
+take-take-requires-clause-idle g c =
+    let held = c.hold-held.ensures in
+    turn_left c.args.site.now.turn.now.name c.args.site.now.start.now.value c.args.w (IsIdle c.args.w)
+    c.args.seat c.hold-held.result.seat c.hold-held.result.found c.hold-held.result.value c.value-2.result.now
+    c.requires.idle held.seat held.opening held.begins held.unmade held.found
+    (c.value-2.ensures.value ∙ c.value.ensures.value)
+
+pub take-take-requires-clause-sets : goal.take-take-requires-clause-sets
+take-take-requires-clause-sets g c =
+    let held = c.hold-held.ensures in
+    let opening = turn_problem c.args.site.now.turn.now.name c.args.site.now.start.now.value c.args.w (IsIdle c.args.w)
+    c.args.seat c.hold-held.result.seat c.hold-held.result.found c.hold-held.result.value c.value-2.result.now
+    c.requires.idle held.seat held.opening held.begins held.unmade held.found
+    (c.value-2.ensures.value ∙ c.value.ensures.value) in
+    c.requires.sets ∙ ap (λ (o : Opening). length o.problem.trips) (sym opening)
+
+pub take-take-requires-clause-table : goal.take-take-requires-clause-table
+take-take-requires-clause-table g c =
+    let held = c.hold-held.ensures in
+    let opening = turn_problem c.args.site.now.turn.now.name c.args.site.now.start.now.value c.args.w (IsIdle c.args.w)
+    c.args.seat c.hold-held.result.seat c.hold-held.result.found c.hold-held.result.value c.value-2.result.now
+    c.requires.idle held.seat held.opening held.begins held.unmade held.found
+    (c.value-2.ensures.value ∙ c.value.ensures.value) in
+    subst (λ (o : Opening). IsSized o.problem c.args.task.now.table) (sym opening) c.requires.table
+
+pub release-requires-2-clause-entries : goal.release-requires-2-clause-entries
+release-requires-2-clause-entries g c =
+    let held = c.hold-held.ensures in
+    turn_entries c.args.site.now.turn.now.name c.args.site.now.start.now.value c.args.w (IsIdle c.args.w)
+    c.args.seat c.hold-held.result.seat c.hold-held.result.found c.hold-held.result.value c.value-2.result.now
+    c.requires.idle held.seat held.opening held.begins held.unmade held.found
+    (c.value-2.ensures.value ∙ c.value.ensures.value) c.take-take.new.self c.take-take.ensures.steps
+
+pub returns-clause-told : goal.returns-clause-told
+returns-clause-told g c =
+    let held = c.hold-held.ensures in
+    turn_knows c.args.site.now.turn.now.name c.args.site.now.start.now.value c.args.w (IsIdle c.args.w)
+    c.args.seat c.hold-held.result.seat c.hold-held.result.found c.hold-held.result.value c.value-2.result.now
+    c.requires.idle held.seat held.opening held.begins held.unmade held.found
+    (c.value-2.ensures.value ∙ c.value.ensures.value) c.take-take.new.self c.take-take.ensures.steps
+    (IsAsked (g.G.Gate.may_stop c.args.site.now.gate.now) c.args.w c.take-take.new.task (Some c.take-take.result))
+    c.release-2.result c.take-take.ensures.told c.release-2.ensures.seat c.release-2.ensures.knows
+
+pub returns-clause-table : goal.returns-clause-table
+returns-clause-table g c =
+    let held = c.hold-held.ensures in
+    let opening = turn_problem c.args.site.now.turn.now.name c.args.site.now.start.now.value c.args.w (IsIdle c.args.w)
+    c.args.seat c.hold-held.result.seat c.hold-held.result.found c.hold-held.result.value c.value-2.result.now
+    c.requires.idle held.seat held.opening held.begins held.unmade held.found
+    (c.value-2.ensures.value ∙ c.value.ensures.value) in
+    subst (λ (o : Opening). IsSized o.problem c.take-take.new.task.table) opening c.take-take.ensures.table

@@ -1,4 +1,4 @@
-use Rattle.std.proofs.Common.{◌≡◌, ◌+◌, ◌*◌, ◌≤◌, Bool, false, cond, ℕ}
+use Rattle.std.proofs.Common.{◌≡◌, ◌+◌, ◌*◌, ◌≤◌, false, cond}
 use Rattle.vs_resume.specs.Courses.{NoneIsBelow}
 use Rattle.vs_resume.proofs.documents.OnCourse.{IsOnCourse}
 use Rattle.vs_resume.proofs.resuming.resume.Given as goal
