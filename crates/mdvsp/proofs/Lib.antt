@@ -1,3 +1,4 @@
+pub mod AskedLimits
 pub mod SearchAnswers
 pub mod NoneHeld
 pub mod FirstStates

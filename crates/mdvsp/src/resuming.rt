@@ -1,6 +1,6 @@
 //! `resume`: a search carried on from its document.
 
-ghost use Rattle.std.specs.Prelude.{ℕ, ◌≤◌, List, length, IfOk};
+ghost use Rattle.std.specs.Prelude.{◌≡◌, ℕ, ◌≤◌, List, length, IfOk};
 ghost use Rattle.vs_check.specs.HoldingDocument.{HoldingDocument};
 ghost use Rattle.vs_document.specs.Form.{IsReadFor};
 ghost use Rattle.vs_instance.specs.declared.limits.TheConstants.{MAX_BUDGET};

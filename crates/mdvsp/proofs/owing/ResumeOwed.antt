@@ -75,7 +75,8 @@ module _ (effort : Effort) (bytes : List ℕ) (p : Problem) (names : NameLists) 
   resume_owes StillOpen rows o = o
 
   pub resumed_owed : (budget : ℕ) (r : Result Answer Memory) → resumed_budget p d effort.nodes ≡ Some budget
-      → HoldingDocument p d → IfOk r (IsResumed (IsUnlimited effort) p names budget d) → IfOk r (IsTextOf (ResumeOwes effort bytes))
+      → HoldingDocument p d → IfOk r (IsResumed (IsUnlimited effort) p names budget d)
+      → IfOk r (IsTextOf (ResumeOwes effort bytes))
   resumed_owed budget (Ok a) budget_is held is =
       owed_so (ResumeOwes effort bytes) a (status_of is.document.claim) (document_rows p names is.document)
       (resume_owes is.document.claim (document_rows p names is.document) (record {

@@ -56,7 +56,8 @@ solve_owes effort bytes StillOpen rows o = o
 
 pub document_owed : (effort : Effort) (bytes : List ℕ) (p : Problem) (names : NameLists) (budget : ℕ)
     (r : Result Answer Memory) → SolveText bytes p names → budget_of p effort.nodes ≡ Some budget
-    → IfOk r (AnswersDocument (IsUnlimited effort) p names budget effort.workers) → IfOk r (IsTextOf (SolveOwes effort bytes))
+    → IfOk r (AnswersDocument (IsUnlimited effort) p names budget effort.workers)
+    → IfOk r (IsTextOf (SolveOwes effort bytes))
 document_owed effort bytes p names budget (Ok a) text budget_is d =
     owed_so (SolveOwes effort bytes) a (status_of d.document.claim) (document_rows p names d.document)
     (solve_owes effort bytes d.document.claim (document_rows p names d.document) (record {

@@ -35,7 +35,8 @@ trace_owes effort bytes StillOpen rows o = o
 
 pub trace_owed : (effort : Effort) (bytes : List ℕ) (p : Problem) (names : NameLists) (budget : ℕ)
     (r : Result Answer Memory) → SolveText bytes p names → budget_of p effort.nodes ≡ Some budget
-    → IfOk r (AnswersTrace (IsUnlimited effort) p names budget effort.workers) → IfOk r (IsTextOf (TraceOwes effort bytes))
+    → IfOk r (AnswersTrace (IsUnlimited effort) p names budget effort.workers)
+    → IfOk r (IsTextOf (TraceOwes effort bytes))
 trace_owed effort bytes p names budget (Ok a) text budget_is t =
     owed_so (TraceOwes effort bytes) a (status_of t.report.claim) (trace_text names t.opening t.steps)
     (trace_owes effort bytes t.report.claim (trace_text names t.opening t.steps) (record {

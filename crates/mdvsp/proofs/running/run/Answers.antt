@@ -1,7 +1,11 @@
 use Rattle.std.proofs.Common.{ℕ, List, IfOk, refl, subst}
 use Rattle.mdvsp.specs.Answered.{IsOwedFor}
+use Rattle.mdvsp.proofs.AskedLimits.{asked_within}
 use Rattle.mdvsp.proofs.owing.RunEnds.{command_ends, unread_ends, wrong_words_end}
 use Rattle.mdvsp.proofs.running.run.Goals as goal
+
+pub answer_to-requires-clause-limits : goal.answer_to-requires-clause-limits
+answer_to-requires-clause-limits g c κs within = asked_within _ c.in-Ok.command c.in-Ok.ensures
 
 pub returns-in-Ok-input_of-clause-ends : goal.returns-in-Ok-input_of-clause-ends
 returns-in-Ok-input_of-clause-ends g c =

@@ -13,7 +13,8 @@ returns-in-With g c =
     document_owed c.args.effort c.args.bytes.now timetable.instance timetable.names c.in-With.budget c.plan.result
     found.text found.budget_is
     (subst (λ (e : Effort). IfOk c.plan.result
-    (AnswersDocument (IsUnlimited e) timetable.instance timetable.names c.in-With.budget c.args.effort.workers)) c.requires.limits
+    (AnswersDocument (IsUnlimited e) timetable.instance timetable.names c.in-With.budget c.args.effort.workers))
+    c.requires.limits
     (subst (λ (w : ℕ). IfOk c.plan.result (AnswersDocument (IsUnlimited c.args.self.now.gate.effort) timetable.instance
     timetable.names c.in-With.budget w)) c.requires.workers c.plan.ensures))
 

@@ -13,7 +13,8 @@ returns-in-With g c =
     trace_owed c.args.effort c.args.bytes.now timetable.instance timetable.names c.in-With.budget c.tell.result
     found.text found.budget_is
     (subst (λ (e : Effort). IfOk c.tell.result
-    (AnswersTrace (IsUnlimited e) timetable.instance timetable.names c.in-With.budget c.args.effort.workers)) c.requires.limits
+    (AnswersTrace (IsUnlimited e) timetable.instance timetable.names c.in-With.budget c.args.effort.workers))
+    c.requires.limits
     (subst (λ (w : ℕ). IfOk c.tell.result (AnswersTrace (IsUnlimited c.args.self.now.gate.effort) timetable.instance
     timetable.names c.in-With.budget w)) c.requires.workers c.tell.ensures))
 
