@@ -53,7 +53,15 @@ fn stopped<R: Threads + Wait + Sync>(
         k,
         asked: AtomicU64::new(0),
     };
-    let words = ["solve", "--workers", workers, "--nodes", "127", "--seconds", "86400"];
+    let words = [
+        "solve",
+        "--workers",
+        workers,
+        "--nodes",
+        "127",
+        "--seconds",
+        "86400",
+    ];
     let told = audit(rt, alloc, &words, input, input, &gate)?;
     Ok((told, gate.asked.load(Ordering::SeqCst)))
 }
@@ -90,7 +98,11 @@ fn stops_anywhere<R: Abort + Threads + Wait + Sync>(
         for k in (1..asked).filter(|k| is_tried(*k, asked)) {
             let (told, _) = stopped(rt, alloc, &input, workers, k)?;
             let resumed = carried_on(rt, alloc, &input, &told.document)?;
-            assert_eq!(rt; (told.verdict, resumed), (Status::Done, end), "{k} of {asked}");
+            assert_eq!(rt;
+                (told.verdict, resumed),
+                (Status::Done, end),
+                "{k} of {asked}"
+            );
         }
     }
     Ok(())

@@ -28,7 +28,9 @@ fn agreed(alloc: Global, parts: &[&str]) -> Result<(Option<i64>, Table), Fail> {
     let nets = layer_nets(alloc, &instance)?;
     let mut work = Work::new(alloc, &nets)?;
     let mut table = Table::zero(alloc, &instance)?;
-    let plan = agree(alloc, &instance, &nets, None, &mut table, &mut work, &NoWatch)?;
+    let plan = agree(
+        alloc, &instance, &nets, None, &mut table, &mut work, &NoWatch,
+    )?;
     Ok((plan.as_ref().map(|plan| plan.cost()), table))
 }
 
