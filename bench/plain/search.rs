@@ -130,7 +130,8 @@ fn main() {
         };
         (task.known, task.root) = (known, leaf == 0);
         let passes = taken % TURNS == 0;
-        let found = finding::found((), &instance, &nets, &mut task, passes, &mut work, &vs_multi::NoWatch).expect("memory");
+        let found = finding::found((), &instance, &nets, &mut task, passes, &mut work, &vs_multi::NoWatch);
+        let found = found.expect("memory").expect("a search that nothing ends");
         if let Some(plan) = found.outcome.plan {
             tree.offer(0, plan);
         }
