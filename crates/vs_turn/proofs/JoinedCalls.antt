@@ -20,8 +20,8 @@ only_ticket u t has =
 -- the tickets in a row are these numbers
 has_from : (k n t : ℕ) → k ≤ t → t < k + n → has_ticket (tickets_from k n) t ≡ true
 has_from k n t from below =
-    full_tickets k n (tickets_from k n) (tickets_from-rise k n) (length-tickets_from k n) (tickets_from_below k n) t from
-    below
+    full_tickets k n (tickets_from k n) (tickets_from-rise k n) (length-tickets_from k n) (tickets_from_below k n)
+    t from below
 
 -- a ticket and the tickets in a row behind it have nothing in common
 pub next_apart : (k n : ℕ) (t : ℕ) → has_ticket (k ∷ []) t ≡ true → has_ticket (tickets_from (suc k) n) t ≡ false
@@ -42,8 +42,9 @@ next_merged k (suc n) = insert_before k (suc k) (tickets_from (suc (suc k)) n) (
 -- what tickets in a row have not made, none of them has
 pub none_of_one : (k n t : ℕ) (es : List E) → k ≤ t → t < k + n → NoCalls (tickets_from k n) es → NoCalls (t ∷ []) es
 none_of_one k n t es from below none =
+    let among = has_from k n t from below in
     fewer_calls (tickets_from k n) (t ∷ []) es
-    (λ u has. subst (λ (x : ℕ). has_ticket (tickets_from k n) x ≡ true) (only_ticket t u has) (has_from k n t from below))
+    (λ u has. subst (λ (x : ℕ). has_ticket (tickets_from k n) x ≡ true) (only_ticket t u has) among)
     none
 
 no_more : {A : Type 0} (xs : List A) → length xs ≡ 0 → xs ≡ []

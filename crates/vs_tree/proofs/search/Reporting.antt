@@ -146,7 +146,8 @@ module _ (o : Opening) (a : Parts) (is : IsSearch o a) (cost : Option ℤ) (foun
   pub some_leaf : 0 < found → IsOpenLeaf o.problem now
   some_leaf some =
       let among = of.some some in
-      let leaf : is_inner (spot_at now among.place) ≡ false = ap is_inner (spot-is o a is among.place) ∙ among.is_leaf in
+      let same = ap is_inner (spot-is o a is among.place) in
+      let leaf : is_inner (spot_at now among.place) ≡ false = same ∙ among.is_leaf in
       record {
         leaf = among.place;
         worth = worth_at a.worths among.place;
