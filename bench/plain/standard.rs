@@ -12,6 +12,7 @@ pub mod collections {
 
 pub mod marker {
     pub use crate::prelude::Model;
+    pub use std::marker::{Send, Sync};
 }
 
 pub mod snapshot {
@@ -298,22 +299,27 @@ pub mod thread {
         std::thread::sleep(time);
     }
 
-    /// Has each item worked on, by so many threads where they can be made. The caller's thread is one of them.
+    /// Has each item worked on, by so many threads where they can be made. The caller's thread is one of them. As in
+    /// Rattle's library, each takes as many items that stand side by side.
     pub fn for_each_mut<R: Threads, T: Send>(
         _: &R,
         items: &mut [T],
         threads: usize,
         work: &(impl Fn(usize, &mut T) + Sync),
     ) {
-        let left = Mutex::new(items.iter_mut().enumerate());
+        let size = items.len().div_ceil(threads).max(1);
+        let runs = items.len().div_ceil(size);
+        let left = Mutex::new(items.chunks_mut(size).enumerate());
         let next = || left.lock().unwrap_or_else(PoisonError::into_inner).next();
         let work_off = || {
-            while let Some((place, item)) = next() {
-                work(place, item);
+            while let Some((run, items)) = next() {
+                for (place, item) in items.iter_mut().enumerate() {
+                    work(run * size + place, item);
+                }
             }
         };
         scope(|scope| {
-            for _ in 1..threads {
+            for _ in 1..runs {
                 if Builder::new().spawn_scoped(scope, &work_off).is_err() {
                     break;
                 }

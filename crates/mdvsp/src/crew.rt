@@ -1,6 +1,6 @@
 //! Crews: workers that search an instance together, or one part of it after the other.
 
-ghost use Rattle.std.specs.Prelude.{◌≡◌, ◌≤◌, ℕ, IfOk, IfSome, Result};
+ghost use Rattle.std.specs.Prelude.{◌≡◌, ◌≤◌, ℕ, IfOk, IfSome, Result, Some};
 ghost use Rattle.vs_instance.specs.Problem.{Problem};
 ghost use Rattle.vs_instance.specs.declared.limits.TheConstants.{MAX_BUDGET, MAX_WORKERS};
 ghost use Rattle.vs_node.specs.WorkedHistory.{AreWorked};
@@ -92,6 +92,7 @@ impl<'a, R: Threads + Wait + Sync, G: Gate + Sync> Crew<'a, R, G> {
     pub fn within(&self, before: Stand) -> Crew<'a, R, G>
         ensures workers { result.workers ≡ self.now.workers }
         ensures effort { result.gate.effort ≡ self.now.gate.effort }
+        ensures before { result.gate.before ≡ Some before }
     {
         Crew {
             rt: self.rt,

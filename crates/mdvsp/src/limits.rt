@@ -1,6 +1,6 @@
 //! The limits of a search: after how many seconds it ends, and at which gap between plan and bound.
 
-ghost use Rattle.std.specs.Prelude.{◌≡◌, ◌↔◌, IsTrue};
+ghost use Rattle.std.specs.Prelude.{◌≡◌, ◌↔◌, IsTrue, None, Some};
 ghost use Rattle.vs_words.specs.Words.{IsUnlimited};
 
 use vs_connect::lesser;
@@ -22,7 +22,9 @@ pub struct Limits<'a, G: Gate> {
 impl<'a, G: Gate> Limits<'a, G> {
     /// The gate of a search with this effort.
     pub fn new(gate: &'a G, effort: Effort) -> Limits<'a, G>
-        ensures { result.effort ≡ effort }
+        ensures gate { result.gate.now ≡ gate.now }
+        ensures effort { result.effort ≡ effort }
+        ensures before { result.before ≡ None }
     {
         Limits {
             gate,
@@ -33,7 +35,9 @@ impl<'a, G: Gate> Limits<'a, G> {
 
     /// The same for a part, where the whole search has come so far.
     pub fn within(&self, before: Stand) -> Limits<'a, G>
-        ensures { result.effort ≡ self.now.effort }
+        ensures gate { result.gate.now ≡ self.now.gate.now }
+        ensures effort { result.effort ≡ self.now.effort }
+        ensures before { result.before ≡ Some before }
     {
         Limits {
             gate: self.gate,

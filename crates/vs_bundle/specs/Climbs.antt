@@ -1,5 +1,5 @@
 -- What a climb works on, and what it gives. How good that is nothing says.
-use Rattle.std.specs.Prelude.{◌≡◌, List, length, ℤ}
+use Rattle.std.specs.Prelude.{◌≡◌, All, List, length, ℤ}
 use Rattle.vs_types.specs.declared.layer_set.LayerSet.{LayerSet}
 use Rattle.vs_instance.specs.Problem.{Problem}
 use Rattle.vs_match.specs.LayerGraph.{LayerGraph}
@@ -15,9 +15,10 @@ pub record AreSharesFor (p : Problem) (shares : Shares) : Type 0 where
   pub each_trip : shares.trips ≡ length p.trips
   pub each_layer : shares.layers ≡ length p.layers
 
--- space for what a layer is offered, with an entry for each trip, and for what each layer finds
+-- space for what each layer is offered, with an entry for each trip, and for what each finds
 pub record IsTrialFor (p : Problem) (trial : Trial) : Type 0 where
-  pub offers : length trial.offers.items ≡ length p.trips
+  pub each_layer : length trial.offers.items ≡ length p.layers
+  pub offers : All (λ offers. length offers.items ≡ length p.trips) trial.offers.items
   pub marks : length trial.marks.items ≡ length p.trips
   pub found : AreFound (length p.trips) (length p.layers) trial.found.items
 

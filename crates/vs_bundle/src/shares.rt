@@ -1,6 +1,6 @@
 //! How much of each trip each layer runs.
 
-ghost use Rattle.std.specs.Prelude.{◌≡◌, ◌*◌, ◌^◌, ◌<◌, ◌≤◌, ◌≤ℤ◌, IfOk, length, pos, vec_len};
+ghost use Rattle.std.specs.Prelude.{◌≡◌, ◌*◌, ◌^◌, ◌<◌, ◌≤◌, ◌≤ℤ◌, ℕ, IfOk, length, pos, slice_index, vec_len};
 ghost use Rattle.vs_types.specs.declared.numbers.TheConstants.{MAX_LAYERS};
 ghost use Rattle.vs_instance.specs.declared.limits.TheConstants.{MAX_TRIPS};
 ghost use Rattle.vs_cuts.specs.Bundles.{HasSizes};
@@ -47,7 +47,8 @@ impl Shares {
 
     /// No layer runs any trip.
     pub fn none(case: &Case<'_>) -> Result<Shares, Memory>
-        ensures { IfOk result (AreSharesFor case.now.instance.now) }
+        ensures shares { IfOk result (AreSharesFor case.now.instance.now) }
+        ensures none { IfOk result (λ shares. (k : ℕ) → slice_index shares.each.items k ≡ 0) }
     {
         prove!(case.instance.trips() <= MAX_TRIPS && case.instance.layers() <= MAX_LAYERS);
         let trips = case.instance.trips() as usize;

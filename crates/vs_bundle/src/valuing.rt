@@ -1,33 +1,38 @@
 //! The Lagrangian value at given multipliers.
 
-ghost use Rattle.std.specs.Prelude.{◌≡◌, ◌<◌, ◌≤◌, IfOk, length};
+ghost use Rattle.std.specs.Prelude.{◌≡◌, ◌+◌, ◌<◌, ◌≤◌, IfOk, IsTrue, length};
 ghost use Rattle.vs_instance.specs.Problem.{Problem};
-ghost use Rattle.vs_circ.specs.shipping.Ready.{IsReadyToRun};
+ghost use Rattle.vs_match.specs.LayerNets.{net_at};
+ghost use Rattle.vs_circ.specs.shipping.Ready.{CanRun, IsReadyToRun};
 ghost use Rattle.vs_multi.specs.Multipliers.{AreMultipliers};
 ghost use Rattle.vs_multi.specs.Rounds.{IsCase};
 ghost use Rattle.vs_cuts.specs.declared.whole.TheConstants.{MOST_TRIPS};
 ghost use Rattle.vs_bundle.specs.Climbs.{IsTrialFor};
+ghost use Rattle.vs_bundle.specs.Runs.{CanRunFrom, HasRun, HaveRun, HaveRunFrom, MayRunAll};
 
 use std::alloc::Global;
-use vs_circ::{Work, runs};
+use vs_circ::{Kept, Work, read_run, run_from};
 use vs_cuts::Found;
-use vs_multi::{Case, Watch, offer};
+use vs_match::LayerNet;
+use vs_multi::{Case, LONG, Watch, offer};
 use vs_types::{LayerNo, Memory};
 
-/// A round has taken long after so much effort, which is a tenth of a second.
-const LONG: u64 = 500_000;
+/// A round is short up to so much effort, which is a millisecond. Further threads would save less than they take.
+const SHORT: u64 = 5_000;
 
 /// What the layers found last, and space to find it in.
 #[derive(Drop)]
 pub(crate) struct Trial {
-    /// What the layer that comes next is offered.
-    offers: Vec<Option<i64>>,
-    /// Which trips it runs.
+    /// By layer: what it is offered for each trip.
+    offers: Vec<Vec<Option<i64>>>,
+    /// Which trips a layer runs.
     marks: Vec<bool>,
     /// By layer.
     pub found: Vec<Found>,
     /// How much effort the circulations took.
     pub effort: u64,
+    /// How much those of the last round took. The first one is taken to be long.
+    of_round: u64,
 }
 
 impl Trial {
@@ -37,15 +42,19 @@ impl Trial {
         ensures { IfOk result (λ trial.
             (p : Problem) → length p.trips ≡ trips → length p.layers ≡ layers → IsTrialFor p trial) }
     {
+        let mut offers = Vec::with_capacity(alloc, layers as usize)?;
         let mut found = Vec::with_capacity(alloc, layers as usize)?;
         for _ in 0..layers {
+            let none = vec![in alloc; None; trips]?;
+            offers.push(none)?;
             found.push(Found::new(alloc, trips)?)?;
         }
         Ok(Trial {
-            offers: vec![in alloc; None; trips]?,
+            offers,
             marks: vec![in alloc; false; trips]?,
             found,
             effort: 0,
+            of_round: LONG,
         })
     }
 
@@ -66,35 +75,146 @@ impl Trial {
         ensures ready { IsReadyToRun case.now.nets.now work.new }
     {
         let before = work.effort();
-        let mut value = total(multipliers);
-        for l in 0..case.instance.layers() {
-            let is_long = work.effort().saturating_sub(before) > LONG;
-            if is_long && watch.is_over() {
-                return None;
-            }
-            let part = self.find(case, multipliers, LayerNo(l), work);
-            value = value.saturating_add(part);
+        self.offer_all(case, multipliers);
+        if !self.run_all(case, work, watch) {
+            return None;
         }
-        let effort = work.effort().saturating_sub(before);
-        self.effort = self.effort.saturating_add(effort);
+        let value = self.read_all(case, multipliers, work);
+        self.of_round = work.effort().saturating_sub(before);
+        self.effort = self.effort.saturating_add(self.of_round);
         Some(value)
     }
 
-    /// Finds a least circulation of layer l. Gives its cost less the multipliers of its trips.
-    fn find(&mut self, case: &Case<'_>, multipliers: &[i64], l: LayerNo, work: &mut Work) -> i64
+    /// Offers each layer the trips whose sets have it, for their multipliers.
+    fn offer_all(&mut self, case: &Case<'_>, multipliers: &[i64])
         requires case { IsCase case.now.instance.now case.now.nets.now case.now.sets.now }
         requires multipliers { AreMultipliers case.now.instance.now multipliers.now }
-        requires layer { l.0 < length case.now.instance.now.layers }
         requires trial { IsTrialFor case.now.instance.now self.old }
-        requires ready { IsReadyToRun case.now.nets.now work.old }
         ensures trial { IsTrialFor case.now.instance.now self.new }
-        ensures ready { IsReadyToRun case.now.nets.now work.new }
+        ensures offered { MayRunAll case.now.nets.now self.new.offers.items }
     {
-        let offers: &mut [Option<i64>] = &mut self.offers;
-        offer(case.instance, case.sets, multipliers, l, offers);
-        let cost = runs(case.nets, l, offers, work, &mut self.marks);
-        self.found[l.0 as usize].set(&self.marks, cost, multipliers)
+        for l in 0..case.instance.layers() {
+            let offers: &mut [Option<i64>] = &mut self.offers[l as usize];
+            offer(case.instance, case.sets, multipliers, LayerNo(l), offers);
+        }
     }
+
+    /// Runs the layers, some of them side by side where the watch has threads for that. False where it takes long, and
+    /// the watch ends it.
+    fn run_all<W: Watch>(&self, case: &Case<'_>, work: &mut Work, watch: &W) -> bool
+        requires case { IsCase case.now.instance.now case.now.nets.now case.now.sets.now }
+        requires trial { IsTrialFor case.now.instance.now self.now }
+        requires offered { MayRunAll case.now.nets.now self.now.offers.items }
+        requires ready { IsReadyToRun case.now.nets.now work.old }
+        ensures ready { IsReadyToRun case.now.nets.now work.new }
+        ensures run { IsTrue result → HaveRun case.now.nets.now self.now.offers.items work.new.kept.items
+            (length case.now.nets.now) }
+    {
+        let before = work.effort();
+        let layers = case.nets.len();
+        let width = self.width(layers, watch.threads());
+        let mut first = 0;
+        while first < layers {
+            let is_long = work.effort().saturating_sub(before) > LONG;
+            if is_long && watch.is_over() {
+                return false;
+            }
+            let end = first + width.min(layers - first);
+            run_some(case.nets, &self.offers, first, end, work, watch);
+            first = end;
+        }
+        true
+    }
+
+    /// How many layers run side by side, where there are so many threads. Where all can't at once, as many do each time.
+    fn width(&self, layers: usize, threads: usize) -> usize
+        requires { 0 < threads }
+        ensures { 0 < result }
+    {
+        if self.of_round <= SHORT {
+            return 1;
+        }
+        let times = layers.div_ceil(threads).max(1);
+        layers.div_ceil(times).max(1)
+    }
+
+    /// Reads what the layers run. Gives the Lagrangian value.
+    fn read_all(&mut self, case: &Case<'_>, multipliers: &[i64], work: &Work) -> i64
+        requires case { IsCase case.now.instance.now case.now.nets.now case.now.sets.now }
+        requires multipliers { AreMultipliers case.now.instance.now multipliers.now }
+        requires trial { IsTrialFor case.now.instance.now self.old }
+        requires offered { MayRunAll case.now.nets.now self.old.offers.items }
+        requires ready { IsReadyToRun case.now.nets.now work.now }
+        requires run { HaveRun case.now.nets.now self.old.offers.items work.now.kept.items
+            (length case.now.nets.now) }
+        ensures { IsTrialFor case.now.instance.now self.new }
+    {
+        let mut value = total(multipliers);
+        for l in 0..case.nets.len() {
+            let part = self.read(case, multipliers, l, &work.kept[l]);
+            value = value.saturating_add(part);
+        }
+        value
+    }
+
+    /// Reads what layer l runs. Gives its cost less the multipliers of its trips.
+    fn read(&mut self, case: &Case<'_>, multipliers: &[i64], l: usize, kept: &Kept) -> i64
+        requires case { IsCase case.now.instance.now case.now.nets.now case.now.sets.now }
+        requires multipliers { AreMultipliers case.now.instance.now multipliers.now }
+        requires trial { IsTrialFor case.now.instance.now self.old }
+        requires offered { MayRunAll case.now.nets.now self.old.offers.items }
+        requires layer { l < length case.now.nets.now }
+        requires run { HasRun (net_at case.now.nets.now l) self.old.offers.items l kept.now }
+        ensures trial { IsTrialFor case.now.instance.now self.new }
+        ensures offers { self.new.offers ≡ self.old.offers }
+    {
+        let cost = read_run(&case.nets[l], &self.offers[l], kept, &mut self.marks);
+        self.found[l].set(&self.marks, cost, multipliers)
+    }
+}
+
+/// Runs the layers from one to before another.
+fn run_some<W: Watch>(
+    nets: &[LayerNet],
+    offers: &[Vec<Option<i64>>],
+    first: usize,
+    end: usize,
+    work: &mut Work,
+    watch: &W,
+)
+    requires some { first ≤ end }
+    requires within { end ≤ length nets.now }
+    requires offers { MayRunAll nets.now offers.now }
+    requires ready { IsReadyToRun nets.now work.old }
+    requires run { HaveRun nets.now offers.now work.old.kept.items first }
+    ensures ready { IsReadyToRun nets.now work.new }
+    ensures run { HaveRun nets.now offers.now work.new.kept.items end }
+{
+    let kept: &mut [Kept] = &mut work.kept;
+    let part = &mut kept[first..end];
+    run_side_by_side(nets, offers, first, part, watch);
+}
+
+/// Runs the layers from one on, each with what is kept here for it.
+fn run_side_by_side<W: Watch>(
+    nets: &[LayerNet],
+    offers: &[Vec<Option<i64>>],
+    first: usize,
+    part: &mut [Kept],
+    watch: &W,
+)
+    requires within { first + length part.old ≤ length nets.now }
+    requires offers { MayRunAll nets.now offers.now }
+    requires ready { CanRunFrom nets.now first part.old }
+    ensures each { length part.new ≡ length part.old }
+    ensures run { HaveRunFrom nets.now offers.now first part.new }
+{
+    let job = |k: usize, kept: &mut Kept|
+        requires { MayRunAll nets.now offers.now × (first + k < length nets.now)
+            × CanRun (net_at nets.now (first + k)) kept.now }
+        ensures { HasRun (net_at nets.entry.now (first + k)) offers.entry.now (first + k) kept.exit.now }
+    { run_from(&nets[first + k], &offers[first + k], kept) };
+    watch.each(part, &job);
 }
 
 /// The sum of all multipliers.

@@ -20,6 +20,6 @@ pub use circ::{Circ, FixedFlow, LayerPrices};
 pub use fixing::fixed;
 pub use laws::{covered_circulations, least_circulations, stuck_trips};
 pub use relaxing::relaxed;
-pub use running::{begin_runs, runs};
+pub use running::{begin_runs, read_run, run_from, runs};
 pub use vs_instance::{MAX_MULTIPLIER, MAX_PRICE};
-pub use vs_ship::Work;
+pub use vs_ship::{Kept, Work};

@@ -10,6 +10,7 @@ ghost use Rattle.vs_match.specs.LayerNets.{net_at};
 ghost use Rattle.vs_circ.specs.Circulations.{RunLeast, RunTrip};
 ghost use Rattle.vs_circ.specs.Offers.{AreOffers};
 ghost use Rattle.vs_circ.specs.shipping.Ready.{CanRun, IsReadyToRun};
+ghost use Rattle.vs_circ.specs.shipping.Settled.{IsSettled};
 
 use crate::costing::settled_cost;
 use crate::misfits::recall;
@@ -58,11 +59,11 @@ pub fn runs(
         → AreOffers p l.0 offers.now → RunLeast p l (net_at nets.now l.0) offers.now answer.new result }
 {
     let place = l.0 as usize;
-    run_from(&nets[place], offers, &mut work.kept[place], answer)
+    run(&nets[place], offers, &mut work.kept[place], answer)
 }
 
 /// Marks the trips of a least circulation, from what is kept for the net. Gives what it costs.
-fn run_from(net: &LayerNet, offers: &[Option<i64>], kept: &mut Kept, answer: &mut [bool]) -> i128
+fn run(net: &LayerNet, offers: &[Option<i64>], kept: &mut Kept, answer: &mut [bool]) -> i128
     requires of_layer { (p : Problem) × (l : LayerNo) × IsInstance p × IsLawful p l.0 net.now
         × AreOffers p l.0 offers.now }
     requires kept { CanRun net.now kept.old }
@@ -71,12 +72,37 @@ fn run_from(net: &LayerNet, offers: &[Option<i64>], kept: &mut Kept, answer: &mu
     ensures least { (p : Problem) (l : LayerNo) → IsInstance p → IsLawful p l.0 net.now
         → AreOffers p l.0 offers.now → RunLeast p l net.now offers.now answer.new result }
 {
+    run_from(net, offers, kept);
+    read_run(net, offers, kept, answer)
+}
+
+/// Finds a least circulation of offered trips, from what is kept for the net, where it stands afterwards. `read_run`
+/// tells which it is. Nets may be run side by side, each with what is kept for it.
+pub fn run_from(net: &LayerNet, offers: &[Option<i64>], kept: &mut Kept)
+    requires of_layer { (p : Problem) × (l : LayerNo) × IsInstance p × IsLawful p l.0 net.now
+        × AreOffers p l.0 offers.now }
+    requires kept { CanRun net.now kept.old }
+    ensures kept { CanRun net.now kept.new }
+    ensures settled { IsSettled net.now offers.now kept.new.shipment }
+{
     let searched = kept.search.effort();
     // for the proof: its contract says how many nodes there are at most
     let _ = net.net();
     recall(net, offers, kept);
     settle_again(net, offers, kept);
     count_effort(net.net(), offers.len(), searched, &mut kept.search);
+}
+
+/// Marks the trips of the circulation that `run_from` found with these offers. Every entry is set. Gives what it
+/// costs, in 1/1000 of a cost unit, with no multipliers taken off.
+pub fn read_run(net: &LayerNet, offers: &[Option<i64>], kept: &Kept, answer: &mut [bool]) -> i128
+    requires of_layer { (p : Problem) × (l : LayerNo) × IsInstance p × IsLawful p l.0 net.now
+        × AreOffers p l.0 offers.now }
+    requires settled { IsSettled net.now offers.now kept.now.shipment }
+    requires each_trip { length answer.old ≡ length offers.now }
+    ensures least { (p : Problem) (l : LayerNo) → IsInstance p → IsLawful p l.0 net.now
+        → AreOffers p l.0 offers.now → RunLeast p l net.now offers.now answer.new result }
+{
     mark(net, &kept.shipment.flow.units, answer);
     settled_cost(net, offers, &kept.shipment)
 }

@@ -48,7 +48,7 @@ pub fn run<R: Threads + Wait + Sync, G: Gate + Sync>(
     ensures over { ¬ (G.may_stop gate.now) → IfOk result (λ after. IsOver after.opening (state after)) }
     ensures memory { IfErr result (λ e. HasGoneOn tree e.0) }
 {
-    let Ok(crew) = enlisted(alloc, instance, nets, workers) else {
+    let Ok(crew) = enlisted(alloc, instance, workers) else {
         return Err((tree, Memory));
     };
     let start = Snapshot::of(&tree);
@@ -64,6 +64,7 @@ pub fn run<R: Threads + Wait + Sync, G: Gate + Sync>(
         turn: &turn,
         changes: &changes,
         gate,
+        workers,
     };
     let (seat, over) = work_to_end(rt, alloc, &site, seat, crew);
     drop(site);
@@ -75,7 +76,6 @@ pub fn run<R: Threads + Wait + Sync, G: Gate + Sync>(
 fn enlisted(
     alloc: Global,
     instance: &Instance,
-    nets: &[LayerNet],
     workers: u32,
 ) -> Result<Vec<Worker>, Memory>
     ensures count { IfOk result (λ crew. length crew.items ≡ workers) }
@@ -83,19 +83,14 @@ fn enlisted(
 {
     let mut crew = Vec::with_capacity(alloc, workers as usize)?;
     for number in 0..workers {
-        let worker = enlist(alloc, instance, nets, number)?;
+        let worker = enlist(alloc, instance, number)?;
         crew.push(worker)?;
     }
     Ok(crew)
 }
 
-/// A worker of this number.
-fn enlist(
-    alloc: Global,
-    instance: &Instance,
-    nets: &[LayerNet],
-    number: u32,
-) -> Result<Worker, Memory>
+/// A worker of this number. It keeps nothing for the nets before it works on a leaf.
+fn enlist(alloc: Global, instance: &Instance, number: u32) -> Result<Worker, Memory>
     ensures { IfOk result (IsEnlisted instance.now number) }
 {
     Ok(Worker {
@@ -107,7 +102,7 @@ fn enlist(
             known: None,
             root: false,
         },
-        scratch: Work::new(alloc, nets)?,
+        scratch: Work::new(alloc, &[])?,
         taken: 0,
         over: false,
     })
@@ -177,6 +172,7 @@ fn work_together<R: Threads + Wait + Sync, G: Gate + Sync>(
         turn,
         changes,
         gate,
+        workers,
     } = *site;
     let work = |_place: usize, worker: &mut Worker|
         requires { IsSite instance.now nets.now start.now.value
@@ -191,6 +187,7 @@ fn work_together<R: Threads + Wait + Sync, G: Gate + Sync>(
             turn,
             changes,
             gate,
+            workers,
         };
         take_part(rt, alloc, &site, worker)
     };

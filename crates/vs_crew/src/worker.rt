@@ -9,7 +9,9 @@ use crate::site::{Gate, Site};
 use crate::turns::{ask, give_up, hand_in};
 use crate::watching::RootWatch;
 use std::alloc::Global;
+use std::marker::Sync;
 use std::sync::Wait;
+use std::thread::Threads;
 use vs_circ::Work;
 use vs_node::Task;
 use vs_tree::Take;
@@ -46,7 +48,7 @@ pub(crate) enum After {
 }
 
 /// Takes leaves one after another and works on them, until the search is over, the gate ends it, or memory is wanting.
-pub(crate) fn take_part<R: Wait, G: Gate>(
+pub(crate) fn take_part<R: Threads + Wait + Sync, G: Gate + Sync>(
     rt: &R,
     alloc: Global,
     site: &Site<'_, G>,
@@ -68,7 +70,7 @@ pub(crate) fn take_part<R: Wait, G: Gate>(
 }
 
 /// The same with the seat in hand, and whether the worker knows that the search is over, or the gate ended it.
-fn go_on<R: Wait, G: Gate>(
+fn go_on<R: Threads + Wait + Sync, G: Gate + Sync>(
     rt: &R,
     alloc: Global,
     site: &Site<'_, G>,
@@ -97,7 +99,7 @@ fn go_on<R: Wait, G: Gate>(
 
 /// Asks for a leaf once, and works on it, or waits where others hold what there is. It takes none where the gate ends
 /// the search.
-fn ask_once<R: Wait, G: Gate>(
+fn ask_once<R: Threads + Wait + Sync, G: Gate + Sync>(
     rt: &R,
     alloc: Global,
     site: &Site<'_, G>,
@@ -131,7 +133,7 @@ fn ask_once<R: Wait, G: Gate>(
 
 /// Works on the leaf that the worker holds, and hands in what is found. The leaf is given back where memory is wanting,
 /// and where the gate ends the first round at the root.
-fn work_on<R: Wait, G: Gate>(
+fn work_on<R: Threads + Wait + Sync, G: Gate + Sync>(
     rt: &R,
     alloc: Global,
     site: &Site<'_, G>,
@@ -152,7 +154,7 @@ fn work_on<R: Wait, G: Gate>(
     let passes = worker.taken >= TURNS - 1;
     worker.taken = if passes { 0 } else { worker.taken + 1 };
     let (task, scratch) = (&mut worker.task, &mut worker.scratch);
-    let watch = RootWatch::new(site.gate);
+    let watch = RootWatch::new(rt, site.workers, site.gate);
     match found(
         alloc,
         site.instance,

@@ -7,7 +7,7 @@ ghost use Rattle.vs_prices.specs.Bounds.{ReachesLagrangian};
 ghost use Rattle.vs_prices.specs.Table.{Fits, HoldingTable};
 ghost use Rattle.vs_prices.specs.Worth.{IsWorth};
 ghost use Rattle.vs_multi.specs.Multipliers.{AreMultipliers};
-ghost use Rattle.vs_multi.specs.Rounds.{IsBestOfRounds, IsBetter, IsCase};
+ghost use Rattle.vs_multi.specs.Rounds.{IsBestOfRounds, IsBetter, IsCase, IsRound};
 ghost use Rattle.vs_multi.specs.Steps.{HasRounds, IsGreatestStep};
 ghost use Rattle.vs_multi.specs.declared.steps.Steps.TheVariants.{Halving, Near};
 ghost use Rattle.vs_multi.specs.declared.steps.TheConstants.{ROUNDS};
@@ -168,6 +168,8 @@ pub fn one_round<W: Watch>(
         IsWorth case.now.instance.now case.now.sets.now best.table best.worth)) }
     ensures lagrangian { IfOk result (λ found. IfSome found (λ best.
         ReachesLagrangian case.now.instance.now case.now.sets.now multipliers.now best.table)) }
+    ensures ran { IfOk result (λ found. IfSome found (λ best. IsRound case.now.instance.now case.now.nets.now
+        case.now.sets.now multipliers.now best.table best.covers.items)) }
     ensures ended { IfOk result (λ found. found ≡ None → W.may_end watch.now) }
 {
     let mut round = Round::new(case.alloc, case.instance)?;

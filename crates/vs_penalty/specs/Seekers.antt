@@ -10,6 +10,8 @@ use Rattle.vs_walk.specs.Penalties.{ArePenalties}
 use Rattle.vs_walk.specs.Walkers.{IsWalkerFor}
 use Rattle.vs_penalty.specs.declared.choices.Choices.{Choices}
 use Rattle.vs_penalty.specs.declared.seeking.Seeker.{Seeker}
+use Rattle.vs_penalty.specs.declared.walkers.Walk.{Walk}
+use Rattle.vs_penalty.specs.declared.walkers.Turn.{Turn}
 use Rattle.vs_penalty.specs.declared.walkers.Walkers.{Walkers}
 
 -- a checked plan of the instance
@@ -34,6 +36,15 @@ pub record CanSeek (p : Problem) (graphs : List LayerGraph) (sets : List LayerSe
   pub multipliers : AreMultipliers p first
   pub seeker : IsSeekerFor p kept
 
--- each of the walkers is one for the instance
+-- on each of these walks a walker for the instance goes
+abbrev pub AreWalks : Problem → List Walk → Type 0
+AreWalks p walks = All (λ walk. IsWalkerFor p walk.walker) walks
+
 abbrev pub AreWalkers : Problem → Walkers → Type 0
-AreWalkers p walkers = All (IsWalkerFor p) walkers.walkers.items
+AreWalkers p walkers = AreWalks p walkers.walks.items
+
+-- what a turn of the walkers begins with: a case, multipliers of its instance, and choices with an entry for each trip
+pub record IsTurnIn (p : Problem) (graphs : List LayerGraph) (sets : List LayerSet) (turn : Turn) : Type 0 where
+  pub case : IsCase p graphs sets
+  pub multipliers : AreMultipliers p turn.multipliers.now
+  pub pool : turn.pool.now.trips ≡ length p.trips

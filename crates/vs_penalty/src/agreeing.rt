@@ -88,7 +88,9 @@ fn agree_on<W: Watch>(
         return Ok(None);
     }
     seeker.go_on(case, &mut multipliers, work, watch)?;
-    improve(case, &mut multipliers, table, work, watch)?;
+    if !watch.is_over() || seeker.value > i64::MIN {
+        improve(case, &mut multipliers, table, work, watch)?;
+    }
     let best = seeker.choices.best.take();
     Ok(best)
 }

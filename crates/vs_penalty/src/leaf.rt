@@ -11,7 +11,7 @@ use std::alloc::Global;
 use vs_circ::{Work, begin_runs};
 use vs_instance::Instance;
 use vs_match::LayerNet;
-use vs_multi::{Case, multipliers_of};
+use vs_multi::{Case, NoWatch, multipliers_of};
 use vs_plan::CheckedPlan;
 use vs_prices::Table;
 use vs_types::{LayerSet, Memory};
@@ -84,7 +84,7 @@ impl Seeker {
             if left == 0 || work.effort() > end {
                 break;
             }
-            self.penalties.pass(case, ALL, work);
+            self.penalties.pass(case, ALL, work, &NoWatch);
             if self
                 .penalties
                 .is_agreed(case.instance, case.instance.trips() / FEW)

@@ -89,7 +89,9 @@ impl Seeker {
             if left == 0 || self.is_sought(k >= passes, effort) || watch.is_over() {
                 break;
             }
-            self.penalties.pass(case, ALL, work);
+            if !self.penalties.pass(case, ALL, work, watch) {
+                break;
+            }
             if self
                 .penalties
                 .is_agreed(case.instance, case.instance.trips() / FEW)

@@ -1,11 +1,11 @@
 //! The walkers at the root, and their turns.
 
-ghost use Rattle.std.specs.Prelude.{◌≡◌, ◌<◌, ◌≤◌, ◌≤ℤ◌, pos, IfOk, length};
+ghost use Rattle.std.specs.Prelude.{◌≡◌, ◌≤◌, ◌≤ℤ◌, pos, IfOk, length};
 ghost use Rattle.vs_instance.specs.declared.limits.TheConstants.{MAX_MULTIPLIER};
 ghost use Rattle.vs_multi.specs.Multipliers.{AreMultipliers};
 ghost use Rattle.vs_multi.specs.Rounds.{IsCase};
 ghost use Rattle.vs_walk.specs.Walkers.{IsWalkerFor};
-ghost use Rattle.vs_penalty.specs.Seekers.{AreWalkers};
+ghost use Rattle.vs_penalty.specs.Seekers.{AreWalks, AreWalkers, IsTurnIn};
 
 use crate::effort::is_small;
 use vs_circ::Work;
@@ -24,12 +24,31 @@ const FIRST_WALKERS: usize = 2;
 /// would be over 200 MB, and the walkers share what is kept.
 const MOST_ARCS: u64 = 900_000;
 
-/// The walkers, and what they keep for the nets.
+/// A walk: who walks, and what is kept for the nets on the way.
+#[derive(Drop)]
+pub(crate) struct Walk {
+    walker: Walker,
+    /// None where the walkers share what is kept.
+    own: Option<Work>,
+    /// Whether its last turn ended for want of memory.
+    failed: bool,
+}
+
+/// The walkers at the root.
 #[derive(Drop)]
 pub(crate) struct Walkers {
-    walkers: Vec<Walker>,
-    /// What each keeps, or nothing where they share what is kept.
-    works: Vec<Work>,
+    walks: Vec<Walk>,
+}
+
+/// What a turn begins with.
+#[derive(Clone, Copy)]
+pub(crate) struct Turn<'a> {
+    /// Which turn it is, from 0 on.
+    pub number: u32,
+    /// The best multipliers.
+    pub multipliers: &'a [i64],
+    /// The cheapest choices of all walkers.
+    pub pool: &'a Pool,
 }
 
 impl Walkers {
@@ -44,13 +63,17 @@ impl Walkers {
         requires most { pos most ≤ℤ MAX_MULTIPLIER }
         ensures { IfOk result (AreWalkers case.now.instance.now) }
     {
-        let mut walkers = Vec::new(case.alloc);
+        let mut walks = Vec::new(case.alloc);
         for number in 0..WALKERS {
             let walker = Walker::new(case, number, multipliers, most, budget)?;
-            walkers.push(walker)?;
+            let own = work_for(case)?;
+            walks.push(Walk {
+                walker,
+                own,
+                failed: false,
+            })?;
         }
-        let works = works_for(case)?;
-        Ok(Walkers { walkers, works })
+        Ok(Walkers { walks })
     }
 
     /// A turn of each. In even turns they begin with the choices of the pool, in odd ones each with its own. What they
@@ -58,7 +81,7 @@ impl Walkers {
     pub fn take_turn<W: Watch>(
         &mut self,
         case: &Case<'_>,
-        turn: u32,
+        number: u32,
         multipliers: &[i64],
         pool: &mut Pool,
         work: &mut Work,
@@ -71,18 +94,27 @@ impl Walkers {
         ensures walkers { AreWalkers case.now.instance.now self.new }
         ensures pool { pool.new.trips ≡ length case.now.instance.now.trips }
     {
-        let count = self.count_in(case, turn);
-        for k in 0..count {
-            self.take_turn_of(case, k, turn, multipliers, pool, work, watch)?;
+        let count = self.count_in(case, number);
+        let turn = Turn {
+            number,
+            multipliers,
+            pool,
+        };
+        let walks: &mut [Walk] = &mut self.walks;
+        let walking = &mut walks[..count];
+        if are_small(case.nets) {
+            walk_side_by_side(walking, case, &turn, watch);
+        } else {
+            walk_in_turn(walking, case, &turn, work, watch);
         }
         self.share(case, pool)
     }
 
     /// How many of them walk in a turn.
     fn count_in(&self, case: &Case<'_>, turn: u32) -> usize
-        ensures { result ≤ length self.now.walkers.items }
+        ensures { result ≤ length self.now.walks.items }
     {
-        let count = self.walkers.len();
+        let count = self.walks.len();
         if turn == 0 && is_small(case.instance) {
             count.min(FIRST_WALKERS)
         } else {
@@ -90,40 +122,17 @@ impl Walkers {
         }
     }
 
-    /// A turn of the one in this place.
-    fn take_turn_of<W: Watch>(
-        &mut self,
-        case: &Case<'_>,
-        k: usize,
-        turn: u32,
-        multipliers: &[i64],
-        pool: &Pool,
-        work: &mut Work,
-        watch: &W,
-    ) -> Result<(), Memory>
-        requires case { IsCase case.now.instance.now case.now.nets.now case.now.sets.now }
-        requires multipliers { AreMultipliers case.now.instance.now multipliers.now }
-        requires walkers { AreWalkers case.now.instance.now self.old }
-        requires place { k < length self.old.walkers.items }
-        requires pool { pool.now.trips ≡ length case.now.instance.now.trips }
-        ensures walkers { AreWalkers case.now.instance.now self.new }
-        ensures each { length self.new.walkers.items ≡ length self.old.walkers.items }
-    {
-        let walker = &mut self.walkers[k];
-        match self.works.get_mut(k) {
-            Some(own) => walk(walker, case, turn, multipliers, pool, own, watch),
-            None => walk(walker, case, turn, multipliers, pool, work, watch),
-        }
-    }
-
-    /// Keeps in the pool what the walkers know.
+    /// Keeps in the pool what the walkers know. Memory, where a turn ended for want of it.
     fn share(&self, case: &Case<'_>, pool: &mut Pool) -> Result<(), Memory>
         requires walkers { AreWalkers case.now.instance.now self.now }
         requires pool { pool.old.trips ≡ length case.now.instance.now.trips }
         ensures { pool.new.trips ≡ length case.now.instance.now.trips }
     {
-        for walker in &self.walkers {
-            pool.merge(case.alloc, &walker.pool)?;
+        for walk in &self.walks {
+            if walk.failed {
+                return Err(Memory);
+            }
+            pool.merge(case.alloc, &walk.walker.pool)?;
         }
         Ok(())
     }
@@ -131,43 +140,102 @@ impl Walkers {
     /// What all of them did so far, as `Work::effort` counts it.
     pub fn effort(&self) -> u64 {
         let mut effort: u64 = 0;
-        for walker in &self.walkers {
-            effort = effort.saturating_add(walker.effort);
+        for walk in &self.walks {
+            effort = effort.saturating_add(walk.walker.effort);
         }
         effort
     }
 }
 
+/// A turn of each of these, as many at once as the watch has threads for. Each keeps something for the nets.
+fn walk_side_by_side<W: Watch>(
+    walks: &mut [Walk],
+    case: &Case<'_>,
+    turn: &Turn<'_>,
+    watch: &W,
+)
+    requires turn { IsTurnIn case.now.instance.now case.now.nets.now case.now.sets.now turn.now }
+    requires walkers { AreWalks case.now.instance.now walks.old }
+    ensures { AreWalks case.now.instance.now walks.new }
+{
+    let job = |_place: usize, one: &mut Walk|
+        requires { IsTurnIn case.now.instance.now case.now.nets.now case.now.sets.now turn.now
+            × IsWalkerFor case.now.instance.now one.now.walker }
+        ensures { IsWalkerFor case.entry.now.instance.now one.exit.now.walker }
+    { one.go(case, turn, watch) };
+    watch.each(walks, &job);
+}
+
+/// A turn of each of these, one after the other. They share what is kept for the nets.
+fn walk_in_turn<W: Watch>(
+    walks: &mut [Walk],
+    case: &Case<'_>,
+    turn: &Turn<'_>,
+    work: &mut Work,
+    watch: &W,
+)
+    requires turn { IsTurnIn case.now.instance.now case.now.nets.now case.now.sets.now turn.now }
+    requires walkers { AreWalks case.now.instance.now walks.old }
+    ensures { AreWalks case.now.instance.now walks.new }
+{
+    for k in 0..walks.len() {
+        walks[k].go_with(case, turn, work, watch);
+    }
+}
+
+impl Walk {
+    /// A turn with what is kept here for the nets.
+    fn go_with<W: Watch>(
+        &mut self,
+        case: &Case<'_>,
+        turn: &Turn<'_>,
+        work: &mut Work,
+        watch: &W,
+    )
+        requires turn { IsTurnIn case.now.instance.now case.now.nets.now case.now.sets.now turn.now }
+        requires walker { IsWalkerFor case.now.instance.now self.old.walker }
+        ensures { IsWalkerFor case.now.instance.now self.new.walker }
+    {
+        self.failed = turn_of(&mut self.walker, case, turn, work, watch).is_err();
+    }
+
+    /// A turn with what it keeps for the nets itself.
+    fn go<W: Watch>(&mut self, case: &Case<'_>, turn: &Turn<'_>, watch: &W)
+        requires turn { IsTurnIn case.now.instance.now case.now.nets.now case.now.sets.now turn.now }
+        requires walker { IsWalkerFor case.now.instance.now self.old.walker }
+        ensures { IsWalkerFor case.now.instance.now self.new.walker }
+    {
+        if let Some(own) = &mut self.own {
+            self.failed = turn_of(&mut self.walker, case, turn, own, watch).is_err();
+        }
+    }
+}
+
 /// A turn of a walker. In even turns it begins with the choices of the pool, in odd ones with its own.
-fn walk<W: Watch>(
+fn turn_of<W: Watch>(
     walker: &mut Walker,
     case: &Case<'_>,
-    turn: u32,
-    multipliers: &[i64],
-    pool: &Pool,
+    turn: &Turn<'_>,
     work: &mut Work,
     watch: &W,
 ) -> Result<(), Memory>
-    requires case { IsCase case.now.instance.now case.now.nets.now case.now.sets.now }
-    requires multipliers { AreMultipliers case.now.instance.now multipliers.now }
+    requires turn { IsTurnIn case.now.instance.now case.now.nets.now case.now.sets.now turn.now }
     requires walker { IsWalkerFor case.now.instance.now walker.old }
-    requires pool { pool.now.trips ≡ length case.now.instance.now.trips }
     ensures { IsWalkerFor case.now.instance.now walker.new }
 {
-    if turn % 2 == 0 {
-        walker.take_over(case, pool)?;
+    if turn.number % 2 == 0 {
+        walker.take_over(case, turn.pool)?;
     }
-    walker.walk(case, turn, multipliers, work, watch)
+    walker.walk(case, turn.number, turn.multipliers, work, watch)
 }
 
-/// What the walkers keep for the nets.
-fn works_for(case: &Case<'_>) -> Result<Vec<Work>, Memory> {
-    let count = if are_small(case.nets) { WALKERS } else { 0 };
-    let mut works = Vec::new(case.alloc);
-    for _ in 0..count {
-        works.push(Work::new(case.alloc, case.nets)?)?;
+/// What a walk keeps for the nets, or nothing where the walkers share it.
+fn work_for(case: &Case<'_>) -> Result<Option<Work>, Memory> {
+    if are_small(case.nets) {
+        Ok(Some(Work::new(case.alloc, case.nets)?))
+    } else {
+        Ok(None)
     }
-    Ok(works)
 }
 
 /// Whether the nets are small enough that each walker may keep something for them.

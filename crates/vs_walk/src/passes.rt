@@ -47,7 +47,9 @@ impl Penalties {
             if work.effort() > course.end || watch.is_over() {
                 return false;
             }
-            self.pass(case, course.layers, work);
+            if !self.pass(case, course.layers, work, watch) {
+                return false;
+            }
             if self.is_agreed(case.instance, course.few) {
                 return true;
             }

@@ -1,5 +1,5 @@
 //! What layers are offered for trips while they come to agree, and a pass by that.
-ghost use Rattle.std.specs.Prelude.{◌≡◌, ◌<◌, ◌≤ℤ◌, pos, IfOk, IfSome, MatchOption, length};
+ghost use Rattle.std.specs.Prelude.{◌≡◌, ◌<◌, ◌≤ℤ◌, false, pos, IfOk, IfSome, MatchOption, length};
 ghost use Rattle.vs_types.specs.LayerSet.{Has};
 ghost use Rattle.vs_instance.specs.Restriction.{IsRestriction};
 ghost use Rattle.vs_circ.specs.Offers.{AreOffers};
@@ -15,7 +15,7 @@ ghost use Rattle.vs_instance.specs.declared.limits.TheConstants.{MAX_MULTIPLIER}
 use crate::rate::Rate;
 use vs_circ::{Work, runs};
 use vs_instance::{Instance, MAX_MULTIPLIER};
-use vs_multi::{Case, moved};
+use vs_multi::{Case, LONG, Watch, moved};
 use vs_types::{LayerNo, LayerSet, MAX_LAYERS, Memory};
 
 /// What the layers are offered for each trip while they come to agree on which of them runs which. They do so by the
@@ -93,23 +93,36 @@ impl Penalties {
     }
 
     /// Each of these layers in turn runs the trips that are worth it at what they are offered for; the next one sees
-    /// which.
-    pub fn pass(&mut self, case: &Case<'_>, layers: LayerSet, work: &mut Work)
+    /// which. False where the pass takes long, and the watch ends it: the multipliers stay then.
+    pub fn pass<W: Watch>(
+        &mut self,
+        case: &Case<'_>,
+        layers: LayerSet,
+        work: &mut Work,
+        watch: &W,
+    ) -> bool
         requires case { IsCase case.now.instance.now case.now.nets.now case.now.sets.now }
         requires penalties { ArePenalties case.now.instance.now self.old }
         requires ready { IsReadyToRun case.now.nets.now work.old }
+        ensures ended { result ≡ false → W.may_end watch.now }
         ensures penalties { ArePenalties case.now.instance.now self.new }
         ensures ready { IsReadyToRun case.now.nets.now work.new }
     {
+        let before = work.effort();
         let count = case.instance.layers();
         prove!(count <= MAX_LAYERS);
         for k in 0..count {
+            let is_long = work.effort().saturating_sub(before) > LONG;
+            if is_long && watch.is_over() {
+                return false;
+            }
             let l = self.layer_at(k, count);
             if layers.has(l) {
                 self.run(case, l, work);
             }
         }
         move_all(&mut self.multipliers, &self.runs, self.rate.now);
+        true
     }
 
     /// The layer that runs in place k of a pass, counted from 0, where there are so many.

@@ -1,20 +1,6 @@
-use Rattle.std.proofs.Common.{◌≡◌, ◌∙◌, to_z, of_z, rules, arith}
-use Rattle.std.specs.Int.{w128}
-use Rattle.std.proofs.lemmas.Int.{to_z-of_z}
-use Rattle.vs_circ.proofs.shipping.Running.{marked-least}
 use Rattle.vs_circ.proofs.shipping.SmallArcs.{small_arcs}
 use Rattle.vs_circ.proofs.running.run_from.Goals as goal
 
 pub recall-requires-clause-arcs : goal.recall-requires-clause-arcs
 recall-requires-clause-arcs c =
     let layer = c.requires.of_layer in small_arcs layer.0 layer.2 layer.1.0 c.args.net.now layer.3
-
-pub returns-clause-least : goal.returns-clause-least
-returns-clause-least c =
-    let cost = c.settled_cost.result in
-    let word : to_z w128 (of_z w128 cost) ≡ cost = to_z-of_z w128 cost (search (rules, c.settled_cost.type_inv)) in
-    λ p l is lawful are.
-    marked-least p is l c.args.net.now lawful c.args.offers.now are c.settle_again.new.kept.shipment
-    c.settle_again.ensures.settled c.deref.result.now c.mark.new.answer (to_z w128 (of_z w128 cost))
-    c.deref.ensures.value (omega (arith, c.requires.each_trip)) (λ i below. c.mark.ensures i (omega arith))
-    (word ∙ c.settled_cost.ensures)
