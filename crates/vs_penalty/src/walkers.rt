@@ -100,13 +100,7 @@ impl Walkers {
             multipliers,
             pool,
         };
-        let walks: &mut [Walk] = &mut self.walks;
-        let walking = &mut walks[..count];
-        if are_small(case.nets) {
-            walk_side_by_side(walking, case, &turn, watch);
-        } else {
-            walk_in_turn(walking, case, &turn, work, watch);
-        }
+        walk_first(&mut self.walks, count, case, &turn, work, watch);
         self.share(case, pool)
     }
 
@@ -144,6 +138,28 @@ impl Walkers {
             effort = effort.saturating_add(walk.walker.effort);
         }
         effort
+    }
+}
+
+/// A turn of each of the first of these, up to this number.
+fn walk_first<W: Watch>(
+    walks: &mut [Walk],
+    count: usize,
+    case: &Case<'_>,
+    turn: &Turn<'_>,
+    work: &mut Work,
+    watch: &W,
+)
+    requires turn { IsTurnIn case.now.instance.now case.now.nets.now case.now.sets.now turn.now }
+    requires walkers { AreWalks case.now.instance.now walks.old }
+    requires count { count ≤ length walks.old }
+    ensures { AreWalks case.now.instance.now walks.new }
+{
+    let walking = &mut walks[..count];
+    if are_small(case.nets) {
+        walk_side_by_side(walking, case, turn, watch);
+    } else {
+        walk_in_turn(walking, case, turn, work, watch);
     }
 }
 

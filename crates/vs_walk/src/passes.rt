@@ -8,7 +8,9 @@ ghost use Rattle.vs_walk.specs.Rises.{HasRisen};
 ghost use Rattle.vs_walk.specs.Tallies.{AreAgreed, none_in};
 
 use crate::penalties::Penalties;
+use crate::scope::ALL;
 use crate::tally::Tally;
+use crate::walker::FEW;
 use vs_circ::Work;
 use vs_instance::{Instance, MAX_TRIPS};
 use vs_multi::{Case, Watch};
@@ -25,6 +27,18 @@ pub(crate) struct Course {
     pub passes: u32,
     /// None is made once the effort of the circulations is past this.
     pub end: u64,
+}
+
+impl Course {
+    /// So many passes at most, in all layers, up to this effort.
+    pub fn in_all(instance: &Instance, passes: u32, end: u64) -> Course {
+        Course {
+            layers: ALL,
+            few: instance.trips() / FEW,
+            passes,
+            end,
+        }
+    }
 }
 
 impl Penalties {

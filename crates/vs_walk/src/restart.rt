@@ -7,8 +7,8 @@ ghost use Rattle.std.specs.Prelude.{◌<◌};
 
 use crate::passes::Course;
 use crate::rate::Rate;
-use crate::scope::{ALL, free_among};
-use crate::walker::{FEW, Walker};
+use crate::scope::free_among;
+use crate::walker::Walker;
 use vs_circ::Work;
 use vs_multi::{Case, Watch};
 use vs_types::{LayerSet, Memory};
@@ -119,12 +119,8 @@ impl Walker {
         ensures walker { IsWalkerFor case.now.instance.now self.new }
         ensures ready { IsReadyToRun case.now.nets.now work.new }
     {
-        let course = Course {
-            layers: ALL,
-            few: case.instance.trips() / FEW,
-            passes: PASSES,
-            end: work.effort().saturating_add(self.budget),
-        };
+        let end = work.effort().saturating_add(self.budget);
+        let course = Course::in_all(case.instance, PASSES, end);
         let rate = self.restarts[kind].part_of(self.agreed);
         self.penalties.rate = Rate::up_to(rate, self.penalties.rate.most, GROWTH);
         self.penalties.begin_from(&self.best, &self.draft.layers);

@@ -181,12 +181,8 @@ impl Walker {
         ensures walker { IsWalkerFor case.now.instance.now self.new }
         ensures ready { IsReadyToRun case.now.nets.now work.new }
     {
-        let course = Course {
-            layers: ALL,
-            few: case.instance.trips() / FEW,
-            passes: MOST_PASSES,
-            end: work.effort().saturating_add(self.budget.saturating_mul(4)),
-        };
+        let end = work.effort().saturating_add(self.budget.saturating_mul(4));
+        let course = Course::in_all(case.instance, MOST_PASSES, end);
         self.penalties.rate = self.first_rate(case.instance.layers(), turn);
         self.penalties.begin(&self.best);
         let first = self.number.saturating_add(turn.saturating_mul(3));
