@@ -137,7 +137,8 @@ impl Walker {
         };
         offer_free(&self.sets, &self.best, high_for(most), &mut self.offered);
         self.penalties.rate = Rate::up_to(self.mends[kind].part_of(self.agreed), most, GROWTH);
-        self.penalties.begin_from(&self.offered, &self.draft.layers);
+        let offered: &[i64] = &self.offered;
+        self.penalties.begin_from(offered, &self.draft.layers);
         let first = self.draws.below(case.instance.layers());
         self.penalties.set_first(first);
         let sets: &[LayerSet] = &self.sets;

@@ -1,7 +1,13 @@
 use Rattle.std.proofs.Common.{◌∙◌, ap, length, subst, sym}
 use Rattle.std.proofs.lemmas.List.{with_items_is}
-use Rattle.vs_multi.specs.Multipliers.{AreMultipliers}
+use Rattle.vs_multi.specs.Multipliers.{AreMultipliers, AreWithin}
 use Rattle.vs_walk.proofs.walker.Walker.agree_in.Goals as goal
+
+pub begin_from-requires-clause-within : goal.begin_from-requires-clause-within
+begin_from-requires-clause-within g c =
+    let same = c.offer_free.ensures.each ∙ c.deref_mut.ensures.len in
+    let written = with_items_is c.args.self.now.offered c.offer_free.new.offered same in
+    subst AreWithin (sym (c.deref-offered.ensures.value ∙ written)) c.offer_free.ensures.within
 
 pub returns-clause-walker : goal.returns-clause-walker
 returns-clause-walker g c =
