@@ -15,7 +15,8 @@ loop-k-preserved g c =
       λ j d h.
           below_more (λ i. R i (get_or xs i d) (get_or (set ys k y) i d)) k
           (λ i u.
-          subst (R i (get_or xs i d)) (sym (get_or-set_other ys k i y d (λ e. omega arith))) (c.loop-k.invariant.1 i d u))
+          subst (R i (get_or xs i d)) (sym (get_or-set_other ys k i y d (λ e. omega arith)))
+          (c.loop-k.invariant.1 i d u))
           (subst (R k (get_or xs k d)) (sym (get_or-set_same ys k y d l))
           (subst (λ x. R k x y) (get_or_default ys k _ d l ∙ c.loop-k.invariant.0 k d (omega arith)) c.do_at.ensures))
           j h,
