@@ -12,10 +12,11 @@ refuses the call of a number. Each number is tried twice: that call alone is ref
 First the calls of a run with ample memory are counted. Up to 1,000 calls all are tried; of more the first 400, the
 last 100, and 300 evenly between. A number past the last call has to meet no refusal.
 
-A run of one worker has to print the same bytes where it ends well. Of two workers the documents may differ: the
-claim, the cost and the bound have to be the same, and `check` has to say yes to each document; so it is of the
-documents to which their traces replay. The calls of two workers come in another order each time, so there a number
-stands for another call in each run.
+A run of one worker has to print the same bytes where it ends well, and so has one of four workers with the root alone,
+whose work threads share. Of two workers that share leaves the documents may differ: the claim, the cost and the bound
+have to be the same, and `check` has to say yes to each document; so it is of the documents to which their traces
+replay. The calls of several workers come in another order each time, so there a number stands for another call in each
+run.
 
 A run of MEETING has to end with status 6 and nothing written, or to print a row in which no worker holds a leaf. In
 that row the history has gone on: it begins with the steps that stood, and no count, cost or bound has got worse. Where
@@ -56,6 +57,9 @@ def example(name):
 TIMETABLE = example("two_depots.csv")
 DOCUMENT = example("two_depots_document.csv")
 
+# Words for a search of the root alone, by four workers.
+AT_ROOT = ["solve", "--workers", "4", "--nodes", "1"]
+
 # One whose one leaf leaves all open.
 OPEN = (
     "result,1,open\ncost,none\nbound,30\nnodes,0\ntable,1,cost\n"
@@ -71,8 +75,12 @@ TRACE = (
     "table,3,cost\nfleet,L1,0\nprice,L1,t1,460000,-10000\nfleet,L2,0\nprice,L2,t1,455000,-15000\nend\n"
 )
 
-# Words, timetable, what stands behind it, and whether two workers share the run.
+# 20 trips of 8 depots. Within the root there are rounds of circulations and walks for plans, side by side in threads.
+OF_DEPOTS = subprocess.run([f"{TOP}/bench/carpaneto.py", "20", "8", "3"], capture_output=True, check=True, text=True).stdout
+
+# Words, timetable, what stands behind it, and whether workers share the run.
 RUNS = [
+    (AT_ROOT, OF_DEPOTS, "", True),
     (["solve", "--workers", "2"], TIMETABLE, "", True),
     (["solve", "--workers", "1"], TIMETABLE, "", False),
     (["resume", "--workers", "2"], TIMETABLE, OPEN, True),
@@ -184,7 +192,7 @@ def fault(trial, ample, done, judge, on):
 
 
 def same_bytes(ample, written, _on):
-    """What is wrong with what one worker wrote."""
+    """What is wrong with what one worker wrote, or several of the root alone."""
     return "" if written == ample else f"other bytes: {written[:100]!r}"
 
 
@@ -324,7 +332,7 @@ def main():
         refusing = library(room)
         trial = Trial(path, room, refusing, SECONDS)
         for words, timetable, behind, shared in RUNS:
-            judge = same_answer(trial, timetable) if shared else same_bytes
+            judge = same_answer(trial, timetable) if shared and words != AT_ROOT else same_bytes
             wrong += tried(trial, " ".join(words), words, timetable + behind, shared, judge)
         if of_crew:
             wrong += crews_tried(Trial(of_crew, room, refusing, MEETING_SECONDS))

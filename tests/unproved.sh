@@ -37,6 +37,7 @@ else
     "resumed chain|tests/resume_chain.sh $program"
     "replayed traces|tests/replay_chain.sh $program"
     "searches that end early|tests/stopped_chain.sh $program"
+    "documents by more workers|tests/any_workers.sh $program"
   )
 fi
 if ! command -v rt > /dev/null; then

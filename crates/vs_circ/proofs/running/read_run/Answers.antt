@@ -4,12 +4,14 @@ use Rattle.std.proofs.lemmas.Int.{to_z-of_z}
 use Rattle.vs_circ.proofs.shipping.Running.{marked-least}
 use Rattle.vs_circ.proofs.running.read_run.Goals as goal
 
-pub returns-clause-least : goal.returns-clause-least
-returns-clause-least c =
+pub returns : goal.returns
+returns c =
     let cost = c.settled_cost.result in
     let word : to_z w128 (of_z w128 cost) ≡ cost = to_z-of_z w128 cost (search (rules, c.settled_cost.type_inv)) in
-    λ p l is lawful are.
-    marked-least p is l c.args.net.now lawful c.args.offers.now are c.args.kept.now.shipment
-    c.requires.settled c.deref.result.now c.mark.new.answer (to_z w128 (of_z w128 cost))
-    c.deref.ensures.value (omega (arith, c.requires.each_trip)) (λ i below. c.mark.ensures i (omega arith))
-    (word ∙ c.settled_cost.ensures)
+    record {
+      least = λ p l is lawful are.
+          marked-least p is l c.args.net.now lawful c.args.offers.now are c.args.kept.now.shipment
+          c.requires.settled c.deref.result.now c.mark.new.answer (to_z w128 (of_z w128 cost))
+          c.deref.ensures.value (omega (arith, c.requires.each_trip)) (λ i below. c.mark.ensures i (omega arith))
+          (word ∙ c.settled_cost.ensures);
+    }
