@@ -5,8 +5,8 @@ ghost use Rattle.std.specs.Fork.{AcceptsAt, AcceptsEach, ChangesAt, ChangesEach}
 
 use std::marker::{Send, Sync};
 
-/// Work at the nets has taken long after so much effort, as `Work::effort` counts it, which is a tenth of a second. From
-/// then on the watch is asked between two layers.
+/// Work at the nets has taken long after so much effort, as `Work::effort` counts it, which is a tenth of a second.
+/// From then on the watch is asked between two layers.
 pub const LONG: u64 = 500_000;
 
 /// Who may end the work at the root of a search before its effort is spent, and who does its jobs. When it ends decides

@@ -1,5 +1,5 @@
 -- The multipliers that a leaf is worked on from.
-use Rattle.std.proofs.Common.{◌≡◌, refl, ℕ, ◌<◌, Bool, true, false, List, length, get_or, sym, ap, ◌∙◌, subst, arith, inl, inr, ℤ, pos, ◌≤ℤ◌, Option, Some, None, Result, Ok, Err, IfOk, IfSome}
+use Rattle.std.proofs.Common.{◌≡◌, ℕ, ◌<◌, Bool, true, false, List, length, get_or, sym, ◌∙◌, subst, arith, inl, inr, ℤ, pos, ◌≤ℤ◌, Option, Some, None, Result, Ok, Err, IfOk, IfSome}
 use Rattle.std.proofs.lemmas.Int.{ints}
 use Rattle.std.proofs.lemmas.List.{ext_get_or}
 use Rattle.vs_types.specs.LayerSet.{Has}
@@ -16,7 +16,6 @@ use Rattle.vs_prices.specs.declared.bound.Bound.{Bound}
 use Rattle.vs_prices.specs.declared.bound.Bound.TheVariants.{AtLeast, NoPlan}
 use Rattle.vs_prices.specs.declared.table.Table.{Table}
 use Rattle.vs_prices.specs.Bounds.{ReachesLagrangian, ReachesValue}
-use Rattle.vs_circ.proofs.CallerLemmas.{over_range}
 use Rattle.vs_multi.proofs.CallerLemmas.{total-by_place}
 use Rattle.vs_multi.specs.Multipliers.{AreOfTable, AreStarts}
 use Rattle.vs_multi.specs.declared.best.Best.{Best}

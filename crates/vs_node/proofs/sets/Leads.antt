@@ -1,5 +1,5 @@
 -- By what a leaf may be split, and whether it may.
-use Rattle.std.proofs.Common.{◌≡◌, ℕ, ◌<◌, ◌↔◌, Bool, true, List, length, sym, ◌∙◌, arith, refl, Option, None, Some, IsTrue, MatchOption}
+use Rattle.std.proofs.Common.{ℕ, ◌<◌, ◌↔◌, List, length, sym, ◌∙◌, arith, refl, Option, None, Some, IsTrue, MatchOption}
 use Rattle.std.specs.Option.{is_some}
 use Rattle.vs_types.specs.declared.layer_set.LayerSet.{LayerSet}
 use Rattle.vs_types.specs.declared.numbers.TripNo.{TripNo}

@@ -1,4 +1,4 @@
-use Rattle.std.proofs.Common.{◌≡◌, ◌∙◌, ℕ, ◌<◌, length, get_or, set, sym, subst, below_more, get_or-set_same, get_or-set_other, arith}
+use Rattle.std.proofs.Common.{◌∙◌, ℕ, ◌<◌, length, get_or, set, sym, subst, below_more, get_or-set_same, get_or-set_other, arith}
 use Rattle.std.proofs.lemmas.List.{get_or_default}
 use Rattle.std.specs.Fork.{ChangesAt}
 use Rattle.vs_multi.proofs.watch.in_turn.Goals as goal
@@ -13,10 +13,11 @@ loop-k-preserved g c =
     let l : k < length ys = omega arith in (
       λ j d h. get_or-set_other ys k j y d (λ e. omega arith) ∙ c.loop-k.invariant.0 j d (omega arith),
       λ j d h.
-      below_more (λ i. R i (get_or xs i d) (get_or (set ys k y) i d)) k
-      (λ i u.
-      subst (R i (get_or xs i d)) (sym (get_or-set_other ys k i y d (λ e. omega arith))) (c.loop-k.invariant.1 i d u))
-      (subst (R k (get_or xs k d)) (sym (get_or-set_same ys k y d l))
-      (subst (λ x. R k x y) (get_or_default ys k _ d l ∙ c.loop-k.invariant.0 k d (omega arith)) c.do_at.ensures))
-      j h,
+          below_more (λ i. R i (get_or xs i d) (get_or (set ys k y) i d)) k
+          (λ i u.
+          subst (R i (get_or xs i d)) (sym (get_or-set_other ys k i y d (λ e. omega arith)))
+          (c.loop-k.invariant.1 i d u))
+          (subst (R k (get_or xs k d)) (sym (get_or-set_same ys k y d l))
+          (subst (λ x. R k x y) (get_or_default ys k _ d l ∙ c.loop-k.invariant.0 k d (omega arith)) c.do_at.ensures))
+          j h,
     )

@@ -6,4 +6,4 @@ abbrev pub invariant-loop-k : goal.invariant-loop-k
 invariant-loop-k g l =
     ((j : ℕ) (d : g.row.T.Denot) → l.k ≤ j → get_or l.items j d ≡ get_or l.initial.items j d)
     × ((j : ℕ) (d : g.row.T.Denot) → j < l.k
-        → ChangesAt g.F.Fn l.job j (get_or l.initial.items j d) (get_or l.items j d))
+    → ChangesAt g.F.Fn l.job j (get_or l.initial.items j d) (get_or l.items j d))
