@@ -1,5 +1,6 @@
 //! A crew of workers: how they are enlisted, seated, let work together, and joined.
 ghost use Rattle.std.specs.Prelude.{◌≡◌, ◌<◌, [], length, IfErr, IfOk, Some};
+ghost use Rattle.std.specs.Thread.{IsSync};
 ghost use Rattle.vs_match.specs.LayerNets.{AreLayerNets};
 ghost use Rattle.vs_turn.specs.Seats.{SeatModel};
 ghost use Rattle.vs_tree.specs.Search.{state};
@@ -64,7 +65,6 @@ pub fn run<R: Threads + Wait + Sync, G: Gate + Sync>(
         turn: &turn,
         changes: &changes,
         gate,
-        workers,
     };
     let (seat, over) = work_to_end(rt, alloc, &site, seat, crew);
     drop(site);
@@ -172,10 +172,9 @@ fn work_together<R: Threads + Wait + Sync, G: Gate + Sync>(
         turn,
         changes,
         gate,
-        workers,
     } = *site;
     let work = |_place: usize, worker: &mut Worker|
-        requires { IsSite instance.now nets.now start.now.value
+        requires { IsSync G.row × IsSite instance.now nets.now start.now.value
             × IsReady turn.now.name start.now.value worker.now }
         ensures { IsDone (G.may_stop gate.entry.now) turn.entry.now.name start.entry.now.value
             worker.entry.now.number worker.exit.now }
@@ -187,7 +186,6 @@ fn work_together<R: Threads + Wait + Sync, G: Gate + Sync>(
             turn,
             changes,
             gate,
-            workers,
         };
         take_part(rt, alloc, &site, worker)
     };

@@ -1,40 +1,33 @@
-//! How the work at the root asks the gate whether the search is to end, and has jobs done in further threads.
+//! How the work at the root asks the gate whether the search is to end.
 
-ghost use Rattle.std.specs.Prelude.{◌≡◌, ◌<◌};
+ghost use Rattle.std.specs.Prelude.{◌≡◌};
 
 use crate::site::Gate;
 use std::marker::{Send, Sync};
 use std::sync::atomic::{AtomicI64, Ordering};
-use std::thread::{Threads, for_each_mut};
-use vs_multi::Watch;
+use vs_multi::{NoWatch, Watch};
 use vs_tree::Stand;
 use vs_types::SCALE;
 
 /// What the least cost is while no plan is known: no plan costs as much.
 const NO_COST: i64 = i64::MAX;
 
-/// Asks the gate within the work at the root, with what was told so far. Jobs are done in as many threads as there are
-/// workers: while one works on the root, the others have no leaf, and wait.
+/// Asks the gate within the work at the root, with what was told so far. Jobs are done one after the other.
 #[derive(Drop)]
-pub(crate) struct RootWatch<'a, R: Threads + Sync, G: Gate + Sync> {
-    rt: &'a R,
-    workers: usize,
+pub(crate) struct RootWatch<'a, G: Gate> {
     gate: &'a G,
     /// The least cost that was told, in cost units, or `NO_COST`.
     cost: AtomicI64,
     /// The greatest value, in 1/1000 of a cost unit.
     value: AtomicI64,
-    ghost some: { 0 < workers },
 }
 
-impl<'a, R: Threads + Sync, G: Gate + Sync> RootWatch<'a, R, G> {
+impl<'a, G: Gate> RootWatch<'a, G> {
     /// Nothing was told or asked yet.
-    pub(crate) fn new(rt: &'a R, workers: u32, gate: &'a G) -> RootWatch<'a, R, G>
+    pub(crate) fn new(gate: &'a G) -> RootWatch<'a, G>
         ensures { result.gate.now ≡ gate.now }
     {
         RootWatch {
-            rt,
-            workers: workers.max(1) as usize,
             gate,
             cost: AtomicI64::new(NO_COST),
             value: AtomicI64::new(i64::MIN),
@@ -54,7 +47,7 @@ impl<'a, R: Threads + Sync, G: Gate + Sync> RootWatch<'a, R, G> {
     }
 }
 
-impl<R: Threads + Sync, G: Gate + Sync> Watch for RootWatch<'_, R, G> {
+impl<G: Gate + Sync> Watch for RootWatch<'_, G> {
     ghost may_end = { λ watch. G.may_stop watch.gate.now };
 
     fn tell(&self, cost: Option<i64>, value: i64) {
@@ -71,11 +64,11 @@ impl<R: Threads + Sync, G: Gate + Sync> Watch for RootWatch<'_, R, G> {
     }
 
     fn threads(&self) -> usize {
-        self.workers
+        1
     }
 
     fn each<T: Send, F: Fn(usize, &mut T) + Sync>(&self, items: &mut [T], job: &F) {
-        for_each_mut(self.rt, items, self.workers, job);
+        NoWatch.each(items, job);
     }
 }
 

@@ -11,7 +11,6 @@ use crate::watching::RootWatch;
 use std::alloc::Global;
 use std::marker::Sync;
 use std::sync::Wait;
-use std::thread::Threads;
 use vs_circ::Work;
 use vs_node::Task;
 use vs_tree::Take;
@@ -48,7 +47,7 @@ pub(crate) enum After {
 }
 
 /// Takes leaves one after another and works on them, until the search is over, the gate ends it, or memory is wanting.
-pub(crate) fn take_part<R: Threads + Wait + Sync, G: Gate + Sync>(
+pub(crate) fn take_part<R: Wait, G: Gate + Sync>(
     rt: &R,
     alloc: Global,
     site: &Site<'_, G>,
@@ -70,7 +69,7 @@ pub(crate) fn take_part<R: Threads + Wait + Sync, G: Gate + Sync>(
 }
 
 /// The same with the seat in hand, and whether the worker knows that the search is over, or the gate ended it.
-fn go_on<R: Threads + Wait + Sync, G: Gate + Sync>(
+fn go_on<R: Wait, G: Gate + Sync>(
     rt: &R,
     alloc: Global,
     site: &Site<'_, G>,
@@ -99,7 +98,7 @@ fn go_on<R: Threads + Wait + Sync, G: Gate + Sync>(
 
 /// Asks for a leaf once, and works on it, or waits where others hold what there is. It takes none where the gate ends
 /// the search.
-fn ask_once<R: Threads + Wait + Sync, G: Gate + Sync>(
+fn ask_once<R: Wait, G: Gate + Sync>(
     rt: &R,
     alloc: Global,
     site: &Site<'_, G>,
@@ -133,7 +132,7 @@ fn ask_once<R: Threads + Wait + Sync, G: Gate + Sync>(
 
 /// Works on the leaf that the worker holds, and hands in what is found. The leaf is given back where memory is wanting,
 /// and where the gate ends the first round at the root.
-fn work_on<R: Threads + Wait + Sync, G: Gate + Sync>(
+fn work_on<R: Wait, G: Gate + Sync>(
     rt: &R,
     alloc: Global,
     site: &Site<'_, G>,
@@ -154,7 +153,7 @@ fn work_on<R: Threads + Wait + Sync, G: Gate + Sync>(
     let passes = worker.taken >= TURNS - 1;
     worker.taken = if passes { 0 } else { worker.taken + 1 };
     let (task, scratch) = (&mut worker.task, &mut worker.scratch);
-    let watch = RootWatch::new(rt, site.workers, site.gate);
+    let watch = RootWatch::new(site.gate);
     match found(
         alloc,
         site.instance,
