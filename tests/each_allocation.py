@@ -12,11 +12,10 @@ refuses the call of a number. Each number is tried twice: that call alone is ref
 First the calls of a run with ample memory are counted. Up to 1,000 calls all are tried; of more the first 400, the
 last 100, and 300 evenly between. A number past the last call has to meet no refusal.
 
-A run of one worker has to print the same bytes where it ends well, and so has one of four workers with the root alone,
-whose work threads share. Of two workers that share leaves the documents may differ: the claim, the cost and the bound
-have to be the same, and `check` has to say yes to each document; so it is of the documents to which their traces
-replay. The calls of several workers come in another order each time, so there a number stands for another call in each
-run.
+A run of one worker has to print the same bytes where it ends well, and so has one of four workers with the root alone.
+Of two workers that share leaves the documents may differ: the claim, the cost and the bound have to be the same, and
+`check` has to say yes to each document; so it is of the documents to which their traces replay. The calls of several
+workers come in another order each time, so there a number stands for another call in each run.
 
 A run of MEETING has to end with status 6 and nothing written, or to print a row in which no worker holds a leaf. In
 that row the history has gone on: it begins with the steps that stood, and no count, cost or bound has got worse. Where
@@ -75,7 +74,7 @@ TRACE = (
     "table,3,cost\nfleet,L1,0\nprice,L1,t1,460000,-10000\nfleet,L2,0\nprice,L2,t1,455000,-15000\nend\n"
 )
 
-# 20 trips of 8 depots. Within the root there are rounds of circulations and walks for plans, side by side in threads.
+# 20 trips of 8 depots. Within the root there are rounds of circulations and walks for plans.
 OF_DEPOTS = subprocess.run([f"{TOP}/bench/carpaneto.py", "20", "8", "3"], capture_output=True, check=True, text=True).stdout
 
 # Words, timetable, what stands behind it, and whether workers share the run.

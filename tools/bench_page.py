@@ -32,7 +32,7 @@ Point = tuple[float, float]
 # A line of a plot: its name, its colour and its points.
 Line = tuple[str, str, list[Point]]
 
-BLUE, BROWN, GREEN, RED, VIOLET = "#1f5fa8", "#b35900", "#2e7d32", "#a4262c", "#6b3fa0"
+BLUE, BROWN, GREEN = "#1f5fa8", "#b35900", "#2e7d32"
 
 
 @dataclass
@@ -154,24 +154,6 @@ def workers(found: Results) -> str:
     return table(["Workers", "Wall seconds", "Speed-up of all nodes but the root"], rows)
 
 
-def root_workers(found: Results) -> str:
-    """Returns for each root the wall and CPU time by one to four workers, as shares of what one takes."""
-    rows = []
-    for name, alone, groups in roots_by_workers(found):
-        for count, runs in groups:
-            wall, cpu = (median(runs, what) / max(median(alone, what), 1e-3) for what in ("wall", "cpu"))
-            rows.append([name, str(count), spread(runs, "wall"), f"{wall:.2f}", f"{cpu:.2f}"])
-    return table(["Timetable", "Workers", "Wall seconds", "of one worker's", "CPU time, of one worker's"], rows)
-
-
-def roots_by_workers(found: Results) -> list[tuple[str, list[Row], list[tuple[int, list[Row]]]]]:
-    """Returns for each timetable the runs of its root by one worker, and those by each number of workers."""
-    by_name: dict[str, dict[int, list[Row]]] = {}
-    for (name, _, count), runs in found.of("root workers").items():
-        by_name.setdefault(name, {})[int(count)] = runs
-    return [(name, groups[1], sorted(groups.items())) for name, groups in by_name.items()]
-
-
 def speed_ups(found: Results) -> list[tuple[int, float, list[Row]]]:
     """Returns for each number of workers how many times as fast the nodes behind the root were worked on."""
     groups = found.of("workers")
@@ -212,7 +194,6 @@ SECTIONS = {
     "solve": lambda found: searches(found, "solve"),
     "classes": lambda found: searches(found, "classes"),
     "roots": roots,
-    "root_workers": root_workers,
     "workers": workers,
     "commands": lambda found: commands(found, "commands"),
     "carried": lambda found: commands(found, "carried"),
@@ -251,11 +232,7 @@ def trip_lines(found: Results) -> list[Line]:
 def worker_lines(found: Results) -> list[Line]:
     """Returns the speed-up over the number of workers, and the best that there could be."""
     points = [(float(count), times) for count, times, _ in speed_ups(found)]
-    lines = [("nodes behind the root", BLUE, points)]
-    for (name, alone, groups), colour in zip(roots_by_workers(found), (BROWN, RED, VIOLET)):
-        root = [(float(count), median(alone, "wall") / median(runs, "wall")) for count, runs in groups]
-        lines.append((name, colour, root))
-    return [*lines, ("as many times as workers", GREEN, [(count, count) for count, _ in points])]
+    return [("mdvsp", BLUE, points), ("as many times as workers", GREEN, [(count, count) for count, _ in points])]
 
 
 # Each plot: its title, its axes, and its lines.
