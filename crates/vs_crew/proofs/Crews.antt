@@ -46,8 +46,8 @@ done-before stops turn start crew worker each k d inside =
     (each k d (omega (arith, size, inside)))
 
 -- what the seat knows of a worker that is done
-pub end_knows : (stops : Type 0) (turn : TableId) (start : Search) (number : ℕ) (worker : Worker) (seat : SeatModel) (over : Bool)
-    → IsDone stops turn start number worker → worker.seat ≡ Some seat → over ≡ worker.over
+pub end_knows : (stops : Type 0) (turn : TableId) (start : Search) (number : ℕ) (worker : Worker) (seat : SeatModel)
+    (over : Bool) → IsDone stops turn start number worker → worker.seat ≡ Some seat → over ≡ worker.over
     → Knows turn start number (IsEnd stops over number) seat
 end_knows stops turn start number worker seat over done has told =
     let same : done.seat ≡ seat = ap (λ (o : Option SeatModel). unwrap_or o done.seat) (sym done.has ∙ has) in

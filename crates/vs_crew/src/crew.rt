@@ -73,11 +73,7 @@ pub fn run<R: Threads + Wait + Sync, G: Gate + Sync>(
 }
 
 /// So many workers, which have no seats yet.
-fn enlisted(
-    alloc: Global,
-    instance: &Instance,
-    workers: u32,
-) -> Result<Vec<Worker>, Memory>
+fn enlisted(alloc: Global, instance: &Instance, workers: u32) -> Result<Vec<Worker>, Memory>
     ensures count { IfOk result (λ crew. length crew.items ≡ workers) }
     ensures each { IfOk result (λ crew. AreEnlisted instance.now crew.items) }
 {

@@ -184,8 +184,8 @@ fn found_at_root<W: Watch>(
     ensures fits { Fits instance.now task.new.table }
 {
     if !has_choice(&task.sets) {
-        let outcome = work(alloc, instance, nets, task, scratch)?;
-        return Ok(Some(outcome));
+        let alone = work(alloc, instance, nets, task, scratch)?;
+        return Ok(Some(alone));
     }
     watch.tell(
         task.known,

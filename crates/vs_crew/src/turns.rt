@@ -33,8 +33,10 @@ pub(crate) fn ask<R: Wait, G: Gate>(
     if site.gate.is_over(&stand) {
         return (held.release(), None);
     }
-    let take = held.value().take(w, task);
-    (held.release(), Some(take))
+    let tree = held.value();
+    let take = tree.take(w, task);
+    let seat = held.release();
+    (seat, Some(take))
 }
 
 /// Hands in what the work on a worker's leaf found.

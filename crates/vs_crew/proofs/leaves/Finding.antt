@@ -1,5 +1,5 @@
 -- What the work on a leaf finds, also where the layers came to agree before.
-use Rattle.std.proofs.Common.{◌≡◌, ℕ, ◌<◌, ◌⊎◌, Bool, true, List, sym, subst, arith, inl, inr, Option, Some, None, ℤ}
+use Rattle.std.proofs.Common.{◌≡◌, ℕ, ◌<◌, ◌⊎◌, List, sym, subst, arith, inl, inr, Option, Some, None, ℤ}
 use Rattle.std.specs.Prelude.{IfSome}
 use Rattle.std.proofs.lemmas.Int.{ints, clamps}
 use Rattle.vs_types.specs.declared.layer_set.LayerSet.{LayerSet}
@@ -19,7 +19,6 @@ use Rattle.vs_tree.specs.declared.calls.Next.TheVariants.{Close, Split}
 use Rattle.vs_node.specs.LeastPlans.{IsBestWithin}
 use Rattle.vs_node.specs.Outcomes.{HasNext, HasPlan}
 use Rattle.vs_node.specs.declared.outcome.Task.{Task}
-use Rattle.vs_node.specs.WorkedStep.{IsWorked}
 use Rattle.vs_crew.specs.Found.{IsLawfulNext}
 
 -- what is below the lesser of two costs is below both

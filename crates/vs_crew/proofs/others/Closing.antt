@@ -1,5 +1,5 @@
 -- The search once the turn was closed by the seat of all workers.
-use Rattle.std.proofs.Common.{◌≡◌, ◌⊎◌, inl, inr, ℕ, ◌<◌, Bool, true, List, [], ◌∷◌, ◌++◌, length, map, drop, refl, sym, ap, ◌∙◌, subst, arith, append-nil}
+use Rattle.std.proofs.Common.{◌≡◌, inl, inr, ℕ, ◌<◌, Bool, true, List, [], ◌∷◌, ◌++◌, length, map, drop, refl, sym, ap, ◌∙◌, subst, arith, append-nil}
 use Rattle.std.proofs.Math.Seq.{take-append_seam}
 use Rattle.atomic_table.specs.Seated.{TableId}
 use Rattle.vs_turn.specs.Seats.{SeatModel}
@@ -43,8 +43,9 @@ unchanged t new none same =
     })
 
 module _ (stops : Type 0) (turn : TableId) (start after : Search) (workers : ℕ) (over : Bool) (seat : SeatModel)
-    (ends : KnowsEnds stops turn start 0 workers over seat) (closed : Shared) (opens : shared_opening closed ≡ seat.opening)
-    (entries : shared_entries closed ≡ seat.seen) (is : after ≡ closed.search)
+    (ends : KnowsEnds stops turn start 0 workers over seat) (closed : Shared)
+    (opens : shared_opening closed ≡ seat.opening) (entries : shared_entries closed ≡ seat.seen)
+    (is : after ≡ closed.search)
     (workers_are : start.opening.workers ≡ workers) (worked : AreWorkedAfter after.opening closed.before after.steps)
     (opening : IsOpening after.opening) (history : IsHistory after.opening after.steps) where
   opens_same : closed.before ∷ opening_entry closed.search.opening ≡ length start.steps ∷ opening_entry start.opening

@@ -3,7 +3,7 @@ use Rattle.std.proofs.Common.{◌≡◌, ℕ, zero, suc, ◌<◌, Bool, true, fa
 use Rattle.std.proofs.lemmas.Bool.{cases_eq}
 use Rattle.std.proofs.lemmas.List.Sums.{sum_by-cons}
 use Rattle.vs_tree.specs.Entries.{worker_of}
-use Rattle.vs_tree.specs.History.{FullStep, Opening, Place, State, Took, Split, Closed, Offered, GaveBack, IsAmong, IsHeldBy, IsHistory, MayCome, MayFollow, after, count_spots, first_state, is_held, place_at, state_after, state_of}
+use Rattle.vs_tree.specs.History.{FullStep, Opening, Place, State, Took, Split, Closed, Offered, GaveBack, IsHeldBy, IsHistory, MayCome, MayFollow, after, count_spots, first_state, is_held, place_at, state_after, state_of}
 use Rattle.vs_tree.specs.Sound.{IsOpening}
 use Rattle.vs_tree.specs.Takes.{IsOver, IsWorkLeft}
 use Rattle.vs_tree.proofs.CallerLemmas.{histories_are_sound, not_held, state-append}

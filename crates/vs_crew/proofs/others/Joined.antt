@@ -6,7 +6,7 @@ use mathlib.Core.List.{IsPrefix}
 use Rattle.atomic_table.specs.Seated.{TableId}
 use Rattle.vs_turn.specs.Calls.{NoCalls, has_ticket}
 use Rattle.vs_turn.specs.Seats.{KnowsCalls, SeatModel, both_seats}
-use Rattle.vs_turn.specs.Tickets.{merged_tickets, tickets_from}
+use Rattle.vs_turn.specs.Tickets.{merged_tickets}
 use Rattle.vs_turn.proofs.CallerLemmas.{next_apart, next_merged, none_of_one, none_unseen}
 use Rattle.vs_tree.specs.Entries.{entry_of}
 use Rattle.vs_tree.specs.History.{FullStep, Opening, state_of}

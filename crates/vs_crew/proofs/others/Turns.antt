@@ -149,7 +149,8 @@ module _ (turn : TableId) (start : Search) (worker : ℕ) (Q : Says) (seat held_
 
     -- and the worker knows then what holds of the search that it leaves
     pub turn_knows : (R : Says) (after : SeatModel) → R new.search.opening (state new.search)
-        → after ≡ released_seat held_seat found (shared_entries new) → KnowsCalls after → Knows turn start worker R after
+        → after ≡ released_seat held_seat found (shared_entries new) → KnowsCalls after
+        → Knows turn start worker R after
     turn_knows R after now is calls =
         let whole = is ∙ ap (λ (x : SeatModel). released_seat x found (shared_entries new)) same_seat in
         subst (Knows turn start worker R) (sym whole)

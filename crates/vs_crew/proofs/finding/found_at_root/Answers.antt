@@ -13,8 +13,8 @@ pub returns-then-not-has_choice-clause-found : goal.returns-then-not-has_choice-
 returns-then-not-has_choice-clause-found g c =
     let p = c.args.instance.now in
     let task = c.args.task.now in
-    let outcome = c.in_ok-outcome.outcome in
-    let made = c.in_ok-outcome.ensures in
+    let outcome = c.in_ok-alone.alone in
+    let made = c.in_ok-alone.ensures in
     record {
       fits = made.fits;
       holds = made.holds;
@@ -29,8 +29,8 @@ returns-clause-found g c =
     let p = c.args.instance.now in
     let task = c.args.task.now in
     let agreed = c.in_ok-agreed.agreed in
-    let outcome = c.in_ok-outcome-2.outcome in
-    let made = c.in_ok-outcome-2.ensures in
+    let outcome = c.in_ok-outcome.outcome in
+    let made = c.in_ok-outcome.ensures in
     let best = c.cheaper-plan in
     let now : Task = record {
       sets = task.sets;

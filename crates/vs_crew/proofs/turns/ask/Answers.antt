@@ -42,51 +42,51 @@ pub take-take-requires-clause-idle : goal.take-take-requires-clause-idle
 take-take-requires-clause-idle g c =
     let held = c.hold-held.ensures in
     turn_left c.args.site.now.turn.now.name c.args.site.now.start.now.value c.args.w (IsIdle c.args.w)
-    c.args.seat c.hold-held.result.seat c.hold-held.result.found c.hold-held.result.value c.value-2.result.now
+    c.args.seat c.hold-held.result.seat c.hold-held.result.found c.hold-held.result.value c.value-tree.result.now
     c.requires.idle held.seat held.opening held.begins held.unmade held.found
-    (c.value-2.ensures.value ∙ c.value.ensures.value)
+    (c.value-tree.ensures.value ∙ c.value.ensures.value)
 
 pub take-take-requires-clause-sets : goal.take-take-requires-clause-sets
 take-take-requires-clause-sets g c =
     let held = c.hold-held.ensures in
     let opening = turn_problem c.args.site.now.turn.now.name c.args.site.now.start.now.value c.args.w (IsIdle c.args.w)
-    c.args.seat c.hold-held.result.seat c.hold-held.result.found c.hold-held.result.value c.value-2.result.now
+    c.args.seat c.hold-held.result.seat c.hold-held.result.found c.hold-held.result.value c.value-tree.result.now
     c.requires.idle held.seat held.opening held.begins held.unmade held.found
-    (c.value-2.ensures.value ∙ c.value.ensures.value) in
+    (c.value-tree.ensures.value ∙ c.value.ensures.value) in
     c.requires.sets ∙ ap (λ (o : Opening). length o.problem.trips) (sym opening)
 
 pub take-take-requires-clause-table : goal.take-take-requires-clause-table
 take-take-requires-clause-table g c =
     let held = c.hold-held.ensures in
     let opening = turn_problem c.args.site.now.turn.now.name c.args.site.now.start.now.value c.args.w (IsIdle c.args.w)
-    c.args.seat c.hold-held.result.seat c.hold-held.result.found c.hold-held.result.value c.value-2.result.now
+    c.args.seat c.hold-held.result.seat c.hold-held.result.found c.hold-held.result.value c.value-tree.result.now
     c.requires.idle held.seat held.opening held.begins held.unmade held.found
-    (c.value-2.ensures.value ∙ c.value.ensures.value) in
+    (c.value-tree.ensures.value ∙ c.value.ensures.value) in
     subst (λ (o : Opening). IsSized o.problem c.args.task.now.table) (sym opening) c.requires.table
 
-pub release-requires-2-clause-entries : goal.release-requires-2-clause-entries
-release-requires-2-clause-entries g c =
+pub release-seat-requires-clause-entries : goal.release-seat-requires-clause-entries
+release-seat-requires-clause-entries g c =
     let held = c.hold-held.ensures in
     turn_entries c.args.site.now.turn.now.name c.args.site.now.start.now.value c.args.w (IsIdle c.args.w)
-    c.args.seat c.hold-held.result.seat c.hold-held.result.found c.hold-held.result.value c.value-2.result.now
+    c.args.seat c.hold-held.result.seat c.hold-held.result.found c.hold-held.result.value c.value-tree.result.now
     c.requires.idle held.seat held.opening held.begins held.unmade held.found
-    (c.value-2.ensures.value ∙ c.value.ensures.value) c.take-take.new.self c.take-take.ensures.steps
+    (c.value-tree.ensures.value ∙ c.value.ensures.value) c.take-take.new.self c.take-take.ensures.steps
 
 pub returns-clause-told : goal.returns-clause-told
 returns-clause-told g c =
     let held = c.hold-held.ensures in
     turn_knows c.args.site.now.turn.now.name c.args.site.now.start.now.value c.args.w (IsIdle c.args.w)
-    c.args.seat c.hold-held.result.seat c.hold-held.result.found c.hold-held.result.value c.value-2.result.now
+    c.args.seat c.hold-held.result.seat c.hold-held.result.found c.hold-held.result.value c.value-tree.result.now
     c.requires.idle held.seat held.opening held.begins held.unmade held.found
-    (c.value-2.ensures.value ∙ c.value.ensures.value) c.take-take.new.self c.take-take.ensures.steps
+    (c.value-tree.ensures.value ∙ c.value.ensures.value) c.take-take.new.self c.take-take.ensures.steps
     (IsAsked (g.G.Gate.may_stop c.args.site.now.gate.now) c.args.w c.take-take.new.task (Some c.take-take.result))
-    c.release-2.result c.take-take.ensures.told c.release-2.ensures.seat c.release-2.ensures.knows
+    c.release-seat.result c.take-take.ensures.told c.release-seat.ensures.seat c.release-seat.ensures.knows
 
 pub returns-clause-table : goal.returns-clause-table
 returns-clause-table g c =
     let held = c.hold-held.ensures in
     let opening = turn_problem c.args.site.now.turn.now.name c.args.site.now.start.now.value c.args.w (IsIdle c.args.w)
-    c.args.seat c.hold-held.result.seat c.hold-held.result.found c.hold-held.result.value c.value-2.result.now
+    c.args.seat c.hold-held.result.seat c.hold-held.result.found c.hold-held.result.value c.value-tree.result.now
     c.requires.idle held.seat held.opening held.begins held.unmade held.found
-    (c.value-2.ensures.value ∙ c.value.ensures.value) in
+    (c.value-tree.ensures.value ∙ c.value.ensures.value) in
     subst (λ (o : Opening). IsSized o.problem c.take-take.new.task.table) opening c.take-take.ensures.table

@@ -15,8 +15,8 @@ returns-in-Over-clause-ended g c =
     let asked = subst (λ (a : After). Knows turn start c.loop.worker.number (IsAfter stops c.loop.worker.number a)
     c.ask_once-next.result.0) c.in-Over.is c.ask_once-next.ensures.after in
     knows_more turn start number (IsAfter stops number Over) (IsEnd stops true number) c.ask_once-next.result.0
-    (subst (λ (n : ℕ). Knows turn start n (IsAfter stops n Over) c.ask_once-next.result.0) c.loop.invariant.number asked)
-    (λ s over. inl over)
+    (subst (λ (n : ℕ). Knows turn start n (IsAfter stops n Over) c.ask_once-next.result.0) c.loop.invariant.number
+    asked) (λ s over. inl over)
 
 pub returns-in-Stopped-clause-ended : goal.returns-in-Stopped-clause-ended
 returns-in-Stopped-clause-ended g c =
@@ -27,5 +27,5 @@ returns-in-Stopped-clause-ended g c =
     let asked = subst (λ (a : After). Knows turn start c.loop.worker.number (IsAfter stops c.loop.worker.number a)
     c.ask_once-next.result.0) c.in-Stopped.is c.ask_once-next.ensures.after in
     knows_more turn start number (IsAfter stops number Stopped) (IsEnd stops true number) c.ask_once-next.result.0
-    (subst (λ (n : ℕ). Knows turn start n (IsAfter stops n Stopped) c.ask_once-next.result.0) c.loop.invariant.number asked)
-    (λ s stopped. inr stopped)
+    (subst (λ (n : ℕ). Knows turn start n (IsAfter stops n Stopped) c.ask_once-next.result.0) c.loop.invariant.number
+    asked) (λ s stopped. inr stopped)
