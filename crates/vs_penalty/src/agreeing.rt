@@ -88,9 +88,7 @@ fn agree_on<W: Watch>(
         return Ok(None);
     }
     seeker.go_on(case, &mut multipliers, work, watch)?;
-    if !watch.is_over() || seeker.value > i64::MIN {
-        improve(case, &mut multipliers, table, work, watch)?;
-    }
+    improve(case, seeker.value, &mut multipliers, table, work, watch)?;
     let best = seeker.choices.best.take();
     Ok(best)
 }
@@ -124,9 +122,10 @@ fn take_ray<W: Watch>(
 }
 
 /// Makes the table what these multipliers and sweeps from there show, where that is worth more. There are no sweeps
-/// where the watch ends the work.
+/// where the watch ends the work, and nothing is shown where it ended it before a value was known.
 fn improve<W: Watch>(
     case: &Case<'_>,
+    value: i64,
     multipliers: &mut [i64],
     table: &mut Table,
     work: &mut Work,
@@ -140,6 +139,9 @@ fn improve<W: Watch>(
     ensures holds { HoldingTable case.now.instance.now table.new }
     ensures worth { IsWorthNoLess case.now.instance.now case.now.sets.now table.new table.old }
 {
+    if value == i64::MIN && watch.is_over() {
+        return Ok(());
+    }
     let greatest = take_shown(case, multipliers, table, work)?;
     if watch.is_over() {
         return Ok(());
