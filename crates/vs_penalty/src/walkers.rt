@@ -164,12 +164,7 @@ fn walk_first<W: Watch>(
 }
 
 /// A turn of each of these, as many at once as the watch has threads for. Each keeps something for the nets.
-fn walk_side_by_side<W: Watch>(
-    walks: &mut [Walk],
-    case: &Case<'_>,
-    turn: &Turn<'_>,
-    watch: &W,
-)
+fn walk_side_by_side<W: Watch>(walks: &mut [Walk], case: &Case<'_>, turn: &Turn<'_>, watch: &W)
     requires turn { IsTurnIn case.now.instance.now case.now.nets.now case.now.sets.now turn.now }
     requires walkers { AreWalks case.now.instance.now walks.old }
     ensures { AreWalks case.now.instance.now walks.new }
@@ -201,13 +196,7 @@ fn walk_in_turn<W: Watch>(
 
 impl Walk {
     /// A turn with what is kept here for the nets.
-    fn go_with<W: Watch>(
-        &mut self,
-        case: &Case<'_>,
-        turn: &Turn<'_>,
-        work: &mut Work,
-        watch: &W,
-    )
+    fn go_with<W: Watch>(&mut self, case: &Case<'_>, turn: &Turn<'_>, work: &mut Work, watch: &W)
         requires turn { IsTurnIn case.now.instance.now case.now.nets.now case.now.sets.now turn.now }
         requires walker { IsWalkerFor case.now.instance.now self.old.walker }
         ensures { IsWalkerFor case.now.instance.now self.new.walker }
