@@ -80,7 +80,7 @@ def spread(runs: list[Row], what: str) -> str:
     """Returns the median of some runs, with the least and the greatest where they differ."""
     values = sorted(float(run[what]) for run in runs)
     low, mid, high = (short(value) for value in (values[0], statistics.median(values), values[-1]))
-    return mid if low == high else f"{mid} ({low} to {high})"
+    return mid if low == high else f"{mid} ({low}–{high})"
 
 
 def short(value: float) -> str:
@@ -94,15 +94,15 @@ def thousands(number: str) -> str:
 
 # The columns of a table of searches.
 SEARCH_HEADS = [
-    *("Timetable", "Greedy plan", "One node: plan", "bound", "gap", "nodes", "CPU s"),
-    *("Default: plan", "bound", "gap", "nodes", "CPU s", "CBC: plan", "bound", "CPU s"),
+    *("Timetable", "Greedy plan", "One node: plan", "gap, %", "CPU s"),
+    *("Default: plan", "gap, %", "nodes", "CPU s", "CBC: plan", "bound", "CPU s"),
 ]
 
 
 def table(heads: list[str], rows: list[list[str]]) -> str:
     """Returns a table of a page."""
-    lines = [heads, ["---"] * len(heads), *rows]
-    return "".join(f"| {' | '.join(line)} |\n" for line in lines)
+    lines = [f"| {' | '.join(cells)} |\n" for cells in [heads, *rows]]
+    return "".join([lines[0], "|---" * len(heads) + "|\n", *lines[1:]])
 
 
 def facts(found: Results) -> str:
@@ -117,60 +117,69 @@ def searches(found: Results, suite: str) -> str:
     for instance in dict.fromkeys(name for name, _, _ in groups):
         of = {what: runs for (name, what, count), runs in groups.items() if name == instance and count == "1"}
         greedy = thousands(runs[-1]["cost"]) if (runs := of.get("solve --nodes 0")) else ""
-        searched = [*solved(of.get("solve --nodes 1")), *solved(of.get("solve"))]
-        rows.append([instance, greedy, *searched, *by_cbc(of.get("cbc"))])
+        plan, apart, _, seconds = solved(of.get("solve --nodes 1"))
+        rows.append([instance, greedy, plan, apart, seconds, *solved(of.get("solve")), *by_cbc(of.get("cbc"))])
     return table(SEARCH_HEADS, rows)
 
 
 def solved(runs: list[Row] | None) -> list[str]:
-    """Returns plan, bound, gap, nodes and seconds of some runs of a search."""
+    """Returns plan, gap in per cent, nodes and seconds of some runs of a search."""
     if not runs:
-        return [""] * 5
+        return [""] * 4
     run, apart = runs[-1], gap(runs[-1])
-    shown = "" if apart is None else "0" if apart == 0 else f"{apart:.4f} %"
-    return [thousands(run["cost"]), thousands(run["bound"]), shown, run["nodes"], spread(runs, "cpu")]
+    shown = "" if apart is None else "0" if apart == 0 else f"{apart:.4f}"
+    return [thousands(run["cost"]), shown, run["nodes"], spread(runs, "cpu")]
 
 
 def roots(found: Results) -> str:
     """Returns a row for each timetable whose root alone was worked on."""
     rows = [
-        [instance, *solved(runs)[:3], spread(runs, "cpu"), short(median(runs, "megabytes"))]
+        [instance, solved(runs)[1], spread(runs, "cpu"), short(median(runs, "megabytes"))]
         for (instance, _, _), runs in found.of("root").items()
     ]
-    return table(["Timetable", "Plan", "Bound", "Gap", "CPU s", "MB"], rows)
+    return table(["Timetable", "Gap, %", "CPU s", "MB"], rows)
 
 
 def by_cbc(runs: list[Row] | None) -> list[str]:
     """Returns plan, bound and seconds of CBC."""
     if not runs:
         return [""] * 3
-    run, late = runs[-1], ", not ended" if runs[-1]["claim"] == "open" else ""
-    return [thousands(run["cost"]), thousands(run["bound"]), spread(runs, "cpu") + late]
+    run = runs[-1]
+    if run["claim"] == "optimal":
+        return [thousands(run["cost"]), thousands(run["cost"]), spread(runs, "cpu")]
+    return [thousands(run["cost"]), thousands(run["bound"]), spread(runs, "cpu") + ", not ended"]
 
 
 def workers(found: Results) -> str:
-    """Returns the wall times by more and more workers, and the speed-up of the nodes behind the root."""
+    """Returns the wall times by more and more workers, and the speed-up."""
     rows = [[str(count), spread(runs, "wall"), f"{times:.1f}"] for count, times, runs in speed_ups(found)]
-    return table(["Workers", "Wall seconds", "Speed-up of all nodes but the root"], rows)
+    return table(["Workers", "Wall seconds", "Speed-up"], rows)
 
 
 def speed_ups(found: Results) -> list[tuple[int, float, list[Row]]]:
-    """Returns for each number of workers how many times as fast the nodes behind the root were worked on."""
-    groups = found.of("workers")
-    root = median(next(runs for (_, what, _), runs in groups.items() if what == "solve --nodes 1"), "wall")
-    longer = {int(count): runs for (_, what, count), runs in groups.items() if what != "solve --nodes 1"}
-    alone = max(median(longer[1], "wall") - root, 1e-3)
-    return [(count, alone / max(median(runs, "wall") - root, 1e-3), runs) for count, runs in sorted(longer.items())]
+    """Returns for each number of workers how many times as fast as by one the search was."""
+    groups = found.of("workers").items()
+    by_count = {int(count): runs for (_, what, count), runs in groups if what != "solve --nodes 1"}
+    alone = median(by_count[1], "wall")
+    return [(count, alone / max(median(runs, "wall"), 1e-3), runs) for count, runs in sorted(by_count.items())]
 
 
 def commands(found: Results, suite: str) -> str:
-    """Returns plan, bound, time, memory and output of each command of a suite."""
+    """Returns time, memory and output of each command of a suite."""
     rows = []
     for (instance, what, _), runs in found.of(suite).items():
-        run, size = runs[-1], f"{int(runs[-1]['out_bytes']):,}"
-        plan, bound = thousands(run["cost"]), thousands(run["bound"])
-        rows.append([instance, f"`{what}`", plan, bound, spread(runs, "cpu"), short(median(runs, "megabytes")), size])
-    return table(["Timetable", "Command", "Plan", "Bound", "CPU s", "MB", "Bytes written"], rows)
+        size = f"{int(runs[-1]['out_bytes']):,}"
+        rows.append([instance, f"`{what}`", spread(runs, "cpu"), short(median(runs, "megabytes")), size])
+    return table(["Timetable", "Command", "CPU s", "MB", "Bytes written"], rows)
+
+
+def carried(found: Results) -> str:
+    """Returns gap and time of searches that were carried on, traced, replayed or made with rests."""
+    rows = [
+        [instance, f"`{what}`", solved(runs)[1], spread(runs, "cpu"), short(median(runs, "megabytes"))]
+        for (instance, what, _), runs in found.of("carried").items()
+    ]
+    return table(["Timetable", "Command", "Gap, %", "CPU s", "MB"], rows)
 
 
 def memory(found: Results) -> str:
@@ -196,12 +205,10 @@ SECTIONS = {
     "roots": roots,
     "workers": workers,
     "commands": lambda found: commands(found, "commands"),
-    "carried": lambda found: commands(found, "carried"),
+    "carried": carried,
     "infeasible": lambda found: commands(found, "infeasible"),
     "memory": memory,
     "plots": plots,
-    # figures by hand, which stand while no file is named
-    "notes": lambda _: "",
 }
 
 
