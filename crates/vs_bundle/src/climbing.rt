@@ -8,13 +8,14 @@ ghost use Rattle.vs_cuts.specs.Bundles.{AreFound, HasSizes, layers_of, trips_of_
 ghost use Rattle.vs_bundle.specs.Climbs.{AreSharesFor, CanClimb, IsAscentFor};
 
 use crate::aim::Aim;
+use crate::lanes::Lanes;
 use crate::shares::Shares;
 use crate::stepping::go_further;
 use crate::stride::Stride;
 use crate::valuing::Trial;
 use vs_circ::{Work, begin_runs};
 use vs_cuts::{Bundle, Forecast, WHOLE};
-use vs_multi::{Case, NoWatch, Watch};
+use vs_multi::{Case, NoWatch};
 use vs_types::Memory;
 
 /// A round gains where it comes to one in so many of what was forecast.
@@ -69,13 +70,14 @@ impl Ascent {
 
     /// A climb from these multipliers, with the first circulations, unless the watch ends that. The aim is that of the
     /// first part of the climb.
-    pub fn begin<W: Watch>(
+    pub fn begin<W: Lanes>(
         case: &Case<'_>,
         aim: &Aim,
         multipliers: &[i64],
         work: &mut Work,
         watch: &W,
     ) -> Result<Ascent, Memory>
+        requires works { W.works watch.now }
         requires case { IsCase case.now.instance.now case.now.nets.now case.now.sets.now }
         requires multipliers { AreMultipliers case.now.instance.now multipliers.now }
         ensures ascent { IfOk result (IsAscentFor case.now.instance.now) }
@@ -94,13 +96,14 @@ impl Ascent {
     }
 
     /// Finds the first circulations, unless the watch ends that.
-    fn find_first<W: Watch>(
+    fn find_first<W: Lanes>(
         &mut self,
         case: &Case<'_>,
         multipliers: &[i64],
         work: &mut Work,
         watch: &W,
     )
+        requires works { W.works watch.now }
         requires can { CanClimb case.now.instance.now case.now.nets.now case.now.sets.now multipliers.now self.old }
         requires ready { IsReadyToRun case.now.nets.now work.old }
         ensures ascent { IsAscentFor case.now.instance.now self.new }
@@ -117,7 +120,7 @@ impl Ascent {
     }
 
     /// One round. Gives whether there was one: none where it would gain next to nothing, or the watch ends it.
-    fn round<W: Watch>(
+    fn round<W: Lanes>(
         &mut self,
         case: &Case<'_>,
         aim: &Aim,
@@ -125,6 +128,7 @@ impl Ascent {
         work: &mut Work,
         watch: &W,
     ) -> bool
+        requires works { W.works watch.now }
         requires can { CanClimb case.now.instance.now case.now.nets.now case.now.sets.now multipliers.old self.old }
         requires ready { IsReadyToRun case.now.nets.now work.old }
         ensures multipliers { AreMultipliers case.now.instance.now multipliers.new }
@@ -183,7 +187,7 @@ impl Ascent {
 
     /// Round after round from these multipliers, as long as another one may gain something that is asked for, and the
     /// watch doesn't end it. The multipliers are those that the climb came to. Gives how many rounds there were.
-    pub fn go_on<W: Watch>(
+    pub fn go_on<W: Lanes>(
         &mut self,
         case: &Case<'_>,
         aim: &Aim,
@@ -191,6 +195,7 @@ impl Ascent {
         work: &mut Work,
         watch: &W,
     ) -> u32
+        requires works { W.works watch.now }
         requires can { CanClimb case.now.instance.now case.now.nets.now case.now.sets.now multipliers.old self.old }
         requires ready { IsReadyToRun case.now.nets.now work.old }
         ensures multipliers { AreMultipliers case.now.instance.now multipliers.new }
@@ -202,7 +207,7 @@ impl Ascent {
     }
 
     /// The rounds of a part of the climb. Gives how many there were.
-    fn take_rounds<W: Watch>(
+    fn take_rounds<W: Lanes>(
         &mut self,
         case: &Case<'_>,
         aim: &Aim,
@@ -210,6 +215,7 @@ impl Ascent {
         work: &mut Work,
         watch: &W,
     ) -> u32
+        requires works { W.works watch.now }
         requires can { CanClimb case.now.instance.now case.now.nets.now case.now.sets.now multipliers.old self.old }
         requires ready { IsReadyToRun case.now.nets.now work.old }
         ensures multipliers { AreMultipliers case.now.instance.now multipliers.new }

@@ -5,6 +5,7 @@
 
 mod aim;
 mod climbing;
+mod lanes;
 mod shares;
 mod stepping;
 mod stride;
@@ -12,5 +13,6 @@ mod valuing;
 
 pub use aim::Aim;
 pub use climbing::{Ascent, Climbed, climb};
+pub use lanes::Lanes;
 pub use shares::Shares;
 pub use vs_cuts::WHOLE;

@@ -1,20 +1,21 @@
 //! The Lagrangian value at given multipliers.
 
-ghost use Rattle.std.specs.Prelude.{◌≡◌, ◌+◌, ◌<◌, ◌≤◌, IfOk, IsTrue, length};
+ghost use Rattle.std.specs.Prelude.{◌≡◌, ◌<◌, ◌≤◌, IfOk, IsTrue, length};
 ghost use Rattle.vs_instance.specs.Problem.{Problem};
 ghost use Rattle.vs_match.specs.LayerNets.{net_at};
-ghost use Rattle.vs_circ.specs.shipping.Ready.{CanRun, IsReadyToRun};
+ghost use Rattle.vs_circ.specs.shipping.Ready.{IsReadyToRun};
 ghost use Rattle.vs_multi.specs.Multipliers.{AreMultipliers};
 ghost use Rattle.vs_multi.specs.Rounds.{IsCase};
 ghost use Rattle.vs_cuts.specs.declared.whole.TheConstants.{MOST_TRIPS};
 ghost use Rattle.vs_bundle.specs.Climbs.{IsTrialFor};
-ghost use Rattle.vs_bundle.specs.Runs.{CanRunFrom, HasRun, HaveRun, HaveRunFrom, MayRunAll};
+ghost use Rattle.vs_bundle.specs.Runs.{HasRun, HaveRun, MayRunAll};
 
+use crate::lanes::Lanes;
 use std::alloc::Global;
-use vs_circ::{Kept, Work, read_run, run_from};
+use vs_circ::{Kept, Work, read_run};
 use vs_cuts::Found;
 use vs_match::LayerNet;
-use vs_multi::{Case, LONG, Watch, offer};
+use vs_multi::{Case, LONG, offer};
 use vs_types::{LayerNo, Memory};
 
 /// A round is short up to so much effort, which is a millisecond. Further threads would save less than they take.
@@ -60,13 +61,14 @@ impl Trial {
 
     /// Finds a least circulation in every layer. Gives the Lagrangian value, or None where the round has taken long,
     /// and the watch ends it.
-    pub fn value<W: Watch>(
+    pub fn value<W: Lanes>(
         &mut self,
         case: &Case<'_>,
         multipliers: &[i64],
         work: &mut Work,
         watch: &W,
     ) -> Option<i64>
+        requires works { W.works watch.now }
         requires case { IsCase case.now.instance.now case.now.nets.now case.now.sets.now }
         requires multipliers { AreMultipliers case.now.instance.now multipliers.now }
         requires trial { IsTrialFor case.now.instance.now self.old }
@@ -101,7 +103,8 @@ impl Trial {
 
     /// Runs the layers, some of them side by side where the watch has threads for that. False where it takes long, and
     /// the watch ends it.
-    fn run_all<W: Watch>(&self, case: &Case<'_>, work: &mut Work, watch: &W) -> bool
+    fn run_all<W: Lanes>(&self, case: &Case<'_>, work: &mut Work, watch: &W) -> bool
+        requires works { W.works watch.now }
         requires case { IsCase case.now.instance.now case.now.nets.now case.now.sets.now }
         requires trial { IsTrialFor case.now.instance.now self.now }
         requires offered { MayRunAll case.now.nets.now self.now.offers.items }
@@ -174,7 +177,7 @@ impl Trial {
 }
 
 /// Runs the layers from one to before another.
-fn run_some<W: Watch>(
+fn run_some<W: Lanes>(
     nets: &[LayerNet],
     offers: &[Vec<Option<i64>>],
     first: usize,
@@ -182,6 +185,7 @@ fn run_some<W: Watch>(
     work: &mut Work,
     watch: &W,
 )
+    requires works { W.works watch.now }
     requires some { first ≤ end }
     requires within { end ≤ length nets.now }
     requires offers { MayRunAll nets.now offers.now }
@@ -192,29 +196,7 @@ fn run_some<W: Watch>(
 {
     let kept: &mut [Kept] = &mut work.kept;
     let part = &mut kept[first..end];
-    run_side_by_side(nets, offers, first, part, watch);
-}
-
-/// Runs the layers from one on, each with what is kept here for it.
-fn run_side_by_side<W: Watch>(
-    nets: &[LayerNet],
-    offers: &[Vec<Option<i64>>],
-    first: usize,
-    part: &mut [Kept],
-    watch: &W,
-)
-    requires within { first + length part.old ≤ length nets.now }
-    requires offers { MayRunAll nets.now offers.now }
-    requires ready { CanRunFrom nets.now first part.old }
-    ensures each { length part.new ≡ length part.old }
-    ensures run { HaveRunFrom nets.now offers.now first part.new }
-{
-    let job = |k: usize, kept: &mut Kept|
-        requires { MayRunAll nets.now offers.now × (first + k < length nets.now)
-            × CanRun (net_at nets.now (first + k)) kept.now }
-        ensures { HasRun (net_at nets.entry.now (first + k)) offers.entry.now (first + k) kept.exit.now }
-    { run_from(&nets[first + k], &offers[first + k], kept) };
-    watch.each(part, &job);
+    watch.run_layers(nets, offers, first, part);
 }
 
 /// The sum of all multipliers.

@@ -4,3 +4,4 @@ pub mod Leaves
 pub mod Crew
 pub mod Codes
 pub mod Workers
+pub mod Calls

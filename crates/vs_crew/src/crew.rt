@@ -65,6 +65,7 @@ pub fn run<R: Threads + Wait + Sync, G: Gate + Sync>(
         turn: &turn,
         changes: &changes,
         gate,
+        workers,
     };
     let (seat, over) = work_to_end(rt, alloc, &site, seat, crew);
     drop(site);
@@ -168,6 +169,7 @@ fn work_together<R: Threads + Wait + Sync, G: Gate + Sync>(
         turn,
         changes,
         gate,
+        workers,
     } = *site;
     let work = |_place: usize, worker: &mut Worker|
         requires { IsSync G.row × IsSite instance.now nets.now start.now.value
@@ -182,6 +184,7 @@ fn work_together<R: Threads + Wait + Sync, G: Gate + Sync>(
             turn,
             changes,
             gate,
+            workers,
         };
         take_part(rt, alloc, &site, worker)
     };

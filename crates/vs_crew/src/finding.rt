@@ -10,9 +10,9 @@ use vs_circ::Work;
 use vs_connect::lesser;
 use vs_instance::Instance;
 use vs_match::LayerNet;
-use vs_multi::{NoWatch, Watch};
+use vs_multi::NoWatch;
 use vs_node::{Outcome, Task, begin, has_choice, work, work_from};
-use vs_penalty::{agree, seek_plan, seek_ray};
+use vs_penalty::{Hands, agree, seek_plan, seek_ray};
 use vs_plan::{cheaper, cost_of};
 use vs_prices::{Bound, worth};
 use vs_tree::{Finish, Next};
@@ -33,7 +33,7 @@ pub(crate) struct Finding {
 /// What the work on a leaf finds; on one that is split also by some passes, where these are asked for. The sets of the
 /// task serve as space in the end. At the root the watch may end the search for plans and prices. None where it ends
 /// the first round there.
-pub(crate) fn found<W: Watch>(
+pub(crate) fn found<W: Hands>(
     alloc: Global,
     instance: &Instance,
     nets: &[LayerNet],
@@ -42,6 +42,7 @@ pub(crate) fn found<W: Watch>(
     scratch: &mut Work,
     watch: &W,
 ) -> Result<Option<Finding>, Memory>
+    requires works { W.works watch.now }
     requires nets { AreLayerNets instance.now nets.now }
     requires lawful { IsLawfulTask instance.now task.old }
     ensures found { IfOk result (λ found. IfSome found (IsFinding instance.now task.old)) }
@@ -59,7 +60,7 @@ pub(crate) fn found<W: Watch>(
 }
 
 /// What comes of a leaf. At the root the layers come to agree first, unless the watch ends the first round.
-fn outcome_of<W: Watch>(
+fn outcome_of<W: Hands>(
     alloc: Global,
     instance: &Instance,
     nets: &[LayerNet],
@@ -68,6 +69,7 @@ fn outcome_of<W: Watch>(
     scratch: &mut Work,
     watch: &W,
 ) -> Result<Option<Outcome>, Memory>
+    requires works { W.works watch.now }
     requires nets { AreLayerNets instance.now nets.now }
     requires lawful { IsLawfulTask instance.now task.old }
     ensures found { IfOk result (λ found. IfSome found (IsFound instance.now task.old)) }
@@ -167,7 +169,7 @@ fn found_with_passes(
 
 /// What is found at the root. The layers come to agree between the first round and the rest of the work on it, which is
 /// brief where the watch ends the search. None where it ends the first round.
-fn found_at_root<W: Watch>(
+fn found_at_root<W: Hands>(
     alloc: Global,
     instance: &Instance,
     nets: &[LayerNet],
@@ -175,6 +177,7 @@ fn found_at_root<W: Watch>(
     scratch: &mut Work,
     watch: &W,
 ) -> Result<Option<Outcome>, Memory>
+    requires works { W.works watch.now }
     requires nets { AreLayerNets instance.now nets.now }
     requires lawful { IsLawfulTask instance.now task.old }
     requires root { task.old.root ≡ true }

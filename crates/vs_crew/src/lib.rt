@@ -4,6 +4,7 @@
 mod changes;
 mod crew;
 mod finding;
+mod hands;
 mod shared_tree;
 mod site;
 mod turns;

@@ -50,4 +50,6 @@ pub(crate) struct Site<'a, G: Gate> {
     pub turn: &'a Turn<SharedTree>,
     pub changes: &'a Changes,
     pub gate: &'a G,
+    /// How many workers there are.
+    pub workers: u32,
 }

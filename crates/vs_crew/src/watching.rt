@@ -3,16 +3,16 @@
 ghost use Rattle.std.specs.Prelude.{◌≡◌};
 
 use crate::site::Gate;
-use std::marker::{Send, Sync};
+use std::marker::Sync;
 use std::sync::atomic::{AtomicI64, Ordering};
-use vs_multi::{NoWatch, Watch};
+use vs_multi::Watch;
 use vs_tree::Stand;
 use vs_types::SCALE;
 
 /// What the least cost is while no plan is known: no plan costs as much.
 const NO_COST: i64 = i64::MAX;
 
-/// Asks the gate within the work at the root, with what was told so far. Jobs are done one after the other.
+/// Asks the gate within the work at the root, with what was told so far.
 #[derive(Drop)]
 pub(crate) struct RootWatch<'a, G: Gate> {
     gate: &'a G,
@@ -61,14 +61,6 @@ impl<G: Gate + Sync> Watch for RootWatch<'_, G> {
 
     fn is_over(&self) -> bool {
         self.gate.is_over(&self.stand())
-    }
-
-    fn threads(&self) -> usize {
-        1
-    }
-
-    fn each<T: Send, F: Fn(usize, &mut T) + Sync>(&self, items: &mut [T], job: &F) {
-        NoWatch.each(items, job);
     }
 }
 

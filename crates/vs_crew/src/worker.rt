@@ -4,13 +4,13 @@ ghost use Rattle.vs_crew.specs.Leaves.{HoldsLeaf};
 ghost use Rattle.vs_crew.specs.Sharing.{IsEnd, IsIdle, Knows};
 ghost use Rattle.vs_crew.specs.Workers.{HasRoom, IsAfter, IsDone, IsReady, IsSite};
 
-use crate::finding::found;
+use crate::hands::found_in_threads;
 use crate::site::{Gate, Site};
 use crate::turns::{ask, give_up, hand_in};
-use crate::watching::RootWatch;
 use std::alloc::Global;
 use std::marker::Sync;
 use std::sync::Wait;
+use std::thread::Threads;
 use vs_circ::Work;
 use vs_node::Task;
 use vs_tree::Take;
@@ -47,7 +47,7 @@ pub(crate) enum After {
 }
 
 /// Takes leaves one after another and works on them, until the search is over, the gate ends it, or memory is wanting.
-pub(crate) fn take_part<R: Wait, G: Gate + Sync>(
+pub(crate) fn take_part<R: Threads + Wait + Sync, G: Gate + Sync>(
     rt: &R,
     alloc: Global,
     site: &Site<'_, G>,
@@ -69,7 +69,7 @@ pub(crate) fn take_part<R: Wait, G: Gate + Sync>(
 }
 
 /// The same with the seat in hand, and whether the worker knows that the search is over, or the gate ended it.
-fn go_on<R: Wait, G: Gate + Sync>(
+fn go_on<R: Threads + Wait + Sync, G: Gate + Sync>(
     rt: &R,
     alloc: Global,
     site: &Site<'_, G>,
@@ -98,7 +98,7 @@ fn go_on<R: Wait, G: Gate + Sync>(
 
 /// Asks for a leaf once, and works on it, or waits where others hold what there is. It takes none where the gate ends
 /// the search.
-fn ask_once<R: Wait, G: Gate + Sync>(
+fn ask_once<R: Threads + Wait + Sync, G: Gate + Sync>(
     rt: &R,
     alloc: Global,
     site: &Site<'_, G>,
@@ -132,7 +132,7 @@ fn ask_once<R: Wait, G: Gate + Sync>(
 
 /// Works on the leaf that the worker holds, and hands in what is found. The leaf is given back where memory is wanting,
 /// and where the gate ends the first round at the root.
-fn work_on<R: Wait, G: Gate + Sync>(
+fn work_on<R: Threads + Wait + Sync, G: Gate + Sync>(
     rt: &R,
     alloc: Global,
     site: &Site<'_, G>,
@@ -153,16 +153,7 @@ fn work_on<R: Wait, G: Gate + Sync>(
     let passes = worker.taken >= TURNS - 1;
     worker.taken = if passes { 0 } else { worker.taken + 1 };
     let (task, scratch) = (&mut worker.task, &mut worker.scratch);
-    let watch = RootWatch::new(site.gate);
-    match found(
-        alloc,
-        site.instance,
-        site.nets,
-        task,
-        passes,
-        scratch,
-        &watch,
-    ) {
+    match found_in_threads(rt, alloc, site, task, passes, scratch) {
         Ok(Some(finding)) => (hand_in(rt, site, seat, number, leaf, finding), After::Idle),
         Ok(None) => (give_up(rt, site, seat, number), After::Stopped),
         Err(Memory) => (give_up(rt, site, seat, number), After::Left),

@@ -21,4 +21,4 @@ pub use raising::raise;
 pub use round::Case;
 pub use starting::{multipliers_of, of_table, start};
 pub use steps::moved;
-pub use watch::{LONG, NoWatch, Untold, Watch};
+pub use watch::{LONG, NoWatch, Untold, Watch, in_turn};

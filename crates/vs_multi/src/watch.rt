@@ -1,18 +1,15 @@
-//! Who may end the work at the root of a search early, and who does the jobs that it is split into.
+//! Who may end the work at the root of a search early.
 
 ghost use Rattle.std.specs.Prelude.{◌≡◌, ◌<◌, ℕ, true, length, slice_index_or};
-ghost use Rattle.std.specs.Fork.{AcceptsAt, AcceptsEach, ChangesAt, ChangesEach};
-
-use std::marker::{Send, Sync};
+ghost use Rattle.std.specs.Fork.{AcceptsAt, ChangesAt};
 
 /// Work at the nets has taken long after so much effort, as `Work::effort` counts it, which is a tenth of a second.
 /// From then on the watch is asked between two layers.
 pub const LONG: u64 = 500_000;
 
-/// Who may end the work at the root of a search before its effort is spent, and who does its jobs. When it ends decides
-/// how good plans and multipliers become, and nothing else. How many threads do the jobs decides nothing but how long
-/// they take.
-pub trait Watch: Sync {
+/// Who may end the work at the root of a search before its effort is spent. When it ends decides how good plans and
+/// multipliers become, and nothing else.
+pub trait Watch {
     /// What is so of a watch that may end the work. It is so of none where this isn't said.
     ghost may_end: { Self → Type 0 } = { λ _. ⊥ };
 
@@ -23,19 +20,9 @@ pub trait Watch: Sync {
     /// Whether the work is to end.
     fn is_over(&self) -> bool
         ensures { result ≡ true → may_end self.now };
-
-    /// How many jobs are done at once at most.
-    fn threads(&self) -> usize
-        ensures { 0 < result };
-
-    /// Does a job at each of these items, which is told its place. A job may run beside others, so it may rest on
-    /// nothing that they do.
-    fn each<T: Send, F: Fn(usize, &mut T) + Sync>(&self, items: &mut [T], job: &F)
-        requires { AcceptsEach F.Fn job.now items.old }
-        ensures { ChangesEach F.Fn job.now items.old items.new };
 }
 
-/// A watch that ends nothing, and does one job after the other.
+/// A watch that ends nothing. Who has no other does one job after the other.
 pub struct NoWatch;
 
 impl Watch for NoWatch {
@@ -43,14 +30,6 @@ impl Watch for NoWatch {
 
     fn is_over(&self) -> bool {
         false
-    }
-
-    fn threads(&self) -> usize {
-        1
-    }
-
-    fn each<T: Send, F: Fn(usize, &mut T) + Sync>(&self, items: &mut [T], job: &F) {
-        in_turn(items, job);
     }
 }
 
@@ -68,18 +47,10 @@ impl<W: Watch> Watch for Untold<'_, W> {
     fn is_over(&self) -> bool {
         self.watch.is_over()
     }
-
-    fn threads(&self) -> usize {
-        self.watch.threads()
-    }
-
-    fn each<T: Send, F: Fn(usize, &mut T) + Sync>(&self, items: &mut [T], job: &F) {
-        self.watch.each(items, job);
-    }
 }
 
-/// Does a job at each of these items, one after the other.
-fn in_turn<T, F: Fn(usize, &mut T)>(items: &mut [T], job: &F)
+/// Does a job at each of these items, one after the other. The job is told the item's place.
+pub fn in_turn<T, F: Fn(usize, &mut T)>(items: &mut [T], job: &F)
     requires { (k : ℕ) (d : T) → k < length items.old
         → AcceptsAt F.Fn job.now k (slice_index_or items.old k d) }
     ensures { (k : ℕ) (d : T) → k < length items.old

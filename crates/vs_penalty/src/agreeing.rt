@@ -11,8 +11,10 @@ ghost use Rattle.vs_penalty.specs.Seekers.{IsPlanOf};
 
 use crate::ray::seek_ray;
 use crate::seeking::Seeker;
+use crate::walkers::Hands;
 use std::alloc::Global;
 use std::mem::swap;
+use vs_bundle::Lanes;
 use vs_circ::Work;
 use vs_connect::lesser;
 use vs_instance::Instance;
@@ -33,7 +35,7 @@ const RAY_ROUNDS: u32 = 100;
 /// is known and the first passes find none, it becomes what shows that there is none, if that is found. Where no trip
 /// has two layers there is nothing to agree on: no plan is given, and the table stays. Where the watch ends it early,
 /// what was found so far counts.
-pub fn agree<W: Watch>(
+pub fn agree<W: Hands>(
     alloc: Global,
     instance: &Instance,
     nets: &[LayerNet],
@@ -42,6 +44,7 @@ pub fn agree<W: Watch>(
     work: &mut Work,
     watch: &W,
 ) -> Result<Option<CheckedPlan>, Memory>
+    requires works { W.works watch.now }
     requires nets { AreLayerNets instance.now nets.now }
     requires fits { Fits instance.now table.old }
     requires holds { HoldingTable instance.now table.old }
@@ -66,13 +69,14 @@ pub fn agree<W: Watch>(
 }
 
 /// The same in the layers of these sets.
-fn agree_on<W: Watch>(
+fn agree_on<W: Hands>(
     case: &Case<'_>,
     known: Option<i64>,
     table: &mut Table,
     work: &mut Work,
     watch: &W,
 ) -> Result<Option<CheckedPlan>, Memory>
+    requires works { W.works watch.now }
     requires case { IsCase case.now.instance.now case.now.nets.now case.now.sets.now }
     requires fits { Fits case.now.instance.now table.old }
     requires holds { HoldingTable case.now.instance.now table.old }
@@ -95,12 +99,13 @@ fn agree_on<W: Watch>(
 
 /// Makes the table prices that show that there is no plan, where no plan is known, of this cost, and such prices are
 /// found. Gives whether they are.
-fn take_ray<W: Watch>(
+fn take_ray<W: Lanes>(
     case: &Case<'_>,
     known: Option<i64>,
     table: &mut Table,
     watch: &W,
 ) -> Result<bool, Memory>
+    requires works { W.works watch.now }
     requires restriction { IsRestriction case.now.instance.now case.now.sets.now }
     requires fits { Fits case.now.instance.now table.old }
     requires holds { HoldingTable case.now.instance.now table.old }

@@ -20,3 +20,4 @@ mod walkers;
 pub use agreeing::agree;
 pub use leaf::seek_plan;
 pub use ray::seek_ray;
+pub use walkers::{Hands, Turn, Walk};

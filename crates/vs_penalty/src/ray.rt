@@ -10,11 +10,11 @@ ghost use Rattle.vs_penalty.specs.Rays.{ShowsNoPlan};
 use crate::paying::evenly;
 use crate::reasons::plain_reason;
 use std::alloc::Global;
-use vs_bundle::{Aim, Ascent};
+use vs_bundle::{Aim, Ascent, Lanes};
 use vs_circ::Work;
 use vs_instance::Instance;
 use vs_match::layer_nets;
-use vs_multi::{Case, Untold, Watch, few_rounds};
+use vs_multi::{Case, Untold, few_rounds};
 use vs_prices::{Bound, Table, worth};
 use vs_types::{LayerSet, Memory, SCALE};
 
@@ -38,13 +38,14 @@ const LAST_ROUNDS: u32 = 1;
 /// Prices that show that no plan runs each trip in a layer of its set, where a climb of so many rounds finds any. They
 /// are those of the instance without rates. Nothing costs anything there, so that its plans are worth nothing, and
 /// prices that bound them above nothing leave none. The climb ends early where the watch says so.
-pub fn seek_ray<W: Watch>(
+pub fn seek_ray<W: Lanes>(
     alloc: Global,
     instance: &Instance,
     sets: &[LayerSet],
     rounds: u32,
     watch: &W,
 ) -> Result<Option<Table>, Memory>
+    requires works { W.works watch.now }
     requires { IsRestriction instance.now sets.now }
     ensures { IfOk result (λ ray. IfSome ray (ShowsNoPlan instance.now sets.now)) }
 {
@@ -54,13 +55,14 @@ pub fn seek_ray<W: Watch>(
 }
 
 /// The prices at the multipliers that a climb of so many rounds leaves.
-fn unrated_table<W: Watch>(
+fn unrated_table<W: Lanes>(
     alloc: Global,
     unrated: &Instance,
     sets: &[LayerSet],
     rounds: u32,
     watch: &W,
 ) -> Result<Table, Memory>
+    requires works { W.works watch.now }
     requires { IsRestriction unrated.now sets.now }
     ensures fits { IfOk result (Fits unrated.now) }
     ensures holds { IfOk result (HoldingTable unrated.now) }
@@ -77,12 +79,13 @@ fn unrated_table<W: Watch>(
 }
 
 /// The same in this case, or the prices that give a plain reason, where such are found.
-fn climbed_table<W: Watch>(
+fn climbed_table<W: Lanes>(
     case: &Case<'_>,
     rounds: u32,
     work: &mut Work,
     watch: &W,
 ) -> Result<Table, Memory>
+    requires works { W.works watch.now }
     requires { IsCase case.now.instance.now case.now.nets.now case.now.sets.now }
     ensures fits { IfOk result (Fits case.now.instance.now) }
     ensures holds { IfOk result (HoldingTable case.now.instance.now) }

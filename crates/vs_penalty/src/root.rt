@@ -7,8 +7,8 @@ ghost use Rattle.vs_penalty.specs.Seekers.{AreWalkers, CanSeek, IsSeekerFor};
 
 use crate::effort::{MOST_VAIN, is_slow, is_small, quick_passes, turn_effort};
 use crate::seeking::Seeker;
-use crate::walkers::Walkers;
-use vs_bundle::{Aim, Ascent};
+use crate::walkers::{Hands, Walkers};
+use vs_bundle::{Aim, Ascent, Lanes};
 use vs_circ::{Work, begin_runs};
 use vs_instance::Instance;
 use vs_multi::{Case, Watch};
@@ -84,13 +84,14 @@ impl Seeker {
 
     /// Seeks plans and ever better multipliers from where the first passes end. There is a climb, turns of walkers, and
     /// more of the climb, which a cheaper plan guides better. All of that ends early where the watch says so.
-    pub fn go_on<W: Watch>(
+    pub fn go_on<W: Hands>(
         &mut self,
         case: &Case<'_>,
         multipliers: &mut [i64],
         work: &mut Work,
         watch: &W,
     ) -> Result<(), Memory>
+        requires works { W.works watch.now }
         requires { CanSeek case.now.instance.now case.now.nets.now case.now.sets.now multipliers.old self.old }
         ensures multipliers { AreMultipliers case.now.instance.now multipliers.new }
         ensures seeker { IsSeekerFor case.now.instance.now self.new }
@@ -112,7 +113,7 @@ impl Seeker {
 
     /// Turns of walkers, until several find no cheaper plan or none can cost much less. Before a turn the climb goes on
     /// where a cheaper plan is known than it had.
-    fn take_turns<W: Watch>(
+    fn take_turns<W: Hands>(
         &mut self,
         case: &Case<'_>,
         ascent: &mut Ascent,
@@ -120,6 +121,7 @@ impl Seeker {
         work: &mut Work,
         watch: &W,
     ) -> Result<(), Memory>
+        requires works { W.works watch.now }
         requires can { CanSeek case.now.instance.now case.now.nets.now case.now.sets.now multipliers.old self.old }
         requires ascent { IsAscentFor case.now.instance.now ascent.old }
         ensures multipliers { AreMultipliers case.now.instance.now multipliers.new }
@@ -147,7 +149,7 @@ impl Seeker {
     }
 
     /// A part of the climb, where a cheaper plan is known than one of this cost. Gives what the cheapest one costs.
-    fn climb_further<W: Watch>(
+    fn climb_further<W: Lanes>(
         &mut self,
         case: &Case<'_>,
         ascent: &mut Ascent,
@@ -156,6 +158,7 @@ impl Seeker {
         work: &mut Work,
         watch: &W,
     ) -> Result<Option<i64>, Memory>
+        requires works { W.works watch.now }
         requires can { CanSeek case.now.instance.now case.now.nets.now case.now.sets.now multipliers.old self.old }
         requires ascent { IsAscentFor case.now.instance.now ascent.old }
         ensures multipliers { AreMultipliers case.now.instance.now multipliers.new }
@@ -170,7 +173,7 @@ impl Seeker {
     }
 
     /// A turn of the walkers. Gives whether a plan is known and no cheaper one was found.
-    fn take_turn<W: Watch>(
+    fn take_turn<W: Hands>(
         &mut self,
         case: &Case<'_>,
         walkers: &mut Walkers,
@@ -179,6 +182,7 @@ impl Seeker {
         work: &mut Work,
         watch: &W,
     ) -> Result<bool, Memory>
+        requires works { W.works watch.now }
         requires can { CanSeek case.now.instance.now case.now.nets.now case.now.sets.now multipliers.now self.old }
         requires walkers { AreWalkers case.now.instance.now walkers.old }
         ensures seeker { IsSeekerFor case.now.instance.now self.new }
@@ -198,7 +202,7 @@ impl Seeker {
     }
 
     /// A part of the climb, from these multipliers, which it came to.
-    fn climb<W: Watch>(
+    fn climb<W: Lanes>(
         &mut self,
         case: &Case<'_>,
         ascent: &mut Ascent,
@@ -207,6 +211,7 @@ impl Seeker {
         work: &mut Work,
         watch: &W,
     ) -> Result<(), Memory>
+        requires works { W.works watch.now }
         requires can { CanSeek case.now.instance.now case.now.nets.now case.now.sets.now multipliers.old self.old }
         requires ascent { IsAscentFor case.now.instance.now ascent.old }
         ensures multipliers { AreMultipliers case.now.instance.now multipliers.new }

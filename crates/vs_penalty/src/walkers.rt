@@ -8,9 +8,10 @@ ghost use Rattle.vs_walk.specs.Walkers.{IsWalkerFor};
 ghost use Rattle.vs_penalty.specs.Seekers.{AreWalks, AreWalkers, IsTurnIn};
 
 use crate::effort::is_small;
+use vs_bundle::Lanes;
 use vs_circ::Work;
 use vs_match::LayerNet;
-use vs_multi::{Case, Watch};
+use vs_multi::{Case, NoWatch, Watch, in_turn};
 use vs_types::Memory;
 use vs_walk::{Pool, Walker};
 
@@ -24,9 +25,26 @@ const FIRST_WALKERS: usize = 2;
 /// would be over 200 MB, and the walkers share what is kept.
 const MOST_ARCS: u64 = 900_000;
 
+/// Who has the walkers take their turns, and runs layers.
+pub trait Hands: Lanes {
+    /// A turn of each of these, some of them side by side. Each keeps something for the nets. How many walk at once
+    /// decides nothing but how long it takes.
+    fn walk_all(&self, walks: &mut [Walk], case: &Case<'_>, turn: &Turn<'_>)
+        requires works { Self.works self.now }
+        requires turn { IsTurnIn case.now.instance.now case.now.nets.now case.now.sets.now turn.now }
+        requires walkers { AreWalks case.now.instance.now walks.old }
+        ensures { AreWalks case.now.instance.now walks.new };
+}
+
+impl Hands for NoWatch {
+    fn walk_all(&self, walks: &mut [Walk], case: &Case<'_>, turn: &Turn<'_>) {
+        walk_in_turn(walks, case, turn);
+    }
+}
+
 /// A walk: who walks, and what is kept for the nets on the way.
 #[derive(Drop)]
-pub(crate) struct Walk {
+pub struct Walk {
     walker: Walker,
     /// None where the walkers share what is kept.
     own: Option<Work>,
@@ -42,13 +60,13 @@ pub(crate) struct Walkers {
 
 /// What a turn begins with.
 #[derive(Clone, Copy)]
-pub(crate) struct Turn<'a> {
+pub struct Turn<'a> {
     /// Which turn it is, from 0 on.
-    pub number: u32,
+    number: u32,
     /// The best multipliers.
-    pub multipliers: &'a [i64],
+    multipliers: &'a [i64],
     /// The cheapest choices of all walkers.
-    pub pool: &'a Pool,
+    pool: &'a Pool,
 }
 
 impl Walkers {
@@ -78,7 +96,7 @@ impl Walkers {
 
     /// A turn of each. In even turns they begin with the choices of the pool, in odd ones each with its own. What they
     /// know in the end goes into the pool, in their order.
-    pub fn take_turn<W: Watch>(
+    pub fn take_turn<W: Hands>(
         &mut self,
         case: &Case<'_>,
         number: u32,
@@ -87,6 +105,7 @@ impl Walkers {
         work: &mut Work,
         watch: &W,
     ) -> Result<(), Memory>
+        requires works { W.works watch.now }
         requires case { IsCase case.now.instance.now case.now.nets.now case.now.sets.now }
         requires multipliers { AreMultipliers case.now.instance.now multipliers.now }
         requires walkers { AreWalkers case.now.instance.now self.old }
@@ -142,7 +161,7 @@ impl Walkers {
 }
 
 /// A turn of each of the first of these, up to this number.
-fn walk_first<W: Watch>(
+fn walk_first<W: Hands>(
     walks: &mut [Walk],
     count: usize,
     case: &Case<'_>,
@@ -150,6 +169,7 @@ fn walk_first<W: Watch>(
     work: &mut Work,
     watch: &W,
 )
+    requires works { W.works watch.now }
     requires turn { IsTurnIn case.now.instance.now case.now.nets.now case.now.sets.now turn.now }
     requires walkers { AreWalks case.now.instance.now walks.old }
     requires count { count ≤ length walks.old }
@@ -157,14 +177,14 @@ fn walk_first<W: Watch>(
 {
     let walking = &mut walks[..count];
     if are_small(case.nets) {
-        walk_side_by_side(walking, case, turn, watch);
+        watch.walk_all(walking, case, turn);
     } else {
-        walk_in_turn(walking, case, turn, work, watch);
+        walk_sharing(walking, case, turn, work, watch);
     }
 }
 
-/// A turn of each of these, as many at once as the watch has threads for. Each keeps something for the nets.
-fn walk_side_by_side<W: Watch>(walks: &mut [Walk], case: &Case<'_>, turn: &Turn<'_>, watch: &W)
+/// A turn of each of these, one after the other. Each keeps something for the nets.
+fn walk_in_turn(walks: &mut [Walk], case: &Case<'_>, turn: &Turn<'_>)
     requires turn { IsTurnIn case.now.instance.now case.now.nets.now case.now.sets.now turn.now }
     requires walkers { AreWalks case.now.instance.now walks.old }
     ensures { AreWalks case.now.instance.now walks.new }
@@ -173,12 +193,12 @@ fn walk_side_by_side<W: Watch>(walks: &mut [Walk], case: &Case<'_>, turn: &Turn<
         requires { IsTurnIn case.now.instance.now case.now.nets.now case.now.sets.now turn.now
             × IsWalkerFor case.now.instance.now one.now.walker }
         ensures { IsWalkerFor case.entry.now.instance.now one.exit.now.walker }
-    { one.go(case, turn, watch) };
-    watch.each(walks, &job);
+    { one.go(case, turn, &NoWatch) };
+    in_turn(walks, &job);
 }
 
 /// A turn of each of these, one after the other. They share what is kept for the nets.
-fn walk_in_turn<W: Watch>(
+fn walk_sharing<W: Watch>(
     walks: &mut [Walk],
     case: &Case<'_>,
     turn: &Turn<'_>,
@@ -205,7 +225,7 @@ impl Walk {
     }
 
     /// A turn with what it keeps for the nets itself.
-    fn go<W: Watch>(&mut self, case: &Case<'_>, turn: &Turn<'_>, watch: &W)
+    pub fn go<W: Watch>(&mut self, case: &Case<'_>, turn: &Turn<'_>, watch: &W)
         requires turn { IsTurnIn case.now.instance.now case.now.nets.now case.now.sets.now turn.now }
         requires walker { IsWalkerFor case.now.instance.now self.old.walker }
         ensures { IsWalkerFor case.now.instance.now self.new.walker }

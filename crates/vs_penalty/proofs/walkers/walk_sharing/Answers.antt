@@ -1,6 +1,6 @@
 use Rattle.std.proofs.lemmas.List.Elements.{All-set}
 use Rattle.vs_walk.specs.Walkers.{IsWalkerFor}
-use Rattle.vs_penalty.proofs.walkers.walk_in_turn.Goals as goal
+use Rattle.vs_penalty.proofs.walkers.walk_sharing.Goals as goal
 
 pub loop-k-preserved : goal.loop-k-preserved
 loop-k-preserved g c =

@@ -2,7 +2,7 @@ use Rattle.std.proofs.Common.{◌+◌, subst}
 use Rattle.vs_match.specs.LayerGraph.{LayerGraph}
 use Rattle.vs_circ.specs.shipping.Ready.{CanRun}
 use Rattle.vs_bundle.proofs.Parts.{may_run, net_there}
-use Rattle.vs_bundle.proofs.valuing.fn.run_side_by_side.job.Goals as goal
+use Rattle.vs_bundle.proofs.lanes.fn.run_in_turn.job.Goals as goal
 
 -- the offers at this place are those of its net
 pub run_from-requires : goal.run_from-requires

@@ -1,0 +1,170 @@
+//! Threads for the work at the root: layers are run and walkers take their turns side by side.
+
+ghost use Rattle.std.specs.Prelude.{◌≡◌, ◌+◌, ◌<◌, ◌≤◌, length, IfOk, IfSome, None};
+ghost use Rattle.vs_match.specs.LayerNets.{net_at};
+ghost use Rattle.vs_circ.specs.shipping.Ready.{CanRun};
+ghost use Rattle.vs_bundle.specs.Runs.{CanRunFrom, HasRun, HaveRunFrom, MayRunAll};
+ghost use Rattle.vs_walk.specs.Walkers.{IsWalkerFor};
+ghost use Rattle.vs_penalty.specs.Seekers.{AreWalks, IsTurnIn};
+ghost use Rattle.vs_prices.specs.Table.{Fits};
+ghost use Rattle.vs_crew.specs.Calls.{RunsLayers, TakesTurns};
+ghost use Rattle.vs_crew.specs.Found.{IsFinding, IsLawfulTask};
+ghost use Rattle.vs_crew.specs.Workers.{IsSite};
+
+use crate::finding::{Finding, found};
+use crate::site::{Gate, Site};
+use crate::watching::RootWatch;
+use std::alloc::Global;
+use std::marker::Sync;
+use std::thread::{Threads, for_each_mut};
+use vs_bundle::Lanes;
+use vs_circ::{Kept, Work, run_from};
+use vs_match::LayerNet;
+use vs_multi::{Case, Watch};
+use vs_node::Task;
+use vs_penalty::{Hands, Turn, Walk};
+use vs_types::Memory;
+
+/// The watch at the root, with two calls that use threads: one runs layers, one has walkers take their turns.
+#[derive(Drop)]
+struct RootHands<'a, G: Gate, L, K> {
+    watch: &'a RootWatch<'a, G>,
+    threads: usize,
+    run: L,
+    walk: K,
+}
+
+impl<G: Gate + Sync, L, K> Watch for RootHands<'_, G, L, K> {
+    ghost may_end = { λ hands. G.may_stop hands.watch.now.gate.now };
+
+    fn tell(&self, cost: Option<i64>, value: i64) {
+        self.watch.tell(cost, value);
+    }
+
+    fn is_over(&self) -> bool {
+        self.watch.is_over()
+    }
+}
+
+impl<
+    G: Gate + Sync,
+    L: Fn(&[LayerNet], &[Vec<Option<i64>>], usize, &mut [Kept]),
+    K: Fn(&mut [Walk], &Case<'_>, &Turn<'_>),
+> Lanes for RootHands<'_, G, L, K> {
+    ghost works = { λ hands. RunsLayers L.Fn hands.run × TakesTurns K.Fn hands.walk };
+
+    fn threads(&self) -> usize {
+        self.threads.max(1)
+    }
+
+    fn run_layers(
+        &self,
+        nets: &[LayerNet],
+        offers: &[Vec<Option<i64>>],
+        first: usize,
+        part: &mut [Kept],
+    ) {
+        (self.run)(nets, offers, first, part);
+    }
+}
+
+impl<
+    G: Gate + Sync,
+    L: Fn(&[LayerNet], &[Vec<Option<i64>>], usize, &mut [Kept]),
+    K: Fn(&mut [Walk], &Case<'_>, &Turn<'_>),
+> Hands for RootHands<'_, G, L, K> {
+    fn walk_all(&self, walks: &mut [Walk], case: &Case<'_>, turn: &Turn<'_>) {
+        (self.walk)(walks, case, turn);
+    }
+}
+
+/// What the work on a leaf finds. What can be done side by side at the root is done in as many threads as there are
+/// workers: while one works on the root, the others have no leaf, and wait.
+pub(crate) fn found_in_threads<R: Threads + Sync, G: Gate + Sync>(
+    rt: &R,
+    alloc: Global,
+    site: &Site<'_, G>,
+    task: &mut Task,
+    passes: bool,
+    scratch: &mut Work,
+) -> Result<Option<Finding>, Memory>
+    requires site { IsSite site.now.instance.now site.now.nets.now site.now.start.now.value }
+    requires lawful { IsLawfulTask site.now.instance.now task.old }
+    ensures found { IfOk result (λ found. IfSome found (IsFinding site.now.instance.now task.old)) }
+    ensures ended { IfOk result (λ found. found ≡ None → G.may_stop site.now.gate.now) }
+    ensures sets { length task.new.sets.items ≡ length task.old.sets.items }
+    ensures fits { Fits site.now.instance.now task.new.table }
+{
+    let threads = site.workers as usize;
+    let watch = RootWatch::new(site.gate);
+    let run = |nets: &[LayerNet], offers: &[Vec<Option<i64>>], first: usize, part: &mut [Kept]|
+        requires { (first + length part.now ≤ length nets.now) × MayRunAll nets.now offers.now
+            × CanRunFrom nets.now first part.now }
+        ensures { (length part.exit.now ≡ length part.entry.now)
+            × HaveRunFrom nets.entry.now offers.entry.now first part.exit.now }
+    { run_side_by_side(rt, threads, nets, offers, first, part) };
+    let walk = |walks: &mut [Walk], case: &Case<'_>, turn: &Turn<'_>|
+        requires { IsTurnIn case.now.instance.now case.now.nets.now case.now.sets.now turn.now
+            × AreWalks case.now.instance.now walks.now }
+        ensures { AreWalks case.entry.now.instance.now walks.exit.now }
+    { walk_side_by_side(rt, threads, walks, case, turn, &watch) };
+    let hands = RootHands {
+        watch: &watch,
+        threads,
+        run,
+        walk,
+    };
+    found(
+        alloc,
+        site.instance,
+        site.nets,
+        task,
+        passes,
+        scratch,
+        &hands,
+    )
+}
+
+/// Runs the layers from one on side by side, each with what is kept here for it.
+fn run_side_by_side<R: Threads + Sync>(
+    rt: &R,
+    threads: usize,
+    nets: &[LayerNet],
+    offers: &[Vec<Option<i64>>],
+    first: usize,
+    part: &mut [Kept],
+)
+    requires within { first + length part.old ≤ length nets.now }
+    requires offers { MayRunAll nets.now offers.now }
+    requires ready { CanRunFrom nets.now first part.old }
+    ensures each { length part.new ≡ length part.old }
+    ensures run { HaveRunFrom nets.now offers.now first part.new }
+{
+    let job = |k: usize, kept: &mut Kept|
+        requires { MayRunAll nets.now offers.now × (first + k < length nets.now)
+            × CanRun (net_at nets.now (first + k)) kept.now }
+        ensures { HasRun (net_at nets.entry.now (first + k)) offers.entry.now (first + k) kept.exit.now }
+    { run_from(&nets[first + k], &offers[first + k], kept) };
+    for_each_mut(rt, part, threads, &job);
+}
+
+/// A turn of each of these walks, side by side.
+fn walk_side_by_side<R: Threads + Sync, G: Gate + Sync>(
+    rt: &R,
+    threads: usize,
+    walks: &mut [Walk],
+    case: &Case<'_>,
+    turn: &Turn<'_>,
+    watch: &RootWatch<'_, G>,
+)
+    requires turn { IsTurnIn case.now.instance.now case.now.nets.now case.now.sets.now turn.now }
+    requires walkers { AreWalks case.now.instance.now walks.old }
+    ensures { AreWalks case.now.instance.now walks.new }
+{
+    let job = |_place: usize, walk: &mut Walk|
+        requires { IsTurnIn case.now.instance.now case.now.nets.now case.now.sets.now turn.now
+            × IsWalkerFor case.now.instance.now walk.now.walker }
+        ensures { IsWalkerFor case.entry.now.instance.now walk.exit.now.walker }
+    { walk.go(case, turn, watch) };
+    for_each_mut(rt, walks, threads, &job);
+}
