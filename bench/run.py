@@ -112,14 +112,15 @@ class Bench:
         taken.out_bytes = out.stat().st_size
         return taken
 
-    def measure(self, suite: str, instance: str, given: Path, words: str, workers: int = 1) -> Path:
-        """Runs the program's words on a file, several times, and returns what the last run wrote."""
+    def measure(self, suite: str, instance: str, given: Path, words: str, workers: int = 1, least: int = 1) -> Path:
+        """Runs the program's words on a file, several times, and returns what the last run wrote. Also a long run is
+        made so many times at least."""
         out = self.file(f"{instance} {words} {workers}")
         command = [self.program, *words.split()]
         if words.split()[0] in ("solve", "resume", "trace"):
             command += ["--workers", str(workers)]
         taken, number = 0.0, 0
-        while self.goes_on(number, taken):
+        while number < least or self.goes_on(number, taken):
             number += 1
             run = self.once(command, given, out)
             run.suite, run.instance, run.what, run.workers, run.number = suite, instance, words, workers, number
@@ -257,6 +258,21 @@ def progress_suite(bench: Bench) -> None:
     bench.cbc("progress", name, made)
 
 
+def root_worker_suite(bench: Bench) -> None:
+    """Roots whose work one to four threads share, five times each: of many trips, of many depots, of many layers."""
+    kinds = {
+        "make 2000": [bench.program, "make", "2000"],
+        "500 trips, 8 depots": ["bench/carpaneto.py", "500", "8", "1"],
+        "city 1500, 12 layers": ["bench/city.py", "1500", "1", "3", "4"],
+    }
+    if bench.quick:
+        kinds = {"30 trips, 6 depots": ["bench/carpaneto.py", "30", "6", "31"]}
+    for name, command in kinds.items():
+        made = bench.make(name, command)
+        for count in (1, 2, 3, 4):
+            bench.measure("root workers", name, made, "solve --nodes 1", count, least=1 if bench.quick else 5)
+
+
 def worker_suite(bench: Bench) -> None:
     """The same search by more and more workers; the root is worked on by one. At four sizes one node by four."""
     name = "make 40" if bench.quick else "make 1000"
@@ -348,7 +364,7 @@ SUITES = [
 ]
 
 # These need several processors.
-CROWDED = [worker_suite]
+CROWDED = [worker_suite, root_worker_suite]
 
 
 def measure_suite(number: int, bench: Bench) -> list[Run]:

@@ -32,7 +32,7 @@ Point = tuple[float, float]
 # A line of a plot: its name, its colour and its points.
 Line = tuple[str, str, list[Point]]
 
-BLUE, BROWN, GREEN = "#1f5fa8", "#b35900", "#2e7d32"
+BLUE, BROWN, GREEN, RED, VIOLET = "#1f5fa8", "#b35900", "#2e7d32", "#a4262c", "#6b3fa0"
 
 
 @dataclass
@@ -150,6 +150,24 @@ def by_cbc(runs: list[Row] | None) -> list[str]:
     return [thousands(run["cost"]), thousands(run["bound"]), spread(runs, "cpu") + ", not ended"]
 
 
+def root_workers(found: Results) -> str:
+    """Returns for each root the wall and CPU time by one to four workers, as shares of what one takes."""
+    rows = []
+    for name, alone, groups in roots_by_workers(found):
+        for count, runs in groups:
+            wall, cpu = (median(runs, what) / max(median(alone, what), 1e-3) for what in ("wall", "cpu"))
+            rows.append([name, str(count), spread(runs, "wall"), f"{wall:.2f}", f"{cpu:.2f}"])
+    return table(["Timetable", "Workers", "Wall seconds", "of one worker's", "CPU time, of one worker's"], rows)
+
+
+def roots_by_workers(found: Results) -> list[tuple[str, list[Row], list[tuple[int, list[Row]]]]]:
+    """Returns for each timetable the runs of its root by one worker, and those by each number of workers."""
+    by_name: dict[str, dict[int, list[Row]]] = {}
+    for (name, _, count), runs in found.of("root workers").items():
+        by_name.setdefault(name, {})[int(count)] = runs
+    return [(name, groups[1], sorted(groups.items())) for name, groups in by_name.items()]
+
+
 def workers(found: Results) -> str:
     """Returns the wall times by more and more workers, and the speed-up."""
     rows = [[str(count), spread(runs, "wall"), f"{times:.1f}"] for count, times, runs in speed_ups(found)]
@@ -203,6 +221,7 @@ SECTIONS = {
     "solve": lambda found: searches(found, "solve"),
     "classes": lambda found: searches(found, "classes"),
     "roots": roots,
+    "root_workers": root_workers,
     "workers": workers,
     "commands": lambda found: commands(found, "commands"),
     "carried": carried,
@@ -239,7 +258,11 @@ def trip_lines(found: Results) -> list[Line]:
 def worker_lines(found: Results) -> list[Line]:
     """Returns the speed-up over the number of workers, and the best that there could be."""
     points = [(float(count), times) for count, times, _ in speed_ups(found)]
-    return [("mdvsp", BLUE, points), ("as many times as workers", GREEN, [(count, count) for count, _ in points])]
+    lines = [("make 1000 with 200 nodes", BLUE, points)]
+    for (name, alone, groups), colour in zip(roots_by_workers(found), (BROWN, RED, VIOLET)):
+        root = [(float(count), median(alone, "wall") / median(runs, "wall")) for count, runs in groups]
+        lines.append((f"root of {name}", colour, root))
+    return [*lines, ("as many times as workers", GREEN, [(count, count) for count, _ in points])]
 
 
 # Each plot: its title, its axes, and its lines.
