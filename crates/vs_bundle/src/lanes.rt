@@ -69,12 +69,7 @@ impl<L: Lanes> Lanes for Untold<'_, L> {
 }
 
 /// Runs the layers from one on, one after the other.
-fn run_in_turn(
-    nets: &[LayerNet],
-    offers: &[Vec<Option<i64>>],
-    first: usize,
-    part: &mut [Kept],
-)
+fn run_in_turn(nets: &[LayerNet], offers: &[Vec<Option<i64>>], first: usize, part: &mut [Kept])
     requires within { first + length part.old ≤ length nets.now }
     requires offers { MayRunAll nets.now offers.now }
     requires ready { CanRunFrom nets.now first part.old }
@@ -85,6 +80,16 @@ fn run_in_turn(
         requires { MayRunAll nets.now offers.now × (first + k < length nets.now)
             × CanRun (net_at nets.now (first + k)) kept.now }
         ensures { HasRun (net_at nets.entry.now (first + k)) offers.entry.now (first + k) kept.exit.now }
-    { run_from(&nets[first + k], &offers[first + k], kept) };
+    { run_layer(nets, offers, first + k, kept) };
     in_turn(part, &job);
+}
+
+/// Runs the layer at this place with what is kept for it.
+pub fn run_layer(nets: &[LayerNet], offers: &[Vec<Option<i64>>], place: usize, kept: &mut Kept)
+    requires offers { MayRunAll nets.now offers.now }
+    requires within { place < length nets.now }
+    requires ready { CanRun (net_at nets.now place) kept.old }
+    ensures { HasRun (net_at nets.now place) offers.now place kept.new }
+{
+    run_from(&nets[place], &offers[place], kept);
 }

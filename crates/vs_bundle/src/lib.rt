@@ -13,6 +13,6 @@ mod valuing;
 
 pub use aim::Aim;
 pub use climbing::{Ascent, Climbed, climb};
-pub use lanes::Lanes;
+pub use lanes::{Lanes, run_layer};
 pub use shares::Shares;
 pub use vs_cuts::WHOLE;

@@ -2,7 +2,7 @@ use Rattle.vs_bundle.proofs.Parts.{more-run, part-ready, still-ready}
 use Rattle.vs_bundle.proofs.valuing.run_some.Goals as goal
 
 pub run_layers-requires-clause-ready : goal.run_layers-requires-clause-ready
-run_layers-requires-clause-ready g c κs within =
+run_layers-requires-clause-ready g c =
     part-ready c.args.nets.now c.args.work.now c.deref_mut-kept.result.now c.args.first c.args.end
     c.deref_mut-kept.ensures.value c.requires.within c.requires.some c.requires.ready
 
