@@ -9,3 +9,4 @@ pub mod LawTraces
 pub mod owing
 pub mod once
 pub mod carried
+pub mod SmallNumbers

@@ -6,3 +6,4 @@ pub mod Resuming
 pub mod Laws
 pub mod Outcome
 pub mod Answered
+pub mod Limits

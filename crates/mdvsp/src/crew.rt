@@ -1,6 +1,6 @@
 //! Crews: workers that search an instance together, or one part of it after the other.
 
-ghost use Rattle.std.specs.Prelude.{◌≡◌, ◌≤◌, ℕ, IfOk, IfSome, Result, Some};
+ghost use Rattle.std.specs.Prelude.{◌≡◌, ◌≤◌, ℕ, IfOk, IfSome, None, Result, Some};
 ghost use Rattle.vs_instance.specs.Problem.{Problem};
 ghost use Rattle.vs_instance.specs.declared.limits.TheConstants.{MAX_BUDGET, MAX_WORKERS};
 ghost use Rattle.vs_node.specs.WorkedHistory.{AreWorked};
@@ -41,7 +41,9 @@ impl<'a, R: Threads + Wait + Sync, G: Gate + Sync> Crew<'a, R, G> {
     pub fn new(rt: &'a R, gate: &'a G, effort: Effort) -> Crew<'a, R, G>
         requires { MayBeTaken effort }
         ensures workers { result.workers ≡ effort.workers }
+        ensures gate { result.gate.gate.now ≡ gate.now }
         ensures effort { result.gate.effort ≡ effort }
+        ensures before { result.gate.before ≡ None }
     {
         Crew {
             rt,
@@ -91,6 +93,7 @@ impl<'a, R: Threads + Wait + Sync, G: Gate + Sync> Crew<'a, R, G> {
     /// The same workers for a part of a search, where that has come so far.
     pub fn within(&self, before: Stand) -> Crew<'a, R, G>
         ensures workers { result.workers ≡ self.now.workers }
+        ensures gate { result.gate.gate.now ≡ self.now.gate.gate.now }
         ensures effort { result.gate.effort ≡ self.now.gate.effort }
         ensures before { result.gate.before ≡ Some before }
     {

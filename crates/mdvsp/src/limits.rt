@@ -1,6 +1,8 @@
 //! The limits of a search: after how many seconds it ends, and at which gap between plan and bound.
 
 ghost use Rattle.std.specs.Prelude.{◌≡◌, ◌↔◌, IsTrue, None, Some};
+ghost use Rattle.mdvsp.specs.Limits.{IsCostWithin, IsNear, whole_of};
+ghost use Rattle.vs_connect.specs.Cost.{lesser_of};
 ghost use Rattle.vs_words.specs.Words.{IsUnlimited};
 
 use vs_connect::lesser;
@@ -62,7 +64,9 @@ impl<'a, G: Gate> Limits<'a, G> {
     }
 
     /// Whether the gap is small enough.
-    fn is_near(&self, stand: &Stand) -> bool {
+    fn is_near(&self, stand: &Stand) -> bool
+        ensures { IsTrue result ↔ IsNear self.now.effort stand.now }
+    {
         match self.effort.gap {
             Some(gap) => is_within(gap, stand),
             None => false,
@@ -71,6 +75,8 @@ impl<'a, G: Gate> Limits<'a, G> {
 }
 
 impl<G: Gate> Gate for Limits<'_, G> {
+    ghost use Rattle.std.specs.Prelude.{◌≡◌, true};
+    ghost use Rattle.mdvsp.specs.Limits.{IsNear, stand_with};
     ghost use Rattle.vs_words.specs.Words.{IsUnlimited};
 
     ghost may_stop = { λ limits. ¬ (IsUnlimited limits.effort) };
@@ -83,7 +89,10 @@ impl<G: Gate> Gate for Limits<'_, G> {
         self.gate.seconds()
     }
 
-    fn is_over(&self, stand: &Stand) -> bool {
+    fn is_over(&self, stand: &Stand) -> bool
+        ensures may { result ≡ true → ¬ (IsUnlimited self.now.effort) }
+        ensures near { IsNear self.now.effort (stand_with self.now.before stand.now) → result ≡ true }
+    {
         let whole = match self.before {
             Some(before) => whole_of(&before, stand),
             None => *stand,
@@ -95,7 +104,9 @@ impl<G: Gate> Gate for Limits<'_, G> {
 }
 
 /// How far the whole search has come, where it had come so far before, and the search of one of its leaves so far.
-fn whole_of(before: &Stand, part: &Stand) -> Stand {
+fn whole_of(before: &Stand, part: &Stand) -> Stand
+    ensures { result ≡ whole_of before.now part.now }
+{
     let cost = lesser(before.cost, part.cost);
     Stand {
         finished: before.finished.saturating_add(part.finished),
@@ -106,7 +117,9 @@ fn whole_of(before: &Stand, part: &Stand) -> Stand {
 }
 
 /// The lesser of a bound and a cost, where there are both, else the one that there is.
-fn bound_with(bound: Option<i128>, cost: Option<i64>) -> Option<i128> {
+fn bound_with(bound: Option<i128>, cost: Option<i64>) -> Option<i128>
+    ensures { result ≡ lesser_of bound cost }
+{
     match (bound, cost) {
         (Some(bound), Some(cost)) => Some(bound.min(i128::from(cost))),
         (None, Some(cost)) => Some(i128::from(cost)),
@@ -115,7 +128,9 @@ fn bound_with(bound: Option<i128>, cost: Option<i64>) -> Option<i128> {
 }
 
 /// Whether the cost is no more than so many parts per million of it above the bound.
-fn is_within(gap: u32, stand: &Stand) -> bool {
+fn is_within(gap: u32, stand: &Stand) -> bool
+    ensures { IsTrue result ↔ IsCostWithin gap stand.now.cost stand.now.bound }
+{
     match (stand.cost, stand.bound) {
         (Some(cost), Some(bound)) => {
             let cost = i128::from(cost);

@@ -1,9 +1,9 @@
 //! Which leaf comes next, and the bound that all leaves leave.
 
-ghost use Rattle.std.specs.Prelude.{◌≡◌, ◌⊎◌, ◌<◌, length, All, IfSome, IfNone};
+ghost use Rattle.std.specs.Prelude.{◌≡◌, ◌⊎◌, ◌-◌, ◌<◌, ◌^◌, length, min, All, IfSome, IfNone};
 ghost use Rattle.vs_prices.specs.Bounds.{IsBelow, IsNoLess};
 ghost use Rattle.vs_tree.specs.Report.{bound_of};
-ghost use Rattle.vs_resume.specs.Order.{IsFirstLeast, IsLeastWith, worths_in};
+ghost use Rattle.vs_resume.specs.Order.{IsFirstLeast, IsLeastWith, below_in, worths_in};
 ghost use Rattle.vs_resume.specs.Turns.{IsNextIn};
 
 use crate::cases::Case;
@@ -41,7 +41,9 @@ fn first_least(cases: &[Case]) -> usize
 
 /// How many leaves are worth less than the cost, or, where there is none, worth a number at all. Where they are more
 /// than `u32::MAX`, it is that.
-pub(crate) fn count_below(cases: &[Case], cost: Option<i64>) -> u32 {
+pub(crate) fn count_below(cases: &[Case], cost: Option<i64>) -> u32
+    ensures { result ≡ min (below_in cost cases.now) (2 ^ 32 - 1) }
+{
     let mut count: u32 = 0;
     for case in cases {
         if case.worth.is_below(cost) {

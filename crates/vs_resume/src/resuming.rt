@@ -5,6 +5,7 @@ ghost use Rattle.vs_check.specs.HoldingDocument.{HoldingDocument};
 ghost use Rattle.vs_instance.specs.declared.limits.TheConstants.{MAX_BUDGET};
 ghost use Rattle.vs_rows.specs.DocumentText.{HasText};
 ghost use Rattle.vs_resume.specs.Answers.{HasRoom, ResumeAnswer, StoppedResume};
+ghost use Rattle.vs_resume.specs.Order.{IsStandOf};
 ghost use Rattle.vs_resume.specs.Courses.{EndsOnly, HasFewTables, HasNewTables, IsSomeCourse, TurnsFurther};
 
 use crate::course::Course;
@@ -96,7 +97,9 @@ const STOPPED: Ended = Ended {
 };
 
 /// How far the search has come, of which this call finished so many nodes.
-fn stand_of(course: &Course, finished: u32) -> Stand {
+fn stand_of(course: &Course, finished: u32) -> Stand
+    ensures { IsStandOf course.now finished result }
+{
     Stand {
         finished,
         open: count_below(&course.cases, course.cost),

@@ -1,10 +1,15 @@
 -- What a search reports is the least of what its leaves are worth and of the cheapest plan's cost.
-use Rattle.std.proofs.Common.{◌≡◌, ◌⊎◌, ℕ, ◌+◌, ◌<◌, true, false, arith, List, length, refl, sym, ap, ◌∙◌, subst, inl, inr, Option, ℤ}
+use Rattle.std.proofs.Common.{◌≡◌, ◌⊎◌, ◌↔◌, ℕ, ◌+◌, ◌<◌, true, false, arith, List, [], ◌∷◌, ◌++◌, length, refl, sym, ap, ◌∙◌, subst, inl, inr, Option, ℤ}
+use Rattle.std.specs.Prelude.{Contains}
+use Rattle.std.proofs.lemmas.List.{length_push}
+use Rattle.std.proofs.lemmas.List.Elements.{All-contains_itself, All-get_or, Contains-append_left, Contains-push, Contains-push_cases, at_from_Contains}
+use Rattle.std.proofs.lemmas.List.Kept.{AllPairs-from_increasing}
+use Rattle.std.proofs.lemmas.List.Quantifiers.{all_pairs_push}
 use Rattle.vs_prices.specs.Bounds.{IsBelow, IsNoLess}
 use Rattle.vs_prices.specs.declared.bound.Bound.{Bound}
 use Rattle.vs_prices.proofs.CallerLemmas.{no_less-trans}
 use Rattle.vs_tree.specs.History.{Opening, Place, State, IsLeafWorth, is_inner, known, place_at, prices_at, sets_at, spot_at, state_of}
-use Rattle.vs_tree.specs.Report.{IsLeastOf, IsLesser, IsOpenCount, IsOpenLeaf, bound_of}
+use Rattle.vs_tree.specs.Report.{AreThose, HoldsOfSoMany, IsBelowAt, IsLeastOf, IsLesser, IsOpenCount, IsOpenLeaf, LeavesRoom, bound_of}
 use Rattle.vs_tree.specs.Search.{IsSearch, Parts, worth_at}
 use Rattle.std.proofs.lemmas.Bool.{cases_lt}
 use Rattle.vs_types.specs.declared.layer_set.LayerSet.{LayerSet}
@@ -92,13 +97,76 @@ module _ (places : List Place) (worths : List Bound) (cost : Option ℤ) (k : �
     ];
   }
 
+-- a fact that holds where another does holds of as many numbers
+pub as_many : (P Q : ℕ → Type 0) (count : ℕ) → ((k : ℕ) → P k → Q k) → ((k : ℕ) → Q k → P k) → HoldsOfSoMany P count
+    → HoldsOfSoMany Q count
+as_many P Q count to from many = record {
+  numbers = many.numbers;
+  those = record {
+    rising = many.those.rising;
+    each = λ k among. to k (many.those.each k among);
+    all = λ k holds. many.those.all k (from k holds);
+  };
+  counted = many.counted;
+}
+
+-- a fact that holds of no number
+pub of_none : (P : ℕ → Type 0) → ((k : ℕ) → ¬ (P k)) → HoldsOfSoMany P 0
+of_none P none = record {
+  numbers = [];
+  those = record {
+    rising = AllPairs-from_increasing [] (λ k few. absurd (omega (arith, few)));
+    each = λ k among. let at = at_from_Contains [] k among in let few = at.1 in absurd (omega (arith, few));
+    all = λ k holds. absurd (none k holds);
+  };
+  counted = refl;
+}
+
+-- a fact that holds of one number more, which is above the others
+pub of_one_more : (P Q : ℕ → Type 0) (top count : ℕ) → ((k : ℕ) → P k → k < top) → ((k : ℕ) → P k → Q k) → Q top
+    → ((k : ℕ) → Q k → (P k) ⊎ (k ≡ top)) → HoldsOfSoMany P count → HoldsOfSoMany Q (count + 1)
+of_one_more P Q top count under to here from many =
+    let numbers = many.numbers in
+    record {
+      numbers = numbers ++ top ∷ [];
+      those = record {
+        rising = all_pairs_push (λ j k. j < k) numbers top many.those.rising
+            (λ k d within. under _ (many.those.each _
+            (All-get_or (Contains numbers) numbers k d within (All-contains_itself numbers))));
+        each = λ k among. elim (Contains-push_cases numbers top k among) [
+          | inl old ↦ to k (many.those.each k old)
+          | inr is ↦ subst Q is here
+        ];
+        all = λ k holds. elim (from k holds) [
+          | inl old ↦ Contains-append_left numbers (top ∷ []) k (many.those.all k old)
+          | inr is ↦ subst (Contains (numbers ++ top ∷ [])) (sym is) (Contains-push numbers top)
+        ];
+      };
+      counted = ap (λ (n : ℕ). n + 1) many.counted ∙ sym (length_push numbers top);
+    }
+
 -- no place is open among none
 pub no_place_open : (places : List Place) (worths : List Bound) (cost : Option ℤ) → IsOpenCount places worths cost 0 0
 no_place_open places worths cost = record {
   few = omega arith;
   some = λ some. absurd (omega (arith, some));
   none = λ none among. let before = among.before in omega (arith, before);
+  counted = of_none (IsBelowAt places worths cost 0) (λ k at. let before = at.before in omega (arith, before));
 }
+
+-- a place that is one of the first so many, or of one more
+pub one_place_more : (places : List Place) (worths : List Bound) (cost : Option ℤ) (k j : ℕ)
+    → IsBelowAt places worths cost k j → IsBelowAt places worths cost (k + 1) j
+one_place_more places worths cost k j at =
+    let before = at.before in
+    record { before = omega (arith, before); is_leaf = at.is_leaf; below = at.below }
+
+pub one_place_fewer : (places : List Place) (worths : List Bound) (cost : Option ℤ) (k j : ℕ)
+    → IsBelowAt places worths cost (k + 1) j → (IsBelowAt places worths cost k j) ⊎ (j ≡ k)
+one_place_fewer places worths cost k j at = elim (cases_lt j k) [
+  | inl before ↦ inl (record { before = before; is_leaf = at.is_leaf; below = at.below })
+  | inr past ↦ let last = at.before in inr (omega (arith, past, last))
+]
 
 module _ (places : List Place) (worths : List Bound) (cost : Option ℤ) (k found : ℕ)
     (of : IsOpenCount places worths cost k found) where
@@ -109,6 +177,10 @@ module _ (places : List Place) (worths : List Bound) (cost : Option ℤ) (k foun
     few = let few = of.few in omega (arith, few);
     some = λ some. record { place = k; before = omega arith; is_leaf = leaf; below = below };
     none = λ none. absurd (omega (arith, none));
+    counted = of_one_more (IsBelowAt places worths cost k) (IsBelowAt places worths cost (k + 1)) k found
+        (λ j at. at.before) (one_place_more places worths cost k)
+        (record { before = omega arith; is_leaf = leaf; below = below }) (one_place_fewer places worths cost k)
+        of.counted;
   }
 
   -- one more place that isn't
@@ -134,6 +206,14 @@ module _ (places : List Place) (worths : List Bound) (cost : Option ℤ) (k foun
           shut (ap (λ (i : ℕ). is_inner (place_at places i).spot) (sym here) ∙ among.is_leaf)
           (subst (λ (i : ℕ). IsBelow (worth_at worths i) cost) here among.below)
     ];
+    counted = as_many (IsBelowAt places worths cost k) (IsBelowAt places worths cost (k + 1)) found
+        (one_place_more places worths cost k)
+        (λ j at. elim (one_place_fewer places worths cost k j at) [
+          | inl before ↦ before
+          | inr here ↦
+              absurd (shut (ap (λ (i : ℕ). is_inner (place_at places i).spot) (sym here) ∙ at.is_leaf)
+              (subst (λ (i : ℕ). IsBelow (worth_at worths i) cost) here at.below))
+        ]) of.counted;
   }
 
 module _ (o : Opening) (a : Parts) (is : IsSearch o a) (cost : Option ℤ) (found : ℕ)
@@ -170,3 +250,25 @@ module _ (o : Opening) (a : Parts) (is : IsSearch o a) (cost : Option ℤ) (foun
         below = subst (IsBelow (worth_at a.worths k)) (sym knows)
             (subst (λ (x : Bound). IsBelow x (known now)) (sym same) open_leaf.below);
       })
+
+  -- as many as are counted leave room
+  pub rooms : HoldsOfSoMany (LeavesRoom o.problem now) found
+  rooms = as_many (IsBelowAt a.places.places a.worths cost (length a.places.places)) (LeavesRoom o.problem now) found
+      (λ k at.
+      let leaf : is_inner (spot_at now k) ≡ false = ap is_inner (spot-is o a is k) ∙ at.is_leaf in
+      record {
+        worth = worth_at a.worths k;
+        is_leaf = leaf;
+        is_worth = is.parts.worths k leaf;
+        below = subst (IsBelow (worth_at a.worths k)) knows at.below;
+      })
+      (λ k room.
+      let same : worth_at a.worths k ≡ room.worth =
+      one_worth o.problem (sets_at now k) (prices_at now k) (worth_at a.worths k) room.worth
+      (is.parts.worths k room.is_leaf) room.is_worth in
+      record {
+        before = leaf_is o a is k room.is_leaf;
+        is_leaf = ap is_inner (sym (spot-is o a is k)) ∙ room.is_leaf;
+        below = subst (IsBelow (worth_at a.worths k)) (sym knows)
+            (subst (λ (x : Bound). IsBelow x (known now)) (sym same) room.below);
+      }) of.counted

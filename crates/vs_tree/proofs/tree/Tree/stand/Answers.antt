@@ -1,11 +1,11 @@
 use Rattle.std.proofs.Common.{◌≡◌, List, length, ap, sym, ◌∙◌, subst, arith}
 use Rattle.vs_prices.specs.declared.bound.Bound.{Bound}
 use Rattle.vs_tree.specs.History.{known, state_of}
-use Rattle.vs_tree.specs.Report.{IsOpenCount, IsOpenLeaf}
+use Rattle.vs_tree.specs.Report.{HoldsOfSoMany, IsOpenCount, IsOpenLeaf, LeavesRoom}
 use Rattle.vs_tree.specs.Search.{Search, state}
 use Rattle.vs_tree.proofs.search.Facts.{places_within}
 use Rattle.vs_tree.proofs.search.Inside.{opening_of, parts_of}
-use Rattle.vs_tree.proofs.search.Reporting.{no_leaf, some_leaf}
+use Rattle.vs_tree.proofs.search.Reporting.{no_leaf, rooms, some_leaf}
 use Rattle.vs_tree.proofs.tree.Tree.stand.Goals as goal
 
 pub open_leaves-requires : goal.open_leaves-requires
@@ -38,4 +38,6 @@ returns c =
           (some_leaf o a is c.report-report.result.cost c.open_leaves.result knows of some);
       none_open = λ none. subst (λ (t : Search). ¬ (IsOpenLeaf t.opening.problem (state t))) c.self.view_is
           (no_leaf o a is c.report-report.result.cost c.open_leaves.result knows of none);
+      counted = subst (λ (t : Search). HoldsOfSoMany (LeavesRoom t.opening.problem (state t)) c.open_leaves.result)
+          c.self.view_is (rooms o a is c.report-report.result.cost c.open_leaves.result knows of);
     }
