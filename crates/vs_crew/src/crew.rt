@@ -1,6 +1,5 @@
 //! A crew of workers: how they are enlisted, seated, let work together, and joined.
 ghost use Rattle.std.specs.Prelude.{◌≡◌, ◌<◌, [], length, IfErr, IfOk, Some};
-ghost use Rattle.std.specs.Thread.{IsSync};
 ghost use Rattle.vs_match.specs.LayerNets.{AreLayerNets};
 ghost use Rattle.vs_turn.specs.Seats.{SeatModel};
 ghost use Rattle.vs_tree.specs.Search.{state};
@@ -172,8 +171,7 @@ fn work_together<R: Threads + Wait + Sync, G: Gate + Sync>(
         workers,
     } = *site;
     let work = |_place: usize, worker: &mut Worker|
-        requires { IsSync G.row × IsSite instance.now nets.now start.now.value
-            × IsReady turn.now.name start.now.value worker.now }
+        requires { IsSite instance.now nets.now start.now.value × IsReady turn.now.name start.now.value worker.now }
         ensures { IsDone (G.may_stop gate.entry.now) turn.entry.now.name start.entry.now.value
             worker.entry.now.number worker.exit.now }
     {

@@ -17,8 +17,8 @@ use crate::watching::RootWatch;
 use std::alloc::Global;
 use std::marker::Sync;
 use std::thread::{Threads, for_each_mut};
-use vs_bundle::Lanes;
-use vs_circ::{Kept, Work, run_from};
+use vs_bundle::{Lanes, run_layer};
+use vs_circ::{Kept, Work};
 use vs_match::LayerNet;
 use vs_multi::{Case, Watch};
 use vs_node::Task;
@@ -32,6 +32,7 @@ struct RootHands<'a, G: Gate, L, K> {
     threads: usize,
     run: L,
     walk: K,
+    ghost some: { 0 < threads },
 }
 
 impl<G: Gate + Sync, L, K> Watch for RootHands<'_, G, L, K> {
@@ -54,7 +55,7 @@ impl<
     ghost works = { λ hands. RunsLayers L.Fn hands.run × TakesTurns K.Fn hands.walk };
 
     fn threads(&self) -> usize {
-        self.threads.max(1)
+        self.threads
     }
 
     fn run_layers(
@@ -95,16 +96,16 @@ pub(crate) fn found_in_threads<R: Threads + Sync, G: Gate + Sync>(
     ensures sets { length task.new.sets.items ≡ length task.old.sets.items }
     ensures fits { Fits site.now.instance.now task.new.table }
 {
-    let threads = site.workers as usize;
+    let threads = site.workers.max(1) as usize;
     let watch = RootWatch::new(site.gate);
     let run = |nets: &[LayerNet], offers: &[Vec<Option<i64>>], first: usize, part: &mut [Kept]|
-        requires { (first + length part.now ≤ length nets.now) × MayRunAll nets.now offers.now
+        requires { (0 < threads) × (first + length part.now ≤ length nets.now) × MayRunAll nets.now offers.now
             × CanRunFrom nets.now first part.now }
         ensures { (length part.exit.now ≡ length part.entry.now)
             × HaveRunFrom nets.entry.now offers.entry.now first part.exit.now }
     { run_side_by_side(rt, threads, nets, offers, first, part) };
     let walk = |walks: &mut [Walk], case: &Case<'_>, turn: &Turn<'_>|
-        requires { IsTurnIn case.now.instance.now case.now.nets.now case.now.sets.now turn.now
+        requires { (0 < threads) × IsTurnIn case.now.instance.now case.now.nets.now case.now.sets.now turn.now
             × AreWalks case.now.instance.now walks.now }
         ensures { AreWalks case.entry.now.instance.now walks.exit.now }
     { walk_side_by_side(rt, threads, walks, case, turn, &watch) };
@@ -134,6 +135,7 @@ fn run_side_by_side<R: Threads + Sync>(
     first: usize,
     part: &mut [Kept],
 )
+    requires some { 0 < threads }
     requires within { first + length part.old ≤ length nets.now }
     requires offers { MayRunAll nets.now offers.now }
     requires ready { CanRunFrom nets.now first part.old }
@@ -144,7 +146,7 @@ fn run_side_by_side<R: Threads + Sync>(
         requires { MayRunAll nets.now offers.now × (first + k < length nets.now)
             × CanRun (net_at nets.now (first + k)) kept.now }
         ensures { HasRun (net_at nets.entry.now (first + k)) offers.entry.now (first + k) kept.exit.now }
-    { run_from(&nets[first + k], &offers[first + k], kept) };
+    { run_layer(nets, offers, first + k, kept) };
     for_each_mut(rt, part, threads, &job);
 }
 
@@ -157,6 +159,7 @@ fn walk_side_by_side<R: Threads + Sync, G: Gate + Sync>(
     turn: &Turn<'_>,
     watch: &RootWatch<'_, G>,
 )
+    requires some { 0 < threads }
     requires turn { IsTurnIn case.now.instance.now case.now.nets.now case.now.sets.now turn.now }
     requires walkers { AreWalks case.now.instance.now walks.old }
     ensures { AreWalks case.now.instance.now walks.new }

@@ -46,7 +46,7 @@ pub fn seek_ray<W: Lanes>(
     watch: &W,
 ) -> Result<Option<Table>, Memory>
     requires works { W.works watch.now }
-    requires { IsRestriction instance.now sets.now }
+    requires restriction { IsRestriction instance.now sets.now }
     ensures { IfOk result (λ ray. IfSome ray (ShowsNoPlan instance.now sets.now)) }
 {
     let unrated = instance.without_rates(alloc)?;
@@ -63,7 +63,7 @@ fn unrated_table<W: Lanes>(
     watch: &W,
 ) -> Result<Table, Memory>
     requires works { W.works watch.now }
-    requires { IsRestriction unrated.now sets.now }
+    requires restriction { IsRestriction unrated.now sets.now }
     ensures fits { IfOk result (Fits unrated.now) }
     ensures holds { IfOk result (HoldingTable unrated.now) }
 {
@@ -86,7 +86,7 @@ fn climbed_table<W: Lanes>(
     watch: &W,
 ) -> Result<Table, Memory>
     requires works { W.works watch.now }
-    requires { IsCase case.now.instance.now case.now.nets.now case.now.sets.now }
+    requires case { IsCase case.now.instance.now case.now.nets.now case.now.sets.now }
     ensures fits { IfOk result (Fits case.now.instance.now) }
     ensures holds { IfOk result (HoldingTable case.now.instance.now) }
 {

@@ -92,7 +92,7 @@ impl Seeker {
         watch: &W,
     ) -> Result<(), Memory>
         requires works { W.works watch.now }
-        requires { CanSeek case.now.instance.now case.now.nets.now case.now.sets.now multipliers.old self.old }
+        requires can { CanSeek case.now.instance.now case.now.nets.now case.now.sets.now multipliers.old self.old }
         ensures multipliers { AreMultipliers case.now.instance.now multipliers.new }
         ensures seeker { IsSeekerFor case.now.instance.now self.new }
     {

@@ -30,6 +30,6 @@ pub returns-in-Ok-None-clause-after : goal.returns-in-Ok-None-clause-after
 returns-in-Ok-None-clause-after g c =
     let stops = g.G.Gate.may_stop c.args.site.now.gate.now in
     let number = c.args.worker.now.number in
-    let may = subst g.G.Gate.may_stop c.new-watch.ensures (c.in-Ok-None.ensures.ended c.in-Ok-None.field-0-is) in
+    let may = c.in-Ok-None.ensures.ended c.in-Ok-None.field-0-is in
     knows_more c.args.site.now.turn.now.name c.args.site.now.start.now.value number (HasLeft number)
     (IsAfter stops number Stopped) c.give_up.result c.give_up.ensures.left (λ s left. (may, inr left))

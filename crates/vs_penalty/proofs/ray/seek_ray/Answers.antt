@@ -5,12 +5,10 @@ use Rattle.vs_prices.specs.Table.{Fits, HoldingTable}
 use Rattle.vs_penalty.proofs.ShownRays.{unrated-IsRestriction}
 use Rattle.vs_penalty.proofs.ray.seek_ray.Goals as goal
 
-pub unrated_table-requires : goal.unrated_table-requires
-unrated_table-requires g c = (
-  c.type_bounds.sync-W,
-  subst (λ (q : Problem). IsRestriction q c.args.sets.now) (sym c.in_ok-unrated.ensures)
-      (unrated-IsRestriction c.args.instance.now c.args.sets.now c.requires),
-)
+pub unrated_table-requires-clause-restriction : goal.unrated_table-requires-clause-restriction
+unrated_table-requires-clause-restriction g c =
+    subst (λ (q : Problem). IsRestriction q c.args.sets.now) (sym c.in_ok-unrated.ensures)
+    (unrated-IsRestriction c.args.instance.now c.args.sets.now c.requires.restriction)
 
 pub read_as_ray-requires-clause-fits : goal.read_as_ray-requires-clause-fits
 read_as_ray-requires-clause-fits g c =
