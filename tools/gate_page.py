@@ -21,7 +21,7 @@ TOP = Path(__file__).resolve().parent.parent
 PAGE = TOP / "docs" / "benchmarks.md"
 PART = re.compile(r"(<!-- gate: (?!end)(\S+) -->\n)(.*?)(<!-- gate: end -->)", re.S)
 KINDS = ("proof", "tests", "edits")
-LEAST = 16
+LEAST = 10
 
 
 def read(path: Path) -> tuple[list[str], dict[str, Counter[str]]]:
