@@ -1,6 +1,7 @@
 //! Crews: workers that search an instance together, or one part of it after the other.
 
 ghost use Rattle.std.specs.Prelude.{◌≡◌, ◌≤◌, ℕ, IfOk, IfSome, None, Result, Some};
+ghost use Rattle.mdvsp.specs.Limits.{IsNear, stand_with};
 ghost use Rattle.vs_instance.specs.Problem.{Problem};
 ghost use Rattle.vs_instance.specs.declared.limits.TheConstants.{MAX_BUDGET, MAX_WORKERS};
 ghost use Rattle.vs_node.specs.WorkedHistory.{AreWorked};
@@ -141,6 +142,10 @@ impl<G: Gate, F: Fn(Instance, u32, Stand) -> Result<Tree, Memory>> Deepen for By
         → IfOk found (IsDeepened part budget)) };
 
     ghost may_stop = { λ s. ¬ (IsUnlimited s.gate.now.effort) };
+
+    ghost must_stop = { λ s stand. IsNear s.gate.now.effort (stand_with s.gate.now.before stand) };
+
+    ghost is_told = { λ s stand. s.before ≡ stand };
 
     fn deepen(&mut self, _alloc: Global, part: Instance, budget: u32) -> Result<Tree, Memory> {
         (self.search)(part, budget, self.before)

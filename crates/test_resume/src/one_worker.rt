@@ -4,7 +4,7 @@ use crate::searching::searched;
 use std::alloc::Global;
 use vs_instance::Instance;
 use vs_resume::Deepen;
-use vs_tree::Tree;
+use vs_tree::{Stand, Tree};
 use vs_types::Memory;
 
 /// One worker, who searches each part alone, leaf after leaf, and begins each search anew.
@@ -21,5 +21,9 @@ impl Deepen for OneWorker {
     fn deepen(&mut self, alloc: Global, part: Instance, budget: u32) -> Result<Tree, Memory> {
         self.parts = self.parts.wrapping_add(1);
         searched(alloc, &part, budget)
+    }
+
+    fn is_over(&mut self, _stand: &Stand) -> bool {
+        false
     }
 }

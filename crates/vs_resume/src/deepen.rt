@@ -3,6 +3,7 @@
 ghost use Rattle.std.specs.Prelude.{◌≡◌, ◌*◌, ◌≤◌, length, true, IfOk};
 ghost use Rattle.vs_instance.specs.declared.limits.TheConstants.{MAX_BUDGET};
 ghost use Rattle.vs_resume.specs.Deepened.{IsBegunOn, IsDeepened};
+ghost use Rattle.vs_tree.specs.declared.calls.Stand.{Stand};
 
 use std::alloc::Global;
 use vs_instance::Instance;
@@ -25,6 +26,13 @@ pub trait Deepen {
     /// What is so of a solver that may end a search early. It is so of none where this isn't said.
     ghost may_stop: { Self → Type 0 } = { λ _. ⊥ };
 
+    /// What is so of a solver that is to end the whole search where that has come so far. It is so of none where this
+    /// isn't said.
+    ghost must_stop: { Self → Stand → Type 0 } = { λ _ _. ⊥ };
+
+    /// What is so of a solver that was told how far the whole search has come.
+    ghost is_told: { Self → Stand → Type 0 } = { λ _ _. Unit {0} };
+
     /// A search of the part with this budget that began with no plan: it is over, and finished some node. Where the
     /// solver may end it early, it is as far as it came, and may have finished none.
     fn deepen(&mut self, alloc: Global, part: Instance, budget: u32) -> Result<Tree, Memory>
@@ -38,12 +46,11 @@ pub trait Deepen {
         ensures found { ¬ (may_stop self.old) → IfOk result (IsDeepened part budget) };
 
     /// Whether the whole search is to end before its next turn, where it has come so far.
-    fn is_over(&mut self, _stand: &Stand) -> bool
+    fn is_over(&mut self, stand: &Stand) -> bool
         requires can { can_deepen self.old }
         ensures stays { can_deepen self.new }
         ensures may { may_stop self.new → may_stop self.old }
         ensures over { result ≡ true → may_stop self.old }
-    {
-        false
-    }
+        ensures must { must_stop self.old stand.now → result ≡ true }
+        ensures told { is_told self.new stand.now };
 }
