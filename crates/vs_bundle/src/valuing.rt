@@ -129,7 +129,8 @@ impl Trial {
         true
     }
 
-    /// How many layers run side by side, where there are so many threads. Where all can't at once, as many do each time.
+    /// How many layers run side by side, where there are so many threads. Where all can't at once, as many do each
+    /// time.
     fn width(&self, layers: usize, threads: usize) -> usize
         requires { 0 < threads }
         ensures { 0 < result }

@@ -15,14 +15,18 @@ module _ {L : Type 0} (g : Shared L (Bor (List LayerGraph) × (Bor Offers × (�
   -- it may be called wherever layers may be run, and runs them
   pub record RunsLayers : Type 0 where
     pub accepts : (nets : Bor (List LayerGraph)) (offers : Bor Offers) (first : ℕ) (part : MutBor (List Kept))
-        → first + length part.now ≤ length nets.now → MayRunAll nets.now offers.now → CanRunFrom nets.now first part.now
+        → first + length part.now ≤ length nets.now → MayRunAll nets.now offers.now
+        → CanRunFrom nets.now first part.now
         → g.pre run (nets, (offers, (first, (part, tt))))
     pub each : (nets : Bor (List LayerGraph)) (offers : Bor Offers) (first : ℕ) (part after : MutBor (List Kept))
-        → first + length part.now ≤ length nets.now → MayRunAll nets.now offers.now → CanRunFrom nets.now first part.now
+        → first + length part.now ≤ length nets.now → MayRunAll nets.now offers.now
+        → CanRunFrom nets.now first part.now
         → g.post run (nets, (offers, (first, (part, tt)))) (tt, (after, tt)) → length after.now ≡ length part.now
     pub runs : (nets : Bor (List LayerGraph)) (offers : Bor Offers) (first : ℕ) (part after : MutBor (List Kept))
-        → first + length part.now ≤ length nets.now → MayRunAll nets.now offers.now → CanRunFrom nets.now first part.now
-        → g.post run (nets, (offers, (first, (part, tt)))) (tt, (after, tt)) → HaveRunFrom nets.now offers.now first after.now
+        → first + length part.now ≤ length nets.now → MayRunAll nets.now offers.now
+        → CanRunFrom nets.now first part.now
+        → g.post run (nets, (offers, (first, (part, tt)))) (tt, (after, tt))
+        → HaveRunFrom nets.now offers.now first after.now
 
 module _ {K : Type 0} (g : Shared K (MutBor (List Walk) × (Bor Case × (Bor Turn × Unit {0})))
     (Unit {0} × (MutBor (List Walk) × Unit {0}))) (walk : K) where

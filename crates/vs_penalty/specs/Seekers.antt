@@ -24,10 +24,11 @@ pub record AreChoices (p : Problem) (choices : Choices) : Type 0 where
   pub pool : choices.pool.trips ≡ length p.trips
   pub chosen : length choices.chosen.items ≡ length p.trips
 
--- penalties and choices of an instance
+-- penalties, choices and a mean of multipliers of an instance
 pub record IsSeekerFor (p : Problem) (seeker : Seeker) : Type 0 where
   pub penalties : ArePenalties p seeker.penalties
   pub choices : AreChoices p seeker.choices
+  pub mean : AreMultipliers p seeker.mean.multipliers.items
 
 -- what plans are sought with: a case, multipliers to begin with, and a seeker of its instance
 pub record CanSeek (p : Problem) (graphs : List LayerGraph) (sets : List LayerSet) (first : List ℤ)

@@ -1,6 +1,8 @@
 //! How much each step of the search at the root may take. Effort is counted as `Work::effort` does: a unit of it takes
 //! about a fifth of a microsecond.
 
+ghost use Rattle.std.specs.Prelude.{◌<◌};
+
 use vs_instance::{Instance, MAX_LAYERS, MAX_TRIPS};
 use vs_types::SCALE;
 
@@ -16,6 +18,13 @@ const LEAST_PASSES_WHERE_SLOW: u32 = 500;
 
 /// How many quick passes there are at most: the layers of a small instance agree long before.
 const MOST_PASSES: u32 = 1_000;
+
+/// So small a part of the greatest rate is that of the first quick pass, when multipliers are known roughly.
+const FIRST_PART: u64 = 100;
+
+/// The same where a climb is slow. It begins at a mean of multipliers, for which those after single passes may be
+/// farther off; and a greater rate has the layers agree sooner.
+const FIRST_PART_WHERE_SLOW: u64 = 30;
 
 /// How many trips an instance offers to layers at most, all layers together, to be a small one. Climbs on its leaves
 /// have nearly all their rounds, so they close what its root leaves open.
@@ -86,6 +95,17 @@ pub(crate) fn quick_passes(instance: &Instance) -> u32 {
         .unwrap_or(0)
         .max(least)
         .min(MOST_PASSES)
+}
+
+/// So small a part of the greatest rate is that of the first quick pass.
+pub(crate) fn first_part(instance: &Instance) -> u64
+    ensures { 0 < result }
+{
+    if is_slow(instance) {
+        FIRST_PART_WHERE_SLOW
+    } else {
+        FIRST_PART
+    }
 }
 
 /// The effort of a walker's turn, where a quick pass takes so much.

@@ -9,6 +9,7 @@ mod agreeing;
 mod choices;
 mod effort;
 mod leaf;
+mod mean;
 mod minutes;
 mod paying;
 mod ray;

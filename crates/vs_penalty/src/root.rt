@@ -97,7 +97,7 @@ impl Seeker {
         ensures seeker { IsSeekerFor case.now.instance.now self.new }
     {
         let (first, last) = stages(case.instance);
-        multipliers.copy_from_slice(&self.penalties.multipliers);
+        multipliers.copy_from_slice(self.reached(case.instance));
         if watch.is_over() {
             return Ok(());
         }

@@ -7,17 +7,15 @@ ghost use Rattle.vs_multi.specs.Rounds.{IsCase};
 ghost use Rattle.vs_penalty.specs.Seekers.{IsSeekerFor};
 
 use crate::choices::Choices;
-use crate::effort::{margin, turn_margin};
+use crate::effort::{first_part, is_slow, margin, turn_margin};
+use crate::mean::Mean;
 use vs_circ::{Work, begin_runs};
 use vs_instance::Instance;
 use vs_multi::{Case, Watch, greatest_step};
 use vs_types::Memory;
 use vs_walk::{ALL, FEW, Penalties, Rate};
 
-/// So small a part of the greatest rate is that of the first quick passes, whose multipliers are known roughly. By so
-/// small a part of it the rate rises.
-const FIRST_PART: u64 = 100;
-
+/// By so small a part of it the rate of quick passes rises.
 const GROWTH: u64 = 8;
 
 /// After how many agreements quick passes end. The first climb needs no more than a plan that is nearly as cheap as the
@@ -35,6 +33,8 @@ const MORE: u32 = 3;
 pub(crate) struct Seeker {
     pub penalties: Penalties,
     pub choices: Choices,
+    /// Of the multipliers after each quick pass, where the climb from there is slow.
+    pub mean: Mean,
     /// No plan costs less than this, in 1/1000 of a cost unit, as far as multipliers show that.
     pub value: i64,
     /// How much effort a quick pass took.
@@ -48,10 +48,11 @@ impl Seeker {
         ensures { IfOk result (IsSeekerFor case.now.instance.now) }
     {
         let most = greatest_step(case.alloc, case.instance)?;
-        let rate = Rate::new(most / FIRST_PART, most, GROWTH);
+        let rate = Rate::new(most / first_part(case.instance), most, GROWTH);
         Ok(Seeker {
             penalties: Penalties::new(case, multipliers, rate)?,
             choices: Choices::new(case.alloc, case.instance.trips() as usize)?,
+            mean: Mean::new(case.alloc, multipliers)?,
             value: i64::MIN,
             of_pass: 0,
         })
@@ -92,6 +93,7 @@ impl Seeker {
             if !self.penalties.pass(case, ALL, work, watch) {
                 break;
             }
+            self.note_pass(case.instance);
             if self
                 .penalties
                 .is_agreed(case.instance, case.instance.trips() / FEW)
@@ -104,6 +106,28 @@ impl Seeker {
             self.of_pass = work.effort().saturating_sub(start) / (u64::from(k) + 1);
         }
         Ok(())
+    }
+
+    /// Takes the multipliers after a pass into the mean, where that is used.
+    fn note_pass(&mut self, instance: &Instance)
+        requires { IsSeekerFor instance.now self.old }
+        ensures { IsSeekerFor instance.now self.new }
+    {
+        if is_slow(instance) {
+            self.mean.take(&self.penalties.multipliers);
+        }
+    }
+
+    /// What the climb begins with: the multipliers that quick passes came to, or their mean where the climb is slow.
+    pub fn reached(&self, instance: &Instance) -> &[i64]
+        requires { IsSeekerFor instance.now self.now }
+        ensures { AreMultipliers instance.now result.now }
+    {
+        if is_slow(instance) {
+            &self.mean.multipliers
+        } else {
+            &self.penalties.multipliers
+        }
     }
 
     /// Whether quick passes end that took so much effort, and of which there were enough, or not yet.

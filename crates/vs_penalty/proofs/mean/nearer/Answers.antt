@@ -1,0 +1,9 @@
+use Rattle.std.proofs.Common.{arith}
+use Rattle.std.proofs.lemmas.Int.{ints, clamps}
+use Rattle.vs_penalty.proofs.mean.nearer.Goals as goal
+
+pub returns : goal.returns
+returns c = (
+  omega (arith, ints, clamps, c.max.ensures.value, c.min.ensures.value),
+  omega (arith, ints, clamps, c.max.ensures.value, c.min.ensures.value),
+)
