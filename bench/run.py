@@ -274,7 +274,7 @@ def root_worker_suite(bench: Bench) -> None:
 
 
 def worker_suite(bench: Bench) -> None:
-    """The same search by more and more workers; the root is worked on by one. At four sizes one node by four."""
+    """The same search by more and more workers. At four sizes one node by four."""
     name = "make 40" if bench.quick else "make 1000"
     made = bench.make(name, [bench.program, *name.split()])
     nodes = 10 if bench.quick else 200
