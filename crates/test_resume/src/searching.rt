@@ -12,10 +12,9 @@ ghost use Rattle.vs_tree.specs.Takes.{IsOver, IsSized};
 ghost use Rattle.test_resume.specs.Alone.{HasOutcome, IsAtLeaf, IsBetweenLeaves};
 
 use std::alloc::Global;
-use vs_circ::Work;
 use vs_instance::Instance;
 use vs_match::layer_nets;
-use vs_node::{Outcome, Task, work};
+use vs_node::{Outcome, Room, Task, work};
 use vs_plan::CheckedPlan;
 use vs_prices::{Table, permitted_sets};
 use vs_tree::{Take, Tree};
@@ -30,13 +29,13 @@ pub fn searched(alloc: Global, instance: &Instance, budget: u32) -> Result<Tree,
     let nets = layer_nets(alloc, instance)?;
     let mut tree = Tree::start(alloc, instance.copy(alloc)?, budget, 1, None)?;
     let mut task = blank_task(alloc, instance)?;
-    let mut scratch = Work::new(alloc, &nets)?;
+    let mut room = Room::new(alloc, &nets)?;
     let mut left = budget;
     while left > 0 {
         let Some(leaf) = take(&mut tree, &mut task) else {
             break;
         };
-        let outcome = work(alloc, instance, &nets, &task, &mut scratch)?;
+        let outcome = work(alloc, instance, &nets, &task, &mut room)?;
         hand_in(&mut tree, leaf, outcome);
         left -= 1;
     }

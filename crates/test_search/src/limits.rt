@@ -13,7 +13,7 @@ use vs_circ::{MAX_MULTIPLIER, Work};
 use vs_instance::Instance;
 use vs_match::{LayerNet, layer_nets};
 use vs_multi::{Best, Case, rounds};
-use vs_node::{Task, work};
+use vs_node::{Room, Task, work};
 use vs_prices::{Bound, permitted_sets};
 use vs_tree::Next;
 
@@ -85,14 +85,14 @@ fn worked(
     instance: &Instance,
     nets: &[LayerNet],
     task: &Task,
-    kept: &mut Work,
+    room: &mut Room,
 ) -> Result<(Option<i64>, Next), Fail>
     requires nets { AreLayerNets instance.now nets.now }
     requires restriction { IsRestriction instance.now task.now.sets.items }
     requires fits { Fits instance.now task.now.table }
     requires holds { HoldingTable instance.now task.now.table }
 {
-    let outcome = work(alloc, instance, nets, task, kept)?;
+    let outcome = work(alloc, instance, nets, task, room)?;
     let cost = match &outcome.plan {
         Some(plan) => Some(plan.cost()),
         None => None,
@@ -103,9 +103,9 @@ fn worked(
 /// What the best round is worth, what the plan costs then, and what becomes of the root.
 fn found(alloc: Global, instance: &Instance) -> Result<(Bound, Option<i64>, Next), Fail> {
     let nets = layer_nets(alloc, instance)?;
-    let mut kept = Work::new(alloc, &nets)?;
-    let (worth, task) = root_task(alloc, instance, &nets, &mut kept)?;
-    let (cost, next) = worked(alloc, instance, &nets, &task, &mut kept)?;
+    let mut room = Room::new(alloc, &nets)?;
+    let (worth, task) = root_task(alloc, instance, &nets, &mut room.work)?;
+    let (cost, next) = worked(alloc, instance, &nets, &task, &mut room)?;
     Ok((worth, cost, next))
 }
 

@@ -7,10 +7,9 @@ use std::alloc::Global;
 use std::test::Fail;
 use test_fixtures::instance_of;
 use test_fixtures::texts::{LATE_TRIPS, LAYER, ONE_VEHICLE, STOPS, TRIPS};
-use vs_circ::Work;
 use vs_instance::Instance;
 use vs_match::layer_nets;
-use vs_node::{Outcome, Task, work};
+use vs_node::{Outcome, Room, Task, work};
 use vs_prices::{Bound, Table, permitted_sets, worth};
 use vs_tree::Next;
 use vs_types::{LayerNo, LayerSet, TripNo};
@@ -26,8 +25,8 @@ fn worked(alloc: Global, instance: &Instance) -> Result<Outcome, Fail>
         known: None,
         root: true,
     };
-    let mut kept = Work::new(alloc, &nets)?;
-    Ok(work(alloc, instance, &nets, &task, &mut kept)?)
+    let mut room = Room::new(alloc, &nets)?;
+    Ok(work(alloc, instance, &nets, &task, &mut room)?)
 }
 
 /// What becomes of the root, what the plan costs that is found, and the layer of its first block.

@@ -14,6 +14,9 @@ const SMALL: i64 = 1_000_000;
 /// It is next to nothing where it is no more than one part in so many.
 const TINY: i64 = 1_000_000_000;
 
+/// Rounds gain little where that is less than one part in so many of what is left to gain.
+const LITTLE: i64 = 100;
+
 /// What a climb is to come to, and after how much work it ends at the latest. It decides how good the multipliers
 /// become, and nothing else.
 #[derive(Clone, Copy, Debug)]
@@ -31,6 +34,8 @@ pub struct Aim {
     pub rounds: u32,
     /// After so many rounds the climb ends where none of them has gained anything.
     pub trial_rounds: u32,
+    /// Whether the climb ends once it gets on slowly.
+    pub paced: bool,
     /// After so much effort of the circulations the climb ends, as `Work::effort` counts it.
     pub effort: u64,
     ghost few: { cuts ≤ MOST_CUTS },
@@ -50,6 +55,17 @@ impl Aim {
         match self.known {
             Some(known) => forecast.saturating_mul(HOPE) <= known.saturating_sub(value),
             None => false,
+        }
+    }
+
+    /// Whether some rounds gained so little that the climb ends: it is to end then, and that is a small part of what is
+    /// left to gain.
+    pub(crate) fn is_little(&self, value: i64, gain: i64) -> bool {
+        match self.known {
+            Some(known) if self.paced => {
+                gain.saturating_mul(LITTLE) < known.saturating_sub(value)
+            }
+            _ => false,
         }
     }
 

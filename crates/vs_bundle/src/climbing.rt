@@ -8,7 +8,9 @@ ghost use Rattle.vs_cuts.specs.Bundles.{AreFound, HasSizes, layers_of, trips_of_
 ghost use Rattle.vs_bundle.specs.Climbs.{AreSharesFor, CanClimb, IsAscentFor};
 
 use crate::aim::Aim;
+use crate::kept::KeptCuts;
 use crate::lanes::Lanes;
+use crate::pace::Pace;
 use crate::shares::Shares;
 use crate::stepping::go_further;
 use crate::stride::Stride;
@@ -50,16 +52,22 @@ pub struct Ascent {
 }
 
 impl Ascent {
-    /// Before the first circulations are found, at these multipliers.
-    fn new(case: &Case<'_>, aim: &Aim, multipliers: &[i64]) -> Result<Ascent, Memory>
-        requires { AreMultipliers case.now.instance.now multipliers.now }
+    /// With these cuts, before the first circulations are found, at these multipliers.
+    fn new(
+        case: &Case<'_>,
+        aim: &Aim,
+        bundle: Bundle,
+        multipliers: &[i64],
+    ) -> Result<Ascent, Memory>
+        requires multipliers { AreMultipliers case.now.instance.now multipliers.now }
+        requires bundle { HasSizes (length case.now.instance.now.trips) (length case.now.instance.now.layers) bundle }
         ensures { IfOk result (IsAscentFor case.now.instance.now) }
     {
         let trips = case.instance.trips() as usize;
         let layers = case.instance.layers();
         let unit = ((aim.most / 100) as i64).max(1);
         Ok(Ascent {
-            bundle: Bundle::new(case.alloc, trips, layers, aim.cuts)?,
+            bundle,
             trial: Trial::new(case.alloc, trips, layers)?,
             stride: Stride::new(unit, i64::from(aim.hundredths)),
             candidate: Vec::from_slice(case.alloc, multipliers)?,
@@ -83,7 +91,28 @@ impl Ascent {
         ensures ascent { IfOk result (IsAscentFor case.now.instance.now) }
         ensures ready { OnOk result (IsReadyToRun case.now.nets.now work.new) }
     {
-        let mut ascent = Ascent::new(case, aim, multipliers)?;
+        let trips = case.instance.trips() as usize;
+        let bundle = Bundle::new(case.alloc, trips, case.instance.layers(), aim.cuts)?;
+        Ascent::begin_with(case, aim, bundle, multipliers, work, watch)
+    }
+
+    /// The same with cuts that are known.
+    fn begin_with<W: Lanes>(
+        case: &Case<'_>,
+        aim: &Aim,
+        bundle: Bundle,
+        multipliers: &[i64],
+        work: &mut Work,
+        watch: &W,
+    ) -> Result<Ascent, Memory>
+        requires works { W.works watch.now }
+        requires case { IsCase case.now.instance.now case.now.nets.now case.now.sets.now }
+        requires bundle { HasSizes (length case.now.instance.now.trips) (length case.now.instance.now.layers) bundle }
+        requires multipliers { AreMultipliers case.now.instance.now multipliers.now }
+        ensures ascent { IfOk result (IsAscentFor case.now.instance.now) }
+        ensures ready { OnOk result (IsReadyToRun case.now.nets.now work.new) }
+    {
+        let mut ascent = Ascent::new(case, aim, bundle, multipliers)?;
         begin_runs(case.alloc, case.nets, work)?;
         ascent.find_first(case, multipliers, work, watch);
         Ok(ascent)
@@ -222,9 +251,11 @@ impl Ascent {
         ensures ascent { IsAscentFor case.now.instance.now self.new }
     {
         let begin = self.top;
+        let mut pace = Pace::new();
         for r in 0..aim.rounds {
             let is_vain = r == aim.trial_rounds && self.top <= begin;
-            let is_over = is_vain || self.is_over(aim) || watch.is_over();
+            let is_slow = pace.is_slow(aim, begin, self.top);
+            let is_over = is_vain || is_slow || self.is_over(aim) || watch.is_over();
             if is_over || !self.round(case, aim, multipliers, work, watch) {
                 return r;
             }
@@ -283,11 +314,13 @@ impl Ascent {
 
 /// Climbs from these multipliers to ever better ones, and leaves the best. The circulations that the layers found so
 /// far, each taken by a weight, run every trip once at some multipliers. Each round makes a step towards these, and
-/// finds a further circulation in each layer there. The multipliers keep within their limits, also where memory runs
-/// out. What they are worth a table shows: nothing is promised of that.
+/// finds a further circulation in each layer there. It begins with the circulations of the climb before that are kept,
+/// and its own are kept in the end. The multipliers keep within their limits, also where memory runs out. What they
+/// are worth a table shows: nothing is promised of that.
 pub fn climb(
     case: &Case<'_>,
     aim: &Aim,
+    kept: &mut KeptCuts,
     multipliers: &mut [i64],
     work: &mut Work,
 ) -> Result<Climbed, Memory>
@@ -296,11 +329,15 @@ pub fn climb(
     ensures within { AreMultipliers case.now.instance.now multipliers.new }
     ensures shares { IfOk result (λ climbed. AreSharesFor case.now.instance.now climbed.shares) }
 {
-    let mut ascent = Ascent::begin(case, aim, multipliers, work, &NoWatch)?;
+    let bundle = kept.take(case, aim.cuts)?;
+    let mut ascent = Ascent::begin_with(case, aim, bundle, multipliers, work, &NoWatch)?;
     let rounds = ascent.go_on(case, aim, multipliers, work, &NoWatch);
-    Ok(Climbed {
+    let climbed = Climbed {
         shares: Shares::of(case, &ascent.bundle)?,
         value: ascent.top,
         rounds,
-    })
+    };
+    let tolerance = ascent.tolerance();
+    kept.keep(ascent.bundle, ascent.stride.now, tolerance);
+    Ok(climbed)
 }

@@ -5,7 +5,9 @@
 
 mod aim;
 mod climbing;
+mod kept;
 mod lanes;
+mod pace;
 mod shares;
 mod stepping;
 mod stride;
@@ -13,6 +15,7 @@ mod valuing;
 
 pub use aim::Aim;
 pub use climbing::{Ascent, Climbed, climb};
+pub use kept::KeptCuts;
 pub use lanes::{Lanes, run_layer};
 pub use shares::Shares;
 pub use vs_cuts::WHOLE;

@@ -16,10 +16,9 @@ use std::alloc::Global;
 use std::snapshot::Snapshot;
 use std::sync::Wait;
 use std::thread::{Threads, for_each_mut};
-use vs_circ::Work;
 use vs_instance::Instance;
 use vs_match::LayerNet;
-use vs_node::Task;
+use vs_node::{Room, Task};
 use vs_prices::{Table, permitted_sets};
 use vs_tree::Tree;
 use vs_turn::{Seat, Turn};
@@ -98,7 +97,7 @@ fn enlist(alloc: Global, instance: &Instance, number: u32) -> Result<Worker, Mem
             known: None,
             root: false,
         },
-        scratch: Work::new(alloc, &[])?,
+        room: Room::new(alloc, &[])?,
         taken: 0,
         over: false,
     })

@@ -6,12 +6,11 @@ ghost use Rattle.vs_prices.specs.Table.{Fits};
 ghost use Rattle.vs_crew.specs.Found.{IsFinding, IsFound, IsLawfulTask};
 
 use std::alloc::Global;
-use vs_circ::Work;
 use vs_connect::lesser;
 use vs_instance::Instance;
 use vs_match::LayerNet;
 use vs_multi::NoWatch;
-use vs_node::{Outcome, Task, begin, has_choice, work, work_from};
+use vs_node::{Outcome, Room, Task, begin, has_choice, work, work_from};
 use vs_penalty::{Hands, agree, seek_plan, seek_ray};
 use vs_plan::{cheaper, cost_of};
 use vs_prices::{Bound, worth};
@@ -39,7 +38,7 @@ pub(crate) fn found<W: Hands>(
     nets: &[LayerNet],
     task: &mut Task,
     passes: bool,
-    scratch: &mut Work,
+    room: &mut Room,
     watch: &W,
 ) -> Result<Option<Finding>, Memory>
     requires works { W.works watch.now }
@@ -50,7 +49,7 @@ pub(crate) fn found<W: Hands>(
     ensures sets { length task.new.sets.items ≡ length task.old.sets.items }
     ensures fits { Fits instance.now task.new.table }
 {
-    let found = outcome_of(alloc, instance, nets, task, passes, scratch, watch)?;
+    let found = outcome_of(alloc, instance, nets, task, passes, room, watch)?;
     let Some(outcome) = found else {
         return Ok(None);
     };
@@ -66,7 +65,7 @@ fn outcome_of<W: Hands>(
     nets: &[LayerNet],
     task: &mut Task,
     passes: bool,
-    scratch: &mut Work,
+    room: &mut Room,
     watch: &W,
 ) -> Result<Option<Outcome>, Memory>
     requires works { W.works watch.now }
@@ -78,9 +77,9 @@ fn outcome_of<W: Hands>(
     ensures fits { Fits instance.now task.new.table }
 {
     if task.root {
-        return found_at_root(alloc, instance, nets, task, scratch, watch);
+        return found_at_root(alloc, instance, nets, task, room, watch);
     }
-    let outcome = found_on_leaf(alloc, instance, nets, task, passes, scratch)?;
+    let outcome = found_on_leaf(alloc, instance, nets, task, passes, room)?;
     let closed = closed_by_ray(alloc, instance, task, outcome)?;
     Ok(Some(closed))
 }
@@ -92,16 +91,16 @@ fn found_on_leaf(
     nets: &[LayerNet],
     task: &Task,
     passes: bool,
-    scratch: &mut Work,
+    room: &mut Room,
 ) -> Result<Outcome, Memory>
     requires nets { AreLayerNets instance.now nets.now }
     requires lawful { IsLawfulTask instance.now task.now }
     ensures { IfOk result (IsFound instance.now task.now) }
 {
     if passes {
-        found_with_passes(alloc, instance, nets, task, scratch)
+        found_with_passes(alloc, instance, nets, task, room)
     } else {
-        work(alloc, instance, nets, task, scratch)
+        work(alloc, instance, nets, task, room)
     }
 }
 
@@ -146,17 +145,24 @@ fn found_with_passes(
     instance: &Instance,
     nets: &[LayerNet],
     task: &Task,
-    scratch: &mut Work,
+    room: &mut Room,
 ) -> Result<Outcome, Memory>
     requires nets { AreLayerNets instance.now nets.now }
     requires lawful { IsLawfulTask instance.now task.now }
     ensures found { IfOk result (IsFound instance.now task.now) }
 {
-    let outcome = work(alloc, instance, nets, task, scratch)?;
+    let outcome = work(alloc, instance, nets, task, room)?;
     match outcome.next {
         Next::Close => Ok(outcome),
         Next::Split { .. } => {
-            let sought = seek_plan(alloc, instance, nets, &task.sets, &outcome.table, scratch)?;
+            let sought = seek_plan(
+                alloc,
+                instance,
+                nets,
+                &task.sets,
+                &outcome.table,
+                &mut room.work,
+            )?;
             let plan = cheaper(outcome.plan, sought);
             Ok(Outcome {
                 table: outcome.table,
@@ -174,7 +180,7 @@ fn found_at_root<W: Hands>(
     instance: &Instance,
     nets: &[LayerNet],
     task: &mut Task,
-    scratch: &mut Work,
+    room: &mut Room,
     watch: &W,
 ) -> Result<Option<Outcome>, Memory>
     requires works { W.works watch.now }
@@ -187,23 +193,31 @@ fn found_at_root<W: Hands>(
     ensures fits { Fits instance.now task.new.table }
 {
     if !has_choice(&task.sets) {
-        let alone = work(alloc, instance, nets, task, scratch)?;
+        let alone = work(alloc, instance, nets, task, room)?;
         return Ok(Some(alone));
     }
     watch.tell(
         task.known,
         value_of(worth(instance, &task.sets, &task.table)),
     );
-    let first = begin(alloc, instance, nets, &task.sets, scratch, watch)?;
+    let first = begin(alloc, instance, nets, &task.sets, &mut room.work, watch)?;
     let Some(begun) = first else {
         return Ok(None);
     };
     watch.tell(None, value_of(begun.worth));
     let table = &mut task.table;
-    let agreed = agree(alloc, instance, nets, task.known, table, scratch, watch)?;
+    let agreed = agree(
+        alloc,
+        instance,
+        nets,
+        task.known,
+        table,
+        &mut room.work,
+        watch,
+    )?;
     task.known = lesser(task.known, cost_of(&agreed));
     let brief = watch.is_over();
-    let outcome = work_from(alloc, instance, nets, task, begun, brief, scratch)?;
+    let outcome = work_from(alloc, instance, nets, task, begun, brief, room)?;
     let plan = cheaper(agreed, outcome.plan);
     Ok(Some(Outcome {
         table: outcome.table,

@@ -18,10 +18,10 @@ use std::alloc::Global;
 use std::marker::Sync;
 use std::thread::{Threads, for_each_mut};
 use vs_bundle::{Lanes, run_layer};
-use vs_circ::{Kept, Work};
+use vs_circ::Kept;
 use vs_match::LayerNet;
 use vs_multi::{Case, Watch};
-use vs_node::Task;
+use vs_node::{Room, Task};
 use vs_penalty::{Hands, Turn, Walk};
 use vs_types::Memory;
 
@@ -87,7 +87,7 @@ pub(crate) fn found_in_threads<R: Threads + Sync, G: Gate + Sync>(
     site: &Site<'_, G>,
     task: &mut Task,
     passes: bool,
-    scratch: &mut Work,
+    room: &mut Room,
 ) -> Result<Option<Finding>, Memory>
     requires site { IsSite site.now.instance.now site.now.nets.now site.now.start.now.value }
     requires lawful { IsLawfulTask site.now.instance.now task.old }
@@ -115,15 +115,7 @@ pub(crate) fn found_in_threads<R: Threads + Sync, G: Gate + Sync>(
         run,
         walk,
     };
-    found(
-        alloc,
-        site.instance,
-        site.nets,
-        task,
-        passes,
-        scratch,
-        &hands,
-    )
+    found(alloc, site.instance, site.nets, task, passes, room, &hands)
 }
 
 /// Runs the layers from one on side by side, each with what is kept here for it.

@@ -11,14 +11,17 @@ use std::alloc::Global;
 use std::marker::Sync;
 use std::sync::Wait;
 use std::thread::Threads;
-use vs_circ::Work;
-use vs_node::Task;
+use vs_node::{Room, Task};
 use vs_tree::Take;
 use vs_turn::Seat;
 use vs_types::Memory;
 
-/// Of so many leaves that a worker takes, plans are sought by passes on one: they take about as long as the work on it.
-const TURNS: u32 = 4;
+/// Of so many leaves that a worker takes, plans are sought by passes on one: a cheaper plan closes more than the work
+/// on a leaf does.
+const TURNS: u32 = 2;
+
+/// The same where leaves are in vain: passes take several times as long there as the rest.
+const TURNS_IN_VAIN: u32 = 16;
 
 /// One worker of a crew: its number, its seat at the turn, and the room that it works in.
 #[derive(Drop)]
@@ -26,7 +29,7 @@ pub(crate) struct Worker {
     pub number: u32,
     pub seat: Option<Seat>,
     pub task: Task,
-    pub scratch: Work,
+    pub room: Room,
     /// How many leaves it has taken since it sought plans by passes.
     pub taken: u32,
     /// Whether it knows that the search is over, or the gate ended it.
@@ -150,10 +153,15 @@ fn work_on<R: Threads + Wait + Sync, G: Gate + Sync>(
         (IsAfter (G.may_stop site.now.gate.now) worker.old.number result.1) result.0 }
 {
     let number = worker.number;
-    let passes = worker.taken >= TURNS - 1;
+    let turns = if worker.room.progress.is_vain() {
+        TURNS_IN_VAIN
+    } else {
+        TURNS
+    };
+    let passes = worker.taken >= turns - 1;
     worker.taken = if passes { 0 } else { worker.taken + 1 };
-    let (task, scratch) = (&mut worker.task, &mut worker.scratch);
-    match found_in_threads(rt, alloc, site, task, passes, scratch) {
+    let (task, room) = (&mut worker.task, &mut worker.room);
+    match found_in_threads(rt, alloc, site, task, passes, room) {
         Ok(Some(finding)) => (hand_in(rt, site, seat, number, leaf, finding), After::Idle),
         Ok(None) => (give_up(rt, site, seat, number), After::Stopped),
         Err(Memory) => (give_up(rt, site, seat, number), After::Left),

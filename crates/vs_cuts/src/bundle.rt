@@ -1,6 +1,6 @@
 //! The cuts of all layers, and what is lacking of each trip by their weights.
 
-ghost use Rattle.std.specs.Prelude.{◌≡◌, ◌*◌, ◌<◌, ◌≤◌, All, IfOk, length, pos, ◌≤ℤ◌, vec_len};
+ghost use Rattle.std.specs.Prelude.{◌≡◌, ◌*◌, ◌<◌, ◌≤◌, All, IfOk, IsTrue, length, pos, ◌≤ℤ◌, vec_len};
 ghost use Rattle.vs_cuts.specs.declared.whole.TheConstants.{MOST_NUMBER, MOST_TRIPS, WHOLE};
 ghost use Rattle.vs_cuts.specs.declared.layer_cuts.TheConstants.{MOST_CUTS};
 
@@ -39,6 +39,32 @@ impl Bundle {
             layers: cuts,
             lacking: Lacking::new(alloc, trips)?,
         })
+    }
+
+    /// Whether it is one of so many trips and layers, with room for so many cuts of each.
+    pub fn is_for(&self, trips: usize, layers: u32, most: u32) -> bool
+        ensures { IsTrue result → HasSizes trips layers self.now }
+    {
+        self.lacking.free.trips == trips
+            && self.layers.len() == layers as usize
+            && self
+                .layers
+                .iter()
+                .all(|layer| layer.cuts.len() == most as usize + 1)
+    }
+
+    /// Among how many trips its cuts have theirs.
+    pub fn trips(&self) -> usize
+        ensures { result ≡ trips_of_all self.now }
+    {
+        self.lacking.free.trips
+    }
+
+    /// Of how many layers it has cuts.
+    pub fn layers(&self) -> usize
+        ensures { result ≡ layers_of self.now }
+    {
+        self.layers.len()
     }
 
     /// What the errors of these circulations, one of each layer, come to at the best multipliers.

@@ -4,6 +4,7 @@ ghost use Rattle.std.specs.Prelude.{◌≡◌, ◌*◌, ◌<◌, ◌≤◌, IfOk
 ghost use Rattle.vs_cuts.specs.Cuts.{trips_of};
 ghost use Rattle.vs_cuts.specs.Numbers.{AreNear, IsError, IsNear, IsPart};
 ghost use Rattle.vs_cuts.specs.declared.whole.TheConstants.{MOST_LACK, MOST_NUMBER, MOST_TRIPS};
+ghost use Rattle.vs_types.specs.declared.numbers.TheConstants.{MAX_LAYERS};
 
 use crate::share_list::ShareList;
 use crate::standing::MOST_ERROR;
@@ -11,7 +12,7 @@ use crate::trip_list::TripList;
 use crate::trip_set::TripSet;
 use crate::whole::{WHOLE, fitting, part_of};
 use std::alloc::Global;
-use vs_types::Memory;
+use vs_types::{LayerNo, LayerSet, Memory};
 
 /// Which trips a cut runs.
 #[derive(Drop)]
@@ -74,6 +75,17 @@ impl Cut {
         self.cost = part_of(self.cost, rest).saturating_add(part_of(other.cost, parts));
         if let Runs::Shares(shares) = &mut self.runs {
             mix(shares, other, parts);
+        }
+    }
+
+    /// Whether it is a single circulation, and each trip of it may be run in this layer.
+    pub fn is_within(&self, l: LayerNo, sets: &[LayerSet]) -> bool
+        requires layer { l.0 < MAX_LAYERS }
+        requires each { length sets.now ≡ trips_of self.now }
+    {
+        match &self.runs {
+            Runs::Trips(trips) => trips.is_within(l, sets),
+            Runs::Shares(_) => false,
         }
     }
 

@@ -19,10 +19,14 @@ pub(crate) struct Lacking {
     of_all: Vec<i64>,
     /// The same of the free trips, and 0 of the others, as it was when it was taken last.
     pub of_free: Vec<i64>,
+    /// What was lacking of each trip when that was noted.
+    noted: Vec<i64>,
     ghost each: { vec_len of_all ≡ free.trips },
     ghost each_free: { vec_len of_free ≡ free.trips },
+    ghost each_noted: { vec_len noted ≡ free.trips },
     ghost near: { AreNear MOST_LACK of_all.items },
     ghost near_free: { AreNear MOST_LACK of_free.items },
+    ghost near_noted: { AreNear MOST_LACK noted.items },
 }
 
 impl Lacking {
@@ -37,6 +41,7 @@ impl Lacking {
             free: TripSet::all(alloc, trips)?,
             of_all: vec![in alloc; WHOLE; trips]?,
             of_free: vec![in alloc; WHOLE; trips]?,
+            noted: vec![in alloc; WHOLE; trips]?,
         })
     }
 
@@ -47,6 +52,29 @@ impl Lacking {
         ensures { self.new.free.trips ≡ self.old.free.trips }
     {
         cut.lower(weight, &mut self.of_all);
+    }
+
+    /// No cut has any weight.
+    pub fn clear(&mut self)
+        ensures { self.new.free.trips ≡ self.old.free.trips }
+    {
+        for i in 0..self.of_all.len() {
+            self.of_all[i] = WHOLE;
+        }
+    }
+
+    /// Notes what is lacking of each trip.
+    pub fn note(&mut self)
+        ensures { self.new.free.trips ≡ self.old.free.trips }
+    {
+        self.noted.copy_from_slice(&self.of_all);
+    }
+
+    /// Lets as much be lacking of each trip as was noted last.
+    pub fn recall(&mut self)
+        ensures { self.new.free.trips ≡ self.old.free.trips }
+    {
+        self.of_all.copy_from_slice(&self.noted);
     }
 
     /// Takes what is lacking of the free trips.

@@ -25,6 +25,8 @@ pub(crate) struct LayerCuts {
     pub cuts: Vec<Cut>,
     /// By place: how the cut there stands.
     pub standings: Vec<Standing>,
+    /// How they stood when that was noted.
+    pub noted: Vec<Standing>,
     /// Of the cuts at each two places.
     pub products: Products,
     /// The layer's part of the Lagrangian value at the best multipliers.
@@ -36,6 +38,7 @@ pub(crate) struct LayerCuts {
     ghost few: { vec_len cuts ≤ MOST_CUTS + 1 },
     ghost each: { All (λ cut. trips_of cut ≡ trips) cuts.items },
     ghost each_standing: { vec_len standings ≡ vec_len cuts },
+    ghost each_noted: { vec_len noted ≡ vec_len cuts },
     ghost each_place: { products.places ≡ vec_len cuts },
 }
 
@@ -53,6 +56,7 @@ impl LayerCuts {
         Ok(LayerCuts {
             cuts: cuts_for(alloc, trips, most)?,
             standings: vec![in alloc; Standing::none(); places]?,
+            noted: vec![in alloc; Standing::none(); places]?,
             products: Products::new(alloc, places, trips as u64 * WHOLE as u64)?,
             part: 0,
             trips,

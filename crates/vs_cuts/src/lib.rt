@@ -10,6 +10,7 @@ mod keeping;
 mod lacking;
 mod layer_cuts;
 mod products;
+mod refitting;
 mod share_list;
 mod standing;
 mod step;
@@ -17,6 +18,7 @@ mod trip_list;
 mod trip_set;
 mod weights;
 mod whole;
+mod withholding;
 
 pub use bundle::Bundle;
 pub use found::Found;

@@ -73,6 +73,18 @@ impl Standing {
         }
     }
 
+    /// It has no weight any more, and counts for nothing.
+    pub fn unload(&mut self) {
+        self.weight = 0;
+        self.counted = 0;
+    }
+
+    /// Its layer goes on without it. It counts until that is settled.
+    pub fn withhold(&mut self) {
+        self.weight = 0;
+        self.held = false;
+    }
+
     /// How high it stands: its error, less what a step along what is lacking of its trips gains.
     pub fn height(&self, step: Step) -> i64
         requires { IsShortFor (unsigned_abs self.now.slope) step }

@@ -3,11 +3,12 @@
 ghost use Rattle.std.specs.Prelude.{◌≡◌, ℕ, ◌+◌, ◌*◌, ◌<◌, ◌≤◌, All, IfOk, length, vec_len};
 ghost use Rattle.vs_cuts.specs.Numbers.{AreNear, IsNear};
 ghost use Rattle.vs_cuts.specs.declared.whole.TheConstants.{MOST_LACK, MOST_NUMBER, MOST_TRIPS};
+ghost use Rattle.vs_types.specs.declared.numbers.TheConstants.{MAX_LAYERS};
 
 use crate::trip_set::TripSet;
 use crate::whole::as_lack;
 use std::alloc::Global;
-use vs_types::{Memory, TripNo};
+use vs_types::{LayerNo, LayerSet, Memory, TripNo};
 
 /// The trips of a circulation: as a set, and one by one.
 #[derive(Drop)]
@@ -74,6 +75,19 @@ impl TripList {
         requires { i < self.now.set.trips }
     {
         self.set.has(i)
+    }
+
+    /// Whether each trip of the list may be run in this layer.
+    pub fn is_within(&self, l: LayerNo, sets: &[LayerSet]) -> bool
+        requires layer { l.0 < MAX_LAYERS }
+        requires each { length sets.now ≡ self.now.set.trips }
+    {
+        for trip in self.trips() {
+            if !sets[trip.0 as usize].has(l) {
+                return false;
+            }
+        }
+        true
     }
 
     /// How many trips stand in this list, in another one and among these.

@@ -47,6 +47,16 @@ impl Candidate {
             self.shared > other.shared
         }
     }
+
+    /// Whether the trip is shared out.
+    pub fn is_shared(&self) -> bool {
+        self.shared > 0
+    }
+
+    /// Whether another one comes first in the order of candidates: of those that are alike, the one of the lower trip.
+    pub fn follows(&self, other: &Candidate) -> bool {
+        other.is_before(self) || (!self.is_before(other) && other.trip.0 < self.trip.0)
+    }
 }
 
 impl Leads {

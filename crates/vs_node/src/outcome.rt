@@ -13,6 +13,7 @@ ghost use Rattle.vs_node.specs.SplitRule.{AreLeadsFor, HasChoice};
 use crate::choosing::chosen_layers;
 use crate::deciding::next_of;
 use crate::leads::Leads;
+use crate::room::Room;
 use crate::settling::settle;
 use vs_circ::Work;
 use vs_instance::MAX_TRIPS;
@@ -71,7 +72,7 @@ pub(crate) fn outcome_of(
     table: Table,
     worth: Bound,
     leads: &Leads,
-    work: &mut Work,
+    room: &mut Room,
 ) -> Result<Outcome, Memory>
     requires case { IsCase case.now.instance.now case.now.nets.now case.now.sets.now }
     requires fits { Fits case.now.instance.now table }
@@ -86,8 +87,15 @@ pub(crate) fn outcome_of(
     prove!(case.instance.trips() <= MAX_TRIPS);
     let chosen = chosen_layers(case.alloc, case.instance, case.sets, &table)?;
     let layers = chosen.as_slice();
-    let settled = settle(case.alloc, case.instance, case.nets, layers, work)?;
-    let next = next_of(case.sets, worth, known, &settled.plan, leads);
+    let settled = settle(case.alloc, case.instance, case.nets, layers, &mut room.work)?;
+    let next = next_of(
+        case.sets,
+        worth,
+        known,
+        &settled.plan,
+        leads,
+        &mut room.cuts,
+    );
     Ok(Outcome {
         table,
         plan: settled.plan,

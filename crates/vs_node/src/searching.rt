@@ -7,12 +7,16 @@ ghost use Rattle.vs_node.specs.Outcomes.{IsAtHand, IsFollowedBy, IsOutcome};
 ghost use Rattle.vs_node.specs.SplitRule.{HasChoice};
 ghost use Rattle.vs_node.specs.WorkedStep.{IsWorked};
 
+use crate::care::{Care, trial_leaves};
 use crate::climbing::refine;
 use crate::keeping::better;
 use crate::outcome::{Outcome, Task, outcome_of};
+use crate::progress::Progress;
+use crate::room::Room;
 use vs_circ::Work;
+use vs_instance::Instance;
 use vs_multi::{Best, Case, few_rounds, of_table, start};
-use vs_prices::Table;
+use vs_prices::{Bound, Table};
 use vs_types::Memory;
 
 /// How many rounds a leaf begins with: one shows what its first multipliers are worth.
@@ -20,15 +24,15 @@ const FIRST_ROUNDS: u32 = 1;
 
 /// What comes of a leaf some trip of which may be run in two layers or more. Its table is the best of the leaf's own,
 /// that of the first round and that of a climb, raised. Its plan is that of the layers that this table chooses.
-pub(crate) fn search(case: &Case<'_>, task: &Task, work: &mut Work) -> Result<Outcome, Memory>
+pub(crate) fn search(case: &Case<'_>, task: &Task, room: &mut Room) -> Result<Outcome, Memory>
     requires leaf { IsAtHand case.now.instance.now case.now.nets.now case.now.sets.now task.now }
     requires choice { (i : ℕ) × (i < length case.now.sets.now) × HasChoice case.now.sets.now i }
     ensures found { IfOk result (IsOutcome case.now.instance.now task.now) }
     ensures next { IfOk result (λ outcome.
         IsFollowedBy case.now.instance.now task.now outcome) }
 {
-    let first = first_round(case, task.root, &task.table, work)?;
-    search_from(case, task, first, false, work)
+    let first = first_round(case, task.root, &task.table, &mut room.work)?;
+    search_from(case, task, first, false, room)
 }
 
 /// The same where the first round was made. In brief there is no climb, and nothing is raised.
@@ -37,7 +41,7 @@ pub(crate) fn search_from(
     task: &Task,
     first: Best,
     brief: bool,
-    work: &mut Work,
+    room: &mut Room,
 ) -> Result<Outcome, Memory>
     requires leaf { IsAtHand case.now.instance.now case.now.nets.now case.now.sets.now task.now }
     requires choice { (i : ℕ) × (i < length case.now.sets.now) × HasChoice case.now.sets.now i }
@@ -50,9 +54,32 @@ pub(crate) fn search_from(
         IsFollowedBy case.now.instance.now task.now outcome) }
 {
     let (mut table, worth) = better(case, &task.table, first.table, first.worth)?;
-    let climbed = refine(case, task.known, brief, &mut table, worth, work)?;
-    let outcome = outcome_of(case, task.known, table, climbed.worth, &climbed.leads, work)?;
+    let care = care_for(case.instance, task, brief, worth, &mut room.progress);
+    let climbed = refine(case, task.known, care, &mut table, worth, room)?;
+    let outcome = outcome_of(case, task.known, table, climbed.worth, &climbed.leads, room)?;
     Ok(outcome)
+}
+
+/// How much care is taken over a leaf whose table is worth so much.
+fn care_for(
+    instance: &Instance,
+    task: &Task,
+    brief: bool,
+    worth: Bound,
+    progress: &mut Progress,
+) -> Care {
+    if brief {
+        return Care::None;
+    }
+    if task.root {
+        return Care::Root;
+    }
+    progress.note(trial_leaves(instance), worth, task.known);
+    if progress.is_vain() {
+        Care::Little
+    } else {
+        Care::Leaf
+    }
 }
 
 /// The first round for a leaf: at the root from the starting multipliers, and else from those that the leaf's table

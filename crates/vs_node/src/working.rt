@@ -14,6 +14,7 @@ ghost use Rattle.vs_node.specs.SplitRule.{HasChoice};
 ghost use Rattle.vs_node.specs.WorkedStep.{IsBegun, IsWorked, ReachesStart};
 
 use crate::outcome::{Outcome, Task, alone};
+use crate::room::Room;
 use crate::searching::{search, search_from};
 use crate::splitting::first_with_choice;
 use std::alloc::Global;
@@ -32,7 +33,7 @@ pub fn work(
     instance: &Instance,
     nets: &[LayerNet],
     task: &Task,
-    work: &mut Work,
+    room: &mut Room,
 ) -> Result<Outcome, Memory>
     requires nets { AreLayerNets instance.now nets.now }
     requires restriction { IsRestriction instance.now task.now.sets.items }
@@ -62,11 +63,11 @@ pub fn work(
     };
     match first_with_choice(sets) {
         None => {
-            let closed = alone(&case, task, work)?;
+            let closed = alone(&case, task, &mut room.work)?;
             Ok(closed)
         }
         Some(_trip) => {
-            let outcome = search(&case, task, work)?;
+            let outcome = search(&case, task, room)?;
             Ok(outcome)
         }
     }
@@ -120,7 +121,7 @@ pub fn work_from(
     task: &Task,
     begun: Best,
     brief: bool,
-    work: &mut Work,
+    room: &mut Room,
 ) -> Result<Outcome, Memory>
     requires nets { AreLayerNets instance.now nets.now }
     requires restriction { IsRestriction instance.now task.now.sets.items }
@@ -152,11 +153,11 @@ pub fn work_from(
     };
     match first_with_choice(sets) {
         None => {
-            let closed = alone(&case, task, work)?;
+            let closed = alone(&case, task, &mut room.work)?;
             Ok(closed)
         }
         Some(_trip) => {
-            let outcome = search_from(&case, task, begun, brief, work)?;
+            let outcome = search_from(&case, task, begun, brief, room)?;
             Ok(outcome)
         }
     }

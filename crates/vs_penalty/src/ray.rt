@@ -97,6 +97,7 @@ fn climbed_table<W: Lanes>(
         cuts: CUTS,
         rounds,
         trial_rounds: rounds,
+        paced: false,
         effort: EFFORT,
     };
     if let Some(table) = plain_reason(case, work, watch)? {

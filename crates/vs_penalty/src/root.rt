@@ -234,6 +234,7 @@ impl Seeker {
             cuts: CUTS,
             rounds: stage.rounds,
             trial_rounds: stage.rounds,
+            paced: false,
             effort: stage.effort,
         }
     }

@@ -1,8 +1,8 @@
 use Rattle.vs_node.proofs.tables.Comparing.{worth_no_less-itself, worth_no_less-trans}
 use Rattle.vs_node.proofs.climbing.refine.Goals as goal
 
-pub returns-then-brief-clause-no_less : goal.returns-then-brief-clause-no_less
-returns-then-brief-clause-no_less c =
+pub returns-then-is_none-clause-no_less : goal.returns-then-is_none-clause-no_less
+returns-then-is_none-clause-no_less c =
     worth_no_less-itself c.args.case.now.instance.now c.args.case.now.sets.now c.args.table.now
 
 pub returns-in_err-worth-clause-no_less : goal.returns-in_err-worth-clause-no_less

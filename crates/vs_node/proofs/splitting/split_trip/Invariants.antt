@@ -1,7 +1,7 @@
-use Rattle.std.proofs.Common.{MatchOption}
-use Rattle.vs_node.specs.SplitRule.{HasChoice, HoldsOfNone, MaySplit}
+use Rattle.std.proofs.Common.{length}
+use Rattle.vs_node.specs.SplitRule.{MaySplit}
 use Rattle.vs_node.proofs.splitting.split_trip.Given as goal
 
--- a trip so far is found, if any has a choice
-abbrev pub invariant-loop-i : goal.invariant-loop-i
-invariant-loop-i l = MatchOption l.best (HoldsOfNone (HasChoice l.sets) l.i) (MaySplit l.sets l.i)
+-- the best one so far may split the leaf
+abbrev pub invariant-loop : goal.invariant-loop
+invariant-loop l = MaySplit l.sets (length l.sets) l.best

@@ -11,5 +11,6 @@ invariant_of-self c =
       few = self.few;
       each = kept_trips _ _ _ _ _ _ c.mix_last.ensures c.deref_mut.ensures.value (omega arith) (omega arith) self.each;
       each_standing = self.each_standing;
+      each_noted = self.each_noted;
       each_place = self.each_place;
     }
