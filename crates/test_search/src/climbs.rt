@@ -97,7 +97,11 @@ fn come_to_what_the_cheapest_plan_costs(rt: HostRuntime) -> Result<(), Fail> {
 #[test]
 fn come_as_far_with_cuts_that_are_kept(rt: HostRuntime) -> Result<(), Fail> {
     for low in [false, true] {
-        assert_eq!(rt; climbed_twice(rt.alloc(), low)?, (1_080_000, 1_080_000), "{low}");
+        assert_eq!(rt;
+            climbed_twice(rt.alloc(), low)?,
+            (1_080_000, 1_080_000),
+            "{low}"
+        );
     }
     Ok(())
 }
