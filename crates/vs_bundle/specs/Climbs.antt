@@ -9,6 +9,7 @@ use Rattle.vs_multi.specs.Rounds.{IsCase}
 use Rattle.vs_bundle.specs.declared.climbing.Ascent.{Ascent}
 use Rattle.vs_bundle.specs.declared.shares.Shares.{Shares}
 use Rattle.vs_bundle.specs.declared.valuing.Trial.{Trial}
+use Rattle.vs_bundle.specs.Runs.{IsOrderOf}
 
 -- a share for each trip and layer
 pub record AreSharesFor (p : Problem) (shares : Shares) : Type 0 where
@@ -21,6 +22,7 @@ pub record IsTrialFor (p : Problem) (trial : Trial) : Type 0 where
   pub offers : All (λ offers. length offers.items ≡ length p.trips) trial.offers.items
   pub marks : length trial.marks.items ≡ length p.trips
   pub found : AreFound (length p.trips) (length p.layers) trial.found.items
+  pub order : IsOrderOf (length p.layers) trial.order
 
 -- such space, multipliers that are tried, and cuts of each layer
 pub record IsAscentFor (p : Problem) (ascent : Ascent) : Type 0 where

@@ -205,6 +205,7 @@ impl Ascent {
             self.old.trial.found.items }
         requires within { AreWithin multipliers.now }
         ensures offers { self.new.trial.offers ≡ self.old.trial.offers }
+        ensures order { self.new.trial.order ≡ self.old.trial.order }
         ensures marks { self.new.trial.marks ≡ self.old.trial.marks }
         ensures found { AreFound (trips_of_all self.old.bundle) (layers_of self.old.bundle)
             self.new.trial.found.items }

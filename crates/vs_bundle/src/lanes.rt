@@ -1,9 +1,9 @@
 //! Who runs the layers of a round, one after the other or side by side.
 
-ghost use Rattle.std.specs.Prelude.{◌≡◌, ◌+◌, ◌<◌, ◌≤◌, length};
+ghost use Rattle.std.specs.Prelude.{◌≡◌, ◌<◌, length};
 ghost use Rattle.vs_match.specs.LayerNets.{net_at};
 ghost use Rattle.vs_circ.specs.shipping.Ready.{CanRun};
-ghost use Rattle.vs_bundle.specs.Runs.{CanRunFrom, HasRun, HaveRunFrom, MayRunAll};
+ghost use Rattle.vs_bundle.specs.Runs.{AreLayers, CanRunIn, HasRun, HaveRunIn, MayRunAll, layer_at};
 
 use vs_circ::{Kept, run_from};
 use vs_match::LayerNet;
@@ -14,24 +14,26 @@ pub trait Lanes: Watch {
     /// What is so of one that does what is said here. It is so of each where this isn't said.
     ghost works: { Self → Type 0 } = { λ _. Unit {0} };
 
-    /// How many layers are run at once at most.
+    /// How many threads there are, so that as many layers run at once.
     fn threads(&self) -> usize
         ensures { 0 < result };
 
-    /// Runs the layers from one on, each with what is kept here for it: finds a least circulation of its offers.
+    /// Runs the layers in this order, each with what is kept at its place: finds a least circulation of its offers.
+    /// Each of the threads runs some in a row, as many as each other one, or the last one fewer.
     fn run_layers(
         &self,
         nets: &[LayerNet],
         offers: &[Vec<Option<i64>>],
-        first: usize,
-        part: &mut [Kept],
+        places: &[usize],
+        kept: &mut [Kept],
     )
         requires works { works self.now }
-        requires within { first + length part.old ≤ length nets.now }
+        requires each { length places.now ≡ length kept.old }
+        requires layers { AreLayers nets.now places.now }
         requires offers { MayRunAll nets.now offers.now }
-        requires ready { CanRunFrom nets.now first part.old }
-        ensures each { length part.new ≡ length part.old }
-        ensures run { HaveRunFrom nets.now offers.now first part.new };
+        requires ready { CanRunIn nets.now places.now kept.old }
+        ensures each { length kept.new ≡ length kept.old }
+        ensures run { HaveRunIn nets.now offers.now places.now kept.new };
 }
 
 impl Lanes for NoWatch {
@@ -43,10 +45,10 @@ impl Lanes for NoWatch {
         &self,
         nets: &[LayerNet],
         offers: &[Vec<Option<i64>>],
-        first: usize,
-        part: &mut [Kept],
+        places: &[usize],
+        kept: &mut [Kept],
     ) {
-        run_in_turn(nets, offers, first, part);
+        run_in_turn(nets, offers, places, kept);
     }
 }
 
@@ -61,35 +63,37 @@ impl<L: Lanes> Lanes for Untold<'_, L> {
         &self,
         nets: &[LayerNet],
         offers: &[Vec<Option<i64>>],
-        first: usize,
-        part: &mut [Kept],
+        places: &[usize],
+        kept: &mut [Kept],
     ) {
-        self.watch.run_layers(nets, offers, first, part);
+        self.watch.run_layers(nets, offers, places, kept);
     }
 }
 
-/// Runs the layers from one on, one after the other.
-fn run_in_turn(nets: &[LayerNet], offers: &[Vec<Option<i64>>], first: usize, part: &mut [Kept])
-    requires within { first + length part.old ≤ length nets.now }
+/// Runs the layers in this order, one after the other.
+fn run_in_turn(nets: &[LayerNet], offers: &[Vec<Option<i64>>], places: &[usize], kept: &mut [Kept])
+    requires each { length places.now ≡ length kept.old }
+    requires layers { AreLayers nets.now places.now }
     requires offers { MayRunAll nets.now offers.now }
-    requires ready { CanRunFrom nets.now first part.old }
-    ensures each { length part.new ≡ length part.old }
-    ensures run { HaveRunFrom nets.now offers.now first part.new }
+    requires ready { CanRunIn nets.now places.now kept.old }
+    ensures each { length kept.new ≡ length kept.old }
+    ensures run { HaveRunIn nets.now offers.now places.now kept.new }
 {
     let job = |k: usize, kept: &mut Kept|
-        requires { MayRunAll nets.now offers.now × (first + k < length nets.now)
-            × CanRun (net_at nets.now (first + k)) kept.now }
-        ensures { HasRun (net_at nets.entry.now (first + k)) offers.entry.now (first + k) kept.exit.now }
-    { run_layer(nets, offers, first + k, kept) };
-    in_turn(part, &job);
+        requires { MayRunAll nets.now offers.now × (k < length places.now) × (layer_at places.now k < length nets.now)
+            × CanRun (net_at nets.now (layer_at places.now k)) kept.now }
+        ensures { HasRun (net_at nets.entry.now (layer_at places.entry.now k)) offers.entry.now
+            (layer_at places.entry.now k) kept.exit.now }
+    { run_layer(nets, offers, places[k], kept) };
+    in_turn(kept, &job);
 }
 
-/// Runs the layer at this place with what is kept for it.
-pub fn run_layer(nets: &[LayerNet], offers: &[Vec<Option<i64>>], place: usize, kept: &mut Kept)
+/// Runs this layer with what is kept for it.
+pub fn run_layer(nets: &[LayerNet], offers: &[Vec<Option<i64>>], layer: usize, kept: &mut Kept)
     requires offers { MayRunAll nets.now offers.now }
-    requires within { place < length nets.now }
-    requires ready { CanRun (net_at nets.now place) kept.old }
-    ensures { HasRun (net_at nets.now place) offers.now place kept.new }
+    requires within { layer < length nets.now }
+    requires ready { CanRun (net_at nets.now layer) kept.old }
+    ensures { HasRun (net_at nets.now layer) offers.now layer kept.new }
 {
-    run_from(&nets[place], &offers[place], kept);
+    run_from(&nets[layer], &offers[layer], kept);
 }

@@ -11,6 +11,8 @@ ghost use Rattle.vs_bundle.specs.Climbs.{IsTrialFor};
 ghost use Rattle.vs_bundle.specs.Runs.{HasRun, HaveRun, MayRunAll};
 
 use crate::lanes::Lanes;
+use crate::order::Order;
+use crate::round::Round;
 use std::alloc::Global;
 use vs_circ::{Kept, Work, read_run};
 use vs_cuts::Found;
@@ -26,6 +28,8 @@ const SHORT: u64 = 5_000;
 pub(crate) struct Trial {
     /// By layer: what it is offered for each trip.
     offers: Vec<Vec<Option<i64>>>,
+    /// In which order the layers run side by side.
+    order: Order,
     /// Which trips a layer runs.
     marks: Vec<bool>,
     /// By layer.
@@ -52,6 +56,7 @@ impl Trial {
         }
         Ok(Trial {
             offers,
+            order: Order::new(alloc, layers as usize)?,
             marks: vec![in alloc; false; trips]?,
             found,
             effort: 0,
@@ -101,45 +106,38 @@ impl Trial {
         }
     }
 
-    /// Runs the layers, some of them side by side where the watch has threads for that. False where it takes long, and
+    /// Runs the layers, side by side where the watch has threads and it takes long enough. False where it takes long, and
     /// the watch ends it.
-    fn run_all<W: Lanes>(&self, case: &Case<'_>, work: &mut Work, watch: &W) -> bool
+    fn run_all<W: Lanes>(&mut self, case: &Case<'_>, work: &mut Work, watch: &W) -> bool
         requires works { W.works watch.now }
         requires case { IsCase case.now.instance.now case.now.nets.now case.now.sets.now }
-        requires trial { IsTrialFor case.now.instance.now self.now }
-        requires offered { MayRunAll case.now.nets.now self.now.offers.items }
+        requires trial { IsTrialFor case.now.instance.now self.old }
+        requires offered { MayRunAll case.now.nets.now self.old.offers.items }
         requires ready { IsReadyToRun case.now.nets.now work.old }
+        ensures trial { IsTrialFor case.now.instance.now self.new }
+        ensures offers { self.new.offers ≡ self.old.offers }
         ensures ready { IsReadyToRun case.now.nets.now work.new }
-        ensures run { IsTrue result → HaveRun case.now.nets.now self.now.offers.items work.new.kept.items
+        ensures run { IsTrue result → HaveRun case.now.nets.now self.new.offers.items work.new.kept.items
             (length case.now.nets.now) }
     {
-        let before = work.effort();
-        let layers = case.nets.len();
-        let width = self.width(layers, watch.threads());
-        let mut first = 0;
-        while first < layers {
-            let is_long = work.effort().saturating_sub(before) > LONG;
-            if is_long && watch.is_over() {
-                return false;
-            }
-            let end = first + width.min(layers - first);
-            run_some(case.nets, &self.offers, first, end, work, watch);
-            first = end;
-        }
-        true
+        let at_once = self.at_once(watch.threads());
+        self.order.deal(&work.kept, at_once);
+        let round = Round {
+            nets: case.nets,
+            offers: &self.offers,
+            wished: &self.order.wished,
+            at_once,
+            watch,
+        };
+        round.run(&mut self.order.places, work)
     }
 
-    /// How many layers run side by side, where there are so many threads. Where all can't at once, as many do each
-    /// time.
-    fn width(&self, layers: usize, threads: usize) -> usize
+    /// How many layers run at once, where there are so many threads.
+    fn at_once(&self, threads: usize) -> usize
         requires { 0 < threads }
         ensures { 0 < result }
     {
-        if self.of_round <= SHORT {
-            return 1;
-        }
-        let times = layers.div_ceil(threads).max(1);
-        layers.div_ceil(times).max(1)
+        if self.of_round <= SHORT { 1 } else { threads }
     }
 
     /// Reads what the layers run. Gives the Lagrangian value.
@@ -175,29 +173,6 @@ impl Trial {
         let cost = read_run(&case.nets[l], &self.offers[l], kept, &mut self.marks);
         self.found[l].set(&self.marks, cost, multipliers)
     }
-}
-
-/// Runs the layers from one to before another.
-fn run_some<W: Lanes>(
-    nets: &[LayerNet],
-    offers: &[Vec<Option<i64>>],
-    first: usize,
-    end: usize,
-    work: &mut Work,
-    watch: &W,
-)
-    requires works { W.works watch.now }
-    requires some { first ≤ end }
-    requires within { end ≤ length nets.now }
-    requires offers { MayRunAll nets.now offers.now }
-    requires ready { IsReadyToRun nets.now work.old }
-    requires run { HaveRun nets.now offers.now work.old.kept.items first }
-    ensures ready { IsReadyToRun nets.now work.new }
-    ensures run { HaveRun nets.now offers.now work.new.kept.items end }
-{
-    let kept: &mut [Kept] = &mut work.kept;
-    let part = &mut kept[first..end];
-    watch.run_layers(nets, offers, first, part);
 }
 
 /// The sum of all multipliers.

@@ -1,9 +1,9 @@
 //! Threads for the work at the root: layers are run and walkers take their turns side by side.
 
-ghost use Rattle.std.specs.Prelude.{◌≡◌, ◌+◌, ◌<◌, ◌≤◌, length, IfOk, IfSome, None};
+ghost use Rattle.std.specs.Prelude.{◌≡◌, ◌<◌, length, IfOk, IfSome, None};
 ghost use Rattle.vs_match.specs.LayerNets.{net_at};
 ghost use Rattle.vs_circ.specs.shipping.Ready.{CanRun};
-ghost use Rattle.vs_bundle.specs.Runs.{CanRunFrom, HasRun, HaveRunFrom, MayRunAll};
+ghost use Rattle.vs_bundle.specs.Runs.{AreLayers, CanRunIn, HasRun, HaveRunIn, MayRunAll, layer_at};
 ghost use Rattle.vs_walk.specs.Walkers.{IsWalkerFor};
 ghost use Rattle.vs_penalty.specs.Seekers.{AreWalks, IsTurnIn};
 ghost use Rattle.vs_prices.specs.Table.{Fits};
@@ -49,7 +49,7 @@ impl<G: Gate + Sync, L, K> Watch for RootHands<'_, G, L, K> {
 
 impl<
     G: Gate + Sync,
-    L: Fn(&[LayerNet], &[Vec<Option<i64>>], usize, &mut [Kept]),
+    L: Fn(&[LayerNet], &[Vec<Option<i64>>], &[usize], &mut [Kept]),
     K: Fn(&mut [Walk], &Case<'_>, &Turn<'_>),
 > Lanes for RootHands<'_, G, L, K> {
     ghost works = { λ hands. RunsLayers L.Fn hands.run × TakesTurns K.Fn hands.walk };
@@ -62,16 +62,16 @@ impl<
         &self,
         nets: &[LayerNet],
         offers: &[Vec<Option<i64>>],
-        first: usize,
-        part: &mut [Kept],
+        places: &[usize],
+        kept: &mut [Kept],
     ) {
-        (self.run)(nets, offers, first, part);
+        (self.run)(nets, offers, places, kept);
     }
 }
 
 impl<
     G: Gate + Sync,
-    L: Fn(&[LayerNet], &[Vec<Option<i64>>], usize, &mut [Kept]),
+    L: Fn(&[LayerNet], &[Vec<Option<i64>>], &[usize], &mut [Kept]),
     K: Fn(&mut [Walk], &Case<'_>, &Turn<'_>),
 > Hands for RootHands<'_, G, L, K> {
     fn walk_all(&self, walks: &mut [Walk], case: &Case<'_>, turn: &Turn<'_>) {
@@ -98,12 +98,12 @@ pub(crate) fn found_in_threads<R: Threads + Sync, G: Gate + Sync>(
 {
     let threads = site.workers.max(1) as usize;
     let watch = RootWatch::new(site.gate);
-    let run = |nets: &[LayerNet], offers: &[Vec<Option<i64>>], first: usize, part: &mut [Kept]|
-        requires { (0 < threads) × (first + length part.now ≤ length nets.now) × MayRunAll nets.now offers.now
-            × CanRunFrom nets.now first part.now }
-        ensures { (length part.exit.now ≡ length part.entry.now)
-            × HaveRunFrom nets.entry.now offers.entry.now first part.exit.now }
-    { run_side_by_side(rt, threads, nets, offers, first, part) };
+    let run = |nets: &[LayerNet], offers: &[Vec<Option<i64>>], places: &[usize], kept: &mut [Kept]|
+        requires { (0 < threads) × (length places.now ≡ length kept.now) × AreLayers nets.now places.now
+            × MayRunAll nets.now offers.now × CanRunIn nets.now places.now kept.now }
+        ensures { (length kept.exit.now ≡ length kept.entry.now)
+            × HaveRunIn nets.entry.now offers.entry.now places.entry.now kept.exit.now }
+    { run_side_by_side(rt, threads, nets, offers, places, kept) };
     let walk = |walks: &mut [Walk], case: &Case<'_>, turn: &Turn<'_>|
         requires { (0 < threads) × IsTurnIn case.now.instance.now case.now.nets.now case.now.sets.now turn.now
             × AreWalks case.now.instance.now walks.now }
@@ -118,28 +118,30 @@ pub(crate) fn found_in_threads<R: Threads + Sync, G: Gate + Sync>(
     found(alloc, site.instance, site.nets, task, passes, room, &hands)
 }
 
-/// Runs the layers from one on side by side, each with what is kept here for it.
+/// Runs the layers in this order, some of them side by side, each with what is kept at its place.
 fn run_side_by_side<R: Threads + Sync>(
     rt: &R,
     threads: usize,
     nets: &[LayerNet],
     offers: &[Vec<Option<i64>>],
-    first: usize,
-    part: &mut [Kept],
+    places: &[usize],
+    kept: &mut [Kept],
 )
     requires some { 0 < threads }
-    requires within { first + length part.old ≤ length nets.now }
+    requires each { length places.now ≡ length kept.old }
+    requires layers { AreLayers nets.now places.now }
     requires offers { MayRunAll nets.now offers.now }
-    requires ready { CanRunFrom nets.now first part.old }
-    ensures each { length part.new ≡ length part.old }
-    ensures run { HaveRunFrom nets.now offers.now first part.new }
+    requires ready { CanRunIn nets.now places.now kept.old }
+    ensures each { length kept.new ≡ length kept.old }
+    ensures run { HaveRunIn nets.now offers.now places.now kept.new }
 {
     let job = |k: usize, kept: &mut Kept|
-        requires { MayRunAll nets.now offers.now × (first + k < length nets.now)
-            × CanRun (net_at nets.now (first + k)) kept.now }
-        ensures { HasRun (net_at nets.entry.now (first + k)) offers.entry.now (first + k) kept.exit.now }
-    { run_layer(nets, offers, first + k, kept) };
-    for_each_mut(rt, part, threads, &job);
+        requires { MayRunAll nets.now offers.now × (k < length places.now) × (layer_at places.now k < length nets.now)
+            × CanRun (net_at nets.now (layer_at places.now k)) kept.now }
+        ensures { HasRun (net_at nets.entry.now (layer_at places.entry.now k)) offers.entry.now
+            (layer_at places.entry.now k) kept.exit.now }
+    { run_layer(nets, offers, places[k], kept) };
+    for_each_mut(rt, kept, threads, &job);
 }
 
 /// A turn of each of these walks, side by side.

@@ -4,15 +4,15 @@ use Rattle.vs_circ.specs.shipping.Ready.{CanRun}
 use Rattle.vs_bundle.proofs.Parts.{may_run, net_there}
 use Rattle.vs_bundle.proofs.lanes.run_layer.Goals as goal
 
--- the offers at this place are those of its net
+-- the offers of this layer are those of its net
 pub run_from-requires : goal.run_from-requires
 run_from-requires c =
     let nets = c.args.nets.now in
-    let k = c.args.place in
-    let net = c.index-nets-place.result in
+    let l = c.args.layer in
+    let net = c.index-nets-layer.result in
     let Can : LayerGraph → Type 0 = λ n. CanRun n c.args.kept.now in
     record {
-      of_layer = may_run nets c.args.offers.now c.requires.offers k c.requires.within net net c.index-nets-place.is
-          c.index-offers-place.result c.index-offers-place.is c.deref.result.now c.deref.ensures.value;
-      kept = subst Can (net_there nets k c.requires.within net net c.index-nets-place.is) c.requires.ready;
+      of_layer = may_run nets c.args.offers.now c.requires.offers l c.requires.within net net c.index-nets-layer.is
+          c.index-offers-layer.result c.index-offers-layer.is c.deref.result.now c.deref.ensures.value;
+      kept = subst Can (net_there nets l c.requires.within net net c.index-nets-layer.is) c.requires.ready;
     }
