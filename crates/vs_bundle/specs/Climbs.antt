@@ -3,7 +3,7 @@ use Rattle.std.specs.Prelude.{◌≡◌, All, List, length, ℤ}
 use Rattle.vs_types.specs.declared.layer_set.LayerSet.{LayerSet}
 use Rattle.vs_instance.specs.Problem.{Problem}
 use Rattle.vs_match.specs.LayerGraph.{LayerGraph}
-use Rattle.vs_cuts.specs.Bundles.{AreFound, HasSizes}
+use Rattle.vs_weights.specs.Bundles.{AreFound, HasSizes}
 use Rattle.vs_multi.specs.Multipliers.{AreMultipliers}
 use Rattle.vs_multi.specs.Rounds.{IsCase}
 use Rattle.vs_bundle.specs.declared.climbing.Ascent.{Ascent}

@@ -1,7 +1,7 @@
 //! What a climb is to come to, and after how much work it ends.
 
 ghost use Rattle.std.specs.Prelude.{◌≤◌};
-ghost use Rattle.vs_cuts.specs.declared.layer_cuts.TheConstants.{MOST_CUTS};
+ghost use Rattle.vs_weights.specs.declared.layer_cuts.TheConstants.{MOST_CUTS};
 
 use vs_types::SCALE;
 

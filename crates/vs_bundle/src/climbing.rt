@@ -4,7 +4,7 @@ ghost use Rattle.std.specs.Prelude.{◌≡◌, ◌⊎◌, IfOk, OnOk, length};
 ghost use Rattle.vs_circ.specs.shipping.Ready.{IsReadyToRun};
 ghost use Rattle.vs_multi.specs.Multipliers.{AreMultipliers, AreWithin};
 ghost use Rattle.vs_multi.specs.Rounds.{IsCase};
-ghost use Rattle.vs_cuts.specs.Bundles.{AreFound, HasSizes, layers_of, trips_of_all};
+ghost use Rattle.vs_weights.specs.Bundles.{AreFound, HasSizes, layers_of, trips_of_all};
 ghost use Rattle.vs_bundle.specs.Climbs.{AreSharesFor, CanClimb, IsAscentFor};
 
 use crate::aim::Aim;
@@ -16,9 +16,10 @@ use crate::stepping::go_further;
 use crate::stride::Stride;
 use crate::valuing::Trial;
 use vs_circ::{Work, begin_runs};
-use vs_cuts::{Bundle, Forecast, WHOLE};
+use vs_cuts::WHOLE;
 use vs_multi::{Case, NoWatch};
 use vs_types::Memory;
+use vs_weights::{Bundle, Forecast};
 
 /// A round gains where it comes to one in so many of what was forecast.
 const GAINED: i64 = 10;

@@ -1,13 +1,13 @@
 //! What a climb leaves: for the next one, and for a look at what a split would bring.
 
 ghost use Rattle.std.specs.Prelude.{◌<◌, ◌≤◌, IfOk, length};
-ghost use Rattle.vs_cuts.specs.Bundles.{HasSizes};
-ghost use Rattle.vs_cuts.specs.declared.layer_cuts.TheConstants.{MOST_CUTS};
+ghost use Rattle.vs_weights.specs.Bundles.{HasSizes};
+ghost use Rattle.vs_weights.specs.declared.layer_cuts.TheConstants.{MOST_CUTS};
 ghost use Rattle.vs_multi.specs.Rounds.{IsCase};
 
-use vs_cuts::Bundle;
 use vs_multi::Case;
 use vs_types::{LayerSet, MAX_LAYERS, Memory, TripNo};
+use vs_weights::Bundle;
 
 /// What a climb leaves. The circulations that its layers found are near those that the next one looks for: a climb that
 /// knows none gains nothing for some twenty rounds.

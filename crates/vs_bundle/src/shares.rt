@@ -3,14 +3,14 @@
 ghost use Rattle.std.specs.Prelude.{◌≡◌, ◌*◌, ◌^◌, ◌<◌, ◌≤◌, ◌≤ℤ◌, ℕ, IfOk, length, pos, slice_index, vec_len};
 ghost use Rattle.vs_types.specs.declared.numbers.TheConstants.{MAX_LAYERS};
 ghost use Rattle.vs_instance.specs.declared.limits.TheConstants.{MAX_TRIPS};
-ghost use Rattle.vs_cuts.specs.Bundles.{HasSizes};
-ghost use Rattle.vs_cuts.specs.Shares.{AreParts};
+ghost use Rattle.vs_weights.specs.Bundles.{HasSizes};
+ghost use Rattle.vs_weights.specs.Shares.{AreParts};
 ghost use Rattle.vs_cuts.specs.declared.whole.TheConstants.{WHOLE};
 
-use vs_cuts::Bundle;
 use vs_instance::{MAX_LAYERS, MAX_TRIPS};
 use vs_multi::Case;
 use vs_types::{LayerNo, Memory, TripNo};
+use vs_weights::Bundle;
 
 /// How much of each trip each layer runs, in parts of `WHOLE`.
 #[derive(Drop)]

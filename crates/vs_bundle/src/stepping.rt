@@ -1,11 +1,12 @@
 //! Multipliers moved a step along what is lacking of their trips.
 
 ghost use Rattle.std.specs.Prelude.{◌≡◌, length};
-ghost use Rattle.vs_cuts.specs.Bundles.{trips_of_all};
+ghost use Rattle.vs_weights.specs.Bundles.{trips_of_all};
 ghost use Rattle.vs_multi.specs.Multipliers.{AreWithin, IsMultiplier};
 
-use vs_cuts::{Bundle, part_of};
+use vs_cuts::part_of;
 use vs_instance::MAX_MULTIPLIER;
+use vs_weights::Bundle;
 
 /// The multipliers a step of this length further.
 pub(crate) fn go_further(bundle: &Bundle, step: i64, multipliers: &[i64], further: &mut [i64])

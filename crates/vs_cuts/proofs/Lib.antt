@@ -1,4 +1,4 @@
+pub mod CallerLemmas
 pub mod Cuts
 pub mod Parts
 pub mod Rows
-pub mod Steps

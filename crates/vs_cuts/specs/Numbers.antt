@@ -1,7 +1,7 @@
 -- How far the numbers go that weighing adds up and multiplies.
 use Rattle.std.specs.Prelude.{ℕ, ◌≤◌, List, slice_index_or, ℤ, pos, ◌≤ℤ◌}
 use Rattle.std.specs.Int.RustNames.{unsigned_abs}
-use Rattle.vs_cuts.specs.declared.standing.TheConstants.{MOST_ERROR}
+use Rattle.vs_cuts.specs.declared.cut.TheConstants.{MOST_ERROR}
 use Rattle.vs_cuts.specs.declared.whole.TheConstants.{WHOLE}
 
 -- no further from 0 than this

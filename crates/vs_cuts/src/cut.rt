@@ -7,12 +7,14 @@ ghost use Rattle.vs_cuts.specs.declared.whole.TheConstants.{MOST_LACK, MOST_NUMB
 ghost use Rattle.vs_types.specs.declared.numbers.TheConstants.{MAX_LAYERS};
 
 use crate::share_list::ShareList;
-use crate::standing::MOST_ERROR;
 use crate::trip_list::TripList;
 use crate::trip_set::TripSet;
 use crate::whole::{WHOLE, fitting, part_of};
 use std::alloc::Global;
 use vs_types::{LayerNo, LayerSet, Memory};
+
+/// By how much a cut may be above the least, in 1/1000 of a cost unit.
+pub const MOST_ERROR: i64 = 1 << 62;
 
 /// Which trips a cut runs.
 #[derive(Drop)]
@@ -25,10 +27,10 @@ pub(crate) enum Runs {
 
 /// A circulation of a layer, or several mixed.
 #[derive(Drop)]
-pub(crate) struct Cut {
-    pub runs: Runs,
+pub struct Cut {
+    pub(crate) runs: Runs,
     /// What it costs without multipliers, in 1/1000 of a cost unit.
-    pub cost: i64,
+    cost: i64,
 }
 
 impl Cut {
@@ -55,7 +57,7 @@ impl Cut {
     }
 
     /// Becomes the circulation of this cost that runs the trips marked true.
-    pub fn set(&mut self, marks: &[bool], cost: i128)
+    pub(crate) fn set(&mut self, marks: &[bool], cost: i128)
         requires { length marks.now ≡ trips_of self.old }
         ensures { trips_of self.new ≡ trips_of self.old }
     {
@@ -102,7 +104,7 @@ impl Cut {
     }
 
     /// Its cost less the multipliers of its trips.
-    pub fn value(&self, multipliers: &[i64]) -> i64
+    pub(crate) fn value(&self, multipliers: &[i64]) -> i64
         requires each { length multipliers.now ≡ trips_of self.now }
         requires near { AreNear MOST_NUMBER multipliers.now }
     {

@@ -12,9 +12,10 @@ use vs_types::Memory;
 /// A circulation that a layer has just found.
 #[derive(Drop)]
 pub struct Found {
-    pub(crate) cut: Cut,
-    /// Its cost less the multipliers at which it was found.
-    pub(crate) part: i64,
+    /// Its cost, and the trips that it runs.
+    pub cut: Cut,
+    /// Its cost less the multipliers at which it was found, or the nearest number that fits.
+    pub part: i64,
 }
 
 impl Found {

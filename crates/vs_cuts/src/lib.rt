@@ -1,27 +1,20 @@
-//! Cuts of layers, and their weights. Each layer keeps circulations that it found before: its cuts. The weights mix
-//! them such that together they run every trip as nearly once as is worth the multipliers that it takes. No circulation
-//! is asked for here.
+//! Cuts of layers: circulations found before, each as what it costs and which trips it runs. Several are mixed into one
+//! that runs each trip in parts. No circulation is asked for here.
 #![tactic(auto)]
 
-mod bundle;
 mod cut;
 mod found;
-mod keeping;
-mod lacking;
-mod layer_cuts;
 mod products;
-mod refitting;
 mod share_list;
-mod standing;
-mod step;
 mod trip_list;
 mod trip_set;
-mod weights;
 mod whole;
-mod withholding;
 
-pub use bundle::Bundle;
+pub use cut::{Cut, MOST_ERROR};
 pub use found::Found;
-pub use layer_cuts::MOST_CUTS;
-pub use weights::Forecast;
-pub use whole::{MOST_NUMBER, MOST_TRIPS, WHOLE, part_of};
+pub use products::{MOST_PRODUCT, Products};
+pub use trip_set::TripSet;
+pub use whole::{
+    MOST_LACK, MOST_NUMBER, MOST_TRIPS, WHOLE, as_part, fitting, part_of, short_part_of,
+    small_part_of,
+};

@@ -8,14 +8,15 @@ use std::alloc::Global;
 use vs_types::Memory;
 
 /// How many trips two cuts run both at most, in parts of a whole trip.
-pub(crate) const MOST_PRODUCT: u64 = 1 << 35;
+pub const MOST_PRODUCT: u64 = 1 << 35;
 
 /// For each two places: how many free trips the cuts there run both, in parts of a whole trip.
 #[derive(Drop)]
-pub(crate) struct Products {
+pub struct Products {
     rows: Vec<Vec<i64>>,
+    /// How many places there are.
     pub places: usize,
-    /// How many there are at most.
+    /// How many trips two cuts may run both, in parts of a whole trip: no product is greater or below 0.
     pub most: u64,
     ghost few: { most ≤ MOST_PRODUCT },
     ghost each: { vec_len rows ≡ places },

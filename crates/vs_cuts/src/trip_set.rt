@@ -13,7 +13,7 @@ const BITS: usize = 64;
 
 /// A set of trips: bit b of word w stands for trip 64 * w + b.
 #[derive(Drop)]
-pub(crate) struct TripSet {
+pub struct TripSet {
     words: Vec<u64>,
     /// The trips in it are among so many.
     pub trips: usize,
@@ -23,7 +23,7 @@ pub(crate) struct TripSet {
 
 impl TripSet {
     /// None of so many trips.
-    pub fn new(alloc: Global, trips: usize) -> Result<TripSet, Memory>
+    pub(crate) fn new(alloc: Global, trips: usize) -> Result<TripSet, Memory>
         requires { trips ≤ MOST_TRIPS }
         ensures { IfOk result (λ set. set.trips ≡ trips) }
     {
@@ -63,7 +63,7 @@ impl TripSet {
     }
 
     /// Becomes the set of the trips marked true.
-    pub fn mark(&mut self, marks: &[bool])
+    pub(crate) fn mark(&mut self, marks: &[bool])
         requires { length marks.now ≡ self.old.trips }
         ensures { self.new.trips ≡ self.old.trips }
     {
@@ -75,7 +75,7 @@ impl TripSet {
     }
 
     /// How many trips stand in this set, in another one and among these.
-    pub fn common(&self, other: &TripSet, among: &TripSet) -> i64 {
+    pub(crate) fn common(&self, other: &TripSet, among: &TripSet) -> i64 {
         let mut count: u32 = 0;
         for ((a, b), c) in self.words.iter().zip(&other.words).zip(&among.words) {
             count = count.saturating_add((*a & *b & *c).count_ones());

@@ -19,7 +19,7 @@ pub const MOST_NUMBER: u64 = 100_000_000_000_000;
 pub const MOST_LACK: u64 = 16_777_216;
 
 /// The number, or the nearest that fits.
-pub(crate) fn fitting(number: i128) -> i64 {
+pub fn fitting(number: i128) -> i64 {
     number.clamp(i128::from(i64::MIN), i128::from(i64::MAX)) as i64
 }
 
@@ -29,7 +29,7 @@ pub fn part_of(number: i64, parts: i64) -> i64 {
 }
 
 /// No more parts than a whole of a number that isn't large.
-pub(crate) fn small_part_of(number: i64, parts: i64) -> i64
+pub fn small_part_of(number: i64, parts: i64) -> i64
     requires number { IsNear (2 ^ 42) number }
     requires parts { IsPart parts }
     ensures { unsigned_abs result ≤ unsigned_abs number }
@@ -38,7 +38,7 @@ pub(crate) fn small_part_of(number: i64, parts: i64) -> i64
 }
 
 /// So many parts of a whole of a number where their product is known to be small.
-pub(crate) fn short_part_of(number: i64, parts: i64) -> i64
+pub fn short_part_of(number: i64, parts: i64) -> i64
     requires { unsigned_abs number * unsigned_abs parts ≤ 2 ^ 62 }
     ensures { IsNear (2 ^ 43) result }
 {
@@ -53,7 +53,7 @@ pub(crate) fn as_lack(number: i64) -> i64
 }
 
 /// The number, or the nearest that is a part of a whole.
-pub(crate) fn as_part(number: i64) -> i64
+pub fn as_part(number: i64) -> i64
     ensures { IsPart result }
 {
     number.max(0).min(WHOLE)

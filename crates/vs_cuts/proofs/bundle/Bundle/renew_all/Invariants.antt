@@ -1,5 +1,0 @@
-use Rattle.vs_cuts.specs.Bundles.{HasSizes, layers_of, trips_of_all}
-use Rattle.vs_cuts.proofs.bundle.Bundle.renew_all.Given as goal
-
-abbrev pub invariant-loop-l : goal.invariant-loop-l
-invariant-loop-l l = HasSizes (trips_of_all l.fn.self) (layers_of l.fn.self) l.self

@@ -1,5 +1,0 @@
-use Rattle.vs_cuts.specs.Shares.{AreParts}
-use Rattle.vs_cuts.proofs.bundle.Bundle.set_shares.Given as goal
-
-abbrev pub invariant-loop-entry : goal.invariant-loop-entry
-invariant-loop-entry l = AreParts l.shares

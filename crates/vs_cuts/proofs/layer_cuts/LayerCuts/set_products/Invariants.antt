@@ -1,5 +1,0 @@
-use Rattle.vs_cuts.specs.Layers.{IsLike}
-use Rattle.vs_cuts.proofs.layer_cuts.LayerCuts.set_products.Given as goal
-
-abbrev pub invariant-loop-other : goal.invariant-loop-other
-invariant-loop-other l = IsLike l.fn.self l.self

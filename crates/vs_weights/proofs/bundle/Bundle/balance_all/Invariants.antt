@@ -1,0 +1,5 @@
+use Rattle.vs_weights.specs.Bundles.{HasSizes, layers_of, trips_of_all}
+use Rattle.vs_weights.proofs.bundle.Bundle.balance_all.Given as goal
+
+abbrev pub invariant-loop : goal.invariant-loop
+invariant-loop l = HasSizes (trips_of_all l.fn.self) (layers_of l.fn.self) l.self

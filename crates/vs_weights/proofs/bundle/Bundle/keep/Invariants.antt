@@ -1,0 +1,8 @@
+use Rattle.vs_weights.specs.Bundles.{AreFound, HasSizes, layers_of, trips_of_all}
+use Rattle.vs_weights.proofs.bundle.Bundle.keep.Given as goal
+
+abbrev pub invariant-loop-l : goal.invariant-loop-l
+invariant-loop-l l = record {
+  sizes : HasSizes (trips_of_all l.fn.self) (layers_of l.fn.self) l.self;
+  found : AreFound (trips_of_all l.fn.self) (layers_of l.fn.self) l.found;
+}

@@ -1,0 +1,5 @@
+use Rattle.std.proofs.Common.{IfSome, ◌<◌, vec_len}
+use Rattle.vs_weights.proofs.layer_cuts.LayerCuts.spare.Given as goal
+
+abbrev pub invariant-loop-place : goal.invariant-loop-place
+invariant-loop-place l = IfSome l.spare (λ place. place < vec_len l.self.cuts)

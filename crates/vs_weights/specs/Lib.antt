@@ -1,0 +1,4 @@
+pub mod Bundles
+pub mod Layers
+pub mod Shares
+pub mod Steps
