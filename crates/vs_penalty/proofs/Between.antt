@@ -7,9 +7,10 @@ use Rattle.vs_penalty.specs.Means.{LiesBetween}
 module _ (one other number : ℤ) (between : LiesBetween one other number) where
   -- one is within the limits if these are
   pub between-IsMultiplier : IsMultiplier one → IsMultiplier other → IsMultiplier number
-  between-IsMultiplier of_one of_other =
-      (omega (arith, ints, clamps, between.0, of_one.0, of_other.0),
-      omega (arith, ints, clamps, between.1, of_one.1, of_other.1))
+  between-IsMultiplier of_one of_other = (
+    omega (arith, ints, clamps, between.0, of_one.0, of_other.0),
+    omega (arith, ints, clamps, between.1, of_one.1, of_other.1),
+  )
 
   -- the same of equal numbers
   pub between-same : (first last middle : ℤ) → one ≡ first → other ≡ last → number ≡ middle

@@ -21,17 +21,17 @@ loop-i-preserved c =
     let newer = c.requires.newest i in
     let same = to_z-of_z w64 c.nearer.result (record { sfits = c.nearer.type_inv }) in
     let read : c.index.result.now ≡ get_or items i (pos 0) =
-      c.index.ensures ∙ get_or_default items i c.index.result.now (pos 0) inside in
+    c.index.ensures ∙ get_or_default items i c.index.result.now (pos 0) inside in
     let start : to_z w64 (of_z w64 c.index.result.now) ≡ c.index.result.now =
-      to_z-of_z w64 c.index.result.now (omega (arith, ints, read, kept.0, kept.1)) in
+    to_z-of_z w64 c.index.result.now (omega (arith, ints, read, kept.0, kept.1)) in
     let end = to_z-of_z w64 (get_or newest i (pos 0)) (omega (arith, ints, newer.0, newer.1)) in
     let between : LiesBetween (get_or old i (pos 0)) (get_or newest i (pos 0)) number =
-      between-same (to_z w64 (of_z w64 c.index.result.now)) (to_z w64 (of_z w64 (get_or newest i (pos 0))))
-      c.nearer.result c.nearer.ensures.between (get_or old i (pos 0)) (get_or newest i (pos 0)) number
-      (start ∙ read ∙ before) end (sym same) in
+    between-same (to_z w64 (of_z w64 c.index.result.now)) (to_z w64 (of_z w64 (get_or newest i (pos 0))))
+    c.nearer.result c.nearer.ensures.between (get_or old i (pos 0)) (get_or newest i (pos 0)) number
+    (start ∙ read ∙ before) end (sym same) in
     let is : IsMultiplier number =
-      between-IsMultiplier (get_or old i (pos 0)) (get_or newest i (pos 0)) number between
-      (c.requires.within i) newer in
+    between-IsMultiplier (get_or old i (pos 0)) (get_or newest i (pos 0)) number between
+    (c.requires.within i) newer in
     record {
       each_trip = length-set items i number ∙ inv.each_trip;
       within = each_after_set (λ k n. IsMultiplier n) items i number inside (λ k other. inv.within k) is;
