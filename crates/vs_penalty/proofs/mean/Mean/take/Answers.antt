@@ -51,6 +51,7 @@ returns-clause-first c none =
     let items : List ℤ = c.loop-i.self.multipliers.items in
     let newest : List ℤ = c.args.newest.now in
     let all = c.loop-i-test.false in
-    let one : c.loop-i.self.passes ≡ 1 = omega (arith, inv.passes, none, c.saturating_add.ensures, c.min-self.ensures) in
+    let one : c.loop-i.self.passes ≡ 1 =
+    omega (arith, inv.passes, none, c.saturating_add.ensures, c.min-self.ensures) in
     let long : length items ≡ length newest = omega (arith, inv.each_trip, c.requires.each_trip) in
     ext_get_or (pos 0) items newest long (λ k below. inv.whole k (omega (arith, all, long, below)) one)
