@@ -1,5 +1,5 @@
 -- A list of numbers in which one is set.
-use Rattle.std.proofs.Common.{◌≡◌, ◌≢◌, ℕ, ◌<◌, List, length, get_or, set, sym, subst, inl, inr, ℤ, pos, get_or-set_other, get_or-set_same}
+use Rattle.std.proofs.Common.{◌≢◌, ℕ, ◌<◌, List, length, get_or, set, sym, subst, inl, inr, ℤ, pos, get_or-set_other, get_or-set_same}
 use Rattle.std.proofs.lemmas.Bool.{cases_eq}
 
 -- what holds of it at its place, and of each other number at its own, holds of each

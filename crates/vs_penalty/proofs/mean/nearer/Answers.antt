@@ -1,4 +1,4 @@
-use Rattle.std.proofs.Common.{◌≡◌, arith, ℤ, pos, ◌-ℤ◌, ◌<ℤ◌, FitsSigned, to_z, of_z, w64, int_div}
+use Rattle.std.proofs.Common.{◌≡◌, arith, ℤ, pos, ◌-ℤ◌, ◌<ℤ◌, FitsSigned, to_z, of_z, w64}
 use Rattle.std.proofs.lemmas.Int.{ints, clamps, to_z-of_z, quot_is, quot_fits}
 use Rattle.vs_penalty.proofs.Quotients.{quotient_between, quotient_whole}
 use Rattle.vs_penalty.proofs.mean.nearer.Goals as goal

@@ -1,4 +1,4 @@
-use Rattle.std.proofs.Common.{◌≡◌, ℕ, ◌+◌, ◌<◌, ◌≤◌, List, length, arith, get_or, sym, ◌∙◌, ext_get_or, w64, ℤ, pos, of_z, to_z}
+use Rattle.std.proofs.Common.{◌≡◌, ◌+◌, ◌<◌, ◌≤◌, List, length, arith, get_or, sym, ◌∙◌, ext_get_or, w64, ℤ, pos, of_z, to_z}
 use Rattle.std.proofs.lemmas.Int.{ints, to_z-of_z}
 use Rattle.std.proofs.lemmas.List.{length-set, get_or_default}
 use Rattle.vs_multi.specs.Multipliers.{IsMultiplier}
