@@ -1,2 +1,4 @@
+pub mod Means
 pub mod Rays
 pub mod Seekers
+pub mod Slow

@@ -1,7 +1,8 @@
 //! How much each step of the search at the root may take. Effort is counted as `Work::effort` does: a unit of it takes
 //! about a fifth of a microsecond.
 
-ghost use Rattle.std.specs.Prelude.{◌<◌};
+ghost use Rattle.std.specs.Prelude.{◌≡◌, ◌*◌, ◌<◌, ◌≤◌, ◌↔◌, IsTrue, length};
+ghost use Rattle.vs_penalty.specs.Slow.{IsSlow};
 
 use vs_instance::{Instance, MAX_LAYERS, MAX_TRIPS};
 use vs_types::SCALE;
@@ -14,7 +15,8 @@ const OFFERS: u32 = 800_000;
 const LEAST_PASSES: u32 = 200;
 
 /// How many there are at least where a climb is slow: the cheaper the plan that it begins with, the further it comes.
-const LEAST_PASSES_WHERE_SLOW: u32 = 500;
+/// Mostly the layers have agreed often enough before, and with 300 gaps grow.
+const LEAST_PASSES_WHERE_SLOW: u32 = 400;
 
 /// How many quick passes there are at most: the layers of a small instance agree long before.
 const MOST_PASSES: u32 = 1_000;
@@ -25,6 +27,10 @@ const FIRST_PART: u64 = 100;
 /// The same where a climb is slow. It begins at a mean of multipliers, for which those after single passes may be
 /// farther off; and a greater rate has the layers agree sooner.
 const FIRST_PART_WHERE_SLOW: u64 = 30;
+
+/// How many trips an instance offers to layers at most, all layers together, where quick passes end by their number.
+/// With more they end by their effort, after some tens: a greater rate would leave them too far off.
+const NOT_LARGE: u32 = 24_000;
 
 /// How many trips an instance offers to layers at most, all layers together, to be a small one. Climbs on its leaves
 /// have nearly all their rounds, so they close what its root leaves open.
@@ -65,14 +71,25 @@ pub(crate) fn margin(instance: &Instance, value: i64) -> i64 {
     }
 }
 
-/// Whether an instance is small: climbs on its leaves have nearly all their rounds.
-pub(crate) fn is_small(instance: &Instance) -> bool {
+/// How many trips an instance offers to layers, all layers together.
+fn offers(instance: &Instance) -> u32
+    ensures { result ≡ length instance.now.trips * length instance.now.layers }
+{
     prove!(instance.trips() <= MAX_TRIPS && instance.layers() <= MAX_LAYERS);
-    instance.trips() * instance.layers() <= SMALL
+    instance.trips() * instance.layers()
+}
+
+/// Whether an instance is small: climbs on its leaves have nearly all their rounds.
+pub(crate) fn is_small(instance: &Instance) -> bool
+    ensures { IsTrue result ↔ length instance.now.trips * length instance.now.layers ≤ SMALL }
+{
+    offers(instance) <= SMALL
 }
 
 /// Whether a climb takes many rounds to multipliers near which cheap plans are found.
-pub(crate) fn is_slow(instance: &Instance) -> bool {
+pub(crate) fn is_slow(instance: &Instance) -> bool
+    ensures { IsTrue result ↔ IsSlow instance.now }
+{
     instance.layers() > FEW_LAYERS && !is_small(instance)
 }
 
@@ -83,15 +100,13 @@ pub(crate) fn turn_margin(value: i64) -> i64 {
 
 /// How many quick passes there are, the fewer the more each of them offers.
 pub(crate) fn quick_passes(instance: &Instance) -> u32 {
-    prove!(instance.trips() <= MAX_TRIPS && instance.layers() <= MAX_LAYERS);
-    let offers = instance.trips() * instance.layers();
     let least = if is_slow(instance) {
         LEAST_PASSES_WHERE_SLOW
     } else {
         LEAST_PASSES
     };
     OFFERS
-        .checked_div(offers)
+        .checked_div(offers(instance))
         .unwrap_or(0)
         .max(least)
         .min(MOST_PASSES)
@@ -101,7 +116,7 @@ pub(crate) fn quick_passes(instance: &Instance) -> u32 {
 pub(crate) fn first_part(instance: &Instance) -> u64
     ensures { 0 < result }
 {
-    if is_slow(instance) {
+    if is_slow(instance) && offers(instance) <= NOT_LARGE {
         FIRST_PART_WHERE_SLOW
     } else {
         FIRST_PART

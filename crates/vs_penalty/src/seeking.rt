@@ -1,10 +1,11 @@
 //! Plans sought pass by pass.
 
-ghost use Rattle.std.specs.Prelude.{IfOk, OnOk};
+ghost use Rattle.std.specs.Prelude.{◌≡◌, IfOk, OnOk};
 ghost use Rattle.vs_circ.specs.shipping.Ready.{IsReadyToRun};
 ghost use Rattle.vs_multi.specs.Multipliers.{AreMultipliers};
 ghost use Rattle.vs_multi.specs.Rounds.{IsCase};
 ghost use Rattle.vs_penalty.specs.Seekers.{IsSeekerFor};
+ghost use Rattle.vs_penalty.specs.Slow.{IsSlow};
 
 use crate::choices::Choices;
 use crate::effort::{first_part, is_slow, margin, turn_margin};
@@ -121,7 +122,9 @@ impl Seeker {
     /// What the climb begins with: the multipliers that quick passes came to, or their mean where the climb is slow.
     pub fn reached(&self, instance: &Instance) -> &[i64]
         requires { IsSeekerFor instance.now self.now }
-        ensures { AreMultipliers instance.now result.now }
+        ensures multipliers { AreMultipliers instance.now result.now }
+        ensures mean { IsSlow instance.now → result.now ≡ self.now.mean.multipliers.items }
+        ensures last { ¬ (IsSlow instance.now) → result.now ≡ self.now.penalties.multipliers.items }
     {
         if is_slow(instance) {
             &self.mean.multipliers

@@ -1,0 +1,13 @@
+-- Means of multipliers.
+use Rattle.std.specs.Prelude.{ℕ, List, ℤ, ◌≤ℤ◌}
+use Rattle.std.specs.Int.{int_min, int_max}
+use Rattle.vs_instance.specs.Lagrangian.{multiplier_of}
+
+-- a number lies between two others, both included, whichever of them is the greater
+abbrev pub LiesBetween : ℤ → ℤ → ℤ → Type 0
+LiesBetween one other number = (int_min one other ≤ℤ number) × (number ≤ℤ int_max one other)
+
+-- each multiplier of the last list lies between those of the first two
+abbrev pub AreBetween : List ℤ → List ℤ → List ℤ → Type 0
+AreBetween ones others multipliers =
+    (i : ℕ) → LiesBetween (multiplier_of ones i) (multiplier_of others i) (multiplier_of multipliers i)
