@@ -5,7 +5,7 @@
 #     bench/classes.sh PROGRAM [OTHER ..]
 #
 # CBC_SECONDS says for how long CBC may try a timetable, 150 where it isn't set and 0 for no CBC. CLASSES names classes:
-# d4 and d8 (five draws of 200 trips in 4 and 8 depots), t4 (three of 300 trips in 4), c4 (two cities of 400 trips),
+# d4 and d8 (five draws of 200 trips in 4 and 8 depots), t4 (three of 300 trips in 4), c4 (six cities of 400 trips),
 # m300, m1000 and m2000 (`make N`); all where it isn't set. `--nodes 1` is run too: what a search takes beyond it is the
 # time of its further nodes. It takes some forty minutes with CBC, and ends with 1 where a document isn't judged `yes`.
 set -u
@@ -24,7 +24,7 @@ timetables() {
     d4) for seed in 1 2 3 4 5; do echo "200_4_$seed bench/carpaneto.py 200 4 $seed"; done ;;
     d8) for seed in 1 2 3 4 5; do echo "200_8_$seed bench/carpaneto.py 200 8 $seed"; done ;;
     t4) for seed in 1 2 3; do echo "300_4_$seed bench/carpaneto.py 300 4 $seed"; done ;;
-    c4) for seed in 1 2; do echo "city_400_$seed bench/city.py 400 $seed"; done ;;
+    c4) for seed in 1 2 3 4 5 6; do echo "city_400_$seed bench/city.py 400 $seed"; done ;;
     m*) echo "make_${1#m} ${programs[0]} make ${1#m}" ;;
   esac
 }

@@ -19,8 +19,9 @@ use vs_instance::{Deadhead, Instance, Layer, Parts, Trip};
 use vs_tree::{Report, Take, Tree};
 use vs_types::{LayerNo, LayerSet, StopNo};
 
-/// Of so many cases, plans are sought by passes on one, as `vs_crew` does.
-const TURNS: u32 = 4;
+/// Of so many cases, plans are sought by passes on one, as `vs_crew` does, and where cases are in vain.
+const TURNS: u32 = 2;
+const TURNS_IN_VAIN: u32 = 16;
 
 /// The minute that a time such as 7:05 stands for.
 fn minute(text: &str) -> u32 {
@@ -122,15 +123,18 @@ fn main() {
         known: None,
         root: false,
     };
-    let mut work = vs_circ::Work::new((), &nets).expect("memory");
+    let mut room = vs_node::Room::new((), &nets).expect("memory");
     let (begun, log) = (Instant::now(), env::var("LOG").is_ok());
-    for taken in 1_u32.. {
+    let mut taken = 0;
+    loop {
         let Take::Node { leaf, known } = tree.take(0, &mut task.sets, &mut task.table) else {
             break;
         };
         (task.known, task.root) = (known, leaf == 0);
-        let passes = taken % TURNS == 0;
-        let found = finding::found((), &instance, &nets, &mut task, passes, &mut work, &vs_multi::NoWatch);
+        let turns = if room.progress.is_vain() { TURNS_IN_VAIN } else { TURNS };
+        let passes = taken >= turns - 1;
+        taken = if passes { 0 } else { taken + 1 };
+        let found = finding::found((), &instance, &nets, &mut task, passes, &mut room, &vs_multi::NoWatch);
         let found = found.expect("memory").expect("a search that nothing ends");
         if let Some(plan) = found.outcome.plan {
             tree.offer(0, plan);
