@@ -299,6 +299,20 @@ pub mod thread {
         std::thread::sleep(time);
     }
 
+    /// Calls f in a new thread, or last where none can be made, and g in this one.
+    pub fn join_mut<R: Threads, A: Send, B>(
+        _: &R,
+        f: &mut (impl FnMut() -> A + Send),
+        g: &mut impl FnMut() -> B,
+    ) -> (A, B) {
+        let (first, second) = scope(|scope| {
+            let started = Builder::new().spawn_scoped(scope, &mut *f).ok();
+            let second = g();
+            (started.and_then(|thread| thread.join().ok()), second)
+        });
+        (first.unwrap_or_else(f), second)
+    }
+
     /// Has each item worked on, by so many threads where they can be made. The caller's thread is one of them. As in
     /// Rattle's library, each takes as many items that stand side by side.
     pub fn for_each_mut<R: Threads, T: Send>(

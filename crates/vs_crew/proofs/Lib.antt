@@ -1,4 +1,5 @@
+pub mod CallerLemmas
+pub mod Crews
+pub mod RowsRun
 pub mod leaves
 pub mod others
-pub mod Crews
-pub mod CallerLemmas

@@ -1,9 +1,7 @@
 //! Threads for the work at the root: layers are run and walkers take their turns side by side.
 
 ghost use Rattle.std.specs.Prelude.{◌≡◌, ◌<◌, length, IfOk, IfSome, None};
-ghost use Rattle.vs_match.specs.LayerNets.{net_at};
-ghost use Rattle.vs_circ.specs.shipping.Ready.{CanRun};
-ghost use Rattle.vs_bundle.specs.Runs.{AreLayers, CanRunIn, HasRun, HaveRunIn, MayRunAll, layer_at};
+ghost use Rattle.vs_bundle.specs.Runs.{AreLayers, CanRunIn, HaveRunIn, MayRunAll};
 ghost use Rattle.vs_walk.specs.Walkers.{IsWalkerFor};
 ghost use Rattle.vs_penalty.specs.Seekers.{AreWalks, IsTurnIn};
 ghost use Rattle.vs_prices.specs.Table.{Fits};
@@ -12,12 +10,13 @@ ghost use Rattle.vs_crew.specs.Found.{IsFinding, IsLawfulTask};
 ghost use Rattle.vs_crew.specs.Workers.{IsSite};
 
 use crate::finding::{Finding, found};
+use crate::rows::Rows;
 use crate::site::{Gate, Site};
 use crate::watching::RootWatch;
 use std::alloc::Global;
 use std::marker::Sync;
 use std::thread::{Threads, for_each_mut};
-use vs_bundle::{Lanes, run_layer};
+use vs_bundle::Lanes;
 use vs_circ::Kept;
 use vs_match::LayerNet;
 use vs_multi::{Case, Watch};
@@ -135,13 +134,12 @@ fn run_side_by_side<R: Threads + Sync>(
     ensures each { length kept.new ≡ length kept.old }
     ensures run { HaveRunIn nets.now offers.now places.now kept.new }
 {
-    let job = |k: usize, kept: &mut Kept|
-        requires { MayRunAll nets.now offers.now × (k < length places.now) × (layer_at places.now k < length nets.now)
-            × CanRun (net_at nets.now (layer_at places.now k)) kept.now }
-        ensures { HasRun (net_at nets.entry.now (layer_at places.entry.now k)) offers.entry.now
-            (layer_at places.entry.now k) kept.exit.now }
-    { run_layer(nets, offers, places[k], kept) };
-    for_each_mut(rt, kept, threads, &job);
+    let rows = Rows {
+        nets,
+        offers,
+        in_a_row: kept.len().div_ceil(threads).max(1),
+    };
+    rows.run(rt, places, kept);
 }
 
 /// A turn of each of these walks, side by side.

@@ -5,6 +5,7 @@ mod changes;
 mod crew;
 mod finding;
 mod hands;
+mod rows;
 mod shared_tree;
 mod site;
 mod turns;
