@@ -122,7 +122,7 @@ def plain(text, crate, names):
     for pattern, behind in LEFT_OUT:
         text = without(text, pattern, behind)
     text = text.replace("#![tactic(auto)]", "")
-    text = re.sub(r"^ *#\[tactic\(.*\)\]\n", "", text, flags=re.MULTILINE)
+    text = re.sub(r"^ *#\[(tactic|cycle)\(.*\)\]\n", "", text, flags=re.MULTILINE)
     text = re.sub(r"#\[derive\(([^)]*)\)\]", derived, text)
     text = re.sub(r"\bDrop \+ |: Drop\b(?! for)| \+ Drop\b", "", text)
     text = re.sub(r"\.collect\(((?:\w+\.)*alloc(?:\(\))?)\)", r".collect_in(\1)", text)
