@@ -9,6 +9,9 @@ use vs_multi::Case;
 use vs_types::{LayerSet, MAX_LAYERS, Memory, TripNo};
 use vs_weights::Bundle;
 
+/// So many times what a move of weights has to gain in a climb, it has to in a forecast, which only ranks splits.
+const ROUGH: i64 = 10;
+
 /// What a climb leaves. The circulations that its layers found are near those that the next one looks for: a climb that
 /// knows none gains nothing for some twenty rounds.
 #[derive(Drop)]
@@ -67,6 +70,7 @@ impl KeptCuts {
         if bundle.trips() != sets.len() || bundle.layers() > MAX_LAYERS as usize {
             return None;
         }
-        bundle.forecast_without(layers, trip.0 as usize, self.step, self.tolerance)
+        let tolerance = self.tolerance.saturating_mul(ROUGH);
+        bundle.forecast_without(layers, trip.0 as usize, self.step, tolerance)
     }
 }

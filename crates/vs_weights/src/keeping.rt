@@ -10,7 +10,7 @@ ghost use Rattle.vs_cuts.specs.declared.whole.TheConstants.{MOST_NUMBER};
 use crate::layer_cuts::LayerCuts;
 use crate::standing::Standing;
 use std::mem::swap;
-use vs_cuts::{Cut, TripSet, WHOLE, as_part, fitting};
+use vs_cuts::{Cut, TripSet, WHOLE, as_part, fitting, part_of};
 
 impl LayerCuts {
     /// Counts the rounds for which each cut has had no weight.
@@ -34,7 +34,7 @@ impl LayerCuts {
     {
         let place = match self.spare() {
             Some(place) => Some(place),
-            None => self.make_room(multipliers, free),
+            None => self.make_room(multipliers),
         };
         if let Some(place) = place {
             self.put(place, cut, weight);
@@ -80,10 +80,9 @@ impl LayerCuts {
 
     /// Makes room by mixing the lightest cut into the mixed one, or the two lightest where there is none. Gives the
     /// place where there was one.
-    fn make_room(&mut self, multipliers: &[i64], free: &TripSet) -> Option<usize>
+    fn make_room(&mut self, multipliers: &[i64]) -> Option<usize>
         requires each { length multipliers.now ≡ self.old.trips }
         requires near { AreNear MOST_NUMBER multipliers.now }
-        requires free { free.now.trips ≡ self.old.trips }
         ensures like { IsLike self.old self.new }
         ensures place { IfSome result (λ place. place < vec_len self.new.cuts) }
     {
@@ -95,7 +94,6 @@ impl LayerCuts {
         let place = self.lightest()?;
         self.mix(place);
         self.set_error(mixed, multipliers);
-        self.renew(mixed, free);
         Some(place)
     }
 
@@ -115,6 +113,27 @@ impl LayerCuts {
         lightest
     }
 
+    /// Mixes the products of a place into those of the mixed cut, of which both together have so many parts of a whole.
+    /// That takes far less than to reckon them anew, and differs by what rounding takes.
+    fn mix_products(&mut self, place: usize, parts: i64)
+        requires place { place < vec_len self.old.cuts }
+        requires parts { IsPart parts }
+        ensures { IsLike self.old self.new }
+    {
+        let mixed = self.mixed();
+        let both = self.products.of(mixed, place);
+        let left = between(self.products.of(mixed, mixed), both, parts);
+        let right = between(both, self.products.of(place, place), parts);
+        for other in 0..mixed {
+            let (left, right) = (
+                self.products.of(mixed, other),
+                self.products.of(place, other),
+            );
+            self.products.set(mixed, other, between(left, right, parts));
+        }
+        self.products.set(mixed, mixed, between(left, right, parts));
+    }
+
     /// Mixes the cut at a place into the mixed one, by their weights. No cut stands there then.
     fn mix(&mut self, place: usize)
         requires { place + 1 < vec_len self.old.cuts }
@@ -123,10 +142,19 @@ impl LayerCuts {
         let mixed = self.mixed();
         let weight = self.standings[place].weight;
         let both = as_part(weight + self.standings[mixed].weight);
-        mix_last(&mut self.cuts, place, parts_of(weight, both));
+        let parts = parts_of(weight, both);
+        mix_last(&mut self.cuts, place, parts);
         self.standings[mixed] = Standing::mixed(both);
         self.standings[place] = Standing::none();
+        self.mix_products(place, parts);
     }
+}
+
+/// So many parts of a whole of the second product, and the other parts of the first one.
+fn between(first: i64, second: i64, parts: i64) -> i64
+    requires { IsPart parts }
+{
+    part_of(first, WHOLE - parts).saturating_add(part_of(second, parts))
 }
 
 /// Mixes the cut at a place into the last one, of which both together have so many parts of a whole.
