@@ -104,7 +104,8 @@ impl<W: Lanes> Round<'_, W> {
         exchange(k, from, places, kept);
     }
 
-    /// Brings the layer to place k that is wished there, in exchange for the one that stands there. Gives where it stood.
+    /// Brings the layer to place k that is wished there, in exchange for the one that stands there. Gives where it
+    /// stood.
     fn bring(&self, k: usize, places: &mut [usize], kept: &mut [Kept]) -> usize
         requires each { length places.old ≡ length kept.old }
         requires place { k < length places.old }

@@ -10,19 +10,23 @@ use Rattle.vs_penalty.specs.declared.walkers.Turn.{Turn}
 use Rattle.vs_penalty.specs.declared.walkers.Walk.{Walk}
 use Rattle.vs_penalty.specs.Seekers.{AreWalks, IsTurnIn}
 
-module _ {L : Type 0} (g : Shared L (Bor (List LayerGraph) × (Bor Offers × (Bor (List ℕ) × (MutBor (List Kept) × Unit {0}))))
+module _ {L : Type 0}
+    (g : Shared L (Bor (List LayerGraph) × (Bor Offers × (Bor (List ℕ) × (MutBor (List Kept) × Unit {0}))))
     (Unit {0} × (MutBor (List Kept) × Unit {0}))) (run : L) where
   -- it may be called wherever layers may be run, and runs them
   pub record RunsLayers : Type 0 where
-    pub accepts : (nets : Bor (List LayerGraph)) (offers : Bor Offers) (places : Bor (List ℕ)) (kept : MutBor (List Kept))
+    pub accepts : (nets : Bor (List LayerGraph)) (offers : Bor Offers) (places : Bor (List ℕ))
+        (kept : MutBor (List Kept))
         → length places.now ≡ length kept.now → AreLayers nets.now places.now → MayRunAll nets.now offers.now
         → CanRunIn nets.now places.now kept.now
         → g.pre run (nets, (offers, (places, (kept, tt))))
-    pub each : (nets : Bor (List LayerGraph)) (offers : Bor Offers) (places : Bor (List ℕ)) (kept after : MutBor (List Kept))
+    pub each : (nets : Bor (List LayerGraph)) (offers : Bor Offers) (places : Bor (List ℕ))
+        (kept after : MutBor (List Kept))
         → length places.now ≡ length kept.now → AreLayers nets.now places.now → MayRunAll nets.now offers.now
         → CanRunIn nets.now places.now kept.now
         → g.post run (nets, (offers, (places, (kept, tt)))) (tt, (after, tt)) → length after.now ≡ length kept.now
-    pub runs : (nets : Bor (List LayerGraph)) (offers : Bor Offers) (places : Bor (List ℕ)) (kept after : MutBor (List Kept))
+    pub runs : (nets : Bor (List LayerGraph)) (offers : Bor Offers) (places : Bor (List ℕ))
+        (kept after : MutBor (List Kept))
         → length places.now ≡ length kept.now → AreLayers nets.now places.now → MayRunAll nets.now offers.now
         → CanRunIn nets.now places.now kept.now
         → g.post run (nets, (offers, (places, (kept, tt)))) (tt, (after, tt))

@@ -24,8 +24,8 @@ pub(crate) struct Rows<'a> {
 
 impl Rows<'_> {
     /// Runs the layers in this order, each with what is kept at its place: so many in a new thread, and the others
-    /// likewise. All threads are started from this one. Where threads start threads at the same moment, several of them
-    /// come to share a processor while another one is idle, which costs a fifth of the time.
+    /// likewise. All threads are started from this one: where threads start threads at the same moment, several of them
+    /// come to share a processor while another one is idle.
     #[cycle(rows)]
     pub fn run<R: Threads + Sync>(&self, rt: &R, places: &[usize], kept: &mut [Kept])
         requires each { length places.now ≡ length kept.old }

@@ -40,8 +40,8 @@ const SMALL: u32 = 1_600;
 const FEW_LAYERS: u32 = 4;
 
 /// On a small instance the search at the root ends where the cheapest plan costs no more than one part in so many above
-/// the value. That is 0.02 per cent. What more of the search finds then leaves find sooner.
-const DONE_ON_SMALL: i64 = 5_000;
+/// the value. That is 0.04 per cent. What more of the search finds then leaves find sooner.
+const DONE_ON_SMALL: i64 = 2_500;
 
 /// Turns end where it costs no more than one part in so many above it: there is little left to gain.
 const NEAR: i64 = 50_000;

@@ -20,7 +20,8 @@ run_from-requires g t c κs within =
     let each : length c.bring-from.new.places ≡ length c.bring-from.new.kept =
     omega (arith, brought.each_place, brought.each_kept, c.requires.each) in
     let place : c.args.k + 1 ≤ length c.bring-from.new.places = omega (arith, brought.each_place, here) in
-    (omega (arith, brought.each_place, here), (within, (c.requires.works, (each, (place, (layers, (c.requires.offers, ready)))))))
+    let rest = (each, (place, (layers, (c.requires.offers, ready)))) in
+    (omega (arith, brought.each_place, here), (within, (c.requires.works, rest)))
 
 pub returns-clause-places : goal.returns-clause-places
 returns-clause-places g t c =
@@ -40,6 +41,13 @@ returns-clause-run g t c =
     each_back (λ l kept. HasRun (net_at c.args.self.now.nets.now l) c.args.self.now.offers.now l kept)
     c.args.places.now c.bring-from.new.places c.run_from.new.kept c.exchange.new.kept c.args.k c.bring-from.result
     c.bring-from.ensures.places c.exchange.ensures.kept c.exchange.ensures.each_kept
-    (omega (arith, c.run_from.ensures.each, c.bring-from.ensures.each_kept, c.requires.each, c.requires.place, c.if-k-places.false))
+    (omega (
+      arith,
+      c.run_from.ensures.each,
+      c.bring-from.ensures.each_kept,
+      c.requires.each,
+      c.requires.place,
+      c.if-k-places.false,
+    ))
     (omega (arith, c.run_from.ensures.each, c.bring-from.ensures.each_kept, c.requires.each, c.bring-from.ensures.from))
     c.run_from.ensures.run

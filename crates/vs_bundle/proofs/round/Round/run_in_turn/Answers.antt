@@ -11,8 +11,10 @@ loop-k-preserved g c =
     let nets = c.args.self.now.nets.now in
     let places = c.args.places.now in
     let kept = c.loop-k.kept in
-    let here : c.loop-k.k < length kept = omega (arith, c.loop-k-test.true, c.loop-k.invariant.each, c.loop-k.auto.k-end) in
-    let has : HasRun (net_at nets (layer_at places c.loop-k.k)) c.args.self.now.offers.now (layer_at places c.loop-k.k) c.run_layer.new.kept =
+    let here : c.loop-k.k < length kept =
+    omega (arith, c.loop-k-test.true, c.loop-k.invariant.each, c.loop-k.auto.k-end) in
+    let has : HasRun (net_at nets (layer_at places c.loop-k.k)) c.args.self.now.offers.now (layer_at places c.loop-k.k)
+    c.run_layer.new.kept =
     record { ready = c.run_layer.ensures.ready; settled = c.run_layer.ensures.settled } in
     record {
       each = omega (arith, c.loop-k.invariant.each, length-set kept c.loop-k.k c.run_layer.new.kept);

@@ -10,5 +10,6 @@ invariant-loop-k g l = record {
   each : length l.places ≡ length l.kept;
   ready : CanRunIn l.self.nets.now l.places l.kept;
   run : (j : ℕ) (d : Kept) → j < l.k
-      → HasRun (net_at l.self.nets.now (layer_at l.places j)) l.self.offers.now (layer_at l.places j) (get_or l.kept j d);
+      → HasRun (net_at l.self.nets.now (layer_at l.places j)) l.self.offers.now (layer_at l.places j)
+      (get_or l.kept j d);
 }
