@@ -18,7 +18,7 @@ use Rattle.vs_prices.proofs.CallerLemmas.{bounds_plans}
 use Rattle.vs_peakcheck.specs.Counting.{counting, own_blocks, own_trips}
 use Rattle.vs_peakcheck.specs.CountingLaws.{CountsVehicles}
 use Rattle.vs_peakcheck.specs.Peak.{HasNoPeak, IsPeak, RunAll}
-use Rattle.vs_peakcheck.proofs.CountedLists.{counts_vehicles}
+use Rattle.vs_peakcheck.proofs.problem.CountedLists.{counts_vehicles}
 use Rattle.vs_peakcheck.specs.Claims.{AreClaimed}
 use Rattle.vs_peakcheck.specs.HoldingClaims.{HoldingClaim, HoldingClaims, ProvePeaks}
 use Rattle.vs_peakcheck.specs.declared.claimed.Claimed.{Claimed}

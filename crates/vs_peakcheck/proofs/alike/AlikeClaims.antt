@@ -16,14 +16,14 @@ use Rattle.vs_reader.specs.Names.{NameLists}
 use Rattle.vs_reader.specs.Rows.{Row}
 use Rattle.vs_rows.specs.DocumentRows.{BlockRow, EndRow, FleetRow, PriceRow}
 use Rattle.vs_peakcheck.specs.Counting.{counting, numbered, own_blocks, own_number, own_trips, permitted_trips}
-use Rattle.vs_peakcheck.proofs.CountedTrips.{count_is}
-use Rattle.vs_peakcheck.proofs.PermittedTrips.{own_once}
+use Rattle.vs_peakcheck.proofs.problem.CountedTrips.{count_is}
+use Rattle.vs_peakcheck.proofs.problem.PermittedTrips.{own_once}
 use Rattle.vs_peakcheck.specs.Alike.{AreAlike, SaysTheSame}
 use Rattle.vs_peakcheck.specs.Claims.{IsClaimed}
 use Rattle.vs_peakcheck.specs.Laws.{ClaimsOfRowsAreAlike}
 use Rattle.vs_peakcheck.specs.PeakRows.{CountRow, PartRow, PeakRow, SayAllSo, block_rows, layer_rows, layers_rows, peak_rows, price_rows, table_rows}
 use Rattle.vs_peakcheck.specs.declared.claimed.Claimed.{Claimed}
-use Rattle.vs_peakcheck.proofs.OneReading.{says_so_once}
+use Rattle.vs_peakcheck.proofs.rows.OneReading.{says_so_once}
 
 same_first : (x y : PeakRow) (xs ys : List PeakRow) → x ∷ xs ≡ y ∷ ys → (x ≡ y) × (xs ≡ ys)
 same_first x y xs ys e = (ap (λ (rows : List PeakRow). get_or rows 0 (PartRow EndRow)) e, ap (drop 1) e)

@@ -5,8 +5,8 @@ use Rattle.vs_instance.specs.declared.limits.TheConstants.{MAX_FLEET}
 use Rattle.vs_instance.specs.declared.trip.Trip.{Trip}
 use Rattle.vs_instance.specs.Ways.{trip_of}
 use Rattle.vs_peakcheck.specs.Counting.{counted_layer, counted_trip, permitted_trips}
-use Rattle.vs_peakcheck.proofs.CountedParts.{counting_parts}
-use Rattle.vs_peakcheck.proofs.Gathering.{made_of_numbers}
+use Rattle.vs_peakcheck.proofs.problem.CountedParts.{counting_parts}
+use Rattle.vs_peakcheck.proofs.problem.Gathering.{made_of_numbers}
 use Rattle.vs_peakcheck.proofs.counted.parts_of.Goals as goal
 
 pub returns : goal.returns

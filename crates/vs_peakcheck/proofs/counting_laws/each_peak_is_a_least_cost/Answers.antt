@@ -1,4 +1,4 @@
-use Rattle.vs_peakcheck.proofs.CountedLists.{counts_vehicles, least_costs}
+use Rattle.vs_peakcheck.proofs.problem.CountedLists.{counts_vehicles, least_costs}
 use Rattle.vs_peakcheck.proofs.counting_laws.each_peak_is_a_least_cost.Goals as goal
 
 pub returns : goal.returns

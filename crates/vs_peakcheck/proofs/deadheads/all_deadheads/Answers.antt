@@ -2,7 +2,7 @@ use Rattle.std.proofs.Common.{◌≡◌, ℕ, ◌+◌, ◌*◌, ◌/◌, ◌%◌
 use Rattle.std.proofs.lemmas.Bool.{cases_lt}
 use Rattle.std.proofs.lemmas.Nat.{div-add-mod', div_below, mod_below}
 use Rattle.vs_peakcheck.specs.Listed.{AreDeadheadsBelow}
-use Rattle.vs_peakcheck.proofs.ListedDeadheads.{none_listed, pair_listed}
+use Rattle.vs_peakcheck.proofs.problem.ListedDeadheads.{none_listed, pair_listed}
 use Rattle.vs_peakcheck.proofs.deadheads.all_deadheads.Goals as goal
 
 some_from_square : (n place : ℕ) → place < n * n → 0 < n

@@ -2,7 +2,7 @@ use Rattle.std.proofs.Common.{◌≡◌, ◌<◌, true, false, [], ◌∷◌, �
 use Rattle.std.specs.List.{All}
 use Rattle.std.proofs.lemmas.List.{append-nil}
 use Rattle.vs_peakcheck.specs.Counting.{numbered}
-use Rattle.vs_peakcheck.proofs.Gathering.{numbers_within, same_test, trips_below, trips_more}
+use Rattle.vs_peakcheck.proofs.problem.Gathering.{numbers_within, same_test, trips_below, trips_more}
 use Rattle.vs_peakcheck.proofs.trips.trips_of.Goals as goal
 use Rattle.vs_peakcheck.proofs.trips.trips_of.Goals.{then-has+in_ok-push, else-has}
 

@@ -1,5 +1,5 @@
 use Rattle.std.proofs.Common.{◌≡◌}
-use Rattle.vs_peakcheck.proofs.Gathering.{trips_below}
+use Rattle.vs_peakcheck.proofs.problem.Gathering.{trips_below}
 use Rattle.vs_peakcheck.proofs.trips.trips_of.Given as goal
 
 -- of the trips below this one those are there that the layer may run

@@ -4,7 +4,7 @@ use Rattle.vs_rows.proofs.CallerLemmas.{out_of_order}
 use Rattle.vs_peakcheck.specs.PeakRefusals.{peaks}
 use Rattle.vs_peakcheck.specs.PeakRows.{PartRow}
 use Rattle.vs_peakcheck.specs.Places.{AtBlocks}
-use Rattle.vs_peakcheck.proofs.CountedRows.{block_out_of_order}
+use Rattle.vs_peakcheck.proofs.problem.CountedRows.{block_out_of_order}
 use Rattle.vs_peakcheck.proofs.reading.blocks.block_at.Goals as goal
 
 pub returns-in_default-clause-refused : goal.returns-in_default-clause-refused

@@ -4,8 +4,8 @@ use Rattle.std.proofs.lemmas.List.{length-map, take_all}
 use Rattle.vs_types.specs.declared.numbers.TripNo.{TripNo}
 use Rattle.vs_plan.specs.Blocks.{pair_of}
 use Rattle.vs_peakcheck.specs.Counting.{numbered, permitted_trips}
-use Rattle.vs_peakcheck.proofs.PermittedTrips.{few_permitted}
-use Rattle.vs_peakcheck.proofs.CountedRows.{no_trips, one_more_trip, stands_nowhere}
+use Rattle.vs_peakcheck.proofs.problem.PermittedTrips.{few_permitted}
+use Rattle.vs_peakcheck.proofs.problem.CountedRows.{no_trips, one_more_trip, stands_nowhere}
 use Rattle.vs_peakcheck.proofs.reading.blocks.counted_block.Goals as goal
 
 pub loop-k-init : goal.loop-k-init

@@ -1,4 +1,4 @@
-use Rattle.vs_peakcheck.proofs.CountedRows.{TripsSoFar}
+use Rattle.vs_peakcheck.proofs.problem.CountedRows.{TripsSoFar}
 use Rattle.vs_peakcheck.proofs.reading.blocks.counted_block.Given as goal
 
 abbrev pub invariant-loop-k : goal.invariant-loop-k

@@ -4,8 +4,8 @@ use Rattle.vs_plan.specs.Blocks.{pair_of, pairs_of}
 use Rattle.vs_peakcheck.specs.Places.{AtBlocks}
 use Rattle.vs_peakcheck.specs.Reading.{IsRefusedAt}
 use Rattle.vs_rows.proofs.CallerLemmas.{err_passes}
-use Rattle.vs_peakcheck.proofs.PricedRows.{passes}
-use Rattle.vs_peakcheck.proofs.CountedRows.{one_more_block}
+use Rattle.vs_peakcheck.proofs.rows.PricedRows.{passes}
+use Rattle.vs_peakcheck.proofs.problem.CountedRows.{one_more_block}
 use Rattle.vs_peakcheck.proofs.reading.blocks.read_blocks.Goals as goal
 
 pub returns-in_err-counted-clause-refused : goal.returns-in_err-counted-clause-refused

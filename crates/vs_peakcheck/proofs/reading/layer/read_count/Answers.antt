@@ -3,8 +3,8 @@ use Rattle.vs_peakcheck.specs.PeakRows.{CountRow}
 use Rattle.vs_peakcheck.specs.Places.{AtLayer}
 use Rattle.vs_peakcheck.specs.Reading.{IsRefusedAt, peak_said}
 use Rattle.vs_rows.proofs.CallerLemmas.{err_passes, out_of_order}
-use Rattle.vs_peakcheck.proofs.OtherKinds.{no_count_row}
-use Rattle.vs_peakcheck.proofs.ReadLayers.{count_of_another, count_read}
+use Rattle.vs_peakcheck.proofs.rows.OtherKinds.{no_count_row}
+use Rattle.vs_peakcheck.proofs.rows.ReadLayers.{count_of_another, count_read}
 use Rattle.vs_peakcheck.proofs.reading.layer.read_count.Goals as goal
 
 pub returns-in_err-said-clause-refused : goal.returns-in_err-said-clause-refused

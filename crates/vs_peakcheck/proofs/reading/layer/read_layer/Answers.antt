@@ -7,8 +7,8 @@ use Rattle.vs_peakcheck.specs.declared.claimed.Claimed.{Claimed}
 use Rattle.vs_peakcheck.specs.Places.{AtLayer}
 use Rattle.vs_peakcheck.specs.Reading.{IsRefusedAt, ReadsLayer}
 use Rattle.vs_rows.proofs.CallerLemmas.{as_word, err_passes}
-use Rattle.vs_peakcheck.proofs.PricedRows.{fleet_reads, passes}
-use Rattle.vs_peakcheck.proofs.ReadLayers.{layer_read}
+use Rattle.vs_peakcheck.proofs.rows.PricedRows.{fleet_reads, passes}
+use Rattle.vs_peakcheck.proofs.rows.ReadLayers.{layer_read}
 use Rattle.vs_peakcheck.proofs.reading.layer.read_layer.Goals as goal
 
 -- a test for none

@@ -5,7 +5,7 @@ use Rattle.vs_peakcheck.specs.Counting.{numbered, permitted_trips}
 use Rattle.vs_peakcheck.specs.Places.{in_prices}
 use Rattle.vs_peakcheck.specs.Reading.{IsRefusedAt}
 use Rattle.vs_rows.proofs.CallerLemmas.{err_passes, as_word}
-use Rattle.vs_peakcheck.proofs.PricedRows.{all_prices, one_more_price, refused_at_trip}
+use Rattle.vs_peakcheck.proofs.rows.PricedRows.{all_prices, one_more_price, refused_at_trip}
 use Rattle.vs_peakcheck.proofs.reading.prices.read_prices.Goals as goal
 
 -- the number of the trip at hand

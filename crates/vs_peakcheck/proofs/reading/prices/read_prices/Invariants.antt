@@ -1,4 +1,4 @@
-use Rattle.vs_peakcheck.proofs.PricedRows.{PricesSoFar}
+use Rattle.vs_peakcheck.proofs.rows.PricedRows.{PricesSoFar}
 use Rattle.vs_peakcheck.proofs.reading.prices.read_prices.Given as goal
 
 abbrev pub invariant-loop-k : goal.invariant-loop-k

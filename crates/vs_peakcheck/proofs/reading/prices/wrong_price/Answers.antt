@@ -1,6 +1,6 @@
 use Rattle.vs_peakcheck.specs.Places.{AtBlocks, AtPrices}
-use Rattle.vs_peakcheck.proofs.OtherKinds.{no_fleet, no_price}
-use Rattle.vs_peakcheck.proofs.PricedRows.{fleet_range, price_range}
+use Rattle.vs_peakcheck.proofs.rows.OtherKinds.{no_fleet, no_price}
+use Rattle.vs_peakcheck.proofs.rows.PricedRows.{fleet_range, price_range}
 use Rattle.vs_peakcheck.proofs.reading.prices.wrong_price.Goals as goal
 
 pub returns-in-Another : goal.returns-in-Another

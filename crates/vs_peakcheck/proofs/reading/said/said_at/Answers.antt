@@ -1,7 +1,7 @@
 use Rattle.std.proofs.Common.{◌<◌, length, refl, arith}
 use Rattle.vs_rows.proofs.CallerLemmas.{bad_row}
 use Rattle.vs_peakcheck.specs.PeakRefusals.{peaks}
-use Rattle.vs_peakcheck.proofs.PriceKinds.{no_row}
+use Rattle.vs_peakcheck.proofs.rows.PriceKinds.{no_row}
 use Rattle.vs_peakcheck.proofs.reading.said.said_at.Goals as goal
 
 pub returns-then-is_end-clause-says : goal.returns-then-is_end-clause-says

@@ -2,7 +2,7 @@ use Rattle.std.proofs.Common.{sym, ap, ◌∙◌}
 use Rattle.std.proofs.lemmas.Bool.{false≢true}
 use Rattle.std.proofs.lemmas.Slice.Eq.{bytes_eq-Decides}
 use Rattle.vs_reader.specs.Rows.{Row, field_of, row_of}
-use Rattle.vs_peakcheck.proofs.RowParts.{three_fields}
+use Rattle.vs_peakcheck.proofs.rows.RowParts.{three_fields}
 use Rattle.vs_peakcheck.proofs.reading.text.is_head.Goals as goal
 use Rattle.vs_peakcheck.proofs.reading.text.is_head.Goals.{then-is_of_kind, else-is_of_kind}
 

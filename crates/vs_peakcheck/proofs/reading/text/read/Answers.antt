@@ -1,5 +1,5 @@
 use Rattle.std.proofs.lemmas.Result.{IfErr-weaker}
-use Rattle.vs_peakcheck.proofs.RefusedOnce.{refusal_leaves_none}
+use Rattle.vs_peakcheck.proofs.rows.RefusedOnce.{refusal_leaves_none}
 use Rattle.vs_peakcheck.proofs.reading.text.read.Goals as goal
 
 pub returns-clause-none : goal.returns-clause-none

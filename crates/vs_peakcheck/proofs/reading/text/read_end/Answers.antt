@@ -3,8 +3,8 @@ use Rattle.vs_peakcheck.specs.PeakRefusals.{peaks}
 use Rattle.vs_peakcheck.specs.Places.{AtLayer}
 use Rattle.vs_peakcheck.specs.Reading.{IsRefusedAt, peak_said}
 use Rattle.vs_rows.proofs.CallerLemmas.{err_passes, out_of_order}
-use Rattle.vs_peakcheck.proofs.OtherKinds.{no_end}
-use Rattle.vs_peakcheck.proofs.ReadLayers.{rows_behind_end}
+use Rattle.vs_peakcheck.proofs.rows.OtherKinds.{no_end}
+use Rattle.vs_peakcheck.proofs.rows.ReadLayers.{rows_behind_end}
 use Rattle.vs_peakcheck.proofs.reading.text.read_end.Goals as goal
 
 pub returns-in_err-said-clause-refused : goal.returns-in_err-said-clause-refused

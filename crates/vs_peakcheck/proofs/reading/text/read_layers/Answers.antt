@@ -1,8 +1,8 @@
 use Rattle.vs_peakcheck.specs.Places.{AtLayer}
 use Rattle.vs_peakcheck.specs.Reading.{IsRefusedAt}
 use Rattle.vs_rows.proofs.CallerLemmas.{err_passes}
-use Rattle.vs_peakcheck.proofs.PricedRows.{passes}
-use Rattle.vs_peakcheck.proofs.ReadLayers.{one_more_layer}
+use Rattle.vs_peakcheck.proofs.rows.PricedRows.{passes}
+use Rattle.vs_peakcheck.proofs.rows.ReadLayers.{one_more_layer}
 use Rattle.vs_peakcheck.proofs.reading.text.read_layers.Goals as goal
 
 pub returns-in_err-of_layer-clause-refused : goal.returns-in_err-of_layer-clause-refused

@@ -1,8 +1,8 @@
 use Rattle.std.proofs.Common.{◌<◌, arith, length}
 use Rattle.vs_peakcheck.specs.Reading.{IsRefusalOf}
 use Rattle.vs_rows.proofs.CallerLemmas.{err_passes}
-use Rattle.vs_peakcheck.proofs.PricedRows.{passes}
-use Rattle.vs_peakcheck.proofs.ReadLayers.{refused_behind_head}
+use Rattle.vs_peakcheck.proofs.rows.PricedRows.{passes}
+use Rattle.vs_peakcheck.proofs.rows.ReadLayers.{refused_behind_head}
 use Rattle.vs_peakcheck.proofs.reading.text.read_rows.Goals as goal
 
 pub returns-in_err-claimed-clause-refused : goal.returns-in_err-claimed-clause-refused

@@ -20,8 +20,8 @@ use Rattle.vs_reader.specs.Names.{name_of}
 use Rattle.vs_reader.specs.declared.input.Input.{Input}
 use Rattle.vs_rows.specs.DocumentRows.{BlockRow, Says}
 use Rattle.vs_peakcheck.specs.Counting.{counting, numbered, own_blocks, own_number, own_trips, permitted_trips}
-use Rattle.vs_peakcheck.proofs.PermittedTrips.{all_permitted, has_number}
-use Rattle.vs_peakcheck.proofs.CountedTrips.{count_is}
+use Rattle.vs_peakcheck.proofs.problem.PermittedTrips.{all_permitted, has_number}
+use Rattle.vs_peakcheck.proofs.problem.CountedTrips.{count_is}
 use Rattle.vs_instance.specs.declared.limits.TheConstants.{MAX_FLEET}
 use Rattle.vs_peakcheck.specs.PeakRows.{PartRow, PeakRow, block_rows}
 use Rattle.vs_peakcheck.specs.Places.{AtBlocks, MayRun, behind, may_run}

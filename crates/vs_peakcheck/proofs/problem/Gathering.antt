@@ -10,7 +10,7 @@ use Rattle.vs_instance.specs.declared.trip.Trip.{Trip}
 use Rattle.vs_instance.specs.Problem.{Problem}
 use Rattle.vs_instance.specs.Ways.{trip_of}
 use Rattle.vs_peakcheck.specs.Counting.{numbered, permitted_trips}
-use Rattle.vs_peakcheck.proofs.PermittedTrips.{all_within, may}
+use Rattle.vs_peakcheck.proofs.problem.PermittedTrips.{all_within, may}
 
 -- one number more stands at the end
 range_more : (a n : ℕ) → range_with_len a (n + 1) ≡ range_with_len a n ++ (a + n) ∷ []

@@ -15,8 +15,8 @@ use Rattle.vs_instance.specs.Instance.{IsDeadhead, IsInstance, IsLayer, IsTrip}
 use Rattle.vs_instance.specs.Ways.{layer_of, trip_of}
 use Rattle.vs_instance.proofs.CallerLemmas.{layer_of-IsLayer, trip_of-IsTrip}
 use Rattle.vs_peakcheck.specs.Counting.{counted_layer, counted_trip, counting, permitted_trips}
-use Rattle.vs_peakcheck.proofs.PermittedTrips.{all_within, few_permitted}
-use Rattle.vs_peakcheck.proofs.CountedTrips.{count_is}
+use Rattle.vs_peakcheck.proofs.problem.PermittedTrips.{all_within, few_permitted}
+use Rattle.vs_peakcheck.proofs.problem.CountedTrips.{count_is}
 
 -- the set of the only layer has no other
 only_bit : (l : ℕ) → bit_at 1 l ≡ 1 → l < 1

@@ -18,10 +18,10 @@ use Rattle.vs_plan.proofs.CallerLemmas.{plan_trips}
 use Rattle.vs_peakcheck.specs.Counting.{counting, counting_with, numbered, own_blocks, own_number, own_trips, permitted_trips}
 use Rattle.vs_peakcheck.specs.CountingLaws.{CountsVehicles, IsALeastCost, IsLeastCost}
 use Rattle.vs_peakcheck.specs.Peak.{IsPeak, RunAll}
-use Rattle.vs_peakcheck.proofs.PermittedTrips.{all_permitted, all_within, few_permitted, has_number, place_in, placed}
-use Rattle.vs_peakcheck.proofs.CountedTrips.{count_is}
-use Rattle.vs_peakcheck.proofs.CountedBlocks.{AreCounted, block_own, block_there, costs_one, only, times_own}
-use Rattle.vs_peakcheck.proofs.CountedInstance.{counting-IsInstance}
+use Rattle.vs_peakcheck.proofs.problem.PermittedTrips.{all_permitted, all_within, few_permitted, has_number, place_in, placed}
+use Rattle.vs_peakcheck.proofs.problem.CountedTrips.{count_is}
+use Rattle.vs_peakcheck.proofs.problem.CountedBlocks.{AreCounted, block_own, block_there, costs_one, only, times_own}
+use Rattle.vs_peakcheck.proofs.problem.CountedInstance.{counting-IsInstance}
 
 -- a layer below 1 is the only one
 only_layer : (m : LayerNo) → m.0 < 1 → m ≡ only

@@ -18,7 +18,7 @@ use Rattle.vs_rows.specs.DocumentRows.{EndRow, FleetRow}
 use Rattle.vs_rows.specs.RowForms.{IsInput}
 use Rattle.vs_rows.specs.TableReading.{ReadsFleet}
 use Rattle.vs_peakcheck.specs.Counting.{counting, own_blocks, permitted_trips}
-use Rattle.vs_peakcheck.proofs.CountedTrips.{count_is}
+use Rattle.vs_peakcheck.proofs.problem.CountedTrips.{count_is}
 use Rattle.vs_peakcheck.specs.declared.claimed.Claimed.{Claimed}
 use Rattle.vs_peakcheck.specs.declared.reading.prices.Prices.{Prices}
 use Rattle.vs_peakcheck.specs.declared.refused.PeakError.{PeakError}
@@ -29,7 +29,7 @@ use Rattle.vs_peakcheck.specs.PeakRefusals.{AreRefused, peaks}
 use Rattle.vs_peakcheck.specs.PeakRows.{CountRow, IsCount, PartRow, PeakRow, SayAllSo, SaysPeak, block_rows, head_row, layer_rows, layers_rows, price_rows}
 use Rattle.vs_peakcheck.specs.Places.{AtBlocks, AtEnd, AtLayer, behind, in_prices}
 use Rattle.vs_peakcheck.specs.Reading.{IsLast, IsRefusalOf, IsRefusedAt, ReadsBlocks, ReadsCount, ReadsLayer, ReadsLayers, ReadsPrices}
-use Rattle.vs_peakcheck.proofs.PricedRows.{fleet_reads}
+use Rattle.vs_peakcheck.proofs.rows.PricedRows.{fleet_reads}
 use Rattle.vs_rows.specs.RowReading.{ReadsTo}
 use Rattle.vs_rows.proofs.CallerLemmas.{leads_one, read_on, reads_none, reads_one, refused_after_end}
 

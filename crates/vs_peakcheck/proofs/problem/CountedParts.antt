@@ -14,8 +14,8 @@ use Rattle.vs_instance.specs.Ways.{layer_of, trip_of}
 use Rattle.vs_peakcheck.specs.Counting.{counted_layer, counted_trip, counting, permitted_trips}
 use Rattle.vs_peakcheck.specs.Listed.{AreAllDeadheads, IsGiven}
 use Rattle.vs_peakcheck.specs.Parts.{CountingParts}
-use Rattle.vs_peakcheck.proofs.CountedInstance.{counting-IsInstance}
-use Rattle.vs_peakcheck.proofs.ListedDeadheads.{same_deadheads}
+use Rattle.vs_peakcheck.proofs.problem.CountedInstance.{counting-IsInstance}
+use Rattle.vs_peakcheck.proofs.problem.ListedDeadheads.{same_deadheads}
 
 module _ (p : Problem) (l : ℕ) (instance : IsInstance p) (layer : l < length p.layers) (parts : Parts)
     (stops : parts.stops ≡ p.stops) (listed : AreAllDeadheads p parts.deadheads.items)

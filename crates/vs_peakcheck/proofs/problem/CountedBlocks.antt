@@ -12,8 +12,8 @@ use Rattle.vs_instance.specs.Ways.{Connects, HasPullIn, HasPullOut, Permitted}
 use Rattle.vs_instance.specs.Blocks.{IsBlock, block_cost, first_of, last_of}
 use Rattle.vs_instance.specs.Plan.{LayerBlock, all_trips, times_run}
 use Rattle.vs_peakcheck.specs.Counting.{counting_with, numbered, own_blocks, own_number, own_trips, permitted_trips}
-use Rattle.vs_peakcheck.proofs.PermittedTrips.{all_permitted, all_within, own_once}
-use Rattle.vs_peakcheck.proofs.CountedTrips.{connects_own, connects_there, count_is, in_own, in_there, out_own, out_there, permitted_there}
+use Rattle.vs_peakcheck.proofs.problem.PermittedTrips.{all_permitted, all_within, own_once}
+use Rattle.vs_peakcheck.proofs.problem.CountedTrips.{connects_own, connects_there, count_is, in_own, in_there, out_own, out_there, permitted_there}
 
 -- the only layer of the counting problem
 abbrev pub only : LayerNo

@@ -13,7 +13,7 @@ use Rattle.vs_peakcheck.specs.Places.{AtLayer}
 use Rattle.vs_peakcheck.specs.declared.claimed.Claimed.{Claimed}
 use Rattle.vs_peakcheck.specs.declared.refused.PeakError.{PeakError}
 use Rattle.vs_peakcheck.specs.declared.refused.PeakError.TheVariants as error
-use Rattle.vs_peakcheck.proofs.OneReading.{leads_text, says_so_once}
+use Rattle.vs_peakcheck.proofs.rows.OneReading.{leads_text, says_so_once}
 
 module _ (p : Problem) (names : NameLists) (layers : AreNames names.layers) (trips : AreNames names.trips) where
   clear : AreClear peaks p names

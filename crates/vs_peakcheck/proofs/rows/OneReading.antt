@@ -20,15 +20,15 @@ use Rattle.vs_rows.specs.DocumentRows.{BlockRow, ClaimRow, CostRow, BoundRow, No
 use Rattle.vs_rows.specs.declared.limits.TheConstants.{MAX_PRINTED_PRICE}
 use Rattle.vs_rows.proofs.CallerLemmas.{LeadsTo, first_word, leads_on, says_once, word_of}
 use Rattle.vs_peakcheck.specs.Counting.{counting, own_blocks, own_trips, permitted_trips}
-use Rattle.vs_peakcheck.proofs.CountedTrips.{count_is}
+use Rattle.vs_peakcheck.proofs.problem.CountedTrips.{count_is}
 use Rattle.vs_peakcheck.specs.declared.claimed.Claimed.{Claimed}
 use Rattle.vs_peakcheck.specs.Claims.{AreClaimed, IsClaimed}
 use Rattle.vs_peakcheck.specs.PeakRefusals.{peaks}
 use Rattle.vs_peakcheck.specs.PeakRows.{CountRow, IsCount, IsCountRow, PartRow, PeakRow, SaysSo, block_rows, count_field, count_row, layer_rows, layers_rows, peak_rows, price_rows}
 use Rattle.vs_peakcheck.specs.Places.{AtBlocks, AtEnd, AtLayer, MayRun, in_prices}
 use Rattle.vs_peakcheck.specs.Reading.{IsCountedBlock}
-use Rattle.vs_peakcheck.proofs.CountedRows.{may_run_counted}
-use Rattle.vs_peakcheck.proofs.PricedRows.{fleet_order, price_order}
+use Rattle.vs_peakcheck.proofs.problem.CountedRows.{may_run_counted}
+use Rattle.vs_peakcheck.proofs.rows.PricedRows.{fleet_order, price_order}
 
 module _ (names : NameLists) (row : Row) (layers : AreNames names.layers) (trips : AreNames names.trips) where
   -- two layers of one name are one

@@ -1,0 +1,9 @@
+pub mod CountedBlocks
+pub mod CountedInstance
+pub mod CountedLists
+pub mod CountedParts
+pub mod CountedRows
+pub mod CountedTrips
+pub mod Gathering
+pub mod PermittedTrips
+pub mod ListedDeadheads
