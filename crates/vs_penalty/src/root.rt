@@ -57,8 +57,8 @@ const LAST_SLOW: Stage = Stage {
 };
 
 const LAST: Stage = Stage {
-    rounds: 200,
-    effort: 20_000_000,
+    rounds: 240,
+    effort: 21_000_000,
 };
 
 /// On a small instance climbs on leaves gain what more rounds would.
