@@ -19,9 +19,10 @@ run_from-requires g t c κs within =
     c.bring-from.result brought.places brought.each_place here brought.from c.requires.layers in
     let each : length c.bring-from.new.places ≡ length c.bring-from.new.kept =
     omega (arith, brought.each_place, brought.each_kept, c.requires.each) in
-    let place : c.args.k + 1 ≤ length c.bring-from.new.places = omega (arith, brought.each_place, here) in
-    let rest = (each, (place, (layers, (c.requires.offers, ready)))) in
-    (omega (arith, brought.each_place, here), (within, (c.requires.works, rest)))
+    let place : c.args.k + 1 ≤ length c.bring-from.new.places = omega (arith, brought.each_place, here) in (
+      omega (arith, brought.each_place, here),
+      (within, (c.requires.works, (each, (place, (layers, (c.requires.offers, ready)))))),
+    )
 
 pub returns-clause-places : goal.returns-clause-places
 returns-clause-places g t c =
