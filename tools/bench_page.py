@@ -6,9 +6,9 @@
 
 The file is one that bench/run.py writes. The page names it in a line `<!-- bench: file NAME -->`; while the name is
 `none`, nothing is compared. What is written stands between the lines `<!-- bench: NAME -->` and `<!-- bench: end -->`,
-where NAME is a key of SECTIONS. Times are medians, with the least and the greatest behind them. The plots are
-docs/pictures/bench_gap.svg (gap over time, beside CBC), bench_trips.svg (time over trips) and bench_workers.svg
-(speed-up over workers).
+where NAME is a key of SECTIONS. Times are medians, with the least and the greatest behind them. The table `leaves` is
+of bench/results/leaves_by_class.csv, which bench/classes.sh writes. The plots are docs/pictures/bench_gap.svg (gap over
+time, beside CBC), bench_trips.svg (time over trips) and bench_workers.svg (speed-up over workers).
 """
 
 from __future__ import annotations
@@ -24,6 +24,7 @@ from pathlib import Path
 TOP = Path(__file__).resolve().parent.parent
 PAGE = TOP / "docs" / "benchmarks.md"
 PICTURES = TOP / "docs" / "pictures"
+CLASSES = TOP / "bench" / "results" / "leaves_by_class.csv"
 NAMED = re.compile(r"<!-- bench: file (\S+) -->")
 PART = re.compile(r"(<!-- bench: (?!file|end)(\w+) -->\n)(.*?)(<!-- bench: end -->)", re.S)
 
@@ -211,6 +212,72 @@ def memory(found: Results) -> str:
     return table(["Timetable", "MB, one worker", "MB, four workers", "Bytes of the document"], rows)
 
 
+# The columns of the table of leaves, and what the classes of bench/classes.sh are called there.
+LEAVES_HEADS = [
+    *("Timetable", "No kept cuts: gap, %", "leaves", "CPU s", "but the root's"),
+    *("This search: gap, %", "leaves", "CPU s", "but the root's", "ms a leaf", "CBC: gap, %", "CPU s"),
+]
+CLASS_NAMES = {"d4": "200 trips, 4 depots", "d8": "200 trips, 8 depots", "t4": "300 trips, 4 depots", "c4": "city 400"}
+
+
+def leaves(_: Results) -> str:
+    """Returns a row for each timetable that bench/classes.sh gave to two programs and to CBC, and one for each class."""
+    by_class: dict[str, dict[str, dict[str, Row]]] = {}
+    with open(CLASSES, encoding="utf-8", newline="") as file:
+        for row in csv.DictReader(file):
+            by_class.setdefault(row["class"], {}).setdefault(row["timetable"], {})[row["by"]] = row
+    rows = []
+    for name, timetables in by_class.items():
+        title = CLASS_NAMES.get(name, "")
+        for timetable, by in timetables.items():
+            cells = [*searched(by, "1"), *searched(by, "2"), for_a_leaf(by, "2"), *apart_and_seconds(by["cbc"])]
+            rows.append([named(title, timetable), *cells])
+        if len(timetables) > 1:
+            rows.append([f"**{title}, together**", *together(list(timetables.values()))])
+    return table(LEAVES_HEADS, rows)
+
+
+def named(title: str, timetable: str) -> str:
+    """Returns what a timetable is called on the page."""
+    return f"{title}, draw {timetable.rsplit('_', 1)[1]}" if title else timetable.replace("_", " ")
+
+
+def searched(by: dict[str, Row], program: str) -> list[str]:
+    """Returns gap, leaves, and seconds of a search, and those of its further nodes."""
+    run = by[f"program {program}"]
+    apart, seconds = apart_and_seconds(run)
+    return [apart, run["leaves"], seconds, short(further(by, program))]
+
+
+def further(by: dict[str, Row], program: str) -> float:
+    """Returns the seconds of a search that aren't the root's."""
+    run, root = by[f"program {program}"], by[f"program {program} --nodes 1"]
+    return max(float(run["cpu seconds"]) - float(root["cpu seconds"]), 0.0)
+
+
+def for_a_leaf(by: dict[str, Row], program: str) -> str:
+    """Returns how many milliseconds a leaf took, where the root was split."""
+    count = int(by[f"program {program}"]["leaves"])
+    return short(1000 * further(by, program) / count) if count > 1 else ""
+
+
+def apart_and_seconds(run: Row) -> list[str]:
+    """Returns the gap of a run in per cent, and its seconds."""
+    apart = gap(run)
+    shown = "" if apart is None else "0" if apart == 0 else f"{apart:.4f}"
+    return [shown, short(float(run["cpu seconds"]))]
+
+
+def together(timetables: list[dict[str, Row]]) -> list[str]:
+    """Returns how many of some timetables are closed, and the seconds of all, by each program and by CBC."""
+    cells = []
+    for by, spare in (("program 1", 1), ("program 2", 2), ("cbc", 0)):
+        closed = sum(runs[by]["claim"] == "optimal" for runs in timetables)
+        seconds = short(sum(float(runs[by]["cpu seconds"]) for runs in timetables))
+        cells += [f"{closed} closed", *([""] if spare else []), seconds, *([""] * spare)]
+    return cells
+
+
 def plots(_: Results) -> str:
     """Returns the links to the plots."""
     return "".join(f"![{plot[0]}](pictures/{name})\n\n" for name, plot in PLOTS.items())
@@ -227,6 +294,7 @@ SECTIONS = {
     "carried": carried,
     "infeasible": lambda found: commands(found, "infeasible"),
     "memory": memory,
+    "leaves": leaves,
     "plots": plots,
 }
 
