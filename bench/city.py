@@ -18,6 +18,8 @@ import math
 import random
 import sys
 
+# A text of version 1 has so many trips, and vehicles in a layer, at most.
+USUAL = 2_000
 CITY = 12_000
 METRES_A_MINUTE = 400
 DEPOTS = [(2_000, 3_000), (10_000, 2_500), (6_500, 10_500), (1_500, 8_500)]
@@ -102,7 +104,8 @@ def main(most, seed=1, type_count=3, depot_count=3, interval=1):
         fleet[types[whole(0, len(types) - 1)]] += alone(runs)
     stops = {f"D{k}": place for k, place in enumerate(depots, 1)} | {f"H{k}": place for k, place in enumerate(HUBS, 1)}
     stops |= {f"E{k}": end for k, (_, end, _, _) in enumerate(lines, 1)}
-    print("instance,1", *(f"stop,{name}" for name in stops), sep="\n")
+    version = 3 if max(sum(len(runs) for *_, runs in lines), *fleet.values()) > USUAL else 1
+    print(f"instance,{version}", *(f"stop,{name}" for name in stops), sep="\n")
     for name, place in stops.items():
         for other, end in stops.items():
             if name != other:

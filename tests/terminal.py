@@ -51,7 +51,7 @@ RUNS = [
         "Stop;Name\n",
         3,
         "refused,1,1,NoHeader\n",
-        "record 1: it isn't instance,1 or instance,2: is this a spreadsheet's export?\n",
+        "record 1: it isn't instance,1, instance,2 or instance,3: is this a spreadsheet's export?\n",
     ),
     (
         ["check"],

@@ -26,11 +26,16 @@ from dataclasses import dataclass, field
 
 # Limits, as docs/formats/input.md gives them.
 MOST_BYTES = 536_870_912
-MOST_STOPS, MOST_LAYERS, MOST_TRIPS = 500, 16, 2_000
+MOST_STOPS, MOST_LAYERS = 500, 16
+# By the version: how many trips there may be, and how many vehicles in a layer; and how many fields a layer has.
+MOST_TRIPS = {1: 2_000, 2: 2_000, 3: 10_000}
+LAYER_FIELDS = {1: (7,), 2: (8,), 3: (7, 8)}
 MOST_MINUTES, MOST_METRES = 1_440, 1_000_000
 MOST_COST, MOST_BOUND, MOST_NODES = 10**17, 10**20, 10**18
 MOST_TABLE_NUMBER, MOST_PRICE, PRICE_DIGITS = 10**9, 10**18, 19
-MOST_FLEET, MOST_FIXED, MOST_PER_MINUTE, MOST_PER_METRE, MOST_STAY = 2_000, 10**9, 10**6, 10**4, 600
+MOST_FIXED, MOST_PER_MINUTE, MOST_PER_METRE, MOST_STAY = 10**9, 10**6, 10**4, 600
+# The trips times the dearest piece that the rates of a layer allow: a vehicle, two days and the longest way.
+TWO_DAYS, MOST_FOR_PIECES = 2_880, 4 * 10**13
 # Prices are in 1/1000 of a cost unit.
 PARTS = 1_000
 
@@ -180,7 +185,7 @@ class InstanceReader:
         takers[fields[0]](fields)
 
     def take_header(self, fields):
-        if fields not in (["instance", "1"], ["instance", "2"]):
+        if fields not in (["instance", "1"], ["instance", "2"], ["instance", "3"]):
             raise Refused(1, 1, "NoHeader")
         self.version = int(fields[1])
 
@@ -197,12 +202,12 @@ class InstanceReader:
         self.deadheads.append((self.row, origin, target, way))
 
     def take_layer(self, fields):
-        self.want_fields(len(fields) == (7 if self.version == 1 else 8))
+        self.want_fields(len(fields) in LAYER_FIELDS[self.version])
         name = self.new_name("layer", fields[1])
         depot = self.known("stop", fields[2])
         numbers = [self.number(text) for text in fields[3:]]
         self.declare("layer", name, MOST_LAYERS)
-        stay = numbers[4] if self.version == 2 else None
+        stay = numbers[4] if len(numbers) == 5 else None
         self.layers.append((self.row, Layer(name, depot, *numbers[:4], stay)))
 
     def take_trip(self, fields):
@@ -217,7 +222,7 @@ class InstanceReader:
             if layer in layers:
                 raise Refused(self.row, 5, "NameTwice")
             layers.add(layer)
-        self.declare("trip", name, MOST_TRIPS)
+        self.declare("trip", name, MOST_TRIPS[self.version])
         self.trips.append((self.row, Trip(name, origin, start, target, end, metres, frozenset(layers))))
 
     def want_fields(self, right):
@@ -270,12 +275,15 @@ class InstanceReader:
 
     def want_layers(self):
         for row, layer in self.layers:
-            want_range(row, "fleet", 0, layer.fleet, MOST_FLEET)
+            want_range(row, "fleet", 0, layer.fleet, MOST_TRIPS[self.version])
             want_range(row, "fixed", 0, layer.fixed, MOST_FIXED)
             want_range(row, "per_minute", 0, layer.per_minute, MOST_PER_MINUTE)
             want_range(row, "per_metre", 0, layer.per_metre, MOST_PER_METRE)
             if layer.stay is not None:
                 want_range(row, "stay", 1, layer.stay, MOST_STAY)
+            dearest = layer.fixed + layer.per_minute * TWO_DAYS + layer.per_metre * MOST_METRES
+            if len(self.trips) * dearest > MOST_FOR_PIECES:
+                raise Refused(row, 10, "TooDear")
 
     def want_deadheads(self):
         given = set()

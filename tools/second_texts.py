@@ -264,12 +264,17 @@ def limits():
         prices = "".join(f"fleet,l{no},0\n" for no in range(layers))
         yield f"{layers} layers", rows + head + prices + tail
         yield f"{layers} layers, one twice", rows.replace(f"l{layers - 1}", "l0") + head + prices + tail
-    for trips in (2000, 2001):
-        rows = "instance,1\nstop,D\n" + "".join(f"layer,l{no},D,1,1,1,1\n" for no in range(16))
-        rows += "".join(f"trip,t{no},D,{clock(no)},D,{clock(no + 1)},0,l{no % 16}\n" for no in range(trips))
+    for version, trips in ((1, 2000), (1, 2001), (3, 2001), (3, 10000), (3, 10001)):
+        rows = f"instance,{version}\nstop,D\n" + "".join(f"layer,l{no},D,1,1,1,1\n" for no in range(16))
+        rows += "".join(f"trip,t{no},D,{clock(no % 2879)},D,{clock(no % 2879 + 1)},0,l{no % 16}\n" for no in range(trips))
         whose = [[f"price,l{layer},t{no},0,0\n" for no in range(layer, trips, 16)] for layer in range(16)]
         prices = "".join(f"fleet,l{layer},0\n" + "".join(prices) for layer, prices in enumerate(whose))
-        yield f"{trips} trips", rows + head + prices + tail
+        yield f"{trips} trips of version {version}", rows + head + prices + tail
+    for fixed in (0, 1):
+        rows = f"instance,3\nstop,D\nlayer,l,D,1,{fixed},0,10000\n"
+        rows += "".join(f"trip,t{no},D,0:00,D,0:01,0,l\n" for no in range(4000))
+        prices = "fleet,l,0\n" + "".join(f"price,l,t{no},0,0\n" for no in range(4000))
+        yield f"4000 trips whose dearest piece costs {10**10 + fixed}", rows + head + prices + tail
 
 
 # Drawn timetables and documents. They take from the second checker what costs what, so that most nearly hold.

@@ -24,6 +24,8 @@ TABLE = TOP / "packaging" / "commands.txt"
 # The columns of what `--help` prints, and where its texts begin.
 WIDTH, INDENT = 115, 12
 OPTION = re.compile(r"\[(--\w+) [A-Z]\]")
+# How many trips the commands take that have another limit than 2,000.
+MOST_TRIPS = {"make": 10000}
 # What stands for a file among the arguments of a command.
 FILE = re.compile(r"\b[A-Z]{2,}\b")
 
@@ -330,7 +332,7 @@ def zsh(table: Table) -> str:
         for place, file in enumerate(FILE.findall(entry.value), 1):
             arguments.append(f"'{place}:{file.lower()}:_files'")
         if entry.value.endswith(" N"):
-            arguments = ["'1:trips, 0 to 2000: '"]
+            arguments = [f"'1:trips, 0 to {MOST_TRIPS.get(entry.name, 2000)}: '"]
         cases += f"    {entry.name}) _arguments {' '.join(arguments)} ;;\n" if arguments else ""
     itself = " ".join([*(f"'(- *){word}'" for word in table.about_itself()), *(option.name for option in table.own)])
     return f'''#compdef {table.name}

@@ -74,6 +74,14 @@ def unjudged(name: str, timetable: str, plan: str, problem: str, line: int, word
     return Case(name, timetable, plan, None, ("plan", line), words, problem)
 
 
+# 4,000 trips in a layer whose dearest piece costs 10^10, the most for so many, and a document with prices of 0.
+DEAR = "instance,3\nstop,D\nlayer,L1,D,1,0,0,10000\n" + "".join(
+    f"trip,t{no},D,8:00,D,8:01,0,L1\n" for no in range(4000)
+)
+DEAR_PLAN = "result,1,open\ncost,none\nbound,0\nnodes,0\ntable,1,cost\nfleet,L1,0\n" + "".join(
+    f"price,L1,t{no},0,0\n" for no in range(4000)
+) + "leaf,1\nend\n"
+
 CASES = [
     Case("two trips", TIMETABLE, PLAN, "yes,optimal,1080,1080", None, "Together they cost 1,080."),
     Case("no line end between", TIMETABLE[:-1], PLAN, "yes,optimal,1080,1080"),
@@ -163,6 +171,16 @@ CASES = [
     ),
     Case(
         "two plans", TIMETABLE + PLAN, PLAN, "refused,25,25,RowsAfterEnd", ("plan", 1), "behind the row end",
+    ),
+    Case(
+        "a version that there is not", TIMETABLE.replace("instance,1", "instance,4"), PLAN, "refused,1,1,NoHeader",
+        ("timetable", 1), "instance,1, instance,2 or instance,3",
+    ),
+    Case("version 3", TIMETABLE.replace("instance,1", "instance,3"), PLAN, "yes,optimal,1080,1080"),
+    Case("the dearest pieces", DEAR, DEAR_PLAN, "yes,open,none,0"),
+    Case(
+        "pieces dearer by one", DEAR.replace("D,1,0,0", "D,1,1,0"), DEAR_PLAN, "refused,3,10,TooDear", ("timetable", 3),
+        "above 40,000,000,000,000",
     ),
     Case("peaks", TIMETABLE, PEAKS, "yes", None, "Layer L1: 1 vehicle can run its 2 trips, and fewer cannot."),
     Case(

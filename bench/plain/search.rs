@@ -15,7 +15,7 @@ mod vs_turn {
 use std::collections::HashMap;
 use std::time::Instant;
 use std::{env, fs};
-use vs_instance::{Deadhead, Instance, Layer, Parts, Trip};
+use vs_instance::{Deadhead, Instance, Layer, MAX_TRIPS, Parts, Trip, USUAL_TRIPS};
 use vs_tree::{Report, Take, Tree};
 use vs_types::{LayerNo, LayerSet, StopNo};
 
@@ -36,7 +36,7 @@ fn number(text: &str) -> u64 {
 /// The parts of an instance while it is read.
 #[derive(Default)]
 struct Reading {
-    stays: bool,
+    most: u32,
     stops: HashMap<String, u32>,
     names: HashMap<String, u32>,
     deadheads: Vec<Deadhead>,
@@ -51,7 +51,7 @@ impl Reading {
 
     fn take(&mut self, fields: &[&str]) {
         match *fields {
-            ["instance", version, ..] => self.stays = version == "2",
+            ["instance", version, ..] => self.most = if version == "3" { MAX_TRIPS } else { USUAL_TRIPS },
             ["stop", name, ..] => {
                 self.stops.insert(name.to_string(), self.stops.len() as u32);
             }
@@ -69,7 +69,7 @@ impl Reading {
                     fixed: number(fixed),
                     per_minute: number(per_minute),
                     per_metre: number(per_metre),
-                    stay: self.stays.then(|| number(fields[7])),
+                    stay: fields.get(7).map(|minutes| number(minutes)),
                 });
             }
             ["trip", _, from, start, to, end, metres, ref layers @ ..] => self.trips.push(Trip {
@@ -92,6 +92,7 @@ impl Reading {
             deadheads: prelude::Vec(self.deadheads),
             layers: prelude::Vec(self.layers),
             trips: prelude::Vec(self.trips),
+            most: self.most,
         };
         Instance::new((), parts).ok().expect("an instance")
     }

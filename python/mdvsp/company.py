@@ -186,7 +186,7 @@ def read_company(day: Day, depots_path: str, groups_path: str, measured_path: Op
     if measured_path:
         sheet = read_sheet(2, measured_path, MEASURED, faults)
         measured = measured_drives(sheet, finder(places, day.stops), faults)
-    unit, notes = sheets.unit_of(group_sheet, groups, faults)
+    unit, notes = sheets.unit_of(group_sheet, groups, len(day.journeys), faults)
     past = [f"{day.path}: {text}" for text in limit_faults(day.journeys, places.called, options.stations)]
     lines = [*faults.lines(), *past]
     if lines:

@@ -7,7 +7,7 @@ from dataclasses import dataclass
 from fractions import Fraction
 from typing import Dict, List, Tuple
 
-from .limits import MAX_FIXED, MAX_PER_METRE, MAX_PER_MINUTE
+from .limits import MAX_FIXED, MAX_PER_METRE, MAX_PER_MINUTE, are_payable
 
 # A larger unit than this brings no rate nearer to what was given that anyone would pay.
 MOST_UNIT = 10**6
@@ -25,9 +25,11 @@ class Rates:
         """Returns the rates in cost units of which so many are 1.00, rounded to the nearest."""
         return nearest(self.fixed * unit), nearest(self.per_minute * unit), nearest(self.per_metre * unit)
 
-    def fits(self, unit: int) -> bool:
-        """Whether the rates are within the limits of a timetable's text."""
-        return all(rate <= most for rate, most in zip(self.in_units(unit), (MAX_FIXED, MAX_PER_MINUTE, MAX_PER_METRE)))
+    def fits(self, unit: int, trips: int) -> bool:
+        """Whether the rates are within the limits of a timetable's text, with so many trips."""
+        rates = self.in_units(unit)
+        within = all(rate <= most for rate, most in zip(rates, (MAX_FIXED, MAX_PER_MINUTE, MAX_PER_METRE)))
+        return within and are_payable(trips, *rates)
 
     def is_exact(self, unit: int) -> bool:
         return all((rate * unit).denominator == 1 for rate in (self.fixed, self.per_minute, self.per_metre))
@@ -37,19 +39,19 @@ def nearest(value: Fraction) -> int:
     return math.floor(value + Fraction(1, 2))
 
 
-def unit_for(groups: List[Rates]) -> int:
-    """Returns how many cost units are to be 1.00; 0 where the rates are past the limits whatever it is.
+def unit_for(groups: List[Rates], trips: int) -> int:
+    """Returns how many cost units are to be 1.00 with so many trips; 0 where the rates are past the limits always.
 
     It is the least power of ten by which all rates are whole, else the least number, else, where none is within the
     limits, the largest power of ten that is.
     """
     powers = [10**digits for digits in range(len(str(MOST_UNIT)))]
-    within = [unit for unit in powers if all(rates.fits(unit) for rates in groups)]
+    within = [unit for unit in powers if all(rates.fits(unit, trips) for rates in groups)]
     exact = [unit for unit in within if all(rates.is_exact(unit) for rates in groups)]
     if exact:
         return exact[0]
     least = least_exact(groups)
-    if least <= MOST_UNIT and all(rates.fits(least) for rates in groups):
+    if least <= MOST_UNIT and all(rates.fits(least, trips) for rates in groups):
         return least
     return within[-1] if within else 0
 

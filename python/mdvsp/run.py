@@ -22,7 +22,7 @@ from .timetable import Timetable
 SETTLED, NO_PLAN, OPEN = 0, 10, 11
 
 REFUSALS = {
-    1: "the first record is neither instance,1 nor instance,2",
+    1: "the first record is none of instance,1, instance,2 and instance,3",
     2: "a record of an unknown kind",
     3: "a record with more or fewer fields than its kind has",
     4: "a name with other signs than those allowed",
@@ -31,7 +31,7 @@ REFUSALS = {
     7: "a number that isn't 1 to 10 digits",
     8: "a time that isn't one",
     9: "one stop, layer or trip too many",
-    10: "a record outside its range, or drives that aren't closed",
+    10: "a record outside its range, rates too dear for so many trips, or drives that aren't closed",
     20: "there is no record `result`",
     21: "a record that no document has",
     22: "a record where another one has to come",

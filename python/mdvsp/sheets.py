@@ -30,7 +30,7 @@ from . import side, texts
 from .drives import Closed, Ends
 from .errors import Faults
 from .limits import (LAST_MINUTE, MAX_FIXED, MAX_GROUPS, MAX_METRES, MAX_PER_METRE, MAX_PER_MINUTE, MAX_STAY, MAX_STOPS,
-                     MAX_TRIPS, MAX_VEHICLES)
+                     MAX_TRIPS, MAX_VEHICLES, are_payable)
 from .printed import counted, short_clock
 from .rates import Rates, rounded_rates, unit_for
 from .sheet_reader import (FaultList, Fields, Form, Row, Sheet, declare, headings_in, path_in, read_sheet, shown)
@@ -296,12 +296,16 @@ def layers_of(groups: Mapping[str, Group], unit: int) -> Dict[str, Layer]:
     return layers
 
 
-def unit_of(sheet: Sheet, groups: Mapping[str, Group], faults: FaultList) -> Tuple[int, List[str]]:
-    """Returns how many cost units are 1.00, and what is to be said of rates that aren't whole in them."""
+def unit_of(sheet: Sheet, groups: Mapping[str, Group], trips: int, faults: FaultList) -> Tuple[int, List[str]]:
+    """Returns how many cost units are 1.00 with so many trips, and what is said of rates that aren't whole in them."""
+    for group in groups.values():
+        if group.costs is not None and None not in group.costs and not are_payable(trips, *group.costs):
+            faults.add(sheet, group.line, f"group {group.name}: the costs are too large for {trips} trips; count them "
+                                          "in a larger unit")
     rates = {name: group.money for name, group in groups.items() if group.money is not None}
     if not rates:
         return 1, []
-    unit = unit_for(list(rates.values()))
+    unit = unit_for(list(rates.values()), trips)
     if not unit:
         faults.add(sheet, 0, "the costs are too large to be counted; write them in a larger currency unit")
         return 1, []
@@ -317,7 +321,7 @@ def make(paths: List[str], every: bool = False) -> Made:
     drives = read_drives(drive_sheet, stops, stop_sheet.whole, faults)
     groups = read_groups(group_sheet, lambda row, text: row.known("stop", text, stops, stop_sheet.whole), faults)
     trips = read_trips(trip_sheet, stops, groups, (stop_sheet.whole, group_sheet.whole), faults)
-    unit, rounded = unit_of(group_sheet, groups, faults)
+    unit, rounded = unit_of(group_sheet, groups, len(trips), faults)
     closed = None
     if not any(order in (0, 1) for order, _, _ in faults.found):
         closed = Closed(list(stops), drives)

@@ -8,11 +8,14 @@ from typing import Dict, List, Mapping, NamedTuple, Optional, Tuple
 
 from . import texts
 from .errors import InputError
+from .limits import USUAL_TRIPS
 from .printed import short_clock
 
 NUMBER = re.compile(r"[0-9]{1,10}")
 TIME = re.compile(r"([0-9]{1,2}):([0-5][0-9])")
-HEADERS = (["instance", "1"], ["instance", "2"])
+HEADERS = (["instance", "1"], ["instance", "2"], ["instance", "3"])
+# How many fields a layer has behind its kind, by the version.
+LAYER_FIELDS = {1: (6,), 2: (7,), 3: (6, 7)}
 
 
 class Way(NamedTuple):
@@ -75,8 +78,15 @@ class Timetable:
 
     @property
     def rests(self) -> bool:
-        """Whether its text is of version 2, in which vehicles may rest in their depot."""
+        """Whether vehicles may rest in their depot."""
         return any(layer.stay is not None for layer in self.layers.values())
+
+    @property
+    def version(self) -> int:
+        """The version of its text: 3 where it is large, else 2 where vehicles may rest, else 1."""
+        if max([len(self.trips), *(layer.fleet for layer in self.layers.values())]) > USUAL_TRIPS:
+            return 3
+        return 2 if self.rests else 1
 
     def with_fleets(self, fleets: Mapping[str, int]) -> Timetable:
         """Returns the timetable with other numbers of vehicles in some of its layers."""
@@ -85,7 +95,7 @@ class Timetable:
 
     def text(self) -> str:
         """Returns its text, which `mdvsp` reads."""
-        rows: List[List[object]] = [["instance", 2 if self.rests else 1]]
+        rows: List[List[object]] = [["instance", self.version]]
         rows += [["stop", name] for name in self.stops]
         rows += [["deadhead", *ends, *way] for ends, way in self.ways.items()]
         rows += [layer_row(layer) for layer in self.layers.values()]
@@ -115,7 +125,7 @@ def parse(data: bytes, name: str = "timetable") -> Timetable:
     """Returns the timetable of a text, up to its first record `result`. The name stands in front of what is wrong."""
     records = texts.records_of(data, name)
     if not records or records[0][1] not in HEADERS:
-        raise InputError(f"{name}: the first record is neither instance,1 nor instance,2")
+        raise InputError(f"{name}: the first record is none of instance,1, instance,2 and instance,3")
     version = int(records[0][1][1])
     timetable = Timetable()
     for place, fields in records[1:]:
@@ -136,7 +146,7 @@ def add_record(timetable: Timetable, fields: List[str], version: int) -> None:
     elif kind == "deadhead" and len(rest) == 4:
         origin, target = (one_of(it, timetable.stops, "stop") for it in rest[:2])
         timetable.ways[origin, target] = Way(number(rest[2]), number(rest[3]))
-    elif kind == "layer" and len(rest) == 5 + version:
+    elif kind == "layer" and len(rest) in LAYER_FIELDS[version]:
         depot = one_of(rest[1], timetable.stops, "stop")
         timetable.layers[rest[0]] = Layer(rest[0], depot, *(number(it) for it in rest[2:]))
     elif kind == "trip" and len(rest) >= 7:

@@ -46,7 +46,7 @@ def numbers_of(text: str) -> List[int]:
     """Returns the numbers that a text such as `2..6` or `2,4,6` names; none where it names none."""
     found = []
     for part in text.split(","):
-        match = re.fullmatch(r"\s*([0-9]{1,4})(?:\.\.([0-9]{1,4}))?\s*", part)
+        match = re.fullmatch(r"\s*([0-9]{1,5})(?:\.\.([0-9]{1,5}))?\s*", part)
         if not match:
             return []
         found += range(int(match[1]), int(match[2] or match[1]) + 1)

@@ -278,12 +278,12 @@ class SmallFeeds(FeedFolder):
     def test_past_the_limits(self):
         times = ["trip_id,arrival_time,departure_time,stop_id,stop_sequence"]
         trips = ["route_id,service_id,trip_id"]
-        for number in range(2001):
+        for number in range(10001):
             trips.append(f"r,w,t{number}")
             times += [f"t{number},8:00:00,8:00:00,p,1", f"t{number},8:10:00,8:10:00,q,2"]
         status, _, printed = self.convert(trips="\n".join(trips), stop_times="\n".join(times))
         self.assertEqual(status, 3)
-        self.assertIn("2001 trips, and there may be 2000: choose lines with --routes; trips by line: 1: 2001\n",
+        self.assertIn("10001 trips, and there may be 10000: choose lines with --routes; trips by line: 1: 10001\n",
                       printed)
 
     def test_files_that_are_missing(self):

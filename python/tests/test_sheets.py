@@ -170,9 +170,15 @@ class SheetFaults(SheetFolder):
         self.assertEqual(self.make(groups=groups)[0], 0)
         self.check(["groups.csv:18: group H: the group H is one too many; there may be 16"],
                    groups=groups + "H,D,1,1,1,1\n")
-        trips = "".join(f"t{it},P,8:00,P,8:30,1000000,Bus\n" for it in range(2000))
-        self.assertEqual(self.make(trips=trips)[0], 0)
-        self.check(["trips.csv:2002: trip u: the trip u is one too many; there may be 2000"],
+        trips = "".join(f"t{it},P,8:00,P,8:30,1000000,Bus\n" for it in range(10000))
+        self.assertEqual(self.make(trips=trips)[1][:11], "instance,3\n")
+        few = trips[:trips.index("t2000,")]
+        self.assertEqual(self.make(trips=few)[1][:11], "instance,1\n")
+        self.assertEqual(self.make(trips=few, groups="Bus,D,2001,1,1,1\n")[1][:11], "instance,3\n")
+        self.assertEqual(self.make(trips=few, groups="Bus,D,1,1000000000,1000000,10000\n")[0], 0)
+        self.check(["groups.csv:2: group Bus: the costs are too large for 10000 trips; count them in a larger unit"],
+                   trips=trips, groups="Bus,D,1,1,0,4000\n")
+        self.check(["trips.csv:10002: trip u: the trip u is one too many; there may be 10000"],
                    trips=trips + "u,P,8:00,P,8:30,0,Bus\n")
         self.assertEqual(self.make(drives="D,P,1440,1000000\nP,D,0.01,0\n")[0], 0)
         self.check(["drives.csv:2: D to P: minutes `1440.5` aren't above 0 and at most 1440"],

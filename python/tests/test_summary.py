@@ -172,7 +172,7 @@ class Summaries(Folder):
     def test_texts_with_faults(self):
         plan = self.document("good.csv", GOOD, GOOD_COST)
         for text, told in (
-            ("", "the first record is neither instance,1 nor instance,2"),
+            ("", "the first record is none of instance,1, instance,2 and instance,3"),
             ("instance,1\nstop,D\ndeadhead,D,E,1,1\n", "record 3: unknown stop E"),
             ("instance,1\nstop,D\nlayer,L,D,1,1,1,1,60\n",
              "record 3: `layer,L,D,1,1,1,1,60` is no record of an instance"),

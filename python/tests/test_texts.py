@@ -72,7 +72,7 @@ class Values(unittest.TestCase):
 
     def test_faults(self):
         for text, told in (
-            ("", "timetable: the first record is neither instance,1 nor instance,2"),
+            ("", "timetable: the first record is none of instance,1, instance,2 and instance,3"),
             ("instance,1\nstop,D\nlayer,L,D,1,1,x,1\n", "timetable: record 3: `x` is no number"),
             ("instance,1\nstop,D\n\nbus,D\n", "timetable: record 3: `bus,D` is no record of an instance"),
         ):

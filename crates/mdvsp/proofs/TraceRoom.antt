@@ -14,7 +14,7 @@ use Rattle.mdvsp.specs.declared.budget.TheConstants.{DEFAULT_NODES}
 -- one table of an instance has few enough
 one_table : (p : Problem) → IsInstance p → entries_of p ≤ MAX_ENTRIES
 one_table p is =
-    omega (arith, mul-le (length p.trips) (length p.layers) 2000 16 is.few_trips is.few_layers)
+    omega (arith, mul-le (length p.trips) (length p.layers) 10000 16 is.few_trips is.few_layers)
 
 -- and so have as many as there are entries for
 share_fits : (entries share : ℕ) → entries ≤ MAX_ENTRIES → share ≤ MAX_ENTRIES / entries

@@ -17,7 +17,7 @@ use std::thread::Threads;
 use vs_check::{Verdict, check};
 use vs_crew::Gate;
 use vs_document::{Document, Text, bound_field, claim_field, cost_field};
-use vs_instance::MAX_TRIPS;
+use vs_instance::USUAL_TRIPS;
 use vs_make::make_text;
 use vs_reader::{MAX_BYTES, ReadError, Timetable, read_instance};
 use vs_reply::{Answer, Case, CaseError, read_case};
@@ -46,7 +46,7 @@ pub fn answer_trial<R: Threads + Wait + Sync, G: Gate + Sync>(
     n: u32,
     gate: &G,
 ) -> Result<Answer, Memory>
-    requires { n ≤ MAX_TRIPS }
+    requires { n ≤ USUAL_TRIPS }
     ensures { IfOk result (IsTextOf (TrialOwes n)) }
 {
     let made = make_text(alloc, n)?;
@@ -61,7 +61,7 @@ fn trial_of<R: Threads + Wait + Sync, G: Gate + Sync>(
     made: &[u8],
     gate: &G,
 ) -> Result<Answer, Memory>
-    requires trips { n ≤ MAX_TRIPS }
+    requires trips { n ≤ USUAL_TRIPS }
     requires made { made.now ≡ lines (make_rows n) }
     ensures { IfOk result (IsTextOf (TrialOwes n)) }
 {
@@ -78,7 +78,7 @@ fn trial_of<R: Threads + Wait + Sync, G: Gate + Sync>(
 
 /// The instance for which the text that was made for n trips stands. Such a text is never refused.
 fn read_made(alloc: Global, n: u32, made: &[u8]) -> Result<Timetable, Memory>
-    requires trips { n ≤ MAX_TRIPS }
+    requires trips { n ≤ USUAL_TRIPS }
     requires made { made.now ≡ lines (make_rows n) }
     ensures { IfOk result (λ timetable. IsWholeText made.now timetable.instance timetable.names) }
 {

@@ -6,7 +6,7 @@ use crate::nearest::nearest;
 use crate::own::{LOG, QUIET};
 use crate::usage::{ABOUT, NAMES};
 use std::alloc::Global;
-use vs_instance::MAX_TRIPS;
+use vs_instance::{MAX_TRIPS, USUAL_TRIPS};
 use vs_messages::{Part, sentence_of};
 use vs_types::Memory;
 
@@ -49,8 +49,17 @@ fn missing_words(alloc: Global, call: &Call, last: &str) -> Result<String, Memor
         let parts = [Part::Word(last), Part::Word(values_of(last))];
         return sentence_of(alloc, "% needs a value: %", &parts);
     }
-    let parts = [Part::Word(command.name), Part::Number(u64::from(MAX_TRIPS))];
+    let parts = [Part::Word(command.name), Part::Number(most_trips(command))];
     sentence_of(alloc, "% needs a number of trips: 0 to %", &parts)
+}
+
+/// How many trips a command takes at most.
+fn most_trips(command: &Command) -> u64 {
+    if command.name == "make" {
+        u64::from(MAX_TRIPS)
+    } else {
+        u64::from(USUAL_TRIPS)
+    }
 }
 
 /// What is said of a first word that is no command.
@@ -78,7 +87,7 @@ fn count_words(alloc: Global, word: &str, command: &Command) -> Result<String, M
     let parts = [
         Part::Bytes(word.as_bytes()),
         Part::Word(command.name),
-        Part::Number(u64::from(MAX_TRIPS)),
+        Part::Number(most_trips(command)),
     ];
     sentence_of(alloc, "\"%\" is no number of trips for %: 0 to %", &parts)
 }

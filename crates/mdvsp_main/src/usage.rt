@@ -36,7 +36,7 @@ commands:
             report how few vehicles each layer needs for all that it may run, whatever its fleet
   peakcheck [TIMETABLE] [PEAKS]
             judge such a text behind its timetable
-  make N    write a timetable of N trips, 0 to 2000, to try the program on
+  make N    write a timetable of N trips, 0 to 10000, to try the program on
   trial N   make such a timetable, plan it by one worker and 20 cases, check the plan, and report how it went
   --help, --version
             print this, or the version of the program; behind a command, --help prints what that command does
@@ -161,7 +161,7 @@ Plan as solve does, and write each step of the search in place of the plan's doc
         files: 0,
         options: &[],
         usage: "usage: mdvsp make N",
-        about: "Write a timetable of N trips, 0 to 2000, to try the program on.",
+        about: "Write a timetable of N trips, 0 to 10000, to try the program on.",
     },
     Command {
         name: "trial",

@@ -28,7 +28,7 @@ const REFUSED: [(usize, &str, u64, PeakWhy); 26] = [
     (0, "result,1,trace\n", 14, PeakWhy::NoPeak),
     (0, "result,1,peak,1\n", 14, PeakWhy::NoPeak),
     (0, "result,1,optimal\n", 14, PeakWhy::NoPeak),
-    (1, "peak,L1,2001\n", 15, PeakWhy::BadRow),
+    (1, "peak,L1,10001\n", 15, PeakWhy::BadRow),
     (1, "peak,L1,01\n", 15, PeakWhy::BadRow),
     (1, "peak,L1,-1\n", 15, PeakWhy::BadRow),
     (1, "peak,L2,1\n", 15, PeakWhy::BadRow),

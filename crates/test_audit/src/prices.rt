@@ -142,7 +142,7 @@ fn both_ways(
     requires { Fits instance.now table.now }
 {
     let nets = layer_nets(alloc, instance)?;
-    let mut scratch = Scratch::new(alloc, &nets)?;
+    let mut scratch = Scratch::new(alloc, &nets, instance.trips())?;
     let mut reader = Counted::new(&nets);
     let by_passes = broken_for(instance, &mut reader, table, &mut scratch);
     Ok([broken(instance, table), by_passes])

@@ -20,7 +20,7 @@ const TOLD: &[Told] = &[
     (
         &["trip,t1\n"],
         "refused,1,1,NoHeader\n",
-        "record 1: it isn't instance,1 or instance,2: is this a spreadsheet's export?",
+        "record 1: it isn't instance,1, instance,2 or instance,3: is this a spreadsheet's export?",
     ),
     (&[], "refused,1,1,NoHeader\n", "record 1: the text is empty"),
     (
@@ -271,6 +271,38 @@ const TOLD: &[Told] = &[
     (&[STOPS, LAYER, TRIPS], "", ""),
 ];
 
+/// What is refused of timetables of version 3.
+const LARGE: &[Told] = &[
+    (
+        &["instance,3\nstop,D\n", "layer,L1,D,10001,1000,1,0\n"],
+        "refused,3,10,Range,fleet\n",
+        "record 3: fleet is 10001, and may be 0 to 10000",
+    ),
+    (
+        &["instance,3\nstop,D\n", "layer,L1,D,2,1000,1\n"],
+        "refused,3,3,FieldCount\n",
+        "record 3: a layer has 7 or 8 fields, and this one 6",
+    ),
+    (
+        &[
+            "instance,3\nstop,P\nstop,Q\n",
+            "layer,L1,P,2,1000,1,0\n",
+            "trip,t1,P,8:00,Q,8:30,0,L1\n",
+        ],
+        "refused,5,9,TooMany\n",
+        "record 5: one trip too many: there may be 10000",
+    ),
+    (
+        &[
+            "instance,3\nstop,D\n",
+            "layer,L1,D,2,1000000000,1000000,10000\n",
+        ],
+        "refused,3,10,TooDear\n",
+        "record 3: layer L1 is too dear: trips times fixed + 2880 per_minute + 1000000 per_metre may be 40000000000000 \
+            at most",
+    ),
+];
+
 /// Rows that say no, whose words need no text.
 const FLAWS: &[Told] = &[
     (
@@ -347,6 +379,11 @@ pub fn are_told<R: Abort>(rt: &R, alloc: Global, rows: &[Told]) -> Result<(), Fa
 #[test]
 fn tell_what_was_refused(rt: HostRuntime) -> Result<(), Fail> {
     are_told(&rt, rt.alloc(), TOLD)
+}
+
+#[test]
+fn tell_what_was_refused_of_version_3(rt: HostRuntime) -> Result<(), Fail> {
+    are_told(&rt, rt.alloc(), LARGE)
 }
 
 #[test]

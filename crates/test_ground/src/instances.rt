@@ -64,7 +64,7 @@ fn first_layer(alloc: Global, version: &str, layer: &str) -> Result<Layer, Fail>
     Ok(*instance.layer(LayerNo(0)))
 }
 
-/// Layers of version 2, and the least rest that each says.
+/// Layers of versions 2 and 3, and the least rest that each says.
 const STAYS: [(&str, u64); 4] = [
     ("layer,L1,D,2,1000,1,0,20\n", 20),
     ("layer,L1,D,2,1000,1,0,190\n", 190),
@@ -76,12 +76,15 @@ const STAYS: [(&str, u64); 4] = [
 fn say_how_long_vehicles_rest(rt: HostRuntime) -> Result<(), Fail> {
     let never = first_layer(rt.alloc(), "instance,1\n", "layer,L1,D,2,1000,1,0\n")?;
     assert_eq!(rt; never, LAYER);
+    let large = first_layer(rt.alloc(), "instance,3\n", "layer,L1,D,2,1000,1,0\n")?;
+    assert_eq!(rt; large, LAYER);
     for (layer, stay) in STAYS {
         let resting = Layer {
             stay: Some(stay),
             ..LAYER
         };
         assert_eq!(rt; first_layer(rt.alloc(), "instance,2\n", layer)?, resting);
+        assert_eq!(rt; first_layer(rt.alloc(), "instance,3\n", layer)?, resting);
     }
     Ok(())
 }
@@ -93,6 +96,7 @@ fn nothing(alloc: Global) -> Result<Instance, NewError> {
         deadheads: Vec::new(alloc),
         layers: Vec::new(alloc),
         trips: Vec::new(alloc),
+        most: 0,
     };
     Instance::new(alloc, parts)
 }

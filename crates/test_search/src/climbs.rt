@@ -3,7 +3,7 @@
 ghost use Rattle.std.specs.Prelude.{IfOk};
 ghost use Rattle.vs_multi.specs.Multipliers.{AreMultipliers};
 
-use crate::multipliers::started;
+use crate::multipliers::{even, started};
 use std::alloc::Global;
 use std::test::Fail;
 use test_fixtures::instance_of;
@@ -16,12 +16,12 @@ use vs_multi::{Case, greatest_step};
 use vs_prices::permitted_sets;
 use vs_types::Memory;
 
-/// Those of `start`, or 30,000 for each trip: so little that no trip is run.
+/// Those of `start`, or as little for each trip as `even` pays.
 fn begun_at(alloc: Global, instance: &Instance, low: bool) -> Result<Vec<i64>, Memory>
     ensures { IfOk result (λ multipliers. AreMultipliers instance.now multipliers.items) }
 {
     if low {
-        Ok(vec![in alloc; 30_000; instance.trips() as usize]?)
+        even(alloc, instance)
     } else {
         started(alloc, instance)
     }

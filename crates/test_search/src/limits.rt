@@ -9,23 +9,34 @@ ghost use Rattle.vs_prices.specs.Table.{Fits, HoldingTable};
 use std::alloc::Global;
 use std::test::Fail;
 use test_fixtures::{input_of, joined};
-use vs_circ::{MAX_MULTIPLIER, Work};
-use vs_instance::Instance;
+use vs_circ::Work;
+use vs_instance::{Instance, most_multiplier};
 use vs_match::{LayerNet, layer_nets};
 use vs_multi::{Best, Case, rounds};
 use vs_node::{Room, Task, work};
 use vs_prices::{Bound, permitted_sets};
 use vs_tree::Next;
 
-/// What 2,000 trips cost that run all the time there is, at the greatest rates. A trip's vehicle costs 1,000,000,000,
-/// each of its 2,879 minutes 1,000,000, and each of its 1,000,000 metres 10,000.
-const COST: i64 = 2_000 * (1_000_000_000 + 2_879 * 1_000_000 + 1_000_000 * 10_000);
+/// Texts with the greatest rates of their versions, how many trips follow, and what these cost when they run all the
+/// time there is. A trip's vehicle costs FIXED, each of its 2,879 minutes PER_MINUTE, and each of its 1,000,000 metres
+/// PER_METRE.
+const DEAREST: [(&str, u32, i64); 2] = [
+    (
+        "instance,1\nstop,S\nlayer,L1,S,2000,1000000000,1000000,10000\n",
+        2_000,
+        2_000 * (1_000_000_000 + 2_879 * 1_000_000 + 1_000_000 * 10_000),
+    ),
+    (
+        "instance,3\nstop,S\nlayer,L1,S,10000,1000000000,416666,1800\n",
+        10_000,
+        10_000 * (1_000_000_000 + 2_879 * 416_666 + 1_000_000 * 1_800),
+    ),
+];
 
-/// These trips, with a vehicle for each.
-fn dearest(alloc: Global) -> Result<Instance, Fail> {
-    let head = "instance,1\nstop,S\nlayer,L1,S,2000,1000000000,1000000,10000\n";
+/// So many trips behind the head of a text, with a vehicle for each.
+fn dearest(alloc: Global, head: &str, trips: u32) -> Result<Instance, Fail> {
     let mut text = joined(alloc, &[head])?;
-    for n in 1..2001 {
+    for n in 0..trips {
         let row = format!(in alloc; "trip,T{n},S,0:00,S,47:59,1000000,L1\n")?;
         text.extend_from_slice(row.as_bytes())?;
     }
@@ -39,7 +50,8 @@ fn best_round(case: &Case<'_>, kept: &mut Work) -> Result<Best, Fail>
     ensures holds { IfOk result (λ best. HoldingTable case.now.instance.now best.table) }
 {
     let (alloc, instance) = (case.alloc, case.instance);
-    let mut multipliers = vec![in alloc; MAX_MULTIPLIER; instance.trips() as usize]?;
+    let most = most_multiplier(instance.trips());
+    let mut multipliers = vec![in alloc; most; instance.trips() as usize]?;
     Ok(rounds(
         alloc,
         instance,
@@ -111,9 +123,11 @@ fn found(alloc: Global, instance: &Instance) -> Result<(Bound, Option<i64>, Next
 
 #[test]
 fn sums_fit_at_the_greatest_rates_and_multipliers(rt: HostRuntime) -> Result<(), Fail> {
-    let instance = dearest(rt.alloc())?;
-    let (worth, cost, next) = found(rt.alloc(), &instance)?;
-    assert_eq!(rt; worth, Bound::AtLeast(i128::from(COST)));
-    assert_eq!(rt; (cost, next), (Some(COST), Next::Close));
+    for (head, trips, all) in DEAREST {
+        let instance = dearest(rt.alloc(), head, trips)?;
+        let (worth, cost, next) = found(rt.alloc(), &instance)?;
+        assert_eq!(rt; worth, Bound::AtLeast(i128::from(all)));
+        assert_eq!(rt; (cost, next), (Some(all), Next::Close));
+    }
     Ok(())
 }

@@ -26,6 +26,14 @@ pub fn started(alloc: Global, instance: &Instance) -> Result<Vec<i64>, Memory>
     Ok(multipliers)
 }
 
+/// 30,000 for each trip: so little that no trip is run.
+pub fn even(alloc: Global, instance: &Instance) -> Result<Vec<i64>, Memory>
+    ensures { IfOk result (λ multipliers. AreMultipliers instance.now multipliers.items) }
+{
+    let multipliers = vec![in alloc; 30_000; instance.trips() as usize]?;
+    Ok(multipliers)
+}
+
 /// Those of a table of zeros.
 fn of_zeros(alloc: Global, instance: &Instance) -> Result<Vec<i64>, Memory> {
     let sets = permitted_sets(alloc, instance)?;
@@ -116,7 +124,7 @@ fn stay_where_one_vehicle_runs_both_trips(rt: HostRuntime) -> Result<(), Fail> {
 /// How often ten small rounds from 30,000 run each trip, and the multipliers then.
 fn after_few_rounds(alloc: Global) -> Result<(Vec<u32>, Vec<i64>), Fail> {
     let instance = instance_of(alloc, &[STOPS, LAYER, TRIPS])?;
-    let mut multipliers = vec![in alloc; 30_000; instance.trips() as usize]?;
+    let mut multipliers = even(alloc, &instance)?;
     let best = best_of(alloc, &instance, &mut multipliers, true)?;
     Ok((best.covers, multipliers))
 }

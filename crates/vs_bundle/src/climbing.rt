@@ -172,7 +172,7 @@ impl Ascent {
         if !aim.is_worth(self.top, self.forecast) {
             return false;
         }
-        self.step(step, multipliers);
+        self.step(step, case.instance.trips(), multipliers);
         let candidate: &[i64] = &self.candidate;
         let found = self.trial.value(case, candidate, work, watch);
         let Some(value) = found else {
@@ -184,8 +184,9 @@ impl Ascent {
         true
     }
 
-    /// Tries the multipliers a step of this length further.
-    fn step(&mut self, step: i64, multipliers: &[i64])
+    /// Tries the multipliers a step of this length further, none beyond the limit of so many trips.
+    fn step(&mut self, step: i64, trips: u32, multipliers: &[i64])
+        requires few { length multipliers.now ≡ trips }
         requires trips { trips_of_all self.old.bundle ≡ length multipliers.now }
         requires each { length self.old.candidate.items ≡ length multipliers.now }
         requires within { AreWithin self.old.candidate.items }
@@ -195,7 +196,7 @@ impl Ascent {
         ensures sizes { HasSizes (trips_of_all self.old.bundle) (layers_of self.old.bundle) self.new.bundle }
     {
         let candidate: &mut [i64] = &mut self.candidate;
-        go_further(&self.bundle, step, multipliers, candidate);
+        go_further(&self.bundle, step, trips, multipliers, candidate);
         self.bundle.set_free(multipliers);
     }
 

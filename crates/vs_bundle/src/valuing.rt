@@ -106,8 +106,8 @@ impl Trial {
         }
     }
 
-    /// Runs the layers, side by side where the watch has threads and it takes long enough. False where it takes long, and
-    /// the watch ends it.
+    /// Runs the layers, side by side where the watch has threads and it takes long enough. False where it takes long,
+    /// and the watch ends it.
     fn run_all<W: Lanes>(&mut self, case: &Case<'_>, work: &mut Work, watch: &W) -> bool
         requires works { W.works watch.now }
         requires case { IsCase case.now.instance.now case.now.nets.now case.now.sets.now }

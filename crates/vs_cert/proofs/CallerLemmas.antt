@@ -5,7 +5,7 @@ pub use Rattle.vs_cert.proofs.states.MadePlans.{make_plan}
 pub use Rattle.vs_cert.proofs.states.Numberings.{first_times-more, stands-append, stands-last, stands-more}
 pub use Rattle.vs_cert.proofs.states.TreeShapes.{rows_of_instance}
 pub use Rattle.vs_cert.proofs.states.TreeTables.{first_times-All, named_within, numbers_within, tables_rows-prices}
-pub use Rattle.vs_cert.proofs.states.WorthRange.{worth_within}
+pub use Rattle.vs_cert.proofs.states.WorthRange.{worth_below}
 pub use Rattle.vs_cert.proofs.AnswerBounds.{AreNoLess, IsOneOf, cost_among, lesser_is_bound, not_open}
 pub use Rattle.vs_cert.proofs.AnswerCounts.{closed_leaves}
 pub use Rattle.vs_cert.proofs.AnswerWorths.{AreSpotWorths, worths-append}

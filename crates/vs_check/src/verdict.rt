@@ -71,7 +71,7 @@ fn first_broken(
     requires fits { All (Fits instance.now) tables.now }
     requires few { length tables.now < 2 ^ 32 }
     requires nets { AreNets instance.now nets.old.nets.now }
-    requires room { HasRoom nets.old.nets.now scratch.old }
+    requires room { HasRoom (length instance.now.trips) nets.old.nets.now scratch.old }
     ensures { result ≡ first (tables_flaws instance.now tables.now) }
 {
     for (t, table) in tables.iter().enumerate() {
@@ -90,7 +90,7 @@ fn tables_flaw(alloc: Global, instance: &Instance, tables: &[Table]) -> Result<O
     ensures { IfOk result (λ flaw. flaw ≡ first (tables_flaws instance.now tables.now)) }
 {
     let nets = layer_nets(alloc, instance)?;
-    let mut scratch = Scratch::new(alloc, &nets)?;
+    let mut scratch = Scratch::new(alloc, &nets, instance.trips())?;
     let mut reader = Counted::new(&nets);
     Ok(first_broken(instance, &mut reader, tables, &mut scratch))
 }

@@ -2,6 +2,7 @@
 pub mod Offering
 pub mod Preparing
 pub mod SmallArcs
+pub mod SmallSteps
 pub mod Settling
 pub mod Changing
 pub mod Refitting

@@ -2,7 +2,7 @@
 
 ghost use Rattle.std.specs.Prelude.{◌≡◌, ◌≤◌, ◌≤ℤ◌, pos, length};
 ghost use Rattle.vs_path.specs.declared.residual.TheConstants.{MAX_SEARCH_NODES};
-ghost use Rattle.vs_circ.specs.shipping.Prepared.{AreSmallOffers, AreOfferedCosts, AreOfferedRooms, HasSmallArcs, offered_cost, offered_room};
+ghost use Rattle.vs_circ.specs.shipping.Prepared.{AreSmallOffers, AreSmallSteps, AreOfferedCosts, AreOfferedRooms, HasSmallArcs, offered_cost, offered_room};
 ghost use Rattle.vs_ship.specs.Leaving.{IsLeftBy};
 ghost use Rattle.vs_ship.specs.Shipments.{CanShip, IsSized};
 
@@ -67,6 +67,7 @@ pub(crate) fn prepare(net: &LayerNet, offers: &[Option<i64>], shipment: &mut Shi
     requires arcs { HasSmallArcs net.now }
     requires nodes { net.now.graph.nodes ≤ MAX_SEARCH_NODES }
     requires offers { AreSmallOffers offers.now }
+    requires steps { AreSmallSteps net.now offers.now }
     requires sized { IsSized net.now.graph shipment.old }
     ensures can { CanShip net.now.graph shipment.new }
     ensures cost { AreOfferedCosts net.now offers.now shipment.new.costs.cost.items }

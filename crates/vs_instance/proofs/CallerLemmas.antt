@@ -1,6 +1,8 @@
 -- What the crates above cite of this crate's proofs.
 -- what an instance tells of its parts
 pub use Rattle.vs_instance.proofs.Known.{layer_of-IsLayer, rated-below, trip_of-IsTrip, way-other, way-within}
+-- what pieces of cost come to, as often as there are trips
+pub use Rattle.vs_instance.proofs.costs.DearestPieces.{dearest-below, fixed-rated-payable, in_payable, multiplier-least, multiplier-most, out_payable, payable-≤, rated-payable, trip_payable}
 -- the restriction that restricts nothing
 pub use Rattle.vs_instance.proofs.PermittedSets.{permitted_sets-IsRestriction, plans_lie_within, set_of-permitted_sets}
 -- the first of what is wrong

@@ -1,8 +1,7 @@
 -- Problems where nothing costs anything: they are instances, with the same moves, whose pieces of cost are 0.
-use Rattle.std.proofs.Common.{◌≡◌, ℕ, ◌+◌, ◌-◌, ◌*◌, ◌<◌, ◌≤◌, min, Bool, true, false, cond, leb, ◌⊎◌, inl, inr, List, length, map, refl, sym, ap, ◌∙◌, subst, arith, Option, Some, None}
+use Rattle.std.proofs.Common.{◌≡◌, ℕ, ◌+◌, ◌-◌, ◌*◌, ◌<◌, ◌≤◌, Bool, true, false, cond, leb, ◌⊎◌, inl, inr, length, map, refl, sym, ap, ◌∙◌, subst, arith, Option, Some, None}
 use Rattle.std.specs.Prelude.{option_map, option_and_then}
 use Rattle.std.specs.FinMap as map
-use Rattle.std.specs.List.{All}
 use Rattle.std.proofs.lemmas.Bool.{cases_lt}
 use Rattle.std.proofs.lemmas.List.{get_or-map, get_or_past, length-map}
 use Rattle.std.proofs.lemmas.List.Elements.{All-map}
@@ -12,7 +11,7 @@ use Rattle.vs_instance.specs.declared.layer.Layer.{Layer}
 use Rattle.vs_instance.specs.declared.trip.Trip.{Trip}
 use Rattle.vs_instance.specs.declared.way.Way.{Way}
 use Rattle.vs_instance.specs.Problem.{Problem}
-use Rattle.vs_instance.specs.Instance.{IsDeadhead, IsInstance, IsLayer, IsTrip}
+use Rattle.vs_instance.specs.Instance.{IsDeadhead, IsInstance, IsLayer, IsPayable, IsTrip}
 use Rattle.vs_instance.specs.Ways.{layer_of, no_layer, trip_of, way, way_between, way_in, way_out}
 use Rattle.vs_instance.specs.Pieces.{direct_piece, in_piece, link_piece, no_more_than, out_piece, rated, rest_piece, trip_piece}
 use Rattle.vs_instance.specs.Unrated.{unrated, without_rates}
@@ -57,6 +56,7 @@ module _ (p : Problem) where
     few_trips = is.few_trips;
     layers = All-map (IsLayer (without_rates p)) unrated p.layers
         (λ k d inside. unrated-IsLayer _ (is.layers k d inside));
+    payable = All-map (IsPayable (length p.trips)) unrated p.layers (λ k d inside. omega arith);
     deadheads = λ k s. IfSome_then (map.get p.deadheads (k, s)) (is.deadheads k s) (same-IsDeadhead k s);
     trips = λ k d inside. same-IsTrip _ (is.trips k d inside);
     closed = is.closed;

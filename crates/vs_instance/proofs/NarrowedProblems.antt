@@ -10,7 +10,7 @@ use Rattle.vs_instance.specs.declared.limits.TheConstants.{MAX_TRIPS}
 use Rattle.vs_instance.specs.declared.layer.Layer.{Layer}
 use Rattle.vs_instance.specs.declared.way.Way.{Way}
 use Rattle.vs_instance.specs.Problem.{Problem}
-use Rattle.vs_instance.specs.Instance.{IsDeadhead, IsInstance, IsLayer, IsTrip}
+use Rattle.vs_instance.specs.Instance.{IsDeadhead, IsInstance, IsLayer, IsPayable, IsTrip}
 use Rattle.vs_instance.specs.Narrowed.{narrowed, narrowed_trip}
 use Rattle.vs_instance.specs.Restriction.{IsRestriction}
 use Rattle.vs_instance.specs.Ways.{no_trip, trip_of}
@@ -74,6 +74,7 @@ module _ (p : Problem) (sets : List LayerSet) where
       few_layers = is.few_layers;
       few_trips = subst (λ (n : ℕ). n ≤ MAX_TRIPS) (sym length-narrowed) is.few_trips;
       layers = λ k d inside. kept-IsLayer k _ (is.layers k d inside);
+      payable = subst (λ (n : ℕ). All (IsPayable n) p.layers) (sym length-narrowed) is.payable;
       deadheads = λ k s. IfSome_then (map.get p.deadheads (k, s)) (is.deadheads k s) (kept-IsDeadhead k s);
       trips = All-map (IsTrip (narrowed p sets)) (narrowed_trip p.trips sets) (range_with_len 0 (length p.trips))
           trips_narrowed;

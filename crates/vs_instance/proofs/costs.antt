@@ -5,3 +5,4 @@ pub mod BlockPieces
 pub mod Totals
 pub mod TripsOfBlocks
 pub mod LayerDuality
+pub mod DearestPieces

@@ -1,12 +1,13 @@
 -- What makes a problem an instance: the limits, and closed deadheads.
-use Rattle.std.specs.Prelude.{◌≡◌, ◌≢◌, ℕ, ◌+◌, ◌<◌, ◌≤◌, [], length, All, IfSome, IsSomeAnd, Some}
+use Rattle.std.specs.Prelude.{◌≡◌, ◌≢◌, ℕ, ◌+◌, ◌*◌, ◌<◌, ◌≤◌, [], length, All, IfSome, IsSomeAnd, Some}
 use Rattle.std.specs.FinMap as map
 use Rattle.vs_types.specs.LayerSet.{Has, members}
 use Rattle.vs_instance.specs.declared.layer.Layer.{Layer}
 use Rattle.vs_instance.specs.declared.trip.Trip.{Trip}
 use Rattle.vs_instance.specs.declared.way.Way.{Way}
 use Rattle.vs_types.specs.declared.numbers.TheConstants.{MAX_LAYERS}
-use Rattle.vs_instance.specs.declared.limits.TheConstants.{MAX_STOPS, MAX_TRIPS, MAX_FLEET, MAX_FIXED, MAX_PER_MINUTE, MAX_PER_METRE, MAX_STAY, MAX_MINUTES, MAX_METRES, TWO_DAYS}
+use Rattle.vs_instance.specs.declared.limits.TheConstants.{MAX_STOPS, MAX_TRIPS, MAX_FLEET, MAX_DEAREST_SUM, MAX_FIXED, MAX_PER_MINUTE, MAX_PER_METRE, MAX_STAY, MAX_MINUTES, MAX_METRES, TWO_DAYS}
+use Rattle.vs_instance.specs.Dearest.{dearest}
 use Rattle.vs_instance.specs.Problem.{Problem}
 
 -- so many minutes a rest may last at least
@@ -51,11 +52,16 @@ abbrev pub IsClosed : Problem → Type 0
 IsClosed p = (k s t : ℕ) (a b : Way) → k ≢ t → map.get p.deadheads (k, s) ≡ Some a → map.get p.deadheads (s, t) ≡ Some b
     → IsSomeAnd (map.get p.deadheads (k, t)) (IsNoLonger a b)
 
+-- so many pieces of the layer, each as dear as the dearest, don't cost too much
+abbrev pub IsPayable : ℕ → Layer → Type 0
+IsPayable trips layer = trips * dearest layer ≤ MAX_DEAREST_SUM
+
 pub record IsInstance (p : Problem) : Type 0 where
   pub few_stops : p.stops ≤ MAX_STOPS
   pub few_layers : length p.layers ≤ MAX_LAYERS
   pub few_trips : length p.trips ≤ MAX_TRIPS
   pub layers : All (IsLayer p) p.layers
+  pub payable : All (IsPayable (length p.trips)) p.layers
   pub deadheads : (k s : ℕ) → IfSome (map.get p.deadheads (k, s)) (IsDeadhead p k s)
   pub trips : All (IsTrip p) p.trips
   pub closed : IsClosed p

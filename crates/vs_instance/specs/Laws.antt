@@ -1,8 +1,10 @@
 -- What holds of every problem: of its Lagrangian values, and of rests.
-use Rattle.std.specs.Prelude.{◌≡◌, ℕ, ◌*◌, List, length, ℤ, pos, ◌≤ℤ◌}
+use Rattle.std.specs.Prelude.{◌≡◌, ℕ, ◌*◌, ◌≤◌, List, length, ℤ, pos, ◌≤ℤ◌}
 use Rattle.vs_types.specs.declared.layer_set.LayerSet.{LayerSet}
+use Rattle.vs_instance.specs.declared.layer.Layer.{Layer}
+use Rattle.vs_instance.specs.declared.limits.TheConstants.{USUAL_TRIPS}
 use Rattle.vs_instance.specs.Problem.{Problem}
-use Rattle.vs_instance.specs.Instance.{IsInstance}
+use Rattle.vs_instance.specs.Instance.{IsInstance, IsLayer, IsPayable}
 use Rattle.vs_instance.specs.Ways.{Connects, Rests}
 use Rattle.vs_instance.specs.Lagrangian.{IsLagrangianValue, IsStartingValue}
 use Rattle.vs_instance.specs.Plan.{LayerBlock, IsPlan, plan_cost}
@@ -30,3 +32,8 @@ StartingValuesExist = (p : Problem) → (value : ℤ) × IsStartingValue p value
 -- in an instance, who rests in the depot before a trip could have gone there straight
 abbrev pub RestsConnect : Type 0
 RestsConnect = (p : Problem) → IsInstance p → (l i j : ℕ) → Rests p l i j → Connects p i j
+
+-- a layer within the limits is payable for as many trips as a text of version 1 or 2 has at most
+abbrev pub UsualInstancesArePayable : Type 0
+UsualInstancesArePayable =
+    (p : Problem) (layer : Layer) (trips : ℕ) → IsLayer p layer → trips ≤ USUAL_TRIPS → IsPayable trips layer

@@ -1,4 +1,5 @@
 pub mod Problem
+pub mod Dearest
 pub mod Firsts
 pub mod deadheads
 pub mod Ways

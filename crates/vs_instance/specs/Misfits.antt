@@ -1,5 +1,5 @@
 -- What is wrong with the parts of an instance, in the order in which it is answered.
-use Rattle.std.specs.Prelude.{◌≡◌, ◌≢◌, ℕ, ◌+◌, ◌^◌, ◌<◌, ◌≤◌, Bool, not, nat_lt, ◌==◌, ◌&&◌, ◌||◌, if◌then◌else◌, List, [], ◌∷◌, ◌++◌, length, take, flat_map, fold, All, AllPairs, Option, Some, None}
+use Rattle.std.specs.Prelude.{◌≡◌, ◌≢◌, ℕ, ◌+◌, ◌*◌, ◌^◌, ◌<◌, ◌≤◌, Bool, not, nat_lt, ◌==◌, ◌&&◌, ◌||◌, if◌then◌else◌, List, [], ◌∷◌, ◌++◌, length, take, flat_map, fold, All, AllPairs, Option, Some, None}
 use Rattle.std.specs.List.{list_any, enumerate_from, range_with_len}
 use Rattle.std.specs.FinMap as map
 use Rattle.vs_types.specs.LayerSet.{Has, members}
@@ -9,13 +9,14 @@ use Rattle.vs_instance.specs.declared.trip.Trip.{Trip}
 use Rattle.vs_instance.specs.declared.way.Way.{Way}
 use Rattle.vs_instance.specs.declared.parts.Parts.{Parts}
 use Rattle.vs_instance.specs.declared.misfit.Misfit.{Misfit}
-use Rattle.vs_instance.specs.declared.misfit.Misfit.TheVariants.{Range, SelfDeadhead, DeadheadTwice, EndNotAfterStart, NotClosed, LongerMinutes, LongerMetres}
+use Rattle.vs_instance.specs.declared.misfit.Misfit.TheVariants.{Range, TooDear, SelfDeadhead, DeadheadTwice, EndNotAfterStart, NotClosed, LongerMinutes, LongerMetres}
 use Rattle.vs_instance.specs.declared.misfit.NewError.{NewError}
 use Rattle.vs_instance.specs.declared.misfit.NewError.TheVariants as error
 use Rattle.vs_instance.specs.declared.misfit.Field.TheVariants as field
 use Rattle.vs_instance.specs.declared.misfit.Place.TheVariants as place
 use Rattle.vs_types.specs.declared.numbers.TheConstants.{MAX_LAYERS}
-use Rattle.vs_instance.specs.declared.limits.TheConstants.{MAX_STOPS, MAX_TRIPS, MAX_FLEET, MAX_FIXED, MAX_PER_MINUTE, MAX_PER_METRE, MAX_STAY, MAX_MINUTES, MAX_METRES, TWO_DAYS}
+use Rattle.vs_instance.specs.declared.limits.TheConstants.{MAX_STOPS, MAX_TRIPS, MAX_DEAREST_SUM, MAX_FIXED, MAX_PER_MINUTE, MAX_PER_METRE, MAX_STAY, MAX_MINUTES, MAX_METRES, TWO_DAYS}
+use Rattle.vs_instance.specs.Dearest.{dearest}
 use Rattle.vs_instance.specs.Firsts.{when, first}
 use Rattle.vs_instance.specs.Problem.{Problem, pair_cmp}
 use Rattle.vs_instance.specs.Instance.{IsInstance}
@@ -39,9 +40,11 @@ problem_of parts = record {
 abbrev pub are_twins : Deadhead → Deadhead → Bool
 are_twins d e = (d.from.0 == e.from.0) && (d.to.0 == e.to.0)
 
--- the parts make an instance: no deadhead stands twice, and what they say is one
+-- the parts make an instance: no deadhead stands twice, no fleet is past the most there may be, and what they say is
+-- one
 pub record MakeInstance (parts : Parts) : Type 0 where
   pub once : AllPairs (λ d e. are_twins d e ≡ Bool.false) parts.deadheads.items
+  pub fleets : All (λ layer. layer.fleet ≤ parts.most) parts.layers.items
   pub instance : IsInstance (problem_of parts)
 
 -- there is a least rest, and it is out of range
@@ -49,13 +52,15 @@ abbrev pub is_no_stay : Option ℕ → Bool
 is_no_stay None = Bool.false
 is_no_stay (Some minutes) = (minutes == 0) || nat_lt MAX_STAY minutes
 
-abbrev pub layer_misfits : ℕ → Layer → List Misfit
-layer_misfits l layer = let at = place.Layer (record { 0 = l }) in
-    when (nat_lt MAX_FLEET layer.fleet) (Range field.Fleet at)
+-- of layer l, where a fleet has so many vehicles at most and there are so many trips
+abbrev pub layer_misfits : ℕ → ℕ → ℕ → Layer → List Misfit
+layer_misfits most trips l layer = let at = place.Layer (record { 0 = l }) in
+    when (nat_lt most layer.fleet) (Range field.Fleet at)
     ++ when (nat_lt MAX_FIXED layer.fixed) (Range field.Fixed at)
     ++ when (nat_lt MAX_PER_MINUTE layer.per_minute) (Range field.PerMinute at)
     ++ when (nat_lt MAX_PER_METRE layer.per_metre) (Range field.PerMetre at)
     ++ when (is_no_stay layer.stay) (Range field.Stay at)
+    ++ when (nat_lt MAX_DEAREST_SUM (trips * dearest layer)) (TooDear (record { 0 = l }))
 
 -- of the deadhead n, which may have a twin before it
 abbrev pub deadhead_misfits : Bool → ℕ → Deadhead → List Misfit
@@ -108,8 +113,8 @@ abbrev pub closure_misfits : ℕ → map.FinMap pair_cmp Way → List Misfit
 closure_misfits stops deadheads = flat_map (misfits_from stops deadheads) (numbers stops)
 
 -- of all layers, of all deadheads and of all trips, in number order
-abbrev pub layers_misfits : List Layer → List Misfit
-layers_misfits layers = flat_map (λ e. layer_misfits e.0 e.1) (enumerate_from 0 layers)
+abbrev pub layers_misfits : ℕ → ℕ → List Layer → List Misfit
+layers_misfits most trips layers = flat_map (λ e. layer_misfits most trips e.0 e.1) (enumerate_from 0 layers)
 
 abbrev pub has_twin_before : List Deadhead → ℕ → Deadhead → Bool
 has_twin_before deadheads n d = list_any (λ e. are_twins e d) (take n deadheads)
@@ -125,7 +130,7 @@ trips_misfits trips = flat_map (λ e. trip_misfits e.0 e.1) (enumerate_from 0 tr
 -- stops
 abbrev pub misfits_of : Parts → List Misfit
 misfits_of parts =
-    layers_misfits parts.layers.items
+    layers_misfits parts.most (length parts.trips.items) parts.layers.items
     ++ deadheads_misfits parts.deadheads.items
     ++ trips_misfits parts.trips.items
     ++ closure_misfits parts.stops (deadheads_of parts.deadheads.items)
@@ -152,7 +157,8 @@ IsFirstMisfit parts e = IsFirstOf (misfits_of parts) e
 pub record AreParts (parts : Parts) : Type 0 where
   pub few_stops : parts.stops ≤ MAX_STOPS
   pub few_layers : length parts.layers.items ≤ MAX_LAYERS
-  pub few_trips : length parts.trips.items ≤ MAX_TRIPS
+  pub few_trips : length parts.trips.items ≤ parts.most
+  pub most : parts.most ≤ MAX_TRIPS
   pub few_deadheads : length parts.deadheads.items < 2 ^ 32
   pub layers : All (λ layer. layer.depot.0 < parts.stops) parts.layers.items
   pub deadheads : All (λ d. (d.from.0 < parts.stops) × (d.to.0 < parts.stops)) parts.deadheads.items

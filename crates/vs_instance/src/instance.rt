@@ -58,12 +58,12 @@ impl Instance {
         ensures refused { IfErr result (λ e. IsMisfit e → ¬ (MakeInstance parts)) }
     {
         let layers = parts.layers.as_slice();
-        if let Some(misfit) = layers_misfit(layers) {
+        let trips = parts.trips.as_slice();
+        if let Some(misfit) = layers_misfit(layers, trips, parts.most) {
             return Err(NewError::Misfit(misfit));
         }
         let deadheads = parts.deadheads.as_slice();
         let ways = ways_of(alloc, parts.stops, deadheads)?;
-        let trips = parts.trips.as_slice();
         if let Some(misfit) = trips_misfit(trips) {
             return Err(NewError::Misfit(misfit));
         }
@@ -139,7 +139,7 @@ impl Instance {
         self.layers.len() as u32
     }
 
-    /// How many trips there are, at most 2,000.
+    /// How many trips there are, at most 10,000.
     pub fn trips(&self) -> u32
         ensures count { result ≡ length self.now.trips }
         ensures instance { IsInstance self.now }

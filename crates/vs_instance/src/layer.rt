@@ -7,7 +7,7 @@ use vs_types::StopNo;
 pub struct Layer {
     /// The stop where they leave and to which they come back.
     pub depot: StopNo,
-    /// How many there are, 0 to 2,000.
+    /// How many there are, 0 to 10,000.
     pub fleet: u64,
     /// What each vehicle that is used costs, 0 to 10^9 cost units.
     pub fixed: u64,

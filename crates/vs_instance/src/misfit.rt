@@ -29,6 +29,8 @@ pub enum Place {
 pub enum Misfit {
     /// The number there is out of its range.
     Range(Field, Place),
+    /// As many pieces of the layer as there are trips cost too much, each as dear as the dearest can be.
+    TooDear(LayerNo),
     /// The deadhead leads from a stop to itself.
     SelfDeadhead(u32),
     /// An earlier deadhead leads from the same stop to the same stop.

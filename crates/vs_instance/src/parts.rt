@@ -13,8 +13,10 @@ pub struct Parts {
     pub deadheads: Vec<Deadhead>,
     /// The layers in number order, at most 16.
     pub layers: Vec<Layer>,
-    /// The trips in number order, at most 2,000.
+    /// The trips in number order, at most `most`.
     pub trips: Vec<Trip>,
+    /// How many trips there may be, and how many vehicles in a layer: 2,000 for a text of version 1 or 2, else 10,000.
+    pub most: u32,
 }
 
 /// A drive without passengers from one stop to another, in this direction.

@@ -3,19 +3,20 @@
 ghost use Rattle.std.specs.Prelude.{◌≡◌, ◌≤◌, length};
 ghost use Rattle.vs_instance.specs.Misfits.{first_misfit, is_no_stay, layer_misfits, layers_misfits, trip_misfits, trips_misfits};
 
+use crate::dearest::is_too_dear;
 use crate::layer::Layer;
-use crate::limits::{
-    MAX_FIXED, MAX_FLEET, MAX_METRES, MAX_PER_METRE, MAX_PER_MINUTE, MAX_STAY, MAX_TRIPS,
-};
+use crate::limits::{MAX_FIXED, MAX_METRES, MAX_PER_METRE, MAX_PER_MINUTE, MAX_STAY, MAX_TRIPS};
 use crate::misfit::{Field, Misfit, Place};
 use crate::trip::Trip;
 use vs_types::{LayerNo, MAX_LAYERS, TripNo};
 
-fn layer_misfit(l: LayerNo, layer: &Layer) -> Option<Misfit>
-    ensures { result ≡ first_misfit (layer_misfits l.0 layer.now) }
+/// The first error of a layer, where a fleet has so many vehicles at most and there are so many trips.
+fn layer_misfit(l: LayerNo, layer: &Layer, most: u32, trips: u32) -> Option<Misfit>
+    requires { trips ≤ MAX_TRIPS }
+    ensures { result ≡ first_misfit (layer_misfits most trips l.0 layer.now) }
 {
     let place = Place::Layer(l);
-    if layer.fleet > MAX_FLEET {
+    if layer.fleet > u64::from(most) {
         Some(Misfit::Range(Field::Fleet, place))
     } else if layer.fixed > MAX_FIXED {
         Some(Misfit::Range(Field::Fixed, place))
@@ -25,6 +26,8 @@ fn layer_misfit(l: LayerNo, layer: &Layer) -> Option<Misfit>
         Some(Misfit::Range(Field::PerMetre, place))
     } else if is_out_of_range(layer.stay) {
         Some(Misfit::Range(Field::Stay, place))
+    } else if is_too_dear(trips, layer) {
+        Some(Misfit::TooDear(l))
     } else {
         None
     }
@@ -40,13 +43,15 @@ fn is_out_of_range(stay: Option<u64>) -> bool
     }
 }
 
-/// The first error of the layers, in number order.
-pub fn layers_misfit(layers: &[Layer]) -> Option<Misfit>
-    requires { length layers.now ≤ MAX_LAYERS }
-    ensures { result ≡ first_misfit (layers_misfits layers.now) }
+/// The first error of the layers, in number order. A fleet has so many vehicles at most.
+pub fn layers_misfit(layers: &[Layer], trips: &[Trip], most: u32) -> Option<Misfit>
+    requires layers { length layers.now ≤ MAX_LAYERS }
+    requires trips { length trips.now ≤ MAX_TRIPS }
+    ensures { result ≡ first_misfit (layers_misfits most (length trips.now) layers.now) }
 {
+    let count = trips.len() as u32;
     for (l, layer) in layers.iter().enumerate() {
-        if let Some(misfit) = layer_misfit(LayerNo(l as u32), layer) {
+        if let Some(misfit) = layer_misfit(LayerNo(l as u32), layer, most, count) {
             return Some(misfit);
         }
     }

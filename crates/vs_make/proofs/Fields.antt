@@ -69,9 +69,9 @@ lettered letter k = letter ∷ decimal (k + 1)
 abbrev pub IsCapital : ℕ → Type 0
 IsCapital b = (65 ≤ b) × (b ≤ 90)
 
-pub lettered_name : (letter k : ℕ) → IsCapital letter → k < 5000 → IsName (lettered letter k)
+pub lettered_name : (letter k : ℕ) → IsCapital letter → k < 10000 → IsName (lettered letter k)
 lettered_name letter k capital few =
-    let short = length-decimal-le_wide 4 (k + 1) (omega arith) (omega arith) (wide (k + 1) (omega arith)) in
+    let short = length-decimal-le_wide 5 (k + 1) (omega arith) (omega arith) (wide (k + 1) (omega arith)) in
     record {
       some = omega arith;
       few = omega (arith, short);
@@ -80,7 +80,7 @@ lettered_name letter k capital few =
           (all_digits (k + 1) (omega arith)));
     }
 
-pub one_lettered : (letter j k : ℕ) → j < 5000 → k < 5000 → lettered letter j ≡ lettered letter k → j ≡ k
+pub one_lettered : (letter j k : ℕ) → j < 10000 → k < 10000 → lettered letter j ≡ lettered letter k → j ≡ k
 one_lettered letter j k few also same =
     let digits : decimal (j + 1) ≡ decimal (k + 1) = ap (drop 1) same in
     let next : j + 1 ≡ k + 1 =
@@ -97,7 +97,7 @@ named_in_order letter n k within =
     (get_or-map-range_with_len (lettered letter) 0 n k k (lettered letter k) within (omega arith))
 
 -- and the next one is new
-pub new_in_order : (letter n : ℕ) → n < 5000 → ¬ (Contains (map (lettered letter) (range_with_len 0 n))
+pub new_in_order : (letter n : ℕ) → n < 10000 → ¬ (Contains (map (lettered letter) (range_with_len 0 n))
     (lettered letter n))
 new_in_order letter n few among =
     let within : among.0 < n = omega (arith, among.1, length-map-range_with_len (lettered letter) 0 n) in

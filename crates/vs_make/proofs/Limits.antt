@@ -9,15 +9,20 @@ use Rattle.std.proofs.lemmas.Bool.{cases_eq, eq-eqb, false≢true, leb-true, ne_
 use Rattle.std.proofs.lemmas.List.{length-map, get_or-map}
 use Rattle.std.proofs.lemmas.List.Elements.{All-append, All-cons, All-filter, All-head, All-map, All-nil, All-tail, All-weaker, Contains-append_left, Contains-append_right, filter_passes}
 use Rattle.std.proofs.lemmas.List.FromFn.{get_or-range_with_len, length-map-range_with_len, length-range_with_len}
+use Rattle.std.proofs.lemmas.Nat.{mul-le}
 use Rattle.std.proofs.lemmas.Option.{none-some}
 use Rattle.vs_types.specs.LayerSet.{members}
 use Rattle.vs_types.proofs.CallerLemmas.{Contains-filter}
 use Rattle.vs_instance.specs.declared.parts.Deadhead.{Deadhead}
 use Rattle.vs_instance.specs.declared.way.Way.{Way}
 use Rattle.vs_instance.specs.Problem.{pair_cmp}
-use Rattle.vs_instance.specs.Instance.{IsClosed, IsDeadhead, IsInstance, IsLayer, IsNoLonger, IsTrip}
+use Rattle.vs_instance.specs.Dearest.{dearest}
+use Rattle.vs_instance.specs.Instance.{IsClosed, IsDeadhead, IsInstance, IsLayer, IsNoLonger, IsPayable, IsTrip}
 use Rattle.vs_instance.specs.Misfits.{are_twins, deadheads_of}
 use Rattle.vs_instance.proofs.CallerLemmas.{given_all, own_way}
+use Rattle.vs_reader.specs.declared.version.Version.{Version}
+use Rattle.vs_reader.specs.declared.version.Version.TheVariants.{One, Two, Three}
+use Rattle.vs_reader.specs.Versions.{most_in}
 use Rattle.vs_make.specs.declared.sequence.Draws.{Draws}
 use Rattle.vs_make.specs.Generator.{distance, draws, number_at}
 use Rattle.vs_make.specs.Made.{drawn_trip, made_deadhead, made_deadheads, made_deadheads_from, made_layer, made_layers, made_problem, made_trip}
@@ -168,7 +173,7 @@ is_some : (o : Option Way) (w : Way) (P : Way → Type 0) → o ≡ option.Some 
 is_some o w P is holds = subst (λ (x : Option Way). IsSomeAnd x P) (sym is) holds
 
 -- the instance
-module _ (n : ℕ) (few : n ≤ 2000) where
+module _ (n : ℕ) (few : n ≤ 10000) where
   deadhead_fits : (k s : ℕ) (w : Way) → IsMadeWay (k, s) w → IsDeadhead (made_problem n) k s w
   deadhead_fits k s w is =
       let steps = few_steps k s is.from is.to in
@@ -228,6 +233,33 @@ module _ (n : ℕ) (few : n ≤ 2000) where
   layers_fit = All-map (IsLayer (made_problem n)) (made_layer n) (range_with_len 0 4)
       (λ k d within. layer_fits (get_or (range_with_len 0 4) k d) (all_below 4 k d within))
 
+  few_trips : length (map (drawn_trip n) (range_with_len 0 n)) ≤ 10000
+  few_trips = omega (arith, length-map-range_with_len (drawn_trip n) 0 n)
+
+  layer_payable : (l : ℕ) → l < 4 → IsPayable (length (map (drawn_trip n) (range_with_len 0 n))) (made_layer n l)
+  layer_payable l below =
+      let trips : ℕ = length (map (drawn_trip n) (range_with_len 0 n)) in
+      let most = mul-le trips (dearest (made_layer n l)) 10000 2000000 few_trips (omega arith) in
+      omega (arith, most)
+
+  layers_payable : All (IsPayable (length (map (drawn_trip n) (range_with_len 0 n)))) (made_layers n)
+  unfolding made_layers
+  layers_payable =
+      All-map (IsPayable (length (map (drawn_trip n) (range_with_len 0 n)))) (made_layer n) (range_with_len 0 4)
+      (λ k d within. layer_payable (get_or (range_with_len 0 4) k d) (all_below 4 k d within))
+
+  -- no fleet is past the limit of the text's version
+  fleet_fits : (v : Version) → n ≤ most_in v → (l : ℕ) → (made_layer n l).fleet ≤ most_in v
+  fleet_fits One within l = omega (arith, within)
+  fleet_fits Two within l = omega (arith, within)
+  fleet_fits Three within l = omega (arith, within)
+
+  pub fleets_fit : (v : Version) → n ≤ most_in v → All (λ layer. layer.fleet ≤ most_in v) (made_layers n)
+  unfolding made_layers
+  fleets_fit v within =
+      All-map (λ layer. layer.fleet ≤ most_in v) (made_layer n) (range_with_len 0 4)
+      (λ k d within_list. fleet_fits v within (get_or (range_with_len 0 4) k d))
+
   four_layers : length (made_layers n) ≡ 4
   unfolding made_layers
   four_layers = refl
@@ -257,8 +289,9 @@ module _ (n : ℕ) (few : n ≤ 2000) where
   is_instance = record {
     few_stops = omega arith;
     few_layers = omega (arith, four_layers);
-    few_trips = omega (arith, length-map-range_with_len (drawn_trip n) 0 n);
+    few_trips = few_trips;
     layers = layers_fit;
+    payable = layers_payable;
     deadheads = λ k s. some_way (map.get (deadheads_of made_deadheads) (k, s)) (IsDeadhead (made_problem n) k s)
         (λ w is. deadhead_fits k s w (given (k, s) w is));
     trips = All-map (IsTrip (made_problem n)) (drawn_trip n) (range_with_len 0 n)

@@ -1,8 +1,8 @@
 -- A made text is an instance text: the lines of its records are read as these records, which declare the instance.
-use Rattle.std.proofs.Common.{◌≡◌, ℕ, ◌+◌, ◌<◌, ◌≤◌, Bool, true, false, cond, eqb, List, [], ◌∷◌, ◌++◌, length, map, append_assoc, refl, sym, ap, ◌∙◌, subst, arith}
-use Rattle.std.specs.Prelude.{All, flat_map}
+use Rattle.std.proofs.Common.{◌≡◌, ℕ, ◌+◌, ◌<◌, ◌≤◌, Bool, true, false, cond, eqb, List, [], ◌∷◌, ◌++◌, length, map, append_assoc, refl, sym, ap, ◌∙◌, subst, inl, inr, arith}
+use Rattle.std.specs.Prelude.{All, flat_map, nat_lt}
 use Rattle.std.specs.List.{join_with_byte, range_with_len}
-use Rattle.std.proofs.lemmas.Bool.{false≢true, ne_eqb}
+use Rattle.std.proofs.lemmas.Bool.{cases_lt, false≢true, le-ltb, lt-ltb, ne_eqb}
 use Rattle.std.proofs.lemmas.List.{drop_all}
 use Rattle.std.proofs.lemmas.List.Elements.{All-append, All-cons, All-head, All-nil, All-tail, All-weaker}
 use Rattle.csv.specs.Machine.{next_record, step, ends_with, after_end, in_field, start_field, start_record}
@@ -13,19 +13,21 @@ use Rattle.csv.specs.declared.parser.State.{State}
 use Rattle.csv.specs.declared.parser.State.TheVariants as st
 use Rattle.csv.specs.declared.parser.Terminator.TheVariants as term
 use Rattle.vs_instance.specs.Misfits.{deadheads_of}
-use Rattle.vs_reader.specs.declared.version.Version.TheVariants.{One}
+use Rattle.vs_instance.specs.declared.limits.TheConstants.{USUAL_TRIPS}
+use Rattle.vs_reader.specs.declared.version.Version.{Version}
+use Rattle.vs_reader.specs.declared.version.Version.TheVariants.{One, Two, Three}
 use Rattle.vs_reader.specs.Names.{Names}
 use Rattle.vs_reader.specs.InstanceText.{AddAll, Declared, instance_records, nothing_yet}
 use Rattle.vs_reader.specs.Rows.{Field, IsPlain, IsPlainRow, Row, line, lines}
 use Rattle.vs_reader.specs.Texts.{EndsInLine, HasRows, is_between, state_after}
-use Rattle.vs_reader.specs.Versions.{header}
+use Rattle.vs_reader.specs.Versions.{header, most_in, writes_stay}
 use Rattle.vs_reader.proofs.CallerLemmas.{lines_behind}
 use Rattle.vs_make.specs.declared.grid.TheConstants.{STOPS, DEPOTS}
-use Rattle.vs_make.specs.Generator.{deadheads_from, drawn_row, layer_name, layer_row, make_rows, stop_name, stop_row}
+use Rattle.vs_make.specs.Generator.{deadheads_from, drawn_row, layer_name, layer_row, made_version, make_rows, stop_name, stop_row}
 use Rattle.vs_make.specs.Made.{IsWholeText, depot_names, drawn_trip, made_deadheads, made_layers, made_names, made_problem, stop_names}
 use Rattle.vs_make.proofs.Fields.{named_in_order}
 use Rattle.vs_make.proofs.Declaring.{added_both, all_stops, deadheads_added, layers_added, stops_added, trips_added}
-use Rattle.vs_make.proofs.Limits.{is_instance, once}
+use Rattle.vs_make.proofs.Limits.{fleets_fit, is_instance, once}
 use Rattle.vs_make.proofs.Plain.{IsMadeRow, made_layer_rows, made_links, made_stops, made_trips, none_is_result}
 use Rattle.vs_rows.proofs.CallerLemmas.{all_below}
 
@@ -119,20 +121,38 @@ after_lines (row ∷ rows) plain =
     (quiet_row row (All-head IsPlainRow row rows plain).plain)
     ∙ after_lines rows (All-tail IsPlainRow row rows plain)
 
--- records behind the header of version 1, read from their lines
-header_read : HasRows (line (header One)) (header One ∷ [])
+-- records behind the header, read from their lines
+header_read : (v : Version) → HasRows (line (header v)) (header v ∷ [])
 unfolding next_record Reached strip_bom
-header_read = (st.StartRecord, [], ((header One, st.StartRecord, []), refl, refl, (refl, refl)), refl)
+header_read One = (st.StartRecord, [], ((header One, st.StartRecord, []), refl, refl, (refl, refl)), refl)
+header_read Two = (st.StartRecord, [], ((header Two, st.StartRecord, []), refl, refl, (refl, refl)), refl)
+header_read Three = (st.StartRecord, [], ((header Three, st.StartRecord, []), refl, refl, (refl, refl)), refl)
 
-header_ends : EndsInLine (line (header One))
+header_ends : (v : Version) → EndsInLine (line (header v))
 unfolding strip_bom
-header_ends = refl
+header_ends One = refl
+header_ends Two = refl
+header_ends Three = refl
 
-all_ends : (rows : List Row) → All IsPlainRow rows → EndsInLine (line (header One) ++ lines rows)
+all_ends : (v : Version) (rows : List Row) → All IsPlainRow rows → EndsInLine (line (header v) ++ lines rows)
 unfolding strip_bom
-all_ends rows plain = ap is_between (after_lines rows plain)
+all_ends One rows plain = ap is_between (after_lines rows plain)
+all_ends Two rows plain = ap is_between (after_lines rows plain)
+all_ends Three rows plain = ap is_between (after_lines rows plain)
 
-module _ (n : ℕ) (few : n ≤ 2000) where
+-- the version of the text of n trips has room for them, and its layers write no least rest
+version_has_room : (n : ℕ) → n ≤ 10000 → n ≤ most_in (made_version n)
+version_has_room n few =
+    elim (cases_lt USUAL_TRIPS n) [
+      | inl many ↦ subst (λ (b : Bool). n ≤ most_in (cond b Three One)) (sym (lt-ltb USUAL_TRIPS n many)) few
+      | inr usual ↦ subst (λ (b : Bool). n ≤ most_in (cond b Three One)) (sym (le-ltb USUAL_TRIPS n usual)) usual
+    ]
+
+version_no_stay : (n : ℕ) → writes_stay (made_version n) 7 ≡ false
+version_no_stay n =
+    elim (nat_lt USUAL_TRIPS n) as (λ b. writes_stay (cond b Three One) 7 ≡ false) [ true ↦ refl | false ↦ refl ]
+
+module _ (n : ℕ) (few : n ≤ 10000) (v : Version) (room : n ≤ most_in v) (no_stay : writes_stay v 7 ≡ false) where
   -- the records behind the header, kind by kind
   records : (ks ls : List ℕ) → List Row
   records ks ls = map stop_row ks ++ (flat_map deadheads_from ks
@@ -167,7 +187,7 @@ module _ (n : ℕ) (few : n ≤ 2000) where
   four_names = refl
 
   declares : (ks ls : List ℕ) → ks ≡ range_with_len 0 12 → ls ≡ range_with_len 0 4
-      → AddAll One nothing_yet (records ks ls) declared
+      → AddAll v nothing_yet (records ks ls) declared
   unfolding records
   declares ks ls stops layers =
       let mid : Declared = record {
@@ -182,11 +202,13 @@ module _ (n : ℕ) (few : n ≤ 2000) where
         layers = made_layers n;
         trips = [];
       } in
-      added_both nothing_yet all_stops declared (map stop_row ks) _ (stops_added ks stops)
-      (added_both all_stops mid declared (flat_map deadheads_from ks) _ (deadheads_added stop_names stop_named ks stops)
-      (added_both mid fleets declared (map (layer_row n) ls) (map (drawn_row n) (range_with_len 0 n))
-      (layers_added stop_names stop_named n few made_deadheads ls layers)
-      (trips_added stop_names stop_named n few made_deadheads depot_names (made_layers n) layer_named four_names)))
+      added_both v no_stay nothing_yet all_stops declared (map stop_row ks) _ (stops_added v no_stay ks stops)
+      (added_both v no_stay all_stops mid declared (flat_map deadheads_from ks) _
+      (deadheads_added v no_stay stop_names stop_named ks stops)
+      (added_both v no_stay mid fleets declared (map (layer_row n) ls) (map (drawn_row n) (range_with_len 0 n))
+      (layers_added v no_stay stop_names stop_named n few room made_deadheads ls layers)
+      (trips_added v no_stay stop_names stop_named n few room made_deadheads depot_names (made_layers n)
+      layer_named four_names)))
 
   problem_is : made_problem n ≡ record {
     stops = length stop_names;
@@ -197,40 +219,53 @@ module _ (n : ℕ) (few : n ≤ 2000) where
   unfolding stop_names
   problem_is = refl
 
-  made_from : (rows : List Row) → All IsMadeRow rows → AddAll One nothing_yet rows declared
-      → IsWholeText (lines (header One ∷ rows)) (made_problem n) (made_names n)
+  made_from : (rows : List Row) → All IsMadeRow rows → AddAll v nothing_yet rows declared
+      → IsWholeText (lines (header v ∷ rows)) (made_problem n) (made_names n)
   made_from rows made all =
       let plain = All-weaker IsMadeRow IsPlainRow (λ row is. is.plain) rows made in
-      let same : instance_records (header One ∷ rows) ≡ rows = none_is_result rows made in
-      let before : ℕ = length (instance_records (header One ∷ rows)) + 1 in
-      let whole : length (header One ∷ rows) ≤ before = omega (arith, ap length same) in
+      let same : instance_records (header v ∷ rows) ≡ rows = none_is_result rows made in
+      let before : ℕ = length (instance_records (header v ∷ rows)) + 1 in
+      let whole : length (header v ∷ rows) ≤ before = omega (arith, ap length same) in
       record {
         before = before;
         stands = record {
-          rows = header One ∷ rows;
-          has_rows = lines_behind (line (header One)) (header One ∷ []) rows One header_read refl header_ends plain;
+          rows = header v ∷ rows;
+          has_rows = lines_behind (line (header v)) (header v ∷ []) rows v (header_read v) refl (header_ends v) plain;
           text = record {
-            version = One;
+            version = v;
             first = refl;
             declared = declared;
-            declares = subst (λ (rs : List Row). AddAll One nothing_yet rs declared) (sym same) all;
-            makes = record { once = once; problem = problem_is; instance = is_instance n few };
+            declares = subst (λ (rs : List Row). AddAll v nothing_yet rs declared) (sym same) all;
+            makes = record {
+              once = once;
+              fleets = fleets_fit n few v room;
+              problem = problem_is;
+              instance = is_instance n few;
+            };
             names_are = refl;
             before_is = refl;
-            rest_is = sym (drop_all before (header One ∷ rows) whole);
+            rest_is = sym (drop_all before (header v ∷ rows) whole);
           };
         };
-        ends = all_ends rows plain;
+        ends = all_ends v rows plain;
       }
 
-  made_rows_are : header One ∷ records (range_with_len 0 STOPS) (range_with_len 0 DEPOTS) ≡ make_rows n
+  made_rows_are : header v ∷ records (range_with_len 0 STOPS) (range_with_len 0 DEPOTS)
+      ≡ header v ∷ map stop_row (range_with_len 0 STOPS) ++ flat_map deadheads_from (range_with_len 0 STOPS)
+      ++ map (layer_row n) (range_with_len 0 DEPOTS) ++ map (drawn_row n) (range_with_len 0 n)
   unfolding records
   made_rows_are = refl
 
-  -- the text that is made
-  pub made_text : IsWholeText (lines (make_rows n)) (made_problem n) (made_names n)
-  made_text =
+  -- the text of this version
+  text_of : IsWholeText (lines (header v ∷ map stop_row (range_with_len 0 STOPS)
+      ++ flat_map deadheads_from (range_with_len 0 STOPS) ++ map (layer_row n) (range_with_len 0 DEPOTS)
+      ++ map (drawn_row n) (range_with_len 0 n))) (made_problem n) (made_names n)
+  text_of =
       let ks : List ℕ = range_with_len 0 STOPS in
       let ls : List ℕ = range_with_len 0 DEPOTS in
       subst (λ (rows : List Row). IsWholeText (lines rows) (made_problem n) (made_names n)) made_rows_are
       (made_from (records ks ls) (all_made ks ls (all_below 12) (all_below 4)) (declares ks ls refl refl))
+
+-- the text that is made
+pub made_text : (n : ℕ) → n ≤ 10000 → IsWholeText (lines (make_rows n)) (made_problem n) (made_names n)
+made_text n few = text_of n few (made_version n) (version_has_room n few) (version_no_stay n)

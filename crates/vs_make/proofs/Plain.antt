@@ -14,7 +14,7 @@ use Rattle.vs_make.proofs.Fields.{IsCapital, lettered}
 use Rattle.vs_make.proofs.Draws.{IsDrawn, all_drawn, depot_below, few_driven, few_metres, few_minutes, few_steps}
 use Rattle.vs_make.proofs.LayersNamed.{members_below}
 
-plain_lettered : (letter k : ℕ) → IsCapital letter → k < 5000 → IsPlainField (lettered letter k)
+plain_lettered : (letter k : ℕ) → IsCapital letter → k < 10000 → IsPlainField (lettered letter k)
 plain_lettered letter k capital few =
     All-cons IsPlain letter (decimal (k + 1)) (plain_from letter (omega (arith, capital.0)))
     (plain_decimal (k + 1) (omega arith))
@@ -62,7 +62,7 @@ made_link k s from to =
       no_result = refl;
     }
 
-made_layer_row : (n l : ℕ) → n ≤ 2000 → l < 4 → IsMadeRow (layer_row n l)
+made_layer_row : (n l : ℕ) → n ≤ 10000 → l < 4 → IsMadeRow (layer_row n l)
 made_layer_row n l few below =
     let fleet : Field = decimal (n / 4 + 8) in
     let fixed : Field = decimal (50000 + 2000 * l) in
@@ -82,7 +82,7 @@ made_layer_row n l few below =
       no_result = refl;
     }
 
-made_trip_row : (i : ℕ) (d : Draws) → i < 2000 → IsDrawn d → IsMadeRow (trip_row i d)
+made_trip_row : (i : ℕ) (d : Draws) → i < 10000 → IsDrawn d → IsMadeRow (trip_row i d)
 made_trip_row i d few is =
     let steps = few_steps d.from d.to is.from is.to in
     let name : Field = numbered (codes "T") i in
@@ -125,11 +125,11 @@ made_links (k ∷ ks) below =
     All-append IsMadeRow (deadheads_from k) (flat_map deadheads_from ks)
     (links_from k (All-head (λ j. j < 12) k ks below)) (made_links ks (All-tail (λ j. j < 12) k ks below))
 
-pub made_layer_rows : (n : ℕ) (ls : List ℕ) → n ≤ 2000 → All (λ l. l < 4) ls → All IsMadeRow (map (layer_row n) ls)
+pub made_layer_rows : (n : ℕ) (ls : List ℕ) → n ≤ 10000 → All (λ l. l < 4) ls → All IsMadeRow (map (layer_row n) ls)
 made_layer_rows n ls few below =
     All-map IsMadeRow (layer_row n) ls (λ i x within. made_layer_row n (get_or ls i x) few (below i x within))
 
-pub made_trips : (n : ℕ) → n ≤ 2000 → All IsMadeRow (map (drawn_row n) (range_with_len 0 n))
+pub made_trips : (n : ℕ) → n ≤ 10000 → All IsMadeRow (map (drawn_row n) (range_with_len 0 n))
 made_trips n few =
     All-map IsMadeRow (drawn_row n) (range_with_len 0 n) (λ k x within.
     let i : ℕ = get_or (range_with_len 0 n) k x in

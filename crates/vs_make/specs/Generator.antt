@@ -8,7 +8,11 @@ use Rattle.vs_types.specs.LayerSet.{members}
 use Rattle.vs_make.specs.declared.grid.TheConstants.{STOPS, DEPOTS}
 use Rattle.vs_make.specs.declared.sequence.Draws.{Draws}
 use Rattle.vs_make.specs.declared.sequence.TheConstants.{MULTIPLIER, MODULUS}
+use Rattle.vs_instance.specs.declared.limits.TheConstants.{USUAL_TRIPS}
+use Rattle.vs_reader.specs.declared.version.Version.{Version}
+use Rattle.vs_reader.specs.declared.version.Version.TheVariants.{One, Three}
 use Rattle.vs_reader.specs.Rows.{Field, Row}
+use Rattle.vs_reader.specs.Versions.{header}
 use Rattle.vs_rows.specs.Fields.{numbered, time_field}
 
 -- Stops stand in three rows of four, numbered from 0. How far two of them are apart: the difference in x and that in y
@@ -83,8 +87,12 @@ trip_row i d =
 abbrev pub drawn_row : ℕ → ℕ → Row
 drawn_row n i = trip_row i (draws (number_at (n + 1) (5 * i)))
 
+-- the version of the text of n trips: the first up to the limit of that version, and beyond it the third
+abbrev pub made_version : ℕ → Version
+made_version n = if nat_lt USUAL_TRIPS n then Three else One
+
 -- the rows of the instance of n trips
 abbrev pub make_rows : ℕ → List Row
-make_rows n = (codes "instance" ∷ codes "1" ∷ []) ∷ map stop_row (range_with_len 0 STOPS)
+make_rows n = header (made_version n) ∷ map stop_row (range_with_len 0 STOPS)
     ++ flat_map deadheads_from (range_with_len 0 STOPS) ++ map (layer_row n) (range_with_len 0 DEPOTS)
     ++ map (drawn_row n) (range_with_len 0 n)

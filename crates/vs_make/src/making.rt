@@ -3,14 +3,15 @@
 
 ghost use Rattle.std.specs.Prelude.{◌≡◌, ◌<◌, ◌≤◌, [], ◌∷◌, ◌++◌, codes, map, flat_map, IfOk, OnOk};
 ghost use Rattle.std.specs.List.{range_with_len};
-ghost use Rattle.vs_make.specs.Generator.{deadhead_row, deadheads_from, depot_of, drawn_row, layer_name, layer_names, layer_row, make_rows, stop_name, stop_row, trip_row};
+ghost use Rattle.vs_make.specs.Generator.{deadhead_row, deadheads_from, depot_of, drawn_row, layer_name, layer_names, layer_row, made_version, make_rows, stop_name, stop_row, trip_row};
 ghost use Rattle.vs_reader.specs.Rows.{fields, line, lines};
+ghost use Rattle.vs_reader.specs.Versions.{header, version_name};
 ghost use Rattle.vs_rows.specs.Fields.{numbered, time_field};
 
 use crate::grid::{DEPOTS, STOPS, depot_of, distance};
 use crate::sequence::{Draws, Sequence};
 use std::alloc::Global;
-use vs_instance::{MAX_LAYERS, MAX_TRIPS};
+use vs_instance::{MAX_LAYERS, MAX_TRIPS, USUAL_TRIPS};
 use vs_rows::Text;
 use vs_types::{LayerNo, LayerSet, Memory};
 
@@ -20,7 +21,7 @@ pub fn make_text(alloc: Global, n: u32) -> Result<Vec<u8>, Memory>
     ensures { IfOk result (λ bytes. bytes.items ≡ lines (make_rows n)) }
 {
     let mut text = Text::new(alloc);
-    write_header(&mut text)?;
+    write_header(&mut text, n)?;
     write_stops(&mut text)?;
     write_deadheads(&mut text)?;
     write_layers(&mut text, n)?;
@@ -28,13 +29,20 @@ pub fn make_text(alloc: Global, n: u32) -> Result<Vec<u8>, Memory>
     Ok(text.into_bytes())
 }
 
-/// Writes the first row.
-fn write_header(text: &mut Text) -> Result<(), Memory>
-    ensures { OnOk result (text.new ≡ text.old ++ line (codes "instance" ∷ codes "1" ∷ [])) }
+/// Writes the first row, which says the version of an instance of n trips.
+fn write_header(text: &mut Text, n: u32) -> Result<(), Memory>
+    ensures { OnOk result (text.new ≡ text.old ++ line (header (made_version n))) }
 {
     text.begin_row("instance")?;
-    text.field("1")?;
+    text.field(made_version(n))?;
     text.end_row()
+}
+
+/// The number of the version: 1 up to 2,000 trips, and 3 beyond.
+fn made_version(n: u32) -> &'static str
+    ensures { result.now ≡ version_name (made_version n) }
+{
+    if n <= USUAL_TRIPS { "1" } else { "3" }
 }
 
 /// Writes a row for each stop.

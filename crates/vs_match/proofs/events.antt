@@ -5,3 +5,4 @@ pub mod Places
 pub mod AtStop
 pub mod ByStop
 pub mod LeastTrips
+pub mod FewPoints

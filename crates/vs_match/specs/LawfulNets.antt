@@ -1,7 +1,8 @@
 -- The nets that every search rests on: their walks are the connections, by whichever matching they were made.
-use Rattle.std.specs.Prelude.{◌≡◌, ℕ, ◌<◌, List, length, pos, ◌≤ℤ◌}
+use Rattle.std.specs.Prelude.{◌≡◌, ℕ, ◌+◌, ◌*◌, ◌<◌, ◌≤◌, List, length, nat_abs, pos, ◌≤ℤ◌}
 use Rattle.vs_layer.specs.declared.arc.Arc.{Arc}
 use Rattle.vs_layer.specs.Graph.{IsNet, arc_of}
+use Rattle.vs_instance.specs.declared.limits.TheConstants.{MAX_DEAREST_SUM}
 use Rattle.vs_instance.specs.Problem.{Problem}
 use Rattle.vs_instance.specs.Ways.{layer_of}
 use Rattle.vs_match.specs.declared.event.Event.{Event}
@@ -21,10 +22,15 @@ IsAtStop points v = (e : Event) × HasPlace points v e
 abbrev pub IsOnLine : List Point → ℕ → Type 0
 IsOnLine points v = (minute : ℕ) × HasLine points v minute
 
+-- as many such arcs as there are trips don't cost too much; costs are in 1/1000 of a cost unit
+abbrev pub IsPayableArc : Problem → Arc → Type 0
+IsPayableArc p a = length p.trips * nat_abs a.cost ≤ 1000 * MAX_DEAREST_SUM
+
 -- an arc that every vehicle of the layer may take at once, and that costs nothing less than nothing
 pub record IsFreeArc (p : Problem) (l : ℕ) (a : Arc) : Type 0 where
   pub no_gain : pos 0 ≤ℤ a.cost
   pub limit : a.cost ≤ℤ MAX_ARC_COST
+  pub payable : IsPayableArc p a
   pub room : a.room ≡ (layer_of p l).fleet
 
 -- where an arc of this kind begins and ends, and what it takes and costs
@@ -44,6 +50,7 @@ pub record IsLawful (p : Problem) (l : ℕ) (n : LayerGraph) : Type 0 where
   pub layer : l < length p.layers
   pub net : IsNet n.graph
   pub labelled : IsLabelled n
+  pub few_nodes : n.graph.nodes ≤ 3 * length p.trips + 2
   pub arcs : (k : ℕ) → k < length n.graph.arcs → IsLawfulArc p l n.points (kind_of n k) (arc_of n.graph k)
   pub each_trip : (i : ℕ) → MayRun p l i → (k : ℕ) × IsArcOfTrip n.kinds i k
   pub one_arc : (i j k : ℕ) → IsArcOfTrip n.kinds i j → IsArcOfTrip n.kinds i k → j ≡ k

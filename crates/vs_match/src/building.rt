@@ -17,12 +17,13 @@ use crate::nodes::{Nodes, nodes_of};
 use crate::rates::fleet;
 use crate::rests::push_rest_waits;
 use crate::sorting::{by_ends, put_in_order};
+use crate::stop_node::{StopNode, at_stop, by_stop};
 use crate::trip_arcs::push_trips;
 use crate::waiting::push_waiting;
 use std::alloc::Global;
 use vs_instance::Instance;
 use vs_layer::MAX_ARCS;
-use vs_types::{LayerNo, Memory};
+use vs_types::{LayerNo, Memory, StopNo};
 
 /// The net of a layer by this matching.
 pub fn build(
@@ -55,7 +56,8 @@ fn arcs_of(
         AreArcs instance.now l.0 matching nodes.now.points.items arcs.items) }
     ensures few { IfOk result (λ arcs. length arcs.items ≤ MAX_ARCS) }
 {
-    let mut arcs = Vec::with_capacity(alloc, most_deadheads(instance, nodes))?;
+    let most = most_deadheads(alloc, instance, l, matching, nodes)?;
+    let mut arcs = Vec::with_capacity(alloc, most)?;
     push_trips(instance, l, nodes, &mut arcs)?;
     push_waiting(instance, l, nodes, &mut arcs)?;
     push_deadheads(instance, l, matching, nodes, &mut arcs)?;
@@ -67,12 +69,57 @@ fn arcs_of(
     Ok(ordered)
 }
 
-/// From each arrival one deadhead leads to each stop at most.
-fn most_deadheads(instance: &Instance, nodes: &Nodes) -> usize {
-    nodes
-        .arrivals
-        .len()
-        .saturating_mul(instance.stops() as usize)
+/// How many deadheads a layer has at most by this matching. It decides only how much room the arcs are given first.
+fn most_deadheads(
+    alloc: Global,
+    instance: &Instance,
+    l: LayerNo,
+    matching: Matching,
+    nodes: &Nodes,
+) -> Result<usize, Memory>
+    requires layer { l.0 < length instance.now.layers }
+    requires nodes { AreNodes instance.now l.0 nodes.now }
+{
+    let departures = by_stop(alloc, &nodes.departures, instance.stops())?;
+    let mut most: usize = 0;
+    for stop in 0..instance.stops() {
+        let from = StopNo(stop);
+        let arrivals = at_stop(&nodes.arrivals, from).len();
+        let here = most_from(instance, matching, from, arrivals, &departures);
+        most = most.saturating_add(here);
+    }
+    Ok(most)
+}
+
+/// How many deadheads lead from a stop at most that has so many arrivals: by first match one from each arrival to each
+/// stop with departures, and by latest first match no more than that stop has departures.
+fn most_from(
+    instance: &Instance,
+    matching: Matching,
+    from: StopNo,
+    arrivals: usize,
+    departures: &[&[StopNode]],
+) -> usize
+    requires from { from.0 < instance.now.stops }
+    requires departures { length departures.now ≡ instance.now.stops }
+{
+    let mut most: usize = 0;
+    for to in 0..instance.stops() {
+        if from.0 != to && instance.way(from, StopNo(to)).is_some() {
+            let there = departures[to as usize].len();
+            most = most.saturating_add(most_between(matching, arrivals, there));
+        }
+    }
+    most
+}
+
+/// How many deadheads lead at most from a stop with so many arrivals to one with so many departures.
+fn most_between(matching: Matching, arrivals: usize, departures: usize) -> usize {
+    match matching {
+        Matching::First if departures == 0 => 0,
+        Matching::First => arrivals,
+        Matching::Latest => arrivals.min(departures),
+    }
 }
 
 fn return_arc(instance: &Instance, l: LayerNo, last: u32) -> LayerArc

@@ -8,7 +8,7 @@ use crate::twice::twice_words;
 use crate::unknown::unknown_words;
 use csv::ByteRecord;
 use std::alloc::Global;
-use vs_instance::{MAX_STOPS, MAX_TRIPS};
+use vs_instance::{MAX_DEAREST_SUM, MAX_STOPS, USUAL_TRIPS};
 use vs_reader::{Kind, Version, field, is_text};
 use vs_types::{MAX_LAYERS, Memory};
 
@@ -40,7 +40,8 @@ pub fn instance_words(
         return sentence(alloc, "unknown kind of record: \"%\"", &[Part::of(at, 0)]);
     };
     if is_text(name, "Range") {
-        return range_words(alloc, field(row, 4), kind, at);
+        let most = most_of(version_of(alloc, input)?);
+        return range_words(alloc, field(row, 4), kind, most, at);
     }
     let number = number_in(row, 1);
     let refusal = Refusal {
@@ -57,7 +58,7 @@ fn header_words(alloc: Global, at: &ByteRecord) -> Result<String, Memory> {
     let words = if at.is_empty() {
         "the text is empty"
     } else {
-        "it isn't instance,1 or instance,2: is this a spreadsheet's export?"
+        "it isn't instance,1, instance,2 or instance,3: is this a spreadsheet's export?"
     };
     sentence(alloc, words, &[])
 }
@@ -74,13 +75,16 @@ fn record_words(alloc: Global, name: &[u8], refusal: &Refusal<'_>) -> Result<Str
         return unknown_words(alloc, refusal);
     }
     if is_text(name, "TooMany") {
-        return many_words(alloc, refusal.kind);
+        return many_words(alloc, refusal);
     }
     if is_text(name, "EndNotAfterStart") {
         return time_words(alloc, refusal.at);
     }
     if is_text(name, "SelfDeadhead") || is_text(name, "DeadheadTwice") {
         return deadhead_words(alloc, refusal);
+    }
+    if is_text(name, "TooDear") {
+        return dear_words(alloc, refusal.at);
     }
     form_words(alloc, name, refusal)
 }
@@ -105,26 +109,50 @@ fn count_words(alloc: Global, refusal: &Refusal<'_>) -> Result<String, Memory> {
     )
 }
 
-/// How many fields a layer has in a text of this version.
+/// How many fields a layer has in this text.
 fn layer_fields(alloc: Global, input: &[u8]) -> Result<&'static str, Memory> {
-    let header = record_at(alloc, input, 1)?.unwrap_or(ByteRecord::new(alloc));
-    match Version::of(&header) {
+    match version_of(alloc, input)? {
         Some(Version::Two) => Ok("8"),
+        Some(Version::Three) => Ok("7 or 8"),
         _ => Ok("7"),
     }
 }
 
+/// The version that the first record of a text says. None where it says none.
+fn version_of(alloc: Global, input: &[u8]) -> Result<Option<Version>, Memory> {
+    let header = record_at(alloc, input, 1)?.unwrap_or(ByteRecord::new(alloc));
+    Ok(Version::of(&header))
+}
+
+/// How many trips a text of this version has at most, and how many vehicles a layer.
+fn most_of(version: Option<Version>) -> u32 {
+    match version {
+        Some(version) => version.most(),
+        None => USUAL_TRIPS,
+    }
+}
+
 /// The words for one stop, layer or trip too many.
-fn many_words(alloc: Global, kind: Kind) -> Result<String, Memory> {
+fn many_words(alloc: Global, refusal: &Refusal<'_>) -> Result<String, Memory> {
+    let kind = refusal.kind;
     let most = match kind {
         Kind::Layer => MAX_LAYERS,
-        Kind::Trip => MAX_TRIPS,
+        Kind::Trip => most_of(version_of(alloc, refusal.input)?),
         Kind::Stop | Kind::Deadhead => MAX_STOPS,
     };
     sentence(
         alloc,
         "one % too many: there may be %",
         &[Part::Word(kind.name()), Part::Number(u64::from(most))],
+    )
+}
+
+/// The words for a layer whose dearest piece is too dear for so many trips.
+fn dear_words(alloc: Global, at: &ByteRecord) -> Result<String, Memory> {
+    sentence(
+        alloc,
+        "layer % is too dear: trips times fixed + 2880 per_minute + 1000000 per_metre may be % at most",
+        &[Part::of(at, 1), Part::Number(MAX_DEAREST_SUM)],
     )
 }
 

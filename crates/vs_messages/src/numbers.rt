@@ -3,9 +3,7 @@
 use crate::sentence::{Part, sentence};
 use csv::ByteRecord;
 use std::alloc::Global;
-use vs_instance::{
-    MAX_FIXED, MAX_FLEET, MAX_METRES, MAX_MINUTES, MAX_PER_METRE, MAX_PER_MINUTE, MAX_STAY,
-};
+use vs_instance::{MAX_FIXED, MAX_METRES, MAX_MINUTES, MAX_PER_METRE, MAX_PER_MINUTE, MAX_STAY};
 use vs_reader::{Kind, is_text};
 use vs_types::Memory;
 
@@ -17,10 +15,9 @@ struct Range {
     most: u64,
 }
 
-/// The names of numbers, their places in their records, and the least and the most that they may be. Metres are left
-/// out: they stand elsewhere in a trip than in a deadhead.
+/// The names of numbers, their places in their records, and the least and the most that they may be. The fleet is left
+/// out, since the version limits it, and so are metres: they stand elsewhere in a trip than in a deadhead.
 const NUMBERS: &[(&str, usize, u64, u64)] = &[
-    ("fleet", 3, 0, MAX_FLEET),
     ("fixed", 4, 0, MAX_FIXED),
     ("per_minute", 5, 0, MAX_PER_MINUTE),
     ("per_metre", 6, 0, MAX_PER_METRE),
@@ -28,8 +25,16 @@ const NUMBERS: &[(&str, usize, u64, u64)] = &[
     ("minutes", 3, 1, MAX_MINUTES),
 ];
 
-/// The range of the number with this name in a record of this kind.
-fn range_of(name: &[u8], kind: Kind) -> Range {
+/// The range of the number with this name in a record of this kind, where a fleet has so many vehicles at most.
+fn range_of(name: &[u8], kind: Kind, fleet: u32) -> Range {
+    if is_text(name, "fleet") {
+        let most = u64::from(fleet);
+        return Range {
+            place: 3,
+            least: 0,
+            most,
+        };
+    }
     for &(of, place, least, most) in NUMBERS {
         if is_text(name, of) {
             return Range { place, least, most };
@@ -43,14 +48,16 @@ fn range_of(name: &[u8], kind: Kind) -> Range {
     }
 }
 
-/// The words for a number that is out of its range, by its name and the record in which it stands.
+/// The words for a number that is out of its range, by its name and the record in which it stands. A fleet has so many
+/// vehicles at most.
 pub fn range_words<'r>(
     alloc: Global,
     name: &'r [u8],
     kind: Kind,
+    fleet: u32,
     at: &'r ByteRecord,
 ) -> Result<String, Memory> {
-    let Range { place, least, most } = range_of(name, kind);
+    let Range { place, least, most } = range_of(name, kind, fleet);
     sentence(
         alloc,
         "% is %, and may be % to %",

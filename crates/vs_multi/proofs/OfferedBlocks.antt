@@ -1,5 +1,5 @@
 -- Blocks of trips that are offered are blocks of trips whose sets have the layer, and cost the same.
-use Rattle.std.proofs.Common.{◌≡◌, ℕ, ◌<◌, List, [], ◌∷◌, length, refl, sym, ap, ◌∙◌, subst, inl, inr, arith, Option, Some, None, ℤ}
+use Rattle.std.proofs.Common.{◌≡◌, ℕ, ◌<◌, List, [], ◌∷◌, length, refl, sym, ap, ◌∙◌, subst, inl, inr, arith, Option, Some, None, ℤ, pos, ◌≤ℤ◌}
 use Rattle.std.specs.Prelude.{IfSome, IsSome}
 use Rattle.std.specs.List.{All}
 use Rattle.std.proofs.lemmas.Bool.{cases_lt, false≢true}
@@ -10,6 +10,8 @@ use Rattle.vs_types.specs.declared.layer_set.LayerSet.{LayerSet}
 use Rattle.vs_types.specs.declared.numbers.LayerNo.{LayerNo}
 use Rattle.vs_types.specs.declared.numbers.TripNo.{TripNo}
 use Rattle.vs_types.specs.LayerSet.{Has}
+use Rattle.vs_instance.specs.declared.limits.TheConstants.{MAX_MULTIPLIER}
+use Rattle.vs_instance.specs.Dearest.{most_multiplier}
 use Rattle.vs_instance.specs.Problem.{Problem}
 use Rattle.vs_instance.specs.Lagrangian.{AreBlocksOf, IsBlockList, IsLow, IsLowOf, multiplier_of, paid_for, reduced_cost}
 use Rattle.vs_instance.specs.Plan.{LayerBlock, all_trips}
@@ -105,12 +107,24 @@ module _ (p : Problem) (sets : List LayerSet) (multipliers : List ℤ) (l : Laye
   are_offers restriction within = record {
     each_trip = are.each_trip;
     permitted = λ i offered. let has = offered_has i offered in restriction.permitted i l.0 has.0 has.1;
-    within = λ i. within_at i (offer_of offers i) refl;
+    within = λ i. weaker (offer_of offers i) (within_at i (offer_of offers i) refl);
+    payable = λ i. stronger (offer_of offers i) (within_at i (offer_of offers i) refl);
   }
     where
-      within_at : (i : ℕ) (o : Option ℤ) → offer_of offers i ≡ o → IfSome o IsMultiplier
+      weaker : (o : Option ℤ) → IfSome o (IsMultiplier (length p.trips))
+          → IfSome o (λ m. (pos 0 ≤ℤ m) × (m ≤ℤ MAX_MULTIPLIER))
+      weaker None is = tt
+      weaker (Some m) is = (is.0, is.1)
+
+      stronger : (o : Option ℤ) → IfSome o (IsMultiplier (length p.trips))
+          → IfSome o (λ m. m ≤ℤ pos (most_multiplier (length p.trips)))
+      stronger None is = tt
+      stronger (Some m) is = is.2
+
+      within_at : (i : ℕ) (o : Option ℤ) → offer_of offers i ≡ o → IfSome o (IsMultiplier (length p.trips))
       within_at i None is = tt
       within_at i (Some m) is =
           let has = offered_has i (subst (λ (o : Option ℤ). IsSome o) (sym is) refl) in
           let same : Some (multiplier_of multipliers i) ≡ Some m = sym ((are.each i has.0).offered has.1) ∙ is in
-          subst IsMultiplier (ap paid same) (within.within i)
+          subst (IsMultiplier (length p.trips)) (ap paid same)
+          (subst (λ (n : ℕ). IsMultiplier n (multiplier_of multipliers i)) within.each_trip (within.within i))

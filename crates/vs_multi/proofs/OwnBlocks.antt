@@ -1,12 +1,16 @@
 -- Blocks of one trip alone, and the cheapest of them.
-use Rattle.std.proofs.Common.{◌≡◌, ℕ, ◌+◌, ◌<◌, ◌≤◌, [], ◌∷◌, length, refl, sym, ap, ◌∙◌, subst, arith, Option, Some, None, ℤ, pos, ◌+ℤ◌, ◌*ℤ◌, ◌⊎◌, inl, inr, unwrap_or, negsuc, to_z, of_z, w64}
-use Rattle.std.specs.Prelude.{option_map, IsSome, IfSome}
+use Rattle.std.proofs.Common.{◌≡◌, ℕ, ◌+◌, ◌*◌, ◌<◌, ◌≤◌, max, [], ◌∷◌, length, refl, sym, ap, ◌∙◌, subst, arith, Option, Some, None, ℤ, pos, ◌+ℤ◌, ◌*ℤ◌, ◌⊎◌, inl, inr, unwrap_or, negsuc, to_z, of_z, w64}
+use Rattle.std.specs.Prelude.{option_map, IsSome, IfSome, nat_abs}
 use Rattle.std.specs.Int.{int_min}
 use Rattle.std.proofs.lemmas.Bool.{cases_lt, false≢true}
-use Rattle.std.proofs.lemmas.Int.{ints, clamps}
+use Rattle.std.proofs.Math.Nat.{le-div_iff_mul-le, le-max_right, max-eq_left, max-eq_right}
+use Rattle.std.proofs.lemmas.Int.{by_lt_z, clamps, ints}
+use Rattle.std.proofs.lemmas.Nat.{mul-le}
 use Rattle.std.proofs.lemmas.List.Sums.{sum_by-cons}
 use Rattle.vs_types.specs.declared.numbers.LayerNo.{LayerNo}
 use Rattle.vs_types.specs.declared.numbers.TripNo.{TripNo}
+use Rattle.vs_instance.specs.declared.limits.TheConstants.{MAX_DEAREST_SUM, MAX_MULTIPLIER_SUM, USUAL_TRIPS}
+use Rattle.vs_instance.specs.Dearest.{most_multiplier}
 use Rattle.vs_instance.specs.Problem.{Problem}
 use Rattle.vs_instance.specs.Instance.{IsInstance}
 use Rattle.vs_instance.specs.Ways.{Permitted, HasPullOut, HasPullIn}
@@ -127,12 +131,16 @@ cheapest_more p n i (Some least) (Some cost) before here =
     ]
 
 -- of costs within the limits the lesser is too
-pub lesser_limits : (least cost : Option ℤ) → IfSome least MayCostAlone → IfSome cost MayCostAlone
-    → IfSome (lesser_of least cost) MayCostAlone
-lesser_limits None cost before here = here
-lesser_limits (Some a) None before here = before
-lesser_limits (Some a) (Some b) before here =
-    (omega (arith, ints, clamps, before.0, here.0), omega (arith, ints, clamps, before.1, here.1))
+pub lesser_limits : (trips : ℕ) (least cost : Option ℤ) → IfSome least (MayCostAlone trips)
+    → IfSome cost (MayCostAlone trips) → IfSome (lesser_of least cost) (MayCostAlone trips)
+lesser_limits trips None cost before here = here
+lesser_limits trips (Some a) None before here = before
+lesser_limits trips (Some a) (Some b) before here =
+    by_lt_z a b
+    (λ less. let same : a ≡ int_min a b = omega (arith, ints, clamps, less) in
+    subst (MayCostAlone trips) same before)
+    (λ no_less. let same : b ≡ int_min a b = omega (arith, ints, clamps, no_less) in
+    subst (MayCostAlone trips) same here)
 
 -- the cheapest block in any layer, in 1/1000 of a cost unit
 pub start_is : (p : Problem) (i : TripNo) (least : Option ℤ) → IsLeastOwnCost p (length p.layers) i least
@@ -149,23 +157,55 @@ pub sum_is : (a b c : ℤ) → IsCost a → IsCost b → IsCost c
 sum_is a b c first second third = omega (arith, ints, first.0, first.1, second.0, second.1, third.0, third.1)
 
 -- nor do they come to more than a block of one trip may cost
-pub sum_limits : (a b c : ℤ) → IsCost a → IsCost b → IsCost c → MayCostAlone ((a +ℤ b) +ℤ c)
-sum_limits a b c first second third =
-    (omega (arith, ints, first.0, second.0, third.0), omega (arith, ints, first.1, second.1, third.1))
+pub sum_limits : (trips : ℕ) (a b c : ℤ) → IsCost a → IsCost b → IsCost c
+    → trips * nat_abs a ≤ MAX_DEAREST_SUM → trips * nat_abs b ≤ MAX_DEAREST_SUM → trips * nat_abs c ≤ MAX_DEAREST_SUM
+    → MayCostAlone trips ((a +ℤ b) +ℤ c)
+sum_limits trips a b c first second third all_a all_b all_c =
+    let parts : nat_abs ((a +ℤ b) +ℤ c) ≡ nat_abs a + nat_abs b + nat_abs c =
+    omega (arith, ints, first.0, second.0, third.0) in
+    let whole : trips * (nat_abs a + nat_abs b + nat_abs c) ≤ 3 * MAX_DEAREST_SUM = omega
+    (arith, all_a, all_b, all_c) in (
+      omega (arith, ints, first.0, second.0, third.0),
+      omega (arith, ints, first.1, second.1, third.1),
+      subst (λ (n : ℕ). trips * n ≤ 3 * MAX_DEAREST_SUM) (sym parts) whole,
+    )
+
+-- a piece that was found, as often as there are trips
+pub found_payable : (trips : ℕ) (cost : ℤ) (n : ℕ) → cost ≡ pos n → trips * n ≤ MAX_DEAREST_SUM
+    → trips * nat_abs cost ≤ MAX_DEAREST_SUM
+found_payable trips cost n is all = subst (λ (z : ℤ). trips * nat_abs z ≤ MAX_DEAREST_SUM) (sym is) all
 
 -- the least cost, or 0, times SCALE as the code makes it
-pub start_value : (least : Option ℤ) (cost : ℤ) → cost ≡ unwrap_or least (pos 0) → IfSome least MayCostAlone
+pub start_value : (trips : ℕ) (least : Option ℤ) (cost : ℤ) → cost ≡ unwrap_or least (pos 0)
+    → IfSome least (MayCostAlone trips)
     → to_z w64 (of_z w64 (pos 1000 *ℤ to_z w64 (of_z w64 cost))) ≡ pos 1000 *ℤ unwrap_or least (pos 0)
-start_value None cost e limits =
+start_value trips None cost e limits =
     ap (λ (x : ℤ). to_z w64 (of_z w64 (pos 1000 *ℤ to_z w64 (of_z w64 x)))) e
-start_value (Some (pos n)) cost e limits =
+start_value trips (Some (pos n)) cost e limits =
     let inner : to_z w64 (of_z w64 (pos n)) ≡ pos n = omega (arith, ints, limits.1) in
     ap (λ (x : ℤ). to_z w64 (of_z w64 (pos 1000 *ℤ to_z w64 (of_z w64 x)))) e
     ∙ ap (λ (x : ℤ). to_z w64 (of_z w64 (pos 1000 *ℤ x))) inner ∙ omega (arith, ints, limits.1)
-start_value (Some (negsuc n)) cost e limits = absurd (omega (arith, ints, limits.0))
+start_value trips (Some (negsuc n)) cost e limits = absurd (omega (arith, ints, limits.0))
 
 -- what a block of one trip costs at most is a multiplier
-pub start_within : (least : Option ℤ) → IfSome least MayCostAlone → IsMultiplier (pos 1000 *ℤ unwrap_or least (pos 0))
-start_within None limits = (omega (arith, ints), omega (arith, ints))
-start_within (Some (pos n)) limits = (omega (arith, ints), omega (arith, ints, limits.1))
-start_within (Some (negsuc n)) limits = absurd (omega (arith, ints, limits.0))
+pub start_within : (trips : ℕ) (least : Option ℤ) → IfSome least (MayCostAlone trips)
+    → IsMultiplier trips (pos 1000 *ℤ unwrap_or least (pos 0))
+start_within trips None limits = (omega (arith, ints), omega (arith, ints), omega (arith, ints))
+start_within trips (Some (pos n)) limits =
+    let few : n ≤ 60000000000 = omega (arith, ints, limits.1) in
+    let usual = mul-le (1000 * n) USUAL_TRIPS 60000000000000 USUAL_TRIPS (omega (arith, few)) (omega arith) in
+    let whole : 1000 * n * max trips USUAL_TRIPS ≤ nat_abs MAX_MULTIPLIER_SUM =
+    elim (cases_lt trips USUAL_TRIPS) [
+      | inl less ↦
+          let same = max-eq_right {n = trips} {m = USUAL_TRIPS} (omega arith) in
+          subst (λ (m : ℕ). 1000 * n * m ≤ nat_abs MAX_MULTIPLIER_SUM) (sym same) (omega (arith, usual))
+      | inr more ↦
+          let same = max-eq_left {n = trips} {m = USUAL_TRIPS} more in
+          subst (λ (m : ℕ). 1000 * n * m ≤ nat_abs MAX_MULTIPLIER_SUM) (sym same) (omega (arith, limits.2))
+    ] in
+    let some = le-max_right trips USUAL_TRIPS in
+    let limit : 1000 * n ≤ most_multiplier trips =
+    (le-div_iff_mul-le {k = max trips USUAL_TRIPS} {x = 1000 * n} {y = nat_abs MAX_MULTIPLIER_SUM}
+    (omega (arith, some))).1 whole in
+    (omega (arith, ints), omega (arith, ints, few), omega (arith, ints, limit))
+start_within trips (Some (negsuc n)) limits = absurd (omega (arith, ints, limits.0))

@@ -8,12 +8,11 @@ use Rattle.vs_instance.specs.Lagrangian.{multiplier_of}
 use Rattle.vs_instance.specs.Restriction.{set_of}
 use Rattle.vs_match.specs.LayerGraph.{LayerGraph}
 use Rattle.vs_circ.specs.declared.circ.Circ.{Circ}
-use Rattle.vs_instance.specs.declared.limits.TheConstants.{MAX_MULTIPLIER}
 use Rattle.vs_circ.specs.Circulations.{IsLeastCirculation}
 use Rattle.vs_circ.specs.Offers.{offer_of}
 use Rattle.vs_prices.specs.declared.table.Table.{Table}
 use Rattle.vs_prices.specs.Worth.{least, trip_price}
-use Rattle.vs_multi.specs.Multipliers.{limited}
+use Rattle.vs_multi.specs.Multipliers.{limited, greatest_paid}
 
 -- a trip is offered for its multiplier where its set has layer l, and not offered elsewhere
 pub record IsOfferFor (set : LayerSet) (multiplier : ℤ) (l : ℕ) (offer : Option ℤ) : Type 0 where
@@ -39,8 +38,8 @@ IsWithout l set rest = (k : ℕ) → Has rest k ↔ (Has set k × (k ≢ l))
 -- the least that trip i pays in these layers, within the limits of multipliers; the greatest multiplier where there
 -- are none
 abbrev pub least_among : Problem → Table → ℕ → List ℕ → ℤ
-least_among p table i [] = MAX_MULTIPLIER
-least_among p table i (l ∷ layers) = limited (least (map (trip_price p table i) (l ∷ layers)))
+least_among p table i [] = greatest_paid p
+least_among p table i (l ∷ layers) = limited (greatest_paid p) (least (map (trip_price p table i) (l ∷ layers)))
 
 -- what a trip pays at least in the layers of its set but for layer l
 abbrev pub IsLeastElsewhere : Problem → LayerSet → Table → ℕ → ℕ → ℤ → Type 0

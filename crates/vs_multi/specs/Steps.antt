@@ -1,6 +1,7 @@
 -- By how much multipliers change from round to round.
 use Rattle.std.specs.Prelude.{◌≡◌, ℕ, ◌+◌, ◌*◌, ◌/◌, ◌^◌, ◌<◌, ◌≤◌, List, length, sum_by, slice_index, nat_abs, ℤ, pos, ◌+ℤ◌, ◌-ℤ◌}
 use Rattle.vs_instance.specs.Lagrangian.{multiplier_of}
+use Rattle.vs_instance.specs.Dearest.{most_multiplier}
 use Rattle.vs_instance.specs.Problem.{Problem}
 use Rattle.vs_multi.specs.declared.steps.Steps.{Steps}
 use Rattle.vs_multi.specs.declared.steps.Steps.TheVariants.{Halving, Near}
@@ -30,11 +31,13 @@ abbrev pub step_in : Steps → ℕ → ℕ → ℕ
 step_in Halving most r = most / 2 ^ (r / ROUNDS_PER_STEP)
 step_in (Near rounds) most r = most / 400 * 10 / (10 + r)
 
--- a multiplier after a step up, and a step down for each layer that runs its trip
-abbrev pub moved : ℤ → ℕ → ℕ → ℤ
-moved multiplier step covers = limited ((multiplier +ℤ pos step) -ℤ pos (step * covers))
+-- a multiplier within the limit after a step up, and a step down for each layer that runs its trip
+abbrev pub moved : ℤ → ℤ → ℕ → ℕ → ℤ
+moved most multiplier step covers = limited most ((multiplier +ℤ pos step) -ℤ pos (step * covers))
 
 -- so for each trip
 pub record AreMoved (step : ℕ) (covers : List ℕ) (old new : List ℤ) : Type 0 where
   pub each_trip : length new ≡ length old
-  pub moved : (i : ℕ) → i < length old → multiplier_of new i ≡ moved (multiplier_of old i) step (slice_index covers i)
+  pub moved : (i : ℕ) → i < length old
+      → multiplier_of new i ≡ moved (pos (most_multiplier (length old))) (multiplier_of old i) step
+      (slice_index covers i)

@@ -6,13 +6,13 @@ ghost use Rattle.vs_instance.specs.Restriction.{IsRestriction};
 ghost use Rattle.vs_match.specs.LawfulNets.{IsLawful};
 ghost use Rattle.vs_circ.specs.Offers.{AreOffers};
 ghost use Rattle.vs_prices.specs.Table.{Fits};
-ghost use Rattle.vs_multi.specs.Multipliers.{AreMultipliers, IsMultiplier};
+ghost use Rattle.vs_multi.specs.Multipliers.{AreMultipliers, IsMultiplier, greatest_paid};
 ghost use Rattle.vs_multi.specs.Rounds.{IsCase};
 ghost use Rattle.vs_multi.specs.Offers.{AreLeastElsewhere, AreOffersTo, IsLeastAt, IsLeastElsewhere, IsOfferFor};
 
 use crate::round::Case;
 use vs_circ::{Circ, Work, relaxed};
-use vs_instance::{Instance, MAX_MULTIPLIER};
+use vs_instance::{Instance, most_multiplier};
 use vs_match::LayerNet;
 use vs_prices::{Table, least_price};
 use vs_types::{LayerNo, LayerSet, Memory, TripNo};
@@ -68,21 +68,29 @@ pub(crate) fn circulation(
 }
 
 /// The least that a trip pays in the layers of its set but for layer l, within the limits of multipliers.
-fn least_elsewhere(instance: &Instance, set: LayerSet, table: &Table, l: LayerNo, i: TripNo) -> i64
+fn least_elsewhere(
+    instance: &Instance,
+    most: i64,
+    set: LayerSet,
+    table: &Table,
+    l: LayerNo,
+    i: TripNo,
+) -> i64
+    requires most { most ≡ greatest_paid instance.now }
     requires layer { l.0 < length instance.now.layers }
     requires trip { i.0 < length instance.now.trips }
     requires fits { Fits instance.now table.now }
     requires set { (k : ℕ) → Has set k → k < length instance.now.layers }
     ensures price { IsLeastElsewhere instance.now set table.now l.0 i.0 result }
-    ensures within { IsMultiplier result }
+    ensures within { IsMultiplier (length instance.now.trips) result }
 {
     prove!(l.0 < instance.layers());
     let rest = set.without(l);
     if rest.count() == 0 {
-        return MAX_MULTIPLIER;
+        return most;
     }
     let price = least_price(instance, rest, table, i);
-    price.max(0).min(MAX_MULTIPLIER)
+    price.max(0).min(most)
 }
 
 /// Makes each multiplier the least that its trip pays in the layers of its set but for layer l.
@@ -100,8 +108,9 @@ pub(crate) fn multiply_elsewhere(
     ensures prices { AreLeastElsewhere instance.now sets.now table.now l.0 multipliers.new }
     ensures within { AreMultipliers instance.now multipliers.new }
 {
+    let most = most_multiplier(instance.trips());
     for i in 0..instance.trips() {
         let set = sets[i as usize];
-        multipliers[i as usize] = least_elsewhere(instance, set, table, l, TripNo(i));
+        multipliers[i as usize] = least_elsewhere(instance, most, set, table, l, TripNo(i));
     }
 }

@@ -6,7 +6,7 @@ ghost use Rattle.vs_multi.specs.Multipliers.{AreMultipliers, AreOfTable, AreStar
 
 use crate::round::Case;
 use vs_connect::{MAX_PIECE, in_cost, lesser, out_cost, trip_cost};
-use vs_instance::{Instance, MAX_MULTIPLIER};
+use vs_instance::{Instance, most_multiplier};
 use vs_prices::{Table, least_price};
 use vs_types::{LayerNo, LayerSet, Memory, SCALE, TripNo};
 
@@ -18,7 +18,7 @@ fn own_cost(instance: &Instance, l: LayerNo, i: TripNo) -> Option<i64>
     requires layer { l.0 < length instance.now.layers }
     requires trip { i.0 < length instance.now.trips }
     ensures value { IsOwnCost instance.now l i result }
-    ensures limits { IfSome result MayCostAlone }
+    ensures limits { IfSome result (MayCostAlone (length instance.now.trips)) }
 {
     prove!(l.0 < instance.layers() && i.0 < instance.trips());
     if !instance.trip(i).layers.has(l) {
@@ -33,7 +33,7 @@ fn own_cost(instance: &Instance, l: LayerNo, i: TripNo) -> Option<i64>
 fn least_own_cost(instance: &Instance, i: TripNo) -> Option<i64>
     requires { i.0 < length instance.now.trips }
     ensures value { IsLeastOwnCost instance.now (length instance.now.layers) i result }
-    ensures limits { IfSome result MayCostAlone }
+    ensures limits { IfSome result (MayCostAlone (length instance.now.trips)) }
 {
     let mut least = None;
     for l in 0..instance.layers() {
@@ -64,9 +64,10 @@ pub fn of_table(instance: &Instance, sets: &[LayerSet], table: &Table, multiplie
     requires each_trip { length multipliers.old ≡ length instance.now.trips }
     ensures { AreOfTable instance.now sets.now table.now multipliers.new }
 {
+    let most = most_multiplier(instance.trips());
     for i in 0..instance.trips() {
         let pays = least_price(instance, sets[i as usize], table, TripNo(i));
-        multipliers[i as usize] = pays.max(0).min(MAX_MULTIPLIER);
+        multipliers[i as usize] = pays.max(0).min(most);
     }
 }
 

@@ -1,12 +1,13 @@
 //! By how much multipliers move from round to round.
 ghost use Rattle.std.specs.Prelude.{◌≡◌, ℕ, ◌*◌, ◌<◌, ◌≤◌, ◌≤ℤ◌, pos, nat_abs, length, sum_by, slice_index};
+ghost use Rattle.vs_instance.specs.Dearest.{most_multiplier};
 ghost use Rattle.vs_multi.specs.Multipliers.{AreWithin};
 ghost use Rattle.vs_multi.specs.Steps.{AreMoved, HasRounds, IsMean, moved, rounds_in, step_in};
 ghost use Rattle.vs_types.specs.declared.numbers.TheConstants.{MAX_LAYERS};
 ghost use Rattle.vs_instance.specs.declared.limits.TheConstants.{MAX_MULTIPLIER, MAX_TRIPS};
 ghost use Rattle.vs_multi.specs.declared.steps.TheConstants.{MOST, ROUNDS};
 
-use vs_instance::MAX_MULTIPLIER;
+use vs_instance::{MAX_MULTIPLIER, most_multiplier};
 
 /// How many rounds the root has: in the last of them the step is a 32nd of the first, and more would move little.
 pub(crate) const ROUNDS: u32 = 30;
@@ -81,22 +82,23 @@ pub(crate) fn mean(multipliers: &[i64]) -> u64
         .unwrap_or(0)
 }
 
-/// A multiplier after a round in which so many layers ran its trip.
-pub fn moved(multiplier: i64, step: u64, covers: u32) -> i64
+/// A multiplier of one of so many trips, after a round in which so many layers ran its trip.
+pub fn moved(trips: u32, multiplier: i64, step: u64, covers: u32) -> i64
     requires least { pos 0 ≤ℤ multiplier }
     requires most { multiplier ≤ℤ MAX_MULTIPLIER }
     requires step { pos step ≤ℤ MAX_MULTIPLIER }
     requires covers { covers ≤ MAX_LAYERS }
-    ensures { result ≡ moved multiplier step covers }
+    ensures { result ≡ moved (pos (most_multiplier trips)) multiplier step covers }
 {
     let down = step * u64::from(covers);
     (multiplier + step as i64 - down as i64)
         .max(0)
-        .min(MAX_MULTIPLIER)
+        .min(most_multiplier(trips))
 }
 
 /// Changes each multiplier by a step, after a round in which so many layers ran the trips.
 pub(crate) fn move_all(step: u64, covers: &[u32], multipliers: &mut [i64])
+    requires few_trips { length multipliers.old ≤ MAX_TRIPS }
     requires step { pos step ≤ℤ MAX_MULTIPLIER }
     requires each_trip { length covers.now ≡ length multipliers.old }
     requires few { (i : ℕ) → slice_index covers.now i ≤ MAX_LAYERS }
@@ -104,7 +106,8 @@ pub(crate) fn move_all(step: u64, covers: &[u32], multipliers: &mut [i64])
     ensures moved { AreMoved step covers.now multipliers.old multipliers.new }
     ensures within { AreWithin multipliers.new }
 {
+    let trips = multipliers.len() as u32;
     for i in 0..multipliers.len() {
-        multipliers[i] = moved(multipliers[i], step, covers[i]);
+        multipliers[i] = moved(trips, multipliers[i], step, covers[i]);
     }
 }

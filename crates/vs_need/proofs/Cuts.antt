@@ -22,10 +22,10 @@ kept-kept a b c first second = record {
 }
 
 -- scratch that is kept has as much room
-pub kept_room : (nets nets' : List LayerGraph) (s s' : Scratch) → nets' ≡ nets → HasRoom nets s → IsKept s s'
-    → HasRoom nets' s'
-kept_room nets nets' s s' same room kept =
-    let P : List LayerGraph → Type 0 = λ ns. HasRoom ns s' in
+pub kept_room : (trips : ℕ) (nets nets' : List LayerGraph) (s s' : Scratch) → nets' ≡ nets → HasRoom trips nets s
+    → IsKept s s' → HasRoom trips nets' s'
+kept_room trips nets nets' s s' same room kept =
+    let P : List LayerGraph → Type 0 = λ ns. HasRoom trips ns s' in
     subst P (sym same) (record {
       values = λ l within. omega (arith, kept.values, room.values l within);
       outs = kept.outs ∙ room.outs;

@@ -1,6 +1,5 @@
 -- Room for what a pass finds, and what a pass may be asked for.
 use Rattle.std.specs.Prelude.{◌≡◌, ℕ, ◌<◌, ◌≤◌, List, length}
-use Rattle.vs_instance.specs.declared.limits.TheConstants.{MAX_TRIPS}
 use Rattle.vs_instance.specs.Problem.{Problem}
 use Rattle.vs_match.specs.LayerGraph.{LayerGraph}
 use Rattle.vs_prices.specs.declared.table.Table.{Table}
@@ -8,19 +7,19 @@ use Rattle.vs_prices.specs.Table.{Fits}
 use Rattle.vs_need.specs.declared.scratch.Scratch.{Scratch}
 use Rattle.vs_match.specs.LayerNets.{AreNets, net_at}
 
--- for each node of any of the nets, and for each trip that an instance can have
-pub record HasRoom (nets : List LayerGraph) (s : Scratch) : Type 0 where
+-- for each node of any of the nets, and for each of so many trips
+pub record HasRoom (trips : ℕ) (nets : List LayerGraph) (s : Scratch) : Type 0 where
   pub values : (l : ℕ) → l < length nets → (net_at nets l).graph.nodes ≤ length s.values.items
-  pub outs : length s.outs.items ≡ MAX_TRIPS
-  pub nexts : length s.nexts.items ≡ MAX_TRIPS
-  pub ins : length s.ins.items ≡ MAX_TRIPS
-  pub links : length s.links.items ≡ MAX_TRIPS
+  pub outs : length s.outs.items ≡ trips
+  pub nexts : length s.nexts.items ≡ trips
+  pub ins : length s.ins.items ≡ trips
+  pub links : length s.links.items ≡ trips
 
 -- the nets are those of an instance that the table fits, and there is room for what passes find
 pub record CanJudge (p : Problem) (nets : List LayerGraph) (table : Table) (s : Scratch) : Type 0 where
   pub nets_are : AreNets p nets
   pub fits : Fits p table
-  pub room : HasRoom nets s
+  pub room : HasRoom (length p.trips) nets s
 
 -- the same for a layer, with an entry for each trip
 pub record CanNeed (p : Problem) (nets : List LayerGraph) (table : Table) (l : ℕ) (s : Scratch)

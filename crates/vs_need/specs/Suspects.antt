@@ -42,16 +42,16 @@ pub record AreCut (p : Problem) (table : Table) (l : ℕ) (into from : List ℤ)
 pub record CanSuspect (p : Problem) (table : Table) (l : ℕ) (into from : List ℤ) (s : Scratch) : Type 0 where
   pub prices : AreCut p table l into from
   pub known : AreKnown p table l s
-  pub outs : length s.outs.items ≡ MAX_TRIPS
-  pub nexts : length s.nexts.items ≡ MAX_TRIPS
-  pub ins : length s.ins.items ≡ MAX_TRIPS
+  pub outs : length s.outs.items ≡ length p.trips
+  pub nexts : length s.nexts.items ≡ length p.trips
+  pub ins : length s.ins.items ≡ length p.trips
 
 -- what the links from trip i are worth is known
 pub record CanLink (p : Problem) (table : Table) (l i : ℕ) (into from : List ℤ) (links : List (Option ℤ)) : Type 0 where
   pub prices : AreCut p table l into from
   pub may_run : MayRun p l i
   pub known : AreWorths p l table.ray (link_piece p l i) links
-  pub each_trip : length links ≡ MAX_TRIPS
+  pub each_trip : length links ≡ length p.trips
 
 -- trip by trip the places of a layer where the table breaks
 abbrev pub trips_breaks : Problem → Table → ℕ → List BrokenAt

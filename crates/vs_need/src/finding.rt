@@ -77,7 +77,7 @@ pub fn needs<N: ArcReader>(
     ensures needs { AreNeeds p table.now l.0 answer.new }
     ensures nets { N.nets nets.new ≡ N.nets nets.old }
     ensures reads { N.reads nets.new ≤ N.reads nets.old + arcs_in (net_at (N.nets nets.old) l.0) }
-    ensures scratch { HasRoom (N.nets nets.new) scratch.new }
+    ensures scratch { HasRoom (length answer.old) (N.nets nets.new) scratch.new }
 {
     scratch.find_nexts(nets, table, answer.len(), l);
     narrow(&scratch.nexts, answer);

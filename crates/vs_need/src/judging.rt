@@ -266,7 +266,7 @@ pub fn broken_for<N: ArcReader>(
     requires judge { CanJudge p (N.nets nets.old) table.now scratch.old }
     ensures first { result ≡ first (breaks_of _instance.now table.now) }
     ensures nets { N.nets nets.new ≡ N.nets nets.old }
-    ensures room { HasRoom (N.nets nets.new) scratch.new }
+    ensures room { HasRoom (length _instance.now.trips) (N.nets nets.new) scratch.new }
 {
     broken_fast(nets, table, scratch)
 }

@@ -4,7 +4,6 @@ ghost use Rattle.std.specs.Prelude.{ℕ, ◌<◌, ◌≤◌, IfOk, length};
 ghost use Rattle.vs_match.specs.LayerNets.{net_at};
 
 use std::alloc::Global;
-use vs_instance::MAX_TRIPS;
 use vs_match::LayerNet;
 use vs_types::Memory;
 
@@ -26,12 +25,12 @@ pub struct Scratch {
 impl Scratch {
     ghost use Rattle.vs_need.specs.Room.{HasRoom};
 
-    /// Room for passes along these nets.
-    pub fn new(alloc: Global, nets: &[LayerNet]) -> Result<Scratch, Memory>
-        ensures { IfOk result (HasRoom nets.now) }
+    /// Room for passes along these nets, of an instance with so many trips.
+    pub fn new(alloc: Global, nets: &[LayerNet], trips: u32) -> Result<Scratch, Memory>
+        ensures { IfOk result (HasRoom trips nets.now) }
     {
         let nodes = most_nodes(nets) as usize;
-        let trips = MAX_TRIPS as usize;
+        let trips = trips as usize;
         let values = vec![in alloc; None; nodes]?;
         let outs = vec![in alloc; None; trips]?;
         let nexts = vec![in alloc; None; trips]?;

@@ -1,5 +1,6 @@
 pub mod ArcsOfNode
 pub mod Listing
+pub mod StepCosts
 pub mod Lowering
 pub mod Settling
 pub mod Exploring

@@ -1,6 +1,6 @@
 -- What a search for least paths knows while it goes on.
-use Rattle.std.specs.Prelude.{◌≡◌, ◌≢◌, ◌⊎◌, ℕ, ◌+◌, ◌*◌, ◌<◌, ◌≤◌, List, [], ◌∷◌, ◌++◌, length, set, replicate, slice_index, slice_index_or, Option, Some, None, ℤ, pos, ◌+ℤ◌, ◌-ℤ◌, ◌≤ℤ◌, ◌<ℤ◌, nat_abs}
-use Rattle.vs_path.specs.declared.residual.TheConstants.{MAX_STEP_COST, MAX_SEARCH_NODES, MAX_SEARCH_PRICE}
+use Rattle.std.specs.Prelude.{◌≡◌, ◌≢◌, ◌⊎◌, ℕ, ◌+◌, ◌*◌, ◌<◌, ◌≤◌, List, [], ◌∷◌, ◌++◌, length, set, replicate, slice_index, slice_index_or, Option, Some, None, ℤ, pos, ◌+ℤ◌, ◌-ℤ◌, ◌≤ℤ◌, ◌<ℤ◌}
+use Rattle.vs_path.specs.declared.residual.TheConstants.{MAX_SEARCH_NODES, MAX_SEARCH_PRICE}
 use Rattle.vs_queue.specs.declared.step.Step.{Step}
 use Rattle.vs_queue.specs.declared.node_table.Settled.{Settled}
 use Rattle.vs_path.specs.declared.labels.Labels.{Labels}
@@ -8,6 +8,7 @@ use Rattle.vs_path.specs.declared.labels.TheConstants.{NO_BOUND}
 use Rattle.vs_queue.specs.Keys.{Keys, IsBelow, IsEmpty, key_at}
 use Rattle.vs_queue.specs.NodeLists.{label_of}
 use Rattle.vs_path.specs.declared.residual.Way.{Way}
+use Rattle.vs_path.specs.StepCosts.{most_step}
 use Rattle.vs_path.specs.Residual.{ResidualNet, IsOpen, IsWithin, AllWithin, from_of, to_of, reduced, price_at, step_along}
 
 -- by node: the least distance and the place in the order, where it is settled; the key, where it waits; and the last
@@ -105,14 +106,14 @@ pub record IsLowered (old new : Lists) : Type 0 where
 -- the numbers of a search that add up within 64 bits
 pub record IsSmall (r : ResidualNet) (prices : List ℤ) : Type 0 where
   pub nodes : r.graph.nodes ≤ MAX_SEARCH_NODES
-  pub cost : AllWithin MAX_STEP_COST r.cost
+  pub cost : AllWithin (pos (most_step r.graph.nodes)) r.cost
   pub each_node : length prices ≡ r.graph.nodes
   pub each_price : AllWithin MAX_SEARCH_PRICE prices
 
--- without the prices, a path of so many steps costs no more than they can
-abbrev pub IsNear : List ℤ → ℕ → ℕ → ℕ → ℤ → Type 0
-IsNear prices source count v label =
-    IsWithin (pos (count * nat_abs MAX_STEP_COST)) ((label +ℤ price_at prices v) -ℤ price_at prices source)
+-- without the prices, a path of so many steps in a net of so many nodes costs no more than they can
+abbrev pub IsNear : ℕ → List ℤ → ℕ → ℕ → ℕ → ℤ → Type 0
+IsNear nodes prices source count v label =
+    IsWithin (pos (count * most_step nodes)) ((label +ℤ price_at prices v) -ℤ price_at prices source)
 
 -- the path that was found to node v, of this length, ends with a step from a node that was settled before this place
 pub record IsArrival (r : ResidualNet) (prices : List ℤ) (l : Lists) (place v : ℕ) (label : ℤ) : Type 0 where
@@ -132,10 +133,12 @@ pub record AreLabels (r : ResidualNet) (prices : List ℤ) (l : Lists) : Type 0 
   pub source_is : IsSettledAt l (source_of l) (pos 0)
   pub arrived : (v : ℕ) (a : Settled) → settled_at l v ≡ Some a → v ≢ source_of l
       → IsArrival r prices l a.place v a.distance
-  pub near : (v : ℕ) (a : Settled) → settled_at l v ≡ Some a → IsNear prices (source_of l) a.place v a.distance
+  pub near : (v : ℕ) (a : Settled) → settled_at l v ≡ Some a
+      → IsNear r.graph.nodes prices (source_of l) a.place v a.distance
   pub unsettled : (v : ℕ) (key : ℤ) → waiting_at l v ≡ Some key → settled_at l v ≡ None
   pub arrives : (v : ℕ) (key : ℤ) → waiting_at l v ≡ Some key → IsArrival r prices l (length l.order) v key
-  pub near_too : (v : ℕ) (key : ℤ) → waiting_at l v ≡ Some key → IsNear prices (source_of l) (length l.order) v key
+  pub near_too : (v : ℕ) (key : ℤ) → waiting_at l v ≡ Some key
+      → IsNear r.graph.nodes prices (source_of l) (length l.order) v key
   pub ordered : (v w : ℕ) (a : Settled) (key : ℤ) → settled_at l v ≡ Some a → waiting_at l w ≡ Some key
       → a.distance ≤ℤ key
 

@@ -9,3 +9,4 @@ pub mod Waiting
 pub mod Distances
 pub mod Raising
 pub mod Laws
+pub mod StepCosts

@@ -1,9 +1,9 @@
 -- Prices raised by the distances from a node.
-use Rattle.std.specs.Prelude.{◌≡◌, ◌⊎◌, ℕ, ◌*◌, ◌<◌, List, length, Option, Some, None, IfSome, ℤ, pos, ◌+ℤ◌, ◌-ℤ◌, ◌≤ℤ◌, nat_abs, FitsSigned}
+use Rattle.std.specs.Prelude.{◌≡◌, ◌⊎◌, ℕ, ◌*◌, ◌<◌, List, length, Option, Some, None, IfSome, ℤ, pos, ◌+ℤ◌, ◌-ℤ◌, ◌≤ℤ◌, FitsSigned}
 use mir.Syntax.{w64}
-use Rattle.vs_path.specs.declared.residual.TheConstants.{MAX_STEP_COST}
 use Rattle.vs_path.specs.declared.search.TheConstants.{MOST_RAISED}
 use Rattle.vs_queue.specs.declared.node_table.Settled.{Settled}
+use Rattle.vs_path.specs.StepCosts.{most_step}
 use Rattle.vs_path.specs.Residual.{ResidualNet, IsWithin, price_at}
 use Rattle.vs_path.specs.Labels.{Lists, settled_at}
 use Rattle.vs_path.specs.LeastPaths.{IsLeastCost}
@@ -15,7 +15,7 @@ HasSpan span prices = (u v : ℕ) → u < length prices → v < length prices
 
 -- the most that a path costs that comes to no node twice
 abbrev pub one_path : ResidualNet → ℤ
-one_path r = pos (r.graph.nodes * nat_abs MAX_STEP_COST)
+one_path r = pos (r.graph.nodes * most_step r.graph.nodes)
 
 -- the raised price of a node: that of the source with what a least path from there costs; where there is no path, its
 -- own with the rise

@@ -1,9 +1,9 @@
 -- What a search for a node that lacks a unit finds.
-use Rattle.std.specs.Prelude.{◌≡◌, ◌⊎◌, ℕ, ◌*◌, ◌<◌, List, length, slice_index, Option, Some, None, ℤ, pos, ◌+ℤ◌, ◌-ℤ◌, ◌≤ℤ◌, nat_abs, FitsSigned}
+use Rattle.std.specs.Prelude.{◌≡◌, ◌⊎◌, ℕ, ◌*◌, ◌<◌, List, length, slice_index, Option, Some, None, ℤ, pos, ◌+ℤ◌, ◌-ℤ◌, ◌≤ℤ◌, FitsSigned}
 use mir.Syntax.{w64}
-use Rattle.vs_path.specs.declared.residual.TheConstants.{MAX_STEP_COST}
 use Rattle.vs_queue.specs.declared.step.Step.{Step}
 use Rattle.vs_queue.specs.declared.node_table.Settled.{Settled}
+use Rattle.vs_path.specs.StepCosts.{most_step}
 use Rattle.vs_path.specs.Residual.{ResidualNet, HasSignRule, IsOpen, IsPath, from_of, to_of, price_at, reduced, step_in}
 use Rattle.vs_path.specs.Labels.{Lists, Lacks, settled_at}
 
@@ -24,7 +24,7 @@ pub record IsCut (r : ResidualNet) (surplus : List ℤ) (source : ℕ) (nodes : 
 
 -- the most that two paths cost together
 abbrev pub two_paths : ResidualNet → ℤ
-two_paths r = pos (2 * r.graph.nodes * nat_abs MAX_STEP_COST)
+two_paths r = pos (2 * r.graph.nodes * most_step r.graph.nodes)
 
 -- The goal lacks a unit, and the path leads to it from the source. The prices keep the sign rule and make the steps of
 -- the path cost nothing. They only fell, not where a unit is lacked, and none further than two paths cost below that

@@ -21,8 +21,8 @@ pub use loads::Loads;
 pub use paths::Paths;
 pub use reach::{Reach, distances, sign_rule_leaves_no_negative_cycle};
 pub use residual::{
-    Costs, MAX_PATH_ARC_COST, MAX_PATH_NODES, MAX_SEARCH_NODES, MAX_SEARCH_PRICE, MAX_STEP_COST,
-    Residual,
+    Costs, MAX_PATH_ARC_COST, MAX_PATH_COST, MAX_PATH_NODES, MAX_SEARCH_NODES, MAX_SEARCH_PRICE,
+    MAX_STEP_COST, Residual, most_step,
 };
 pub use search::{MAX_SPAN, MOST_RAISED, Search};
 pub use vs_queue::{NodeHeap, Step};

@@ -3,6 +3,7 @@
 ghost use Rattle.std.specs.Prelude.{◌≡◌, ◌<◌, ◌≤◌, ◌↔◌, ◌≤ℤ◌, ◌+ℤ◌, ◌-ℤ◌, ◌^◌, pos, length, IsTrue};
 ghost use Rattle.vs_path.specs.Loads.{AreAlong, AreLoads};
 ghost use Rattle.vs_path.specs.declared.residual.Way.TheVariants.{Back};
+ghost use Rattle.vs_path.specs.StepCosts.{most_step};
 ghost use Rattle.vs_path.specs.Residual.{HasSignRule, IsResidual, IsOpen, IsWithin, AllWithin, arc_no, arcs_along, from_of, to_of, cost_of, reduced, step_along};
 
 use crate::loads::Loads;
@@ -11,19 +12,37 @@ use vs_layer::{Flow, Net};
 use vs_queue::Step;
 
 /// How many nodes a net has at most in a search by prices: three for each trip, and the two of the depot.
-pub const MAX_SEARCH_NODES: u32 = 6_002;
+pub const MAX_SEARCH_NODES: u32 = 30_002;
 
-/// The greatest cost of an arc in a search by prices, either way.
+/// How many nodes a net of 2,000 trips has at most.
+const USUAL_NODES: u32 = 6_002;
+
+/// The greatest cost of an arc in a search by prices, either way, in 1/1000 of a cost unit. In nets of more than 6,002
+/// nodes it is less (`most_step`).
 pub const MAX_STEP_COST: i64 = 120_000_000_000_000;
+
+/// What a path costs at most in a search by prices, either way, that comes to no node twice. It is in 1/1000 of a cost
+/// unit.
+pub const MAX_PATH_COST: i64 = 720_240_000_000_000_000;
 
 /// The greatest price of a node in a search by prices, either way.
 pub const MAX_SEARCH_PRICE: i64 = 4_000_000_000_000_000_000;
 
 /// How many nodes a net has at most whose least paths are found whatever its prices.
-pub const MAX_PATH_NODES: u32 = 8_000;
+pub const MAX_PATH_NODES: u32 = 40_000;
 
 /// The greatest cost of an arc on such paths, either way.
-pub const MAX_PATH_ARC_COST: i64 = 1_000_000_000_000_000;
+pub const MAX_PATH_ARC_COST: i64 = 200_000_000_000_000;
+
+/// The greatest cost of an arc in a search by prices of a net with so many nodes, either way. A path through all of
+/// them costs no more than `MAX_PATH_COST`.
+pub fn most_step(nodes: usize) -> i64
+    requires { nodes ≤ MAX_SEARCH_NODES }
+    ensures value { result ≡ pos (most_step nodes) }
+    ensures limit { result ≤ℤ MAX_STEP_COST }
+{
+    MAX_PATH_COST / (nodes as i64).max(i64::from(USUAL_NODES))
+}
 
 /// What a unit costs on each arc of a net, and how many units each has room for, in the order of the arcs.
 #[derive(Debug, Drop)]

@@ -39,7 +39,7 @@ module _ (p : Problem) (l : LayerNo) (law : CountsVehicles p l) (claimed : Claim
     trips : length (all_trips c.blocks) ≡ length q.trips
     trips = plan_trips q c.blocks plan
 
-    few_blocks : length c.blocks ≤ 2000
+    few_blocks : length c.blocks ≤ 10000
     few_blocks =
         let fewer = blocks-le-trips c.blocks (λ k d at. (plan.each_block k d at).some_trip) in
         omega (arith, trips, fewer, law.instance.few_trips)
@@ -116,7 +116,7 @@ module _ (p : Problem) (l : LayerNo) (law : CountsVehicles p l) (claimed : Claim
 
 -- a least plan has few blocks
 pub few_in_least : (p : Problem) (l : LayerNo) → CountsVehicles p l → (c : Checked) (table : Table)
-    → IsLeast p l c table → length c.blocks ≤ 2000
+    → IsLeast p l c table → length c.blocks ≤ 10000
 few_in_least p l law c table is =
     let q = counting p l.0 in
     let plan : IsPlan q c.blocks = subst (λ (x : Problem). IsPlan x c.blocks) is.problem is.checked.plan in
@@ -124,7 +124,7 @@ few_in_least p l law c table is =
     omega (arith, plan_trips q c.blocks plan, fewer, law.instance.few_trips)
 
 -- its cost as a number of 64 bits
-pub cost_word : (n : ℕ) (cost : ℤ) → n ≤ 2000 → cost ≡ pos n → to_z w64 (of_z w64 cost) ≡ pos n
+pub cost_word : (n : ℕ) (cost : ℤ) → n ≤ 10000 → cost ≡ pos n → to_z w64 (of_z w64 cost) ≡ pos n
 cost_word n cost few is =
     let price : IsPrice (pos n) = (omega (arith, ints), omega (arith, ints, few)) in
     let fits : FitsSigned w64 (pos n) = search (rules, price) in

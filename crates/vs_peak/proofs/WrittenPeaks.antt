@@ -8,7 +8,6 @@ use Rattle.vs_types.specs.declared.numbers.LayerNo.{LayerNo}
 use Rattle.vs_types.specs.declared.numbers.TripNo.{TripNo}
 use Rattle.vs_instance.specs.Problem.{Problem}
 use Rattle.vs_instance.specs.Plan.{LayerBlock}
-use Rattle.vs_instance.specs.declared.limits.TheConstants.{MAX_FLEET}
 use Rattle.vs_plan.specs.Blocks.{IsOfInstance, pair_of, pairs_of}
 use Rattle.vs_plan.specs.declared.block.Block.{Block}
 use Rattle.vs_reader.specs.Rows.{Row, line, lines}
@@ -18,7 +17,7 @@ use Rattle.vs_rows.specs.DocumentRows.{BlockRow, EndRow, FleetRow, PriceRow}
 use Rattle.vs_peakcheck.specs.declared.claimed.Claimed.{Claimed}
 use Rattle.vs_peakcheck.specs.Claims.{IsClaimed}
 use Rattle.vs_peakcheck.proofs.CallerLemmas.{layers_more, rows_more, all_within, count_is}
-use Rattle.vs_peakcheck.specs.Counting.{counting, numbered, own_blocks, own_trips, permitted_trips}
+use Rattle.vs_peakcheck.specs.Counting.{counted_fleet, counting, numbered, own_blocks, own_trips, permitted_trips}
 use Rattle.vs_peakcheck.specs.PeakRows.{CountRow, PartRow, PeakRow, block_rows, head_row, layer_rows, layers_rows, peak_rows, peak_text, price_rows, written_peak}
 use Rattle.vs_peak.specs.Writing.{AddsPeakRow, AddsPeakRows, AreTripsOf, own_row, own_rows}
 
@@ -96,7 +95,7 @@ module _ (p : Problem) (l : LayerNo) (trips : List TripNo) (are : AreTripsOf p l
   -- as many as the problem has that counts the layer's vehicles
   pub as_many : length (counting p l.0).trips ≡ length trips
   as_many =
-      omega (arith, count_is MAX_FLEET p l.0, ap length are, length-map (permitted_trips p l.0) numbered)
+      omega (arith, count_is (counted_fleet p) p l.0, ap length are, length-map (permitted_trips p l.0) numbered)
 
   -- blocks of that problem have their numbers
   pub blocks_placed : (blocks : List LayerBlock) → All (IsOfInstance (counting p l.0)) blocks

@@ -4,7 +4,6 @@ use Rattle.std.specs.List.{All}
 use Rattle.std.proofs.lemmas.List.{get_or-map, length-map}
 use Rattle.std.proofs.lemmas.List.Elements.{All-append, All-cons, All-head, All-nil, All-tail}
 use Rattle.vs_types.specs.declared.numbers.TripNo.{TripNo}
-use Rattle.vs_instance.specs.declared.limits.TheConstants.{MAX_FLEET}
 use Rattle.vs_instance.specs.HoldingTable.{price_of}
 use Rattle.vs_instance.specs.Plan.{LayerBlock}
 use Rattle.vs_instance.specs.Problem.{Problem}
@@ -13,7 +12,7 @@ use Rattle.vs_prices.specs.Table.{IsPrice}
 use Rattle.vs_reader.specs.Names.{HaveCounts, NameLists}
 use Rattle.vs_rows.specs.DocumentRows.{BlockRow, EndRow, FleetRow, HasForm, IsNamedBlock, PriceRow}
 use Rattle.vs_rows.proofs.CallerLemmas.{printed}
-use Rattle.vs_peakcheck.specs.Counting.{counting, numbered, own_blocks, own_number, own_trips, permitted_trips}
+use Rattle.vs_peakcheck.specs.Counting.{counted_fleet, counting, numbered, own_blocks, own_number, own_trips, permitted_trips}
 use Rattle.vs_peakcheck.proofs.CallerLemmas.{all_within, count_is}
 use Rattle.vs_peakcheck.specs.declared.claimed.Claimed.{Claimed}
 use Rattle.vs_peakcheck.specs.Claims.{AreClaimed, IsClaimed, PeakText}
@@ -53,7 +52,7 @@ module _ (p : Problem) (names : NameLists) (counts : HaveCounts p names) where
           trips = λ k d within.
               let inside : k < length b.1 = omega (arith, within, length-map b.1 own) in
               let place : (get_or b.1 k d).0 < length (permitted_trips p l) =
-              omega (arith, is.trips k d inside, count_is MAX_FLEET p l) in
+              omega (arith, is.trips k d inside, count_is (counted_fleet p) p l) in
               let below = all_within p l (get_or b.1 k d).0 0 place in
               subst (λ (t : TripNo). t.0 < length names.trips) (sym (get_or-map own b.1 k d d inside))
               (omega (arith, below, counts.trips));

@@ -1,12 +1,12 @@
 -- The problem in which a plan costs as much as it has vehicles of one layer.
-use Rattle.std.specs.Prelude.{ℕ, ◌==◌, List, [], ◌∷◌, length, map, filter, None, slice_index}
+use Rattle.std.specs.Prelude.{ℕ, ◌==◌, List, [], ◌∷◌, length, map, max, filter, None, slice_index}
 use Rattle.std.specs.Int.{bit_at}
 use Rattle.std.specs.List.{range_with_len}
 use Rattle.vs_types.specs.declared.numbers.LayerNo.{LayerNo}
 use Rattle.vs_types.specs.declared.numbers.TripNo.{TripNo}
 use Rattle.vs_instance.specs.declared.layer.Layer.{Layer}
 use Rattle.vs_instance.specs.declared.trip.Trip.{Trip}
-use Rattle.vs_instance.specs.declared.limits.TheConstants.{MAX_FLEET}
+use Rattle.vs_instance.specs.declared.limits.TheConstants.{USUAL_TRIPS}
 use Rattle.vs_instance.specs.Problem.{Problem}
 use Rattle.vs_instance.specs.Ways.{layer_of, trip_of}
 use Rattle.vs_instance.specs.Plan.{LayerBlock}
@@ -40,9 +40,12 @@ counting_with fleet p l = record {
   trips = map (λ i. counted_trip (trip_of p i)) (permitted_trips p l);
 }
 
--- as many vehicles as a layer can have: a plan never needs more, since there are no more trips
+-- at least as many vehicles as there are trips: a plan never needs more
+abbrev pub counted_fleet : Problem → ℕ
+counted_fleet p = max (length p.trips) USUAL_TRIPS
+
 abbrev pub counting : Problem → ℕ → Problem
-counting p l = counting_with MAX_FLEET p l
+counting p l = counting_with (counted_fleet p) p l
 
 abbrev pub numbered : ℕ → TripNo
 numbered i = record { 0 = i }

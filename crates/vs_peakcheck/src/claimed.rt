@@ -4,7 +4,7 @@ use vs_plan::Block;
 use vs_prices::Table;
 
 /// The most vehicles that a layer can need: no more than there are trips.
-pub const MAX_COUNT: u32 = 2_000;
+pub const MAX_COUNT: u32 = 10_000;
 
 /// What a text claims of one layer, in the numbers of the instance that counts its vehicles.
 #[derive(Debug, Drop)]

@@ -3,17 +3,16 @@
 ghost use Rattle.std.specs.Prelude.{◌≡◌, ◌<◌, length, IfOk};
 ghost use Rattle.vs_peakcheck.specs.Counting.{counted_layer, counting};
 ghost use Rattle.vs_peakcheck.specs.Parts.{CountingParts};
-ghost use Rattle.vs_instance.specs.declared.limits.TheConstants.{MAX_FLEET};
 
 use crate::deadheads::all_deadheads;
 use crate::trips::{counted_trips, trips_of};
 use std::alloc::Global;
-use vs_instance::{Instance, Layer, MAX_FLEET, NewError, Parts};
+use vs_instance::{Instance, Layer, MAX_TRIPS, NewError, Parts, USUAL_TRIPS};
 use vs_types::{LayerNo, Memory};
 
 /// The instance in which a plan costs as much as it has vehicles of layer l. It has the same stops and deadheads, that
-/// layer alone with the greatest fleet, and the trips that it may run, in order. The vehicles cost 1 each and nothing
-/// else.
+/// layer alone with a fleet that is never too small, and the trips that it may run, in order. The vehicles cost 1 each
+/// and nothing else.
 pub fn counting(alloc: Global, instance: &Instance, l: LayerNo) -> Result<Instance, Memory>
     requires { l.0 < length instance.now.layers }
     ensures { IfOk result (λ counted. counted ≡ counting instance.now l.0) }
@@ -35,22 +34,24 @@ fn parts_of(alloc: Global, instance: &Instance, l: LayerNo) -> Result<Parts, Mem
     let trips = counted_trips(alloc, instance, own_trips.as_slice())?;
     let deadheads = all_deadheads(alloc, instance)?;
     let mut layers = Vec::new(alloc);
-    layers.push(counted_layer(instance.layer(l)))?;
+    let fleet = u64::from(instance.trips().max(USUAL_TRIPS));
+    layers.push(counted_layer(instance.layer(l), fleet))?;
     Ok(Parts {
         stops: instance.stops(),
         deadheads,
         layers,
         trips,
+        most: MAX_TRIPS,
     })
 }
 
-/// The layer with the greatest fleet, where each vehicle costs 1 and none rests.
-fn counted_layer(layer: &Layer) -> Layer
-    ensures { result ≡ counted_layer MAX_FLEET layer.now }
+/// The layer with so many vehicles, where each costs 1 and none rests.
+fn counted_layer(layer: &Layer, fleet: u64) -> Layer
+    ensures { result ≡ counted_layer fleet layer.now }
 {
     Layer {
         depot: layer.depot,
-        fleet: MAX_FLEET,
+        fleet,
         fixed: 1,
         per_minute: 0,
         per_metre: 0,

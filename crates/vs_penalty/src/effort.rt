@@ -2,9 +2,9 @@
 //! about a fifth of a microsecond.
 
 ghost use Rattle.std.specs.Prelude.{◌≡◌, ◌*◌, ◌<◌, ◌≤◌, ◌↔◌, IsTrue, length};
-ghost use Rattle.vs_penalty.specs.Slow.{IsSlow};
+ghost use Rattle.vs_penalty.specs.Slow.{IsLarge, IsSlow};
 
-use vs_instance::{Instance, MAX_LAYERS, MAX_TRIPS};
+use vs_instance::{Instance, MAX_LAYERS, MAX_TRIPS, USUAL_TRIPS};
 use vs_types::SCALE;
 
 /// How many offers of trips to layers there are in all, where the quick passes for them lie between the two limits. A
@@ -38,6 +38,9 @@ const SMALL: u32 = 1_600;
 
 /// How many layers an instance has at most that are few.
 const FEW_LAYERS: u32 = 4;
+
+/// How much effort a quick pass takes at most on a large instance for the limits of effort to be the usual ones.
+const USUAL_PASS: u64 = 150_000;
 
 /// On a small instance the search at the root ends where the cheapest plan costs no more than one part in so many above
 /// the value. That is 0.04 per cent. What more of the search finds then leaves find sooner.
@@ -86,11 +89,28 @@ pub(crate) fn is_small(instance: &Instance) -> bool
     offers(instance) <= SMALL
 }
 
+/// Whether an instance is large: it has more trips than a text of version 1 or 2 may have.
+pub(crate) fn is_large(instance: &Instance) -> bool
+    ensures { IsTrue result ↔ IsLarge instance.now }
+{
+    instance.trips() > USUAL_TRIPS
+}
+
 /// Whether a climb takes many rounds to multipliers near which cheap plans are found.
 pub(crate) fn is_slow(instance: &Instance) -> bool
     ensures { IsTrue result ↔ IsSlow instance.now }
 {
-    instance.layers() > FEW_LAYERS && !is_small(instance)
+    is_large(instance) || instance.layers() > FEW_LAYERS && !is_small(instance)
+}
+
+/// How much effort there may be where the usual limit is so much and a quick pass takes so much. On a large instance
+/// the limit is as many times the usual one as the pass is longer than usual: rounds and turns are longer then too.
+pub(crate) fn effort_for(instance: &Instance, of_pass: u64, usual: u64) -> u64 {
+    if is_large(instance) {
+        usual.saturating_mul(of_pass.max(USUAL_PASS)) / USUAL_PASS
+    } else {
+        usual
+    }
 }
 
 /// How little for turns to end.
@@ -135,5 +155,7 @@ pub(crate) fn turn_effort(instance: &Instance, of_pass: u64) -> u64 {
     } else {
         MOST_A_TURN
     };
-    of_pass.saturating_mul(passes).min(most)
+    of_pass
+        .saturating_mul(passes)
+        .min(effort_for(instance, of_pass, most))
 }

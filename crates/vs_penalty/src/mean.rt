@@ -1,7 +1,7 @@
 //! The mean of multipliers that swing from pass to pass.
 ghost use Rattle.std.specs.Prelude.{◌≡◌, ◌+◌, ◌<◌, IfOk, length, min};
-ghost use Rattle.vs_multi.specs.Multipliers.{AreWithin, IsMultiplier};
-ghost use Rattle.vs_penalty.specs.Means.{AreBetween, LiesBetween};
+ghost use Rattle.vs_multi.specs.Multipliers.{AreWithin};
+ghost use Rattle.vs_penalty.specs.Means.{AreBetween, IsLimited, LiesBetween};
 
 use std::alloc::Global;
 use vs_types::Memory;
@@ -52,8 +52,8 @@ impl Mean {
 /// A mean with one part in so many of the way to a newer multiplier taken in.
 fn nearer(mean: i64, newest: i64, part: u8) -> i64
     requires part { 0 < part }
-    requires mean { IsMultiplier mean }
-    requires newest { IsMultiplier newest }
+    requires mean { IsLimited mean }
+    requires newest { IsLimited newest }
     ensures between { LiesBetween mean newest result }
     ensures whole { part ≡ 1 → result ≡ newest }
 {

@@ -1,6 +1,6 @@
 //! What trips are paid where nothing costs anything: all of them as much, or those alone that a reason is about.
 
-ghost use Rattle.std.specs.Prelude.{IfOk};
+ghost use Rattle.std.specs.Prelude.{IfOk, length};
 ghost use Rattle.vs_multi.specs.Multipliers.{AreMultipliers, IsMultiplier};
 
 use vs_instance::{Instance, Trip};
@@ -12,7 +12,7 @@ const PAID: i64 = 1;
 
 /// Multipliers that pay as much for each trip.
 pub(crate) fn evenly(case: &Case<'_>, paid: i64) -> Result<Vec<i64>, Memory>
-    requires { IsMultiplier paid }
+    requires { IsMultiplier (length case.now.instance.now.trips) paid }
     ensures { IfOk result (λ multipliers. AreMultipliers case.now.instance.now multipliers.items) }
 {
     let multipliers = vec![in case.alloc; paid; case.instance.trips() as usize]?;

@@ -63,14 +63,15 @@ fn one_trip<W: Watch>(case: &Case<'_>, work: &mut Work, watch: &W) -> Result<Opt
     requires { IsCase case.now.instance.now case.now.nets.now case.now.sets.now }
     ensures { IfOk result (λ found. IfSome found (IsHolding case.now.instance.now)) }
 {
-    let mut multipliers = evenly(case, 0)?;
+    let mut paid = evenly(case, 0)?;
+    let multipliers: &mut [i64] = &mut paid;
     let mut left = TRIALS;
     for i in 0..case.instance.trips() {
         let i = TripNo(i);
         if left > 0 && !is_run_alone(case.instance, case.sets[i.0 as usize], i) {
             left -= 1;
-            pay_one(case.instance, i, &mut multipliers);
-            let found = trial(case, &mut multipliers, work, watch)?;
+            pay_one(case.instance, i, multipliers);
+            let found = trial(case, multipliers, work, watch)?;
             if found.is_some() {
                 return Ok(found);
             }

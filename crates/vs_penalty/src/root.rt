@@ -5,7 +5,9 @@ ghost use Rattle.vs_multi.specs.Multipliers.{AreMultipliers};
 ghost use Rattle.vs_multi.specs.Rounds.{IsCase};
 ghost use Rattle.vs_penalty.specs.Seekers.{AreWalkers, CanSeek, IsSeekerFor};
 
-use crate::effort::{MOST_VAIN, is_slow, is_small, quick_passes, turn_effort};
+use crate::effort::{
+    MOST_VAIN, effort_for, is_large, is_slow, is_small, quick_passes, turn_effort,
+};
 use crate::seeking::Seeker;
 use crate::walkers::{Hands, Walkers};
 use vs_bundle::{Aim, Ascent, Lanes};
@@ -23,17 +25,22 @@ const CUTS: u32 = 100;
 /// How many turns the walkers have at most.
 const TURNS: u32 = 6;
 
-/// After so much effort of all walkers they end.
+/// After so much effort of all walkers they end, as far as that is usual.
 const WALKS: u64 = 120_000_000;
 
-/// A part of the climb: how many rounds it has at most, and how much effort they take.
+/// A part of the climb: how many rounds it has at most, and how much effort they usually take.
 #[derive(Clone, Copy, Debug)]
 struct Stage {
     rounds: u32,
     effort: u64,
 }
 
-/// From the multipliers of the quick passes: where the climb is slow, and where it isn't.
+/// From the multipliers of the quick passes: on a large instance, where the climb is slow, and where it isn't.
+const FIRST_LARGE: Stage = Stage {
+    rounds: 400,
+    effort: 150_000_000,
+};
+
 const FIRST_SLOW: Stage = Stage {
     rounds: 400,
     effort: 60_000_000,
@@ -50,7 +57,12 @@ const FURTHER: Stage = Stage {
     effort: 13_000_000,
 };
 
-/// After all turns, where the climb is slow and has had more rounds before, and where it isn't.
+/// After all turns: on a large instance, where the climb is slow and has had more rounds before, and where it isn't.
+const LAST_LARGE: Stage = Stage {
+    rounds: 200,
+    effort: 50_000_000,
+};
+
 const LAST_SLOW: Stage = Stage {
     rounds: 100,
     effort: 20_000_000,
@@ -101,7 +113,7 @@ impl Seeker {
         if watch.is_over() {
             return Ok(());
         }
-        let aim = self.aim(first);
+        let aim = self.aim(case.instance, first);
         let mut ascent = Ascent::begin(case, &aim, multipliers, work, watch)?;
         self.climb(case, &mut ascent, first, multipliers, work, watch)?;
         self.take_turns(case, &mut ascent, multipliers, work, watch)?;
@@ -133,12 +145,13 @@ impl Seeker {
         }
         let most = self.penalties.rate.most;
         let budget = turn_effort(case.instance, self.of_pass);
+        let most_walks = effort_for(case.instance, self.of_pass, WALKS);
         let mut walkers = Walkers::new(case, multipliers, most, budget)?;
         let mut vain = 0;
         let mut climbed_for = self.choices.cost();
         for turn in 0..TURNS {
             climbed_for = self.climb_further(case, ascent, climbed_for, multipliers, work, watch)?;
-            let is_spent = vain == MOST_VAIN || walkers.effort() > WALKS;
+            let is_spent = vain == MOST_VAIN || walkers.effort() > most_walks;
             if is_spent || self.is_over(case.instance, watch) {
                 break;
             }
@@ -219,14 +232,14 @@ impl Seeker {
         ensures ascent { IsAscentFor case.now.instance.now ascent.new }
     {
         begin_runs(case.alloc, case.nets, work)?;
-        let aim = self.aim(stage);
+        let aim = self.aim(case.instance, stage);
         ascent.go_on(case, &aim, multipliers, work, watch);
         self.value = ascent.value();
         Ok(())
     }
 
     /// What a part of the climb is to come to.
-    fn aim(&self, stage: Stage) -> Aim {
+    fn aim(&self, instance: &Instance, stage: Stage) -> Aim {
         Aim {
             known: self.choices.known(),
             most: self.penalties.rate.most,
@@ -235,14 +248,16 @@ impl Seeker {
             rounds: stage.rounds,
             trial_rounds: stage.rounds,
             paced: false,
-            effort: stage.effort,
+            effort: effort_for(instance, self.of_pass, stage.effort),
         }
     }
 }
 
 /// The first and the last part of the climb.
 fn stages(instance: &Instance) -> (Stage, Stage) {
-    if is_slow(instance) {
+    if is_large(instance) {
+        (FIRST_LARGE, LAST_LARGE)
+    } else if is_slow(instance) {
         (FIRST_SLOW, LAST_SLOW)
     } else if is_small(instance) {
         (FIRST, LAST_ON_SMALL)

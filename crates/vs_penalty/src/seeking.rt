@@ -8,7 +8,7 @@ ghost use Rattle.vs_penalty.specs.Seekers.{IsSeekerFor};
 ghost use Rattle.vs_penalty.specs.Slow.{IsSlow};
 
 use crate::choices::Choices;
-use crate::effort::{first_part, is_slow, margin, turn_margin};
+use crate::effort::{effort_for, first_part, is_slow, margin, turn_margin};
 use crate::mean::Mean;
 use vs_circ::{Work, begin_runs};
 use vs_instance::Instance;
@@ -23,7 +23,7 @@ const GROWTH: u64 = 8;
 /// best, and what later ones gain walks find sooner.
 const AGREEMENTS: u32 = 10;
 
-/// How much effort quick passes take at most where a plan is known.
+/// How much effort quick passes take at most where a plan is known, as far as that is usual.
 const EFFORT: u64 = 60_000_000;
 
 /// So many times their passes and their effort they may take where no plan is known.
@@ -88,7 +88,7 @@ impl Seeker {
         let start = work.effort();
         for k in 0..passes.saturating_mul(MORE) {
             let effort = work.effort().saturating_sub(start);
-            if left == 0 || self.is_sought(k >= passes, effort) || watch.is_over() {
+            if left == 0 || self.is_sought(case.instance, k >= passes, effort) || watch.is_over() {
                 break;
             }
             if !self.penalties.pass(case, ALL, work, watch) {
@@ -134,9 +134,10 @@ impl Seeker {
     }
 
     /// Whether quick passes end that took so much effort, and of which there were enough, or not yet.
-    fn is_sought(&self, are_enough: bool, effort: u64) -> bool {
+    fn is_sought(&self, instance: &Instance, are_enough: bool, effort: u64) -> bool {
         let has_plan = self.choices.best.is_some();
-        effort > EFFORT * u64::from(MORE) || has_plan && (are_enough || effort > EFFORT)
+        let most = effort_for(instance, self.of_pass, EFFORT);
+        effort > most.saturating_mul(u64::from(MORE)) || has_plan && (are_enough || effort > most)
     }
 
     /// Finds the plan on which the layers nearly agree, and makes passes ready to go on.

@@ -20,8 +20,8 @@ pub const MAX_PULL_IN: u32 = 4_319;
 /// No block costs more cost units than this for each of its trips.
 pub const MAX_COST_PER_TRIP: u64 = 50_000_000_000;
 
-/// No plan costs more cost units than this, since it has at most 2,000 trips.
-pub const MAX_PLAN_COST: i64 = 100_000_000_000_000;
+/// No plan costs more cost units than this, since it has at most 10,000 trips.
+pub const MAX_PLAN_COST: i64 = 500_000_000_000_000;
 
 /// The minutes of the way from stop k to stop s, 0 where there is none.
 fn minutes_or_none(instance: &Instance, k: StopNo, s: StopNo) -> u32

@@ -4,7 +4,7 @@ pub use Rattle.vs_prices.proofs.Duality.{bounds_plans, least-le, least_above}
 pub use Rattle.vs_prices.proofs.FirstBreaks.{first_at_back, first_at_link, first_at_out, first_nowhere}
 pub use Rattle.vs_prices.proofs.NoBreaks.{holds_nowhere_broken, nowhere_broken, same_test}
 pub use Rattle.vs_prices.proofs.PriceNumbers.{IsScaled, scaled-IsScaled}
-pub use Rattle.vs_prices.proofs.PricePlaces.{zero_at, zeros_hold}
+pub use Rattle.vs_prices.proofs.PricePlaces.{zero_at, zero_prices_in, zeros_hold}
 pub use Rattle.vs_prices.proofs.RealBreaks.{all_broken}
 pub use Rattle.vs_prices.proofs.Rounding.{rounded_up-IsRoundedUp}
 pub use Rattle.vs_prices.proofs.RunningTotals.{product_within}

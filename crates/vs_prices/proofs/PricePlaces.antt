@@ -44,7 +44,7 @@ zero_at prices i zeros = by_place (cases_lt i (length prices))
     by_place (inl within) = zeros i (pos 0) within
     by_place (inr past) = get_or_past prices i (pos 0) past
 
-zero_prices_in : (p : Problem) (prices : List ℤ) (l i : ℕ) → All (λ n. n ≡ pos 0) prices
+pub zero_prices_in : (p : Problem) (prices : List ℤ) (l i : ℕ) → All (λ n. n ≡ pos 0) prices
     → price_of (prices_in p l prices) i ≡ pos 0
 zero_prices_in p prices l i zeros =
     zero_at (prices_in p l prices) i

@@ -103,8 +103,8 @@ trip_added bits i from price e low high few below above = record {
 }
 
 pub record ProductWithin (x : ℤ) : Type 0 where
-  pub low : neg_ℤ (pos 2000000000000000000000) ≤ℤ x
-  pub high : x ≤ℤ pos 2000000000000000000000
+  pub low : neg_ℤ (pos 10000000000000000000000) ≤ℤ x
+  pub high : x ≤ℤ pos 10000000000000000000000
 
 pub product_within : (price : ℤ) (fleet : ℕ) → IsPrice price → fleet ≤ MAX_FLEET → ProductWithin (price *ℤ pos fleet)
 product_within (pos n) fleet is_price few =
@@ -128,9 +128,9 @@ product_passed a b price fleet e f is_price few =
 
 pub product_added : (bits l fleet : ℕ) (a b price : ℤ) → a ≡ to_z w64 (of_z w64 price) → b ≡ pos fleet
     → IsPrice price → fleet ≤ MAX_FLEET → l < MAX_LAYERS
-    → neg_ℤ (pos (2000000000000000000000 * l)) ≤ℤ to_z w128 bits → to_z w128 bits ≤ℤ pos (2000000000000000000000 * l)
+    → neg_ℤ (pos (10000000000000000000000 * l)) ≤ℤ to_z w128 bits → to_z w128 bits ≤ℤ pos (10000000000000000000000 * l)
     → FitsSigned w128 (to_z w128 bits +ℤ to_z w128 (of_z w128 (to_z w128 (of_z w128 a) *ℤ to_z w128 (of_z w128 b))))
-    × SumWithin (2000000000000000000000 * (l + 1)) (to_z w128 bits) (price *ℤ pos fleet)
+    × SumWithin (10000000000000000000000 * (l + 1)) (to_z w128 bits) (price *ℤ pos fleet)
     (to_z w128
     (of_z w128 (to_z w128 bits +ℤ to_z w128 (of_z w128 (to_z w128 (of_z w128 a) *ℤ to_z w128 (of_z w128 b))))))
 product_added bits l fleet a b price e f is_price few inside below above =
@@ -168,7 +168,7 @@ lesser_step xs least after price paid e f limits low high h = (
 )
 
 pub difference_passed : (a b a' b' : ℤ) → a ≡ a' → b ≡ b'
-    → neg_ℤ (pos 10000000000000000000000) ≤ℤ a → a ≤ℤ pos 10000000000000000000000
-    → neg_ℤ (pos 100000000000000000000000) ≤ℤ b → b ≤ℤ pos 100000000000000000000000
+    → neg_ℤ (pos 30000000000000000000000) ≤ℤ a → a ≤ℤ pos 30000000000000000000000
+    → neg_ℤ (pos 160000000000000000000000) ≤ℤ b → b ≤ℤ pos 160000000000000000000000
     → to_z w128 (of_z w128 (to_z w128 (of_z w128 a) -ℤ to_z w128 (of_z w128 b))) ≡ a' -ℤ b'
 difference_passed a b a' b' e f a_low a_high b_low b_high = omega (arith, ints)

@@ -20,10 +20,10 @@ use vs_types::{LayerNo, LayerSet, Memory, SCALE, TripNo};
 pub const MAX_TRIP_PRICE: i64 = 3_000_000_000_000_000_000;
 
 /// All trips together pay no more than this, or less than its negative.
-const MAX_TRIPS_PAY: i128 = 10_000_000_000_000_000_000_000;
+const MAX_TRIPS_PAY: i128 = 30_000_000_000_000_000_000_000;
 
 /// All vehicles together pay no more than this, or less than its negative.
-const MAX_VEHICLES_PAY: i128 = 100_000_000_000_000_000_000_000;
+const MAX_VEHICLES_PAY: i128 = 160_000_000_000_000_000_000_000;
 
 /// The restriction that restricts nothing: for each trip the layers that may run it.
 pub fn permitted_sets(alloc: Global, instance: &Instance) -> Result<Vec<LayerSet>, Memory>

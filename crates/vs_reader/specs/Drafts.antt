@@ -2,9 +2,10 @@
 use Rattle.std.specs.Prelude.{◌≡◌, ℕ, ◌<◌, ◌≤◌, List, length, All, AllPairs}
 use Rattle.vs_types.specs.LayerSet.{Has}
 use Rattle.vs_types.specs.declared.numbers.TheConstants.{MAX_LAYERS}
-use Rattle.vs_instance.specs.declared.limits.TheConstants.{MAX_STOPS, MAX_TRIPS, TWO_DAYS}
+use Rattle.vs_instance.specs.declared.limits.TheConstants.{MAX_STOPS, TWO_DAYS}
 use Rattle.vs_reader.specs.declared.draft.Draft.{Draft}
 use Rattle.vs_reader.specs.declared.version.Version.{Version}
+use Rattle.vs_reader.specs.Versions.{most_in}
 use Rattle.vs_reader.specs.Rows.{Field, Row}
 use Rattle.vs_reader.specs.InstanceText.{Declared, Adds}
 use Rattle.vs_reader.specs.Refusals.{is_layer, is_deadhead, is_trip}
@@ -24,14 +25,14 @@ pub record AddsRecord (version : Version) (number : ℕ) (old : Draft) (row : Ro
 abbrev pub AreApart : List Field → Type 0
 AreApart names = AllPairs (λ f g. ¬ (f ≡ g)) names
 
--- names within the limits, no two of a kind the same, a layer and a trip for each of theirs, and no number that nothing
--- has
-pub record IsSound (d : Declared) : Type 0 where
+-- names within the limits of this version, no two of a kind the same, a layer and a trip for each of theirs, and no
+-- number that nothing has
+pub record IsSound (version : Version) (d : Declared) : Type 0 where
   pub stops_apart : AreApart d.names.stops
   pub layers_apart : AreApart d.names.layers
   pub few_stops : length d.names.stops ≤ MAX_STOPS
   pub few_layers : length d.names.layers ≤ MAX_LAYERS
-  pub few_trips : length d.names.trips ≤ MAX_TRIPS
+  pub few_trips : length d.names.trips ≤ most_in version
   pub each_layer : length d.layers ≡ length d.names.layers
   pub each_trip : length d.trips ≡ length d.names.trips
   pub depots : All (λ l. l.depot.0 < length d.names.stops) d.layers

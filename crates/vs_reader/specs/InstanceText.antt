@@ -1,5 +1,5 @@
 -- What the records of an instance text say. Each record adds to what the records before it declare.
-use Rattle.std.specs.Prelude.{◌≡◌, ℕ, ◌+◌, ◌<◌, ◌≤◌, false, List, [], ◌∷◌, ◌++◌, length, drop, All, AllPairs, Contains, Option, None, IsSomeAnd, codes, ◌⊎◌, ◌↔◌}
+use Rattle.std.specs.Prelude.{◌≡◌, ℕ, ◌+◌, ◌<◌, ◌≤◌, Bool, true, false, List, [], ◌∷◌, ◌++◌, length, drop, All, AllPairs, Contains, Option, None, IsSomeAnd, codes, ◌⊎◌, ◌↔◌}
 use Rattle.vs_types.specs.LayerSet.{Has}
 use Rattle.vs_types.specs.declared.layer_set.LayerSet.{LayerSet}
 use Rattle.vs_instance.specs.declared.parts.Deadhead.{Deadhead}
@@ -9,13 +9,12 @@ use Rattle.vs_instance.specs.Problem.{Problem}
 use Rattle.vs_instance.specs.Instance.{IsInstance}
 use Rattle.vs_instance.specs.Misfits.{are_twins, deadheads_of}
 use Rattle.vs_types.specs.declared.numbers.TheConstants.{MAX_LAYERS}
-use Rattle.vs_instance.specs.declared.limits.TheConstants.{MAX_STOPS, MAX_TRIPS}
+use Rattle.vs_instance.specs.declared.limits.TheConstants.{MAX_STOPS}
 use Rattle.vs_reader.specs.declared.version.Version.{Version}
-use Rattle.vs_reader.specs.declared.version.Version.TheVariants.{One, Two}
 use Rattle.vs_reader.specs.Rows.{Field, Row}
 use Rattle.vs_reader.specs.Numbers.{IsNumber, IsTime}
 use Rattle.vs_reader.specs.Names.{IsName, NameLists, Names}
-use Rattle.vs_reader.specs.Versions.{HasHeader}
+use Rattle.vs_reader.specs.Versions.{HasHeader, most_in, writes_stay}
 use Rattle.vs_reader.specs.Kinds.{before_result}
 
 -- what records declare: names, and the deadheads, layers and trips, each in order
@@ -58,17 +57,17 @@ pub record AddsDeadhead (old : Declared) (row : Row) (new : Declared) : Type 0 w
   pub row_is : DeadheadRow old.names.stops row deadhead
   pub added : new ≡ record old { deadheads = old.deadheads ++ deadhead ∷ [] }
 
--- the fields behind the rates of a layer: none in version 1, and in version 2 the one that writes its least rest
-abbrev pub stay_fields : Version → Field → List Field
-stay_fields One stay = []
-stay_fields Two stay = stay ∷ []
+-- the fields behind the rates of a layer: the one that writes its least rest, where its record writes it
+abbrev pub stay_fields : Bool → Field → List Field
+stay_fields false stay = []
+stay_fields true stay = stay ∷ []
 
--- the least rest of a layer: none in version 1, and in version 2 the number that the field writes
-abbrev pub StayOf : Version → Field → Option ℕ → Type 0
-StayOf One field stay = stay ≡ None
-StayOf Two field stay = IsSomeAnd stay (IsNumber field)
+-- the least rest of a layer: the number that the field writes, where its record writes it, and else none
+abbrev pub StayOf : Bool → Field → Option ℕ → Type 0
+StayOf false field stay = stay ≡ None
+StayOf true field stay = IsSomeAnd stay (IsNumber field)
 
--- `layer`, NAME, DEPOT, FLEET, FIXED, PER_MINUTE, PER_METRE, and in version 2 STAY
+-- `layer`, NAME, DEPOT, FLEET, FIXED, PER_MINUTE, PER_METRE, in version 2 also STAY, and in version 3 STAY or not
 pub record LayerRow (version : Version) (stops : List Field) (row : Row) (name : Field) (layer : Layer) : Type 0 where
   pub depot : Field
   pub fleet : Field
@@ -77,13 +76,14 @@ pub record LayerRow (version : Version) (stops : List Field) (row : Row) (name :
   pub per_metre : Field
   pub stay : Field
   pub row_is : row
-      ≡ codes "layer" ∷ name ∷ depot ∷ fleet ∷ fixed ∷ per_minute ∷ per_metre ∷ stay_fields version stay
+      ≡ codes "layer" ∷ name ∷ depot ∷ fleet ∷ fixed ∷ per_minute ∷ per_metre
+      ∷ stay_fields (writes_stay version (length row)) stay
   pub depot_is : Names stops depot layer.depot.0
   pub fleet_is : IsNumber fleet layer.fleet
   pub fixed_is : IsNumber fixed layer.fixed
   pub per_minute_is : IsNumber per_minute layer.per_minute
   pub per_metre_is : IsNumber per_metre layer.per_metre
-  pub stay_is : StayOf version stay layer.stay
+  pub stay_is : StayOf (writes_stay version (length row)) stay layer.stay
 
 pub record AddsLayer (version : Version) (old : Declared) (row : Row) (new : Declared) : Type 0 where
   pub name : Field
@@ -120,12 +120,12 @@ pub record TripRow (names : NameLists) (row : Row) (name : Field) (trip : Trip) 
   pub some_layer : 1 ≤ length layers
   pub layers_are : NameLayers names.layers layers trip.layers
 
-pub record AddsTrip (old : Declared) (row : Row) (new : Declared) : Type 0 where
+pub record AddsTrip (version : Version) (old : Declared) (row : Row) (new : Declared) : Type 0 where
   pub name : Field
   pub trip : Trip
   pub row_is : TripRow old.names row name trip
   pub new_name : IsNew old.names.trips name
-  pub room : length old.names.trips < MAX_TRIPS
+  pub room : length old.names.trips < most_in version
   pub added : new ≡ record old {
     names = record old.names { trips = old.names.trips ++ name ∷ [] };
     trips =
@@ -135,16 +135,18 @@ pub record AddsTrip (old : Declared) (row : Row) (new : Declared) : Type 0 where
 -- one record adds to what was declared
 abbrev pub Adds : Version → Declared → Row → Declared → Type 0
 Adds version old row new =
-    AddsStop old row new ⊎ (AddsDeadhead old row new ⊎ (AddsLayer version old row new ⊎ AddsTrip old row new))
+    AddsStop old row new ⊎ (AddsDeadhead old row new ⊎ (AddsLayer version old row new ⊎ AddsTrip version old row new))
 
 -- the records do, one after another
 abbrev pub AddAll : Version → Declared → List Row → Declared → Type 0
 AddAll version old [] new = new ≡ old
 AddAll version old (row ∷ rows) new = (next : Declared) × Adds version old row next × AddAll version next rows new
 
--- what is declared is the instance: no deadhead stands twice, and the limits and closure hold
-pub record Makes (declared : Declared) (p : Problem) : Type 0 where
+-- what is declared by the rules of this version is the instance: no deadhead stands twice, no fleet is past what the
+-- version lets be, and the limits and closure hold
+pub record Makes (version : Version) (declared : Declared) (p : Problem) : Type 0 where
   pub once : AllPairs (λ d e. are_twins d e ≡ false) declared.deadheads
+  pub fleets : All (λ layer. layer.fleet ≤ most_in version) declared.layers
   pub problem : p ≡ record {
     stops = length declared.names.stops;
     deadheads =
@@ -166,7 +168,7 @@ pub record InstanceText (rows : List Row) (p : Problem) (names : NameLists) (bef
   pub first : HasHeader version rows
   pub declared : Declared
   pub declares : AddAll version nothing_yet (instance_records rows) declared
-  pub makes : Makes declared p
+  pub makes : Makes version declared p
   pub names_are : names ≡ declared.names
   pub before_is : before ≡ length (instance_records rows) + 1
   pub rest_is : rest ≡ drop before rows

@@ -3,7 +3,7 @@ use Rattle.std.specs.Prelude.{◌≡◌, ℕ, ◌+◌, Bool, true, false, List, 
 use Rattle.std.specs.List.{enumerate_from}
 use Rattle.vs_instance.specs.declared.parts.Parts.{Parts}
 use Rattle.vs_instance.specs.declared.misfit.Misfit.{Misfit}
-use Rattle.vs_instance.specs.declared.misfit.Misfit.TheVariants.{Range, SelfDeadhead, DeadheadTwice, EndNotAfterStart, NotClosed, LongerMinutes, LongerMetres}
+use Rattle.vs_instance.specs.declared.misfit.Misfit.TheVariants.{Range, TooDear, SelfDeadhead, DeadheadTwice, EndNotAfterStart, NotClosed, LongerMinutes, LongerMetres}
 use Rattle.vs_instance.specs.declared.misfit.Place.TheVariants as place
 use Rattle.vs_instance.specs.Misfits.{first_misfit, misfits_of}
 use Rattle.vs_reader.specs.declared.kind.Kind.{Kind}
@@ -13,7 +13,7 @@ use Rattle.vs_reader.specs.declared.refused.Why.TheVariants as why
 use Rattle.vs_reader.specs.declared.version.Version.{Version}
 use Rattle.vs_reader.specs.Rows.{Row, field_of}
 use Rattle.vs_reader.specs.Names.{NameLists}
-use Rattle.vs_reader.specs.Versions.{HasHeader}
+use Rattle.vs_reader.specs.Versions.{HasHeader, most_in}
 use Rattle.vs_reader.specs.Kinds.{kind_of}
 use Rattle.vs_reader.specs.InstanceText.{Declared, AddAll, nothing_yet, instance_records}
 use Rattle.vs_reader.specs.Rules.{AreKept, BreaksFirst, rules, with_row}
@@ -57,6 +57,7 @@ abbrev pub misfit_row : List Row → Misfit → ℕ
 misfit_row records (Range field (place.Layer l)) = number_of is_layer records l.0
 misfit_row records (Range field (place.Deadhead n)) = number_of is_deadhead records n
 misfit_row records (Range field (place.Trip i)) = number_of is_trip records i.0
+misfit_row records (TooDear l) = number_of is_layer records l.0
 misfit_row records (SelfDeadhead n) = number_of is_deadhead records n
 misfit_row records (DeadheadTwice n) = number_of is_deadhead records n
 misfit_row records (EndNotAfterStart i) = number_of is_trip records i.0
@@ -64,19 +65,20 @@ misfit_row records (NotClosed k s t) = 0
 misfit_row records (LongerMinutes k s t) = 0
 misfit_row records (LongerMetres k s t) = 0
 
--- the parts that are declared
-pub record ArePartsOf (declared : Declared) (parts : Parts) : Type 0 where
+-- the parts that are declared by the rules of this version
+pub record ArePartsOf (version : Version) (declared : Declared) (parts : Parts) : Type 0 where
   pub stops : parts.stops ≡ length declared.names.stops
   pub deadheads : parts.deadheads.items ≡ declared.deadheads
   pub layers : parts.layers.items ≡ declared.layers
   pub trips : parts.trips.items ≡ declared.trips
+  pub most : parts.most ≡ most_in version
 
 -- each record keeps its rules, and the first misfit of what they declare is refused
 pub record HasMisfit (version : Version) (records : List Row) (refused : Refused) : Type 0 where
   pub declared : Declared
   pub declares : AddAll version nothing_yet records declared
   pub parts : Parts
-  pub parts_are : ArePartsOf declared parts
+  pub parts_are : ArePartsOf version declared parts
   pub misfit : Misfit
   pub first : first_misfit (misfits_of parts) ≡ Some misfit
   pub why_is : refused.why ≡ why.Misfit misfit

@@ -1,18 +1,17 @@
 -- What a record has to keep, in the order in which it is judged.
-use Rattle.std.specs.Prelude.{◌≡◌, ℕ, ◌<◌, ◌≤◌, List, [], ◌∷◌, ◌++◌, length, drop, Contains, Option, Some, None, IsSome, ◌⊎◌}
+use Rattle.std.specs.Prelude.{◌≡◌, ℕ, ◌<◌, ◌≤◌, if◌then◌else◌, List, [], ◌∷◌, ◌++◌, length, drop, Contains, Option, Some, None, IsSome, ◌⊎◌}
 use Rattle.vs_reader.specs.declared.kind.Kind.{Kind}
 use Rattle.vs_reader.specs.declared.kind.Kind.TheVariants.{Stop, Deadhead, Layer, Trip}
 use Rattle.vs_types.specs.declared.numbers.TheConstants.{MAX_LAYERS}
-use Rattle.vs_instance.specs.declared.limits.TheConstants.{MAX_STOPS, MAX_TRIPS}
+use Rattle.vs_instance.specs.declared.limits.TheConstants.{MAX_STOPS}
 use Rattle.vs_reader.specs.declared.refused.Why.{Why}
 use Rattle.vs_reader.specs.declared.refused.Why.TheVariants as why
 use Rattle.vs_reader.specs.declared.version.Version.{Version}
-use Rattle.vs_reader.specs.declared.version.Version.TheVariants.{One, Two}
 use Rattle.vs_reader.specs.Rows.{Field, Row, field_of}
 use Rattle.vs_reader.specs.Numbers.{IsNumber, IsTime}
 use Rattle.vs_reader.specs.Names.{IsName, NameLists}
 use Rattle.vs_reader.specs.Kinds.{kind_of}
-use Rattle.vs_reader.specs.Versions.{layer_fields}
+use Rattle.vs_reader.specs.Versions.{layer_fields, most_in, writes_stay}
 
 pub data Rule : Type 0 where
   -- the field says a kind
@@ -87,34 +86,33 @@ deadhead_rules names row =
     HasFields 5 row ∷ known_name names.stops (field_of row 1) ++ known_name names.stops (field_of row 2)
     ++ WritesNumber (field_of row 3) ∷ WritesNumber (field_of row 4) ∷ []
 
--- STAY, which the record of a layer has in version 2 alone
+-- STAY, where the record of a layer writes it
 abbrev pub stay_rules : Version → Row → List Rule
-stay_rules One row = []
-stay_rules Two row = WritesNumber (field_of row 7) ∷ []
+stay_rules version row = if writes_stay version (length row) then WritesNumber (field_of row 7) ∷ [] else []
 
--- `layer`, NAME, DEPOT, FLEET, FIXED, PER_MINUTE, PER_METRE, and in version 2 STAY
+-- `layer`, NAME, DEPOT, FLEET, FIXED, PER_MINUTE, PER_METRE, in version 2 also STAY, and in version 3 STAY or not
 abbrev pub layer_rules : Version → NameLists → Row → List Rule
 layer_rules version names row =
-    HasFields (layer_fields version) row ∷ new_name names.layers (field_of row 1)
+    HasFields (layer_fields version (length row)) row ∷ new_name names.layers (field_of row 1)
     ++ known_name names.stops (field_of row 2)
     ++ WritesNumber (field_of row 3) ∷ WritesNumber (field_of row 4) ∷ WritesNumber (field_of row 5)
     ∷ WritesNumber (field_of row 6)
     ∷ stay_rules version row ++ HasRoom MAX_LAYERS names.layers ∷ []
 
--- `trip`, NAME, FROM, START, TO, END, METRES, and one LAYER or more
-abbrev pub trip_rules : NameLists → Row → List Rule
-trip_rules names row =
+-- `trip`, NAME, FROM, START, TO, END, METRES, and one LAYER or more; the version says how many trips there may be
+abbrev pub trip_rules : Version → NameLists → Row → List Rule
+trip_rules version names row =
     HasFieldsFrom 8 row ∷ new_name names.trips (field_of row 1) ++ known_name names.stops (field_of row 2)
     ++ WritesTime (field_of row 3) ∷ known_name names.stops (field_of row 4) ++ WritesTime (field_of row 5)
     ∷ WritesNumber (field_of row 6)
-    ∷ layer_names names.layers [] (drop 7 row) ++ HasRoom MAX_TRIPS names.trips ∷ []
+    ∷ layer_names names.layers [] (drop 7 row) ++ HasRoom (most_in version) names.trips ∷ []
 
 abbrev pub rules_of_kind : Option Kind → Version → NameLists → Row → List Rule
 rules_of_kind None version names row = []
 rules_of_kind (Some Stop) version names row = stop_rules names row
 rules_of_kind (Some Deadhead) version names row = deadhead_rules names row
 rules_of_kind (Some Layer) version names row = layer_rules version names row
-rules_of_kind (Some Trip) version names row = trip_rules names row
+rules_of_kind (Some Trip) version names row = trip_rules version names row
 
 -- the rules of a record, where these names are declared by the records before it
 abbrev pub rules : Version → NameLists → Row → List Rule

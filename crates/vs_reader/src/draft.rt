@@ -63,7 +63,7 @@ impl Draft {
             Some(Kind::Stop) => self.add_stop(row),
             Some(Kind::Deadhead) => self.add_deadhead(number, row),
             Some(Kind::Layer) => self.add_layer(version, number, row),
-            Some(Kind::Trip) => self.add_trip(number, row),
+            Some(Kind::Trip) => self.add_trip(version, number, row),
             None => Err(RecordError::Refused(Why::UnknownKind)),
         }
     }
@@ -113,15 +113,20 @@ impl Draft {
         Ok(())
     }
 
-    /// Adds the trip that a record declares, which has this number.
-    fn add_trip(&mut self, number: u32, row: &ByteRecord) -> Result<(), RecordError>
+    /// Adds the trip that a record of a text of this version declares, which has this number.
+    fn add_trip(
+        &mut self,
+        version: Version,
+        number: u32,
+        row: &ByteRecord,
+    ) -> Result<(), RecordError>
         requires kind { field_of (fields_of row.now) 0 ≡ codes "trip" }
         requires layers { length self.old.names.layers ≤ MAX_LAYERS }
-        ensures { JudgedOrMemory (trip_rules self.old.names (fields_of row.now))
-            (AddsTrip (declared_of self.old) (fields_of row.now) (declared_of self.new)
+        ensures { JudgedOrMemory (trip_rules version self.old.names (fields_of row.now))
+            (AddsTrip version (declared_of self.old) (fields_of row.now) (declared_of self.new)
             × NumbersTrip number self.old.numbers self.new.numbers) result }
     {
-        let trip = records::trip(&self.names, row)?;
+        let trip = records::trip(version, &self.names, row)?;
         self.names.add_trip(field(row, 1))?;
         self.trips.push(trip)?;
         self.numbers.trips.push(number)?;

@@ -114,7 +114,7 @@ fn read_head(alloc: Global, hasher: Salted, records: &mut TextRecords) -> Result
         }));
     };
     let declarations = read_declarations(alloc, hasher, version, records)?;
-    let (instance, names) = made(alloc, declarations.draft)?;
+    let (instance, names) = made(alloc, version, declarations.draft)?;
     Ok(Head {
         instance,
         names,
@@ -123,7 +123,7 @@ fn read_head(alloc: Global, hasher: Salted, records: &mut TextRecords) -> Result
     })
 }
 
-/// The version that the next record says, `instance` and 1 or 2. None where it says none, or there is no record.
+/// The version that the next record says, `instance` and 1, 2 or 3. None where it says none, or there is no record.
 fn read_header(records: &mut TextRecords) -> Result<Option<Version>, Memory>
     ensures { IfOk result (λ said. (rows : List Row) → AreLeft records.old rows → MatchOption said
         ((version : Version) → ¬ (HasHeader version rows))
@@ -197,17 +197,17 @@ fn read_rest(alloc: Global, records: &mut TextRecords, any: bool) -> Result<Rows
     unreachable!()
 }
 
-/// What is declared, as an instance and its names.
-fn made(alloc: Global, draft: Draft) -> Result<(Instance, Names), ReadError>
-    requires sound { IsSound (declared_of draft) }
+/// What is declared by the rules of this version, as an instance and its names.
+fn made(alloc: Global, version: Version, draft: Draft) -> Result<(Instance, Names), ReadError>
+    requires sound { IsSound version (declared_of draft) }
     requires few { length draft.deadheads.items < 2 ^ 32 }
     ensures found { IfOk result (λ made.
-        Makes (declared_of draft) made.0 × (made.1 ≡ draft.names)) }
-    ensures refused { IfErr result (RefusesAs (λ refused. (version : Version) (records : List Row)
+        Makes version (declared_of draft) made.0 × (made.1 ≡ draft.names)) }
+    ensures refused { IfErr result (RefusesAs (λ refused. (records : List Row)
         → AddAll version nothing_yet records (declared_of draft) → HasNumbers draft.numbers records
         → HasMisfit version records refused)) }
     ensures none { IfErr result (λ e. IsRefusedError e
-        → (p : Problem) → ¬ (Makes (declared_of draft) p)) }
+        → (p : Problem) → ¬ (Makes version (declared_of draft) p)) }
 {
     let Draft {
         names,
@@ -221,6 +221,7 @@ fn made(alloc: Global, draft: Draft) -> Result<(Instance, Names), ReadError>
         deadheads,
         layers,
         trips,
+        most: version.most(),
     };
     match Instance::new(alloc, parts) {
         Ok(instance) => Ok((instance, names)),

@@ -33,7 +33,7 @@ impl RecordNumbers {
         ensures { (records : List Row) → HasNumbers self.now records → result ≡ misfit_row records misfit }
     {
         match misfit {
-            Misfit::Range(_, Place::Layer(l)) => row_at(&self.layers, l.0),
+            Misfit::Range(_, Place::Layer(l)) | Misfit::TooDear(l) => row_at(&self.layers, l.0),
             Misfit::Range(_, Place::Deadhead(n))
             | Misfit::SelfDeadhead(n)
             | Misfit::DeadheadTwice(n) => row_at(&self.deadheads, n),

@@ -6,6 +6,7 @@ ghost use Rattle.vs_types.specs.declared.numbers.TheConstants.{MAX_LAYERS};
 ghost use Rattle.vs_reader.specs.Rows.{field_of};
 ghost use Rattle.vs_reader.specs.Numbers.{IsNumber, IsTime};
 ghost use Rattle.vs_reader.specs.Names.{Names as Numbered};
+ghost use Rattle.vs_reader.specs.Versions.{writes_stay};
 ghost use Rattle.vs_reader.specs.InstanceText.{DeadheadRow, LayerRow, StayOf, TripRow, NameLayers};
 ghost use Rattle.vs_reader.specs.Rules.{WritesName, WritesNumber, WritesTime, new_name, known_name, layer_names, stop_rules, deadhead_rules, layer_rules, stay_rules, trip_rules};
 ghost use Rattle.vs_reader.specs.Judged.{Judged};
@@ -18,7 +19,7 @@ use crate::record::field;
 use crate::refused::Why;
 use crate::version::Version;
 use csv::ByteRecord;
-use vs_instance::{Deadhead, Layer, MAX_LAYERS, MAX_STOPS, MAX_TRIPS, Trip};
+use vs_instance::{Deadhead, Layer, MAX_LAYERS, MAX_STOPS, Trip};
 use vs_types::{LayerNo, LayerSet, StopNo};
 
 /// The stops that a deadhead leads from and to.
@@ -97,7 +98,8 @@ pub fn layer(version: Version, names: &Names, row: &ByteRecord) -> Result<Layer,
     ensures { Judged (layer_rules version names.now (fields_of row.now))
         (LayerRow version names.now.stops (fields_of row.now) (field_of (fields_of row.now) 1)) result }
 {
-    if row.len() != version.layer_fields() {
+    let fields = row.len();
+    if fields != version.layer_fields(fields) {
         return Err(Why::FieldCount);
     }
     let name = written_name(row, 1)?;
@@ -123,22 +125,23 @@ pub fn layer(version: Version, names: &Names, row: &ByteRecord) -> Result<Layer,
     })
 }
 
-/// The least rest that the record of a layer writes in a text of this version, in minutes.
+/// The least rest that the record of a layer writes in a text of this version, in minutes. None where it writes none.
 fn written_stay(version: Version, row: &ByteRecord) -> Result<Option<u64>, Why>
     ensures { Judged (stay_rules version (fields_of row.now))
-        (StayOf version (field_of (fields_of row.now) 7)) result }
+        (StayOf (writes_stay version (length (fields_of row.now))) (field_of (fields_of row.now) 7)) result }
 {
-    match version {
-        Version::One => Ok(None),
-        Version::Two => Ok(Some(written_number(row, 7)?)),
+    if version.writes_stay(row.len()) {
+        Ok(Some(written_number(row, 7)?))
+    } else {
+        Ok(None)
     }
 }
 
-/// The trip that a record declares.
-pub fn trip(names: &Names, row: &ByteRecord) -> Result<Trip, Why>
+/// The trip that a record of a text of this version declares.
+pub fn trip(version: Version, names: &Names, row: &ByteRecord) -> Result<Trip, Why>
     requires kind { field_of (fields_of row.now) 0 ≡ codes "trip" }
     requires layers { length names.now.layers ≤ MAX_LAYERS }
-    ensures { Judged (trip_rules names.now (fields_of row.now))
+    ensures { Judged (trip_rules version names.now (fields_of row.now))
         (TripRow names.now (fields_of row.now) (field_of (fields_of row.now) 1)) result }
 {
     named_trip(names, row)?;
@@ -146,7 +149,7 @@ pub fn trip(names: &Names, row: &ByteRecord) -> Result<Trip, Why>
     let last = written_call(names, row, 4)?;
     let metres = written_number(row, 6)?;
     let layers = named_layers(names, row)?;
-    if names.trips() >= MAX_TRIPS as usize {
+    if names.trips() >= version.most() as usize {
         return Err(Why::TooMany);
     }
     Ok(Trip {

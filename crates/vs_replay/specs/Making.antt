@@ -16,7 +16,7 @@ use Rattle.vs_replay.specs.declared.ground.Ground.{Ground}
 -- what is at hand suits the instance
 pub record Suits (p : Problem) (ground : Ground) : Type 0 where
   pub nets : AreNets p ground.nets.nets.now
-  pub room : HasRoom ground.nets.nets.now ground.scratch
+  pub room : HasRoom (length p.trips) ground.nets.nets.now ground.scratch
   pub sets : length ground.sets.items ≡ length p.trips
   pub table : IsSized p ground.table
 

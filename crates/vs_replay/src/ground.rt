@@ -34,7 +34,7 @@ impl<'a> Ground<'a> {
     {
         let sets = permitted_sets(alloc, instance)?;
         let table = Table::zero(alloc, instance)?;
-        let scratch = Scratch::new(alloc, nets)?;
+        let scratch = Scratch::new(alloc, nets, instance.trips())?;
         Ok(Ground {
             nets: Counted::new(nets),
             scratch,

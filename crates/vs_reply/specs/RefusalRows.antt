@@ -1,7 +1,7 @@
 -- The rows that tell why words or a text are refused.
 use Rattle.std.specs.Prelude.{ℕ, ◌+◌, List, [], ◌∷◌, codes, decimal}
 use Rattle.vs_instance.specs.declared.misfit.Misfit.{Misfit}
-use Rattle.vs_instance.specs.declared.misfit.Misfit.TheVariants.{Range, SelfDeadhead, DeadheadTwice, EndNotAfterStart, NotClosed, LongerMinutes, LongerMetres}
+use Rattle.vs_instance.specs.declared.misfit.Misfit.TheVariants.{Range, TooDear, SelfDeadhead, DeadheadTwice, EndNotAfterStart, NotClosed, LongerMinutes, LongerMetres}
 use Rattle.vs_instance.specs.declared.misfit.Field.{Field as RangeField}
 use Rattle.vs_instance.specs.declared.misfit.Field.TheVariants.{Fleet, Fixed, PerMinute, PerMetre, Stay, Minutes, Metres}
 use Rattle.vs_reader.specs.declared.refused.Refused.{Refused}
@@ -15,6 +15,7 @@ use Rattle.vs_peakcheck.specs.declared.refused.PeakWhy.TheVariants as peak
 
 abbrev pub misfit_name : Misfit → Field
 misfit_name (Range field place) = codes "Range"
+misfit_name (TooDear l) = codes "TooDear"
 misfit_name (SelfDeadhead n) = codes "SelfDeadhead"
 misfit_name (DeadheadTwice n) = codes "DeadheadTwice"
 misfit_name (EndNotAfterStart i) = codes "EndNotAfterStart"
@@ -62,6 +63,7 @@ stop_fields k s t = decimal (k + 1) ∷ decimal (s + 1) ∷ decimal (t + 1) ∷ 
 
 abbrev pub misfit_details : Misfit → List Field
 misfit_details (Range field place) = range_name field ∷ []
+misfit_details (TooDear l) = []
 misfit_details (SelfDeadhead n) = []
 misfit_details (DeadheadTwice n) = []
 misfit_details (EndNotAfterStart i) = []

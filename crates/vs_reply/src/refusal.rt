@@ -33,7 +33,10 @@ fn write_details(text: &mut Text, misfit: Misfit) -> Result<(), Memory>
         Misfit::NotClosed(k, s, t)
         | Misfit::LongerMinutes(k, s, t)
         | Misfit::LongerMetres(k, s, t) => write_stops(text, k, s, t),
-        Misfit::SelfDeadhead(_) | Misfit::DeadheadTwice(_) | Misfit::EndNotAfterStart(_) => Ok(()),
+        Misfit::TooDear(_)
+        | Misfit::SelfDeadhead(_)
+        | Misfit::DeadheadTwice(_)
+        | Misfit::EndNotAfterStart(_) => Ok(()),
     }
 }
 
@@ -88,6 +91,7 @@ fn misfit_name(misfit: Misfit) -> &'static str
 {
     match misfit {
         Misfit::Range(..) => "Range",
+        Misfit::TooDear(_) => "TooDear",
         Misfit::SelfDeadhead(_) => "SelfDeadhead",
         Misfit::DeadheadTwice(_) => "DeadheadTwice",
         Misfit::EndNotAfterStart(_) => "EndNotAfterStart",

@@ -5,8 +5,9 @@ pub mod FirstTimes
 pub mod WrittenTables
 pub mod WrittenLeaves
 pub mod Naming
+pub mod TurnCounts
+pub mod LowWorths
 pub mod Taking
 pub mod Resumed
-pub mod TurnCounts
 pub mod WrittenOnce
 pub mod EnoughNodes

@@ -1,15 +1,17 @@
 //! A turn: the next leaf gives place to a search of its part.
 
-ghost use Rattle.std.specs.Prelude.{◌≡◌, ◌<◌, ◌≤◌, false, length, IfOk, OnOk};
+ghost use Rattle.std.specs.Prelude.{◌≡◌, ◌*◌, ◌<◌, ◌≤◌, false, length, IfOk, OnOk};
+ghost use Rattle.vs_types.specs.declared.numbers.TheConstants.{MAX_LAYERS};
+ghost use Rattle.vs_instance.specs.declared.limits.TheConstants.{MAX_TRIPS};
 ghost use Rattle.vs_instance.specs.Narrowed.{narrowed};
 ghost use Rattle.vs_instance.specs.Restriction.{IsRestriction};
-ghost use Rattle.vs_resume.specs.declared.deepen.TheConstants.{MAX_TURN};
+ghost use Rattle.vs_resume.specs.declared.deepen.TheConstants.{MAX_PART_ENTRIES, MAX_TURN};
 ghost use Rattle.vs_resume.specs.Courses.{AreNext, HasFewTables, HasNewTables, HasSetsAt, IsPartPut, IsPlanTaken, IsSomeCourse, TurnsFurther};
 ghost use Rattle.vs_resume.specs.Deepened.{IsBegunOn, IsDeepened};
 
 use crate::cases::{cases_of, settle};
 use crate::course::Course;
-use crate::deepen::{Deepen, MAX_TURN};
+use crate::deepen::{Deepen, MAX_PART_ENTRIES, MAX_TURN};
 use crate::part::{copy_of_plan, widened_tables};
 use crate::rows::{put_in_place, put_rows};
 use std::alloc::Global;
@@ -54,7 +56,7 @@ pub(crate) fn turn<S: Deepen>(
     prove!(instance.trips() <= MAX_TRIPS);
     let sets = Vec::from_slice(alloc, &course.cases[k].sets)?;
     let layers: &[LayerSet] = &sets;
-    let tree = deepened(alloc, instance, layers, left.min(MAX_TURN), solver)?;
+    let tree = deepened(alloc, instance, layers, turn_nodes(instance, left), solver)?;
     // for the proof: the steps of a search are a history from an opening
     let _part = tree.instance();
     let finished = tree.report().finished;
@@ -72,6 +74,31 @@ pub(crate) fn turn<S: Deepen>(
     })
 }
 
+/// How many nodes a turn at a part of the instance may finish, where so many nodes are left: 20 at most, and no more
+/// than its tables have room for.
+fn turn_nodes(instance: &Instance, left: u32) -> u32
+    requires left { 1 ≤ left }
+    ensures some { 1 ≤ result }
+    ensures few { result ≤ MAX_TURN }
+    ensures within { result ≤ left }
+    ensures room { length instance.now.trips * length instance.now.layers * result ≤ MAX_PART_ENTRIES }
+{
+    let entries = entries_of(instance).max(1);
+    let most = left.min(MAX_TURN);
+    most.min(MAX_PART_ENTRIES / entries)
+}
+
+/// How many entering prices a table of the instance has: one for each trip in each layer.
+fn entries_of(instance: &Instance) -> u32
+    ensures entries { result ≡ length instance.now.trips * length instance.now.layers }
+    ensures few { result ≤ MAX_TRIPS * MAX_LAYERS }
+{
+    // for the proof: the instance is within its limits
+    prove!(instance.trips() <= MAX_TRIPS);
+    prove!(instance.layers() <= MAX_LAYERS);
+    instance.trips() * instance.layers()
+}
+
 /// A search of the part that these sets leave, with this budget.
 fn deepened<S: Deepen>(
     alloc: Global,
@@ -83,6 +110,7 @@ fn deepened<S: Deepen>(
     requires sets { IsRestriction instance.now sets.now }
     requires some { 1 ≤ budget }
     requires few { budget ≤ MAX_TURN }
+    requires room { length instance.now.trips * length instance.now.layers * budget ≤ MAX_PART_ENTRIES }
     requires can { S.can_deepen solver.old }
     ensures stays { S.can_deepen solver.new }
     ensures may { S.may_stop solver.new → S.may_stop solver.old }
@@ -91,9 +119,6 @@ fn deepened<S: Deepen>(
         → IfOk result (IsDeepened (narrowed instance.now sets.now) budget) }
 {
     let part = instance.narrow(alloc, sets)?;
-    // for the proof: the part is within its limits
-    prove!(part.trips() <= MAX_TRIPS);
-    prove!(part.layers() <= MAX_LAYERS);
     solver.deepen(alloc, part, budget)
 }
 

@@ -5,7 +5,8 @@ use Rattle.std.specs.Int.{int_max}
 use Rattle.vs_layer.specs.declared.arc.Arc.{Arc}
 use Rattle.vs_layer.specs.Graph.{Graph}
 use Rattle.vs_instance.specs.Lagrangian.{total}
-use Rattle.vs_path.specs.declared.residual.TheConstants.{MAX_STEP_COST, MAX_SEARCH_NODES, MAX_SEARCH_PRICE}
+use Rattle.vs_path.specs.declared.residual.TheConstants.{MAX_SEARCH_NODES, MAX_SEARCH_PRICE}
+use Rattle.vs_path.specs.StepCosts.{most_step}
 use Rattle.vs_path.specs.declared.loads.Loads.{Loads}
 use Rattle.vs_queue.specs.declared.step.Step.{Step}
 use Rattle.vs_queue.specs.declared.step.Step.TheVariants.{Forward, Back}
@@ -48,7 +49,7 @@ excess surplus = total (map (int_max (pos 0)) surplus)
 pub record CanShip (g : Graph) (s : Shipment) : Type 0 where
   pub sized : IsSized g s
   pub nodes : g.nodes ≤ MAX_SEARCH_NODES
-  pub costs : AllWithin MAX_STEP_COST s.costs.cost.items
+  pub costs : AllWithin (pos (most_step g.nodes)) s.costs.cost.items
   pub rooms : (k : ℕ) → slice_index s.costs.room.items k < 2 ^ 32
   pub prices : AllWithin MAX_SEARCH_PRICE s.prices.items
   pub first : (v : ℕ) → Lacks s.surplus.items v → IsWithin MAX_FIRST_PRICE (price_at s.prices.items v)

@@ -12,7 +12,8 @@ use crate::mirror::turn_prices;
 use vs_path::{MAX_SEARCH_NODES, MAX_SEARCH_PRICE, Residual, Search};
 
 /// By how much at least the price of a node is raised that no path reaches, in 1/1000 of a cost unit. A path costs
-/// less, since it has at most 2,000 trips and 6,000 other arcs. So such a node lies past those that are reached.
+/// less, since it has at most as many trips as there are, and three times as many other arcs. So such a node lies past
+/// those that are reached.
 const BEYOND: i64 = 400_000_000_000_000_000;
 
 /// The greatest price of a node that was raised, either way, in 1/1000 of a cost unit.

@@ -17,4 +17,4 @@ pub use Rattle.vs_tree.proofs.trees.Histories.{states_are_trees}
 pub use Rattle.vs_tree.proofs.trees.Parts.{times-cons}
 pub use Rattle.vs_tree.proofs.BoundOrder.{lesser-no_less, same_bound}
 pub use Rattle.vs_tree.proofs.SetMembers.{member}
-pub use Rattle.vs_tree.proofs.NarrowerSets.{narrower-no_less}
+pub use Rattle.vs_tree.proofs.NarrowerSets.{narrower-no_less, with_set-within}

@@ -1,5 +1,5 @@
 -- Lawful prices: there are some, they are worth one bound, and that bounds the plans.
-use Rattle.std.proofs.Common.{◌≡◌, ℕ, ◌^◌, ◌*◌, ◌<◌, List, length, replicate, refl, sym, ap, ◌∙◌, subst, arith, ℤ, pos, ◌≤ℤ◌, ◌<ℤ◌, ◌+ℤ◌, ◌-ℤ◌, ◌*ℤ◌, map, MatchBool, true, false}
+use Rattle.std.proofs.Common.{◌≡◌, ℕ, ◌^◌, ◌*◌, ◌<◌, List, length, get_or, replicate, refl, sym, ap, ◌∙◌, subst, arith, ℤ, pos, ◌≤ℤ◌, ◌<ℤ◌, ◌+ℤ◌, ◌-ℤ◌, ◌*ℤ◌, map, MatchBool, true, false}
 use Rattle.std.specs.List.{All, range_with_len}
 use Rattle.std.specs.declared.alloc.Global.{Global}
 use Rattle.std.specs.declared.vec.Vec.{Vec}
@@ -15,13 +15,15 @@ use Rattle.vs_instance.specs.HoldingTable.{HoldsInLayer, price_of, scaled}
 use Rattle.vs_instance.specs.Lagrangian.{total}
 use Rattle.vs_instance.specs.Pieces.{trip_piece}
 use Rattle.vs_instance.specs.Ways.{layer_of}
+use Rattle.vs_instance.proofs.CallerLemmas.{total-nothing, total-range_le}
 use Rattle.vs_types.specs.LayerSet.{members}
 use Rattle.vs_prices.specs.declared.bound.Bound.{Bound}
 use Rattle.vs_prices.specs.declared.bound.Bound.TheVariants.{AtLeast, NoPlan}
 use Rattle.vs_prices.specs.declared.table.Table.{Table}
+use Rattle.vs_prices.specs.Bounds.{IsNoLess}
 use Rattle.vs_prices.specs.Table.{Fits, HoldingTable, IsPrice, prices_in}
 use Rattle.vs_prices.specs.Worth.{BoundsPlans, IsRoundedUp, IsWorth, least, worth_of}
-use Rattle.vs_prices.proofs.CallerLemmas.{bounds_plans, zeros_hold, worth_of-IsWorth, worth_once}
+use Rattle.vs_prices.proofs.CallerLemmas.{bounds_plans, least_above, worth_of-IsWorth, worth_once, zero_at, zero_prices_in, zeros_hold}
 use Rattle.vs_tree.specs.Prices.{AreLawful, AreWorth, Prices, prices_of, zero_prices}
 use denote.RawPtr.{null_ptr}
 
@@ -106,6 +108,41 @@ module _ (p : Problem) (sets : List LayerSet) where
   worth_along t u NoPlan same worth =
       let P : Prices → Type 0 = λ x. (x.ray ≡ true) × (pos 0 <ℤ value_of x) in
       subst P same worth
+
+  -- where all prices are 0, a trip pays what it costs, and vehicles pay nothing
+  zeros_pay : (i l : ℕ) → pos 0 ≤ℤ trip_pays (zero_prices p) i l
+  zeros_pay i l =
+      let count : ℕ = length p.layers * length p.trips in
+      let none : price_of (prices_in p l (zeros count)) i ≡ pos 0 =
+      zero_prices_in p (zeros count) l i (are_zeros count) in
+      omega (arith, ints, none)
+
+  zero_fleet : (l : ℕ) → (price_of (zeros (length p.layers)) l *ℤ pos (layer_of p l).fleet) ≤ℤ pos 0
+  zero_fleet l = rw (zero_at (zeros (length p.layers)) l (are_zeros (length p.layers))) (omega (arith, ints))
+
+  zeros_value : IsRestriction p sets → pos 0 ≤ℤ value_of (zero_prices p)
+  zeros_value restriction =
+      let pays : ℕ → ℤ = λ i. least (map (trip_pays (zero_prices p) i) (members (set_of sets i))) in
+      let trips = total-range_le (λ i. pos 0) pays 0 (length p.trips)
+      (λ i from within. least_above (trip_pays (zero_prices p) i) (pos 0) (members (set_of sets i))
+      (restriction.some_layer i (omega (arith, within)))
+      (λ k d at. zeros_pay i (get_or (members (set_of sets i)) k d))) in
+      let fleets = total-range_le (λ l. price_of (zeros (length p.layers)) l *ℤ pos (layer_of p l).fleet) (λ l. pos 0) 0
+      (length p.layers) (λ l from within. zero_fleet l) in
+      let no_trips = total-nothing (range_with_len 0 (length p.trips)) in
+      let no_fleets = total-nothing (range_with_len 0 (length p.layers)) in
+      omega (arith, ints, trips, fleets, no_trips, no_fleets)
+
+  -- so they are worth 0 or more
+  pub zero_worth : IsRestriction p sets → (bound : Bound) → AreWorth p sets (zero_prices p) bound
+      → IsNoLess bound (AtLeast (pos 0))
+  zero_worth restriction NoPlan is = tt
+  zero_worth restriction (AtLeast n) is =
+      let P : Prices → Type 0 =
+      λ x. MatchBool x.ray ((value_of x ≤ℤ pos 0) × (n ≡ pos 0)) (IsRoundedUp (value_of x) n) in
+      let rounded : IsRoundedUp (value_of (zero_prices p)) n = subst P is.listed is.worth in
+      let reaches = rounded.reaches in
+      omega (arith, ints, zeros_value restriction, reaches)
 
 module _ (p : Problem) (sets : List LayerSet) (prices : Prices) where
   -- a table of prices is worth what any other of them is

@@ -1,8 +1,10 @@
 -- A table is worth no less where trips have fewer layers.
-use Rattle.std.proofs.Common.{◌≡◌, ℕ, ◌<◌, Bool, true, false, List, length, get_or, arith, ℤ, pos, ◌≤ℤ◌, ◌<ℤ◌, MatchBool}
+use Rattle.std.proofs.Common.{◌≡◌, ℕ, ◌<◌, Bool, true, false, List, length, get_or, sym, ap, ◌∙◌, subst, arith, inl, inr, ℤ, pos, ◌≤ℤ◌, ◌<ℤ◌, MatchBool}
+use Rattle.std.proofs.lemmas.Bool.{cases_eq}
 use Rattle.std.proofs.lemmas.Int.{ints}
 use Rattle.vs_types.specs.LayerSet.{Has, members}
 use Rattle.vs_types.specs.declared.layer_set.LayerSet.{LayerSet}
+use Rattle.vs_types.specs.declared.numbers.TripNo.{TripNo}
 use Rattle.vs_instance.specs.Problem.{Problem}
 use Rattle.vs_instance.specs.Restriction.{IsRestriction, set_of}
 use Rattle.vs_instance.proofs.CallerLemmas.{total-range_le}
@@ -11,9 +13,24 @@ use Rattle.vs_prices.specs.declared.bound.Bound.TheVariants.{AtLeast, NoPlan}
 use Rattle.vs_prices.specs.declared.table.Table.{Table}
 use Rattle.vs_prices.specs.Bounds.{IsNoLess}
 use Rattle.vs_prices.specs.Worth.{IsRoundedUp, IsWorth, least_price, table_value, trip_price}
-use Rattle.vs_prices.proofs.CallerLemmas.{least-le, least_above}
+use Rattle.vs_prices.specs.Tree.{with_set}
+use Rattle.vs_prices.proofs.CallerLemmas.{least-le, least_above, set_of-other, set_of-same}
 use Rattle.vs_types.proofs.CallerLemmas.{Contains-members_below}
 use Rattle.vs_tree.proofs.SetMembers.{member}
+
+-- a trip's set with fewer layers is within the old one, and any other is the same
+pub with_set-within : (sets : List LayerSet) (trip : TripNo) (layers : LayerSet) → trip.0 < length sets
+    → ((l : ℕ) → Has layers l → Has (set_of sets trip.0) l) → (i l : ℕ) → Has (set_of (with_set sets trip layers) i) l
+    → Has (set_of sets i) l
+with_set-within sets trip layers inside part i l has =
+    elim (cases_eq i trip.0) [
+      | inl same ↦
+          let now : Has layers l =
+          subst (λ (set : LayerSet). Has set l)
+          (ap (λ (j : ℕ). set_of (with_set sets trip layers) j) same ∙ set_of-same sets trip layers inside) has in
+          subst (λ (j : ℕ). Has (set_of sets j) l) (sym same) (part l now)
+      | inr apart ↦ subst (λ (set : LayerSet). Has set l) (set_of-other sets trip layers i apart) has
+    ]
 
 module _ (p : Problem) (wide narrow : List LayerSet) (restriction : IsRestriction p narrow)
     (within : (i l : ℕ) → Has (set_of narrow i) l → Has (set_of wide i) l) (table : Table) where

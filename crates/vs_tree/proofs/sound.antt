@@ -1,5 +1,6 @@
 pub mod Relabelled
 pub mod Grown
+pub mod Worths
 pub mod Took
 pub mod GaveBack
 pub mod Closed

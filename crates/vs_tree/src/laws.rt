@@ -3,9 +3,10 @@
 ghost use Rattle.vs_tree.specs.Entries.{EntriesDiffer};
 ghost use Rattle.vs_tree.specs.Laws.{HistoriesAreSound, LeavesBoundPlans, ReportsAreTrue, StatesAreTrees};
 
-/// Every state that a history of a search leads to is sound. Each plan of the instance lies in exactly one leaf, and
-/// every table fits and holds. Every accepted plan is one of the instance and cheaper than the one before. No closed
-/// leaf leaves room for a cheaper plan, and no more leaves are worked on than the budget allows.
+/// Every state that a history of a search leads to is sound. Each plan of the instance lies in exactly one leaf. Every
+/// table fits and holds, and no leaf is worth less than 0. Every accepted plan is one of the instance and cheaper than
+/// the one before. No closed leaf leaves room for a cheaper plan, and no more leaves are worked on than the budget
+/// allows.
 pub fn histories_are_sound()
     ensures { HistoriesAreSound }
 {}

@@ -4,6 +4,7 @@ use Rattle.vs_types.specs.LayerSet.{Has, members}
 use Rattle.vs_types.specs.declared.layer_set.LayerSet.{LayerSet}
 use Rattle.vs_types.specs.declared.numbers.TheConstants.{MAX_LAYERS}
 use Rattle.vs_circ.specs.Offers.{offer_of}
+use Rattle.vs_instance.specs.Dearest.{most_multiplier}
 use Rattle.vs_instance.specs.Lagrangian.{multiplier_of}
 use Rattle.vs_instance.specs.Problem.{Problem}
 use Rattle.vs_instance.specs.Restriction.{set_of}
@@ -11,25 +12,26 @@ use Rattle.vs_instance.specs.Ways.{Permitted, trip_of}
 use Rattle.vs_multi.specs.Multipliers.{AreWithin, IsMultiplier, limited}
 use Rattle.vs_walk.specs.declared.penalties.Penalties.{Penalties}
 
--- what a layer is offered for a trip that these other layers run: half a step more than the multiplier where there are
--- none, half a step less where there are some
-pub record IsBidBeside (multiplier : ℤ) (rate : ℕ) (others : LayerSet) (bid : ℤ) : Type 0 where
-  pub alone : length (members others) ≡ 0 → bid ≡ limited (multiplier +ℤ pos (rate / 2))
-  pub beside : 0 < length (members others) → bid ≡ limited (multiplier -ℤ pos (rate / 2))
+-- what a layer is offered within a limit for a trip that these other layers run: half a step more than the multiplier
+-- where there are none, half a step less where there are some
+pub record IsBidBeside (most multiplier : ℤ) (rate : ℕ) (others : LayerSet) (bid : ℤ) : Type 0 where
+  pub alone : length (members others) ≡ 0 → bid ≡ limited most (multiplier +ℤ pos (rate / 2))
+  pub beside : 0 < length (members others) → bid ≡ limited most (multiplier -ℤ pos (rate / 2))
 
--- what layer l is offered for a trip in whose set it is, and that these layers run now
-pub record IsBid (set : LayerSet) (l : ℕ) (multiplier : ℤ) (rate : ℕ) (runs : LayerSet) (bid : ℤ) : Type 0 where
+-- what layer l is offered for a trip of so many in whose set it is, and that these layers run now
+pub record IsBid (trips : ℕ) (set : LayerSet) (l : ℕ) (multiplier : ℤ) (rate : ℕ) (runs : LayerSet) (bid : ℤ)
+    : Type 0 where
   pub may : Has set l
-  pub within : IsMultiplier bid
+  pub within : IsMultiplier trips bid
   pub others : LayerSet
   pub but : (k : ℕ) → Has others k ↔ (Has runs k × (k ≢ l))
-  pub beside : IsBidBeside multiplier rate others bid
+  pub beside : IsBidBeside (pos (most_multiplier trips)) multiplier rate others bid
 
 -- the offer of trip i to layer l, none where its set hasn't that
 abbrev pub IsOfferIn : List LayerSet → ℕ → List ℤ → ℕ → List LayerSet → List (Option ℤ) → ℕ → Type 0
 IsOfferIn sets l multipliers rate runs offers i =
     MatchOption (offer_of offers i) (¬ (Has (set_of sets i) l))
-    (IsBid (set_of sets i) l (multiplier_of multipliers i) rate (set_of runs i))
+    (IsBid (length sets) (set_of sets i) l (multiplier_of multipliers i) rate (set_of runs i))
 
 -- an offer of each trip
 pub record AreBids (sets : List LayerSet) (l : ℕ) (multipliers : List ℤ) (rate : ℕ) (runs : List LayerSet)

@@ -135,7 +135,8 @@ impl Walker {
             passes: PASSES,
             end: u64::MAX,
         };
-        offer_free(&self.sets, &self.best, high_for(most), &mut self.offered);
+        let high = high_for(case.instance.trips(), most);
+        offer_free(&self.sets, &self.best, high, &mut self.offered);
         self.penalties.rate = Rate::up_to(self.mends[kind].part_of(self.agreed), most, GROWTH);
         let offered: &[i64] = &self.offered;
         self.penalties.begin_from(offered, &self.draft.layers);

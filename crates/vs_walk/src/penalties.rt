@@ -1,6 +1,7 @@
 //! What layers are offered for trips while they come to agree, and a pass by that.
 ghost use Rattle.std.specs.Prelude.{◌≡◌, ◌<◌, ◌≤ℤ◌, false, pos, IfOk, IfSome, MatchOption, length};
 ghost use Rattle.vs_types.specs.LayerSet.{Has};
+ghost use Rattle.vs_instance.specs.Dearest.{most_multiplier};
 ghost use Rattle.vs_instance.specs.Restriction.{IsRestriction};
 ghost use Rattle.vs_circ.specs.Offers.{AreOffers};
 ghost use Rattle.vs_circ.specs.shipping.Ready.{IsReadyToRun};
@@ -14,7 +15,7 @@ ghost use Rattle.vs_instance.specs.declared.limits.TheConstants.{MAX_MULTIPLIER}
 
 use crate::rate::Rate;
 use vs_circ::{Work, runs};
-use vs_instance::{Instance, MAX_MULTIPLIER};
+use vs_instance::{Instance, most_multiplier};
 use vs_multi::{Case, LONG, Watch, moved};
 use vs_types::{LayerNo, LayerSet, MAX_LAYERS, Memory};
 
@@ -121,7 +122,8 @@ impl Penalties {
                 self.run(case, l, work);
             }
         }
-        move_all(&mut self.multipliers, &self.runs, self.rate.now);
+        let trips = case.instance.trips();
+        move_all(trips, &mut self.multipliers, &self.runs, self.rate.now);
         true
     }
 
@@ -167,7 +169,7 @@ impl Penalties {
         ensures ready { IsReadyToRun case.now.nets.now work.new }
     {
         prove!(l.0 < case.instance.layers());
-        let high = high_for(self.rate.most);
+        let high = high_for(case.instance.trips(), self.rate.most);
         let offers: &mut [Option<i64>] = &mut self.offers;
         offer_given(case, l, given, high, offers);
         let cost = runs(case.nets, l, offers, work, &mut self.marks);
@@ -182,17 +184,13 @@ impl Penalties {
 /// So many times the greatest rate a layer is offered for a trip that it is to run whatever it costs.
 const HIGH: u64 = 100;
 
-/// What a layer is offered for a trip that it is to run whatever it costs.
-pub(crate) fn high_for(most: u64) -> i64
+/// What a layer is offered for a trip of so many that it is to run whatever it costs.
+pub(crate) fn high_for(trips: u32, most: u64) -> i64
     requires { pos most ≤ℤ MAX_MULTIPLIER }
-    ensures { IsMultiplier result }
+    ensures { IsMultiplier trips result }
 {
     let high = (most * HIGH) as i64;
-    if high > MAX_MULTIPLIER {
-        MAX_MULTIPLIER
-    } else {
-        high
-    }
+    high.min(most_multiplier(trips))
 }
 
 /// What a layer is offered for a trip that may be run in this set and is given to that one.
@@ -218,7 +216,7 @@ fn offer_given(
     requires restriction { IsRestriction case.now.instance.now case.now.sets.now }
     requires layer { l.0 < length case.now.instance.now.layers }
     requires given { length given.now ≡ length case.now.instance.now.trips }
-    requires high { IsMultiplier high }
+    requires high { IsMultiplier (length case.now.instance.now.trips) high }
     requires offers { length offers.old ≡ length case.now.instance.now.trips }
     ensures { AreOffers case.now.instance.now l.0 offers.new }
 {
@@ -241,13 +239,13 @@ fn are_run(l: LayerNo, given: &[LayerSet], marks: &[bool]) -> bool
     true
 }
 
-/// What a layer is offered for a trip that these other layers run: more than its multiplier where there are none, else
-/// less.
-fn offer(multiplier: i64, rate: u64, others: LayerSet) -> i64
-    requires multiplier { IsMultiplier multiplier }
+/// What a layer is offered for a trip of so many that these other layers run: more than its multiplier where there are
+/// none, else less.
+fn offer(trips: u32, multiplier: i64, rate: u64, others: LayerSet) -> i64
+    requires multiplier { IsMultiplier trips multiplier }
     requires rate { pos rate ≤ℤ MAX_MULTIPLIER }
-    ensures bid { IsBidBeside multiplier rate others result }
-    ensures within { IsMultiplier result }
+    ensures bid { IsBidBeside (pos (most_multiplier trips)) multiplier rate others result }
+    ensures within { IsMultiplier trips result }
 {
     let half = (rate / 2) as i64;
     let offered = if others.count() == 0 {
@@ -255,18 +253,27 @@ fn offer(multiplier: i64, rate: u64, others: LayerSet) -> i64
     } else {
         multiplier - half
     };
-    offered.max(0).min(MAX_MULTIPLIER)
+    offered.max(0).min(most_multiplier(trips))
 }
 
-/// What a layer is offered for a trip that these layers run now. None where it isn't among those that may run it.
-fn bid(permitted: LayerSet, l: LayerNo, multiplier: i64, rate: u64, runs: LayerSet) -> Option<i64>
+/// What a layer is offered for a trip of so many that these layers run now. None where it isn't among those that may
+/// run it.
+fn bid(
+    permitted: LayerSet,
+    l: LayerNo,
+    trips: u32,
+    multiplier: i64,
+    rate: u64,
+    runs: LayerSet,
+) -> Option<i64>
     requires layer { l.0 < MAX_LAYERS }
-    requires multiplier { IsMultiplier multiplier }
+    requires multiplier { IsMultiplier trips multiplier }
     requires rate { pos rate ≤ℤ MAX_MULTIPLIER }
-    ensures { MatchOption result (¬ (Has permitted l.0)) (IsBid permitted l.0 multiplier rate runs) }
+    ensures { MatchOption result (¬ (Has permitted l.0))
+        (IsBid trips permitted l.0 multiplier rate runs) }
 {
     if permitted.has(l) {
-        Some(offer(multiplier, rate, runs.without(l)))
+        Some(offer(trips, multiplier, rate, runs.without(l)))
     } else {
         None
     }
@@ -291,8 +298,9 @@ fn offer_all(
     ensures bids { AreBids case.now.sets.now l.0 multipliers.now rate runs.now offers.new }
 {
     prove!(l.0 < case.instance.layers());
+    let trips = case.instance.trips();
     for i in 0..offers.len() {
-        offers[i] = bid(case.sets[i], l, multipliers[i], rate, runs[i]);
+        offers[i] = bid(case.sets[i], l, trips, multipliers[i], rate, runs[i]);
     }
 }
 
@@ -328,7 +336,8 @@ fn note(instance: &Instance, l: LayerNo, marks: &[bool], runs: &mut [LayerSet])
 }
 
 /// What a trip is paid for rises where no layer runs it, and falls where several do.
-fn move_all(multipliers: &mut [i64], runs: &[LayerSet], rate: u64)
+fn move_all(trips: u32, multipliers: &mut [i64], runs: &[LayerSet], rate: u64)
+    requires trips { length multipliers.old ≡ trips }
     requires multipliers { AreWithin multipliers.old }
     requires runs { length runs.now ≡ length multipliers.old }
     requires rate { pos rate ≤ℤ MAX_MULTIPLIER }
@@ -338,6 +347,6 @@ fn move_all(multipliers: &mut [i64], runs: &[LayerSet], rate: u64)
 {
     for i in 0..runs.len() {
         let layers = runs[i].count();
-        multipliers[i] = moved(multipliers[i], rate, layers);
+        multipliers[i] = moved(trips, multipliers[i], rate, layers);
     }
 }

@@ -107,7 +107,7 @@ pub(crate) fn offer_free(sets: &[LayerSet], best: &[i64], high: i64, offered: &m
     requires sets { length sets.now ≡ length offered.old }
     requires best { length best.now ≡ length offered.old }
     requires best_within { AreWithin best.now }
-    requires high { IsMultiplier high }
+    requires high { IsMultiplier (length offered.old) high }
     requires within { AreWithin offered.old }
     ensures within { AreWithin offered.new }
     ensures each { length offered.new ≡ length offered.old }

@@ -6,7 +6,6 @@ use Rattle.std.specs.declared.alloc.Global.{Global}
 use Rattle.std.proofs.lemmas.Slice.Eq.{bytes_eq-Decides}
 use Rattle.std.proofs.lemmas.List.{length-map, get_or-map}
 use Rattle.std.proofs.lemmas.List.Elements.{All-nil, All-cons}
-use Rattle.vs_instance.specs.declared.limits.TheConstants.{MAX_TRIPS}
 use Rattle.vs_words.specs.declared.command.Command.{Command}
 use Rattle.vs_words.specs.declared.command.Command.TheVariants as commands
 use Rattle.vs_words.specs.declared.command.Effort.{Effort}
@@ -17,7 +16,7 @@ use Rattle.vs_words.specs.declared.words.Counting.{Counting}
 use Rattle.vs_words.specs.declared.words.Counting.TheVariants as counting
 use Rattle.vs_words.specs.declared.words.Searching.{Searching}
 use Rattle.vs_words.specs.declared.words.Searching.TheVariants as searching
-use Rattle.vs_words.specs.Words.{Word, AreAccepted, AreBadAt, AreFurther, AreOptions, AskFor, Begin, IsAlone, IsTripCount, IsNumberUpTo, IsWordAt, command_name, counted, first_of_plain, search_name, searched, words_of}
+use Rattle.vs_words.specs.Words.{Word, AreAccepted, AreBadAt, AreFurther, AreOptions, AskFor, Begin, IsAlone, IsTripCount, IsNumberUpTo, IsWordAt, command_name, counted, first_of_plain, search_name, searched, words_of, most_trips}
 
 -- words that ask for a command have its name first
 pub record BeginsAs (name : Word) (further : List Word) : Type 0 where
@@ -87,24 +86,26 @@ takes_options searching.Resume effort words is = is
 takes_options searching.Trace effort words is = is
 
 -- a count of trips
-record Counts (words : List Word) : Type 0 where
+record Counts (kind : Counting) (words : List Word) : Type 0 where
   n : ℕ
   count : Word
   words_are : words ≡ count ∷ []
-  number_is : IsNumberUpTo 6 MAX_TRIPS count n
+  number_is : IsNumberUpTo 6 (most_trips kind) count n
 
-make_further : (d : Command) (words : List Word) → command_name d ≡ codes "make" → AreFurther d words → Counts words
+make_further : (d : Command) (words : List Word) → command_name d ≡ codes "make" → AreFurther d words
+    → Counts counting.Make words
 make_further (commands.Plain (Make n)) words e f = record { n = n; count = f.0; words_are = f.1; number_is = f.2 }
 make_further (commands.Search (Trial n)) words e f = absurd (omega (arith, ap sum e))
 make_further _ words e f = absurd (omega (arith, ap sum e))
 
-trial_further : (d : Command) (words : List Word) → command_name d ≡ codes "trial" → AreFurther d words → Counts words
+trial_further : (d : Command) (words : List Word) → command_name d ≡ codes "trial" → AreFurther d words
+    → Counts counting.Trial words
 trial_further (commands.Search (Trial n)) words e f = record { n = n; count = f.0; words_are = f.1; number_is = f.2 }
 trial_further (commands.Plain Check) words e f = absurd (omega (arith, ap sum e))
 trial_further _ words e f = absurd (omega (arith, ap sum e))
 
 count_further : (kind : Counting) (d : Command) (words : List Word) → command_name d ≡ command_name (counted kind 0)
-    → AreFurther d words → Counts words
+    → AreFurther d words → Counts kind words
 count_further counting.Make d words e f = make_further d words e f
 count_further counting.Trial d words e f = trial_further d words e f
 
@@ -113,7 +114,8 @@ counted_name : (kind : Counting) (n : ℕ) → command_name (counted kind 0) ≡
 counted_name counting.Make n = refl
 counted_name counting.Trial n = refl
 
-takes_count : (kind : Counting) (n : ℕ) (words : List Word) → IsTripCount n words → AreFurther (counted kind n) words
+takes_count : (kind : Counting) (n : ℕ) (words : List Word) → IsTripCount kind n words
+    → AreFurther (counted kind n) words
 takes_count counting.Make n words is = is
 takes_count counting.Trial n words is = is
 
@@ -146,18 +148,24 @@ length-words words = rw length-map refl
 
 -- `make` or `trial`, and a count
 count_asks : (kind : Counting) (a b : Word) (n : ℕ) → a ≡ command_name (counted kind 0)
-    → IsNumberUpTo 6 MAX_TRIPS b n → AskFor (a ∷ b ∷ []) (counted kind n)
+    → IsNumberUpTo 6 (most_trips kind) b n → AskFor (a ∷ b ∷ []) (counted kind n)
 count_asks kind a b n is number =
     asks a (b ∷ []) (counted kind n) (is ∙ counted_name kind n) (takes_count kind n (b ∷ []) (b, refl, number))
 
+-- each takes one trip at least
+some_trips : (kind : Counting) → 1 ≤ most_trips kind
+some_trips counting.Make = omega arith
+some_trips counting.Trial = omega arith
+
 count_begins : (kind : Counting) (a : Word) → a ≡ command_name (counted kind 0) → Begin (a ∷ [])
 count_begins kind a is =
-    let one = one_up_to 6 MAX_TRIPS (omega arith) (omega arith) in
+    let one = one_up_to 6 (most_trips kind) (omega arith) (some_trips kind) in
     (codes "1" ∷ [], (counted kind 1, count_asks kind a (codes "1") 1 is one))
 
 -- it is missing, or is none
 pub count_bad_second : (kind : Counting) (words : List Word) → IsWordAt words 0 (command_name (counted kind 0))
-    → ((count : Word) → IsWordAt words 1 count → (n : ℕ) → ¬ (IsNumberUpTo 6 MAX_TRIPS count n)) → AreBadAt words 2
+    → ((count : Word) → IsWordAt words 1 count → (n : ℕ) → ¬ (IsNumberUpTo 6 (most_trips kind) count n))
+    → AreBadAt words 2
 count_bad_second kind [] first none = absurd (let w = first.within in omega arith)
 count_bad_second kind (a ∷ []) first none = record {
   some = omega arith;
@@ -182,7 +190,7 @@ count_bad_second kind (a ∷ b ∷ words) first none = record {
 
 pub count_bad_third : (kind : Counting) (words : List Word) (count : Word) (n : ℕ)
     → IsWordAt words 0 (command_name (counted kind 0))
-    → IsWordAt words 1 count → IsNumberUpTo 6 MAX_TRIPS count n → ¬ (length words ≡ 2) → AreBadAt words 3
+    → IsWordAt words 1 count → IsNumberUpTo 6 (most_trips kind) count n → ¬ (length words ≡ 2) → AreBadAt words 3
 count_bad_third kind [] count n first second is many = absurd (let w = first.within in omega arith)
 count_bad_third kind (a ∷ []) count n first second is many = absurd (let w = second.within in omega arith)
 count_bad_third kind (a ∷ b ∷ []) count n first second is many = absurd (many refl)
@@ -194,7 +202,7 @@ count_bad_third kind (a ∷ b ∷ c ∷ words) count n first second is many = re
     (
       counted kind n,
       count_asks kind a b n first.word_is
-          (subst (λ (x : Word). IsNumberUpTo 6 MAX_TRIPS x n) (sym second.word_is) is),
+          (subst (λ (x : Word). IsNumberUpTo 6 (most_trips kind) x n) (sym second.word_is) is),
     ),
   );
   bad = λ within begin.
@@ -207,12 +215,13 @@ count_bad_third kind (a ∷ b ∷ c ∷ words) count n first second is many = re
 -- with nothing behind it, it asks for its command
 pub count_accepted : (kind : Counting) (words : List Word) (count : Word) (n : ℕ) (command : Command)
     → IsWordAt words 0 (command_name (counted kind 0)) → IsWordAt words 1 count
-    → IsNumberUpTo 6 MAX_TRIPS count n → length words ≡ 2 → command ≡ counted kind n → AskFor words command
+    → IsNumberUpTo 6 (most_trips kind) count n → length words ≡ 2 → command ≡ counted kind n → AskFor words command
 count_accepted kind [] count n command first second is two same = absurd (omega arith)
 count_accepted kind (a ∷ []) count n command first second is two same = absurd (omega arith)
 count_accepted kind (a ∷ b ∷ []) count n command first second is two same =
     subst (λ (c : Command). AskFor (a ∷ b ∷ []) c) (sym same)
-    (count_asks kind a b n first.word_is (subst (λ (x : Word). IsNumberUpTo 6 MAX_TRIPS x n) (sym second.word_is) is))
+    (count_asks kind a b n first.word_is
+    (subst (λ (x : Word). IsNumberUpTo 6 (most_trips kind) x n) (sym second.word_is) is))
 count_accepted kind (a ∷ b ∷ c ∷ words) count n command first second is two same = absurd (omega arith)
 
 -- a command that takes no further words has none behind its name

@@ -6,12 +6,15 @@ use Rattle.vs_words.specs.declared.command.Command.{Command}
 use Rattle.vs_words.specs.declared.command.Command.TheVariants as commands
 use Rattle.vs_words.specs.declared.command.Plain.TheVariants.{Check, Network, Blocks, Make, Peak, PeakCheck, Replay}
 use Rattle.vs_words.specs.declared.command.Search.TheVariants.{Solve, Trial, Resume, Trace}
+use Rattle.vs_words.specs.declared.words.Counting.{Counting}
+use Rattle.vs_words.specs.declared.words.Counting.TheVariants as counting
 use Rattle.vs_words.specs.Words.{Word, AreAccepted, AreBadAt, AreFurther, AskFor, Begin, IsTripCount, command_name}
 use Rattle.vs_words.proofs.OptionWords.{one_effort}
 
 -- one word writes one count
-one_count : (words : List Word) (m n : ℕ) → IsTripCount m words → IsTripCount n words → m ≡ n
-one_count words m n f g =
+one_count : (kind : Counting) (words : List Word) (m n : ℕ) → IsTripCount kind m words → IsTripCount kind n words
+    → m ≡ n
+one_count kind words m n f g =
     let count : f.0 ≡ g.0 = let h : words ≡ f.0 ∷ [] = f.1 in let k : words ≡ g.0 ∷ [] = g.1 in cc in
     f.2.value ∙ ap (digits_value 10) count ∙ sym g.2.value
 
@@ -22,7 +25,7 @@ one_further (commands.Plain Check) (commands.Plain Check) words e f g = refl
 one_further (commands.Plain Network) (commands.Plain Network) words e f g = refl
 one_further (commands.Plain Blocks) (commands.Plain Blocks) words e f g = refl
 one_further (commands.Plain (Make m)) (commands.Plain (Make n)) words e f g =
-    ap (λ k. commands.Plain (Make k)) (one_count words m n f g)
+    ap (λ k. commands.Plain (Make k)) (one_count counting.Make words m n f g)
 one_further (commands.Plain Peak) (commands.Plain Peak) words e f g = refl
 one_further (commands.Plain PeakCheck) (commands.Plain PeakCheck) words e f g = refl
 one_further (commands.Plain Replay) (commands.Plain Replay) words e f g = refl
@@ -33,7 +36,7 @@ one_further (commands.Search (Resume effort)) (commands.Search (Resume also)) wo
 one_further (commands.Search (Trace effort)) (commands.Search (Trace also)) words e f g =
     ap (λ k. commands.Search (Trace k)) (one_effort words effort also f g)
 one_further (commands.Search (Trial m)) (commands.Search (Trial n)) words e f g =
-    ap (λ k. commands.Search (Trial k)) (one_count words m n f g)
+    ap (λ k. commands.Search (Trial k)) (one_count counting.Trial words m n f g)
 -- no two names are one: each pair of commands is a case
 one_further (commands.Plain Check) (commands.Search (Trial n)) words e f g = absurd (omega (arith, ap sum e))
 one_further (commands.Plain Network) (commands.Search (Trial n)) words e f g = absurd (omega (arith, ap sum e))

@@ -2,7 +2,7 @@
 use Rattle.std.specs.Prelude.{◌≡◌, ◌≢◌, ℕ, ◌+◌, ◌-◌, ◌<◌, ◌≤◌, List, [], ◌∷◌, ◌++◌, length, map, take, All, codes, String, string_bytes, slice_index_or, Option, Result, MatchResult, Some, None, IfSome}
 use Rattle.std.specs.Str.Parse.{digits_value}
 use Rattle.std.specs.declared.alloc.Global.{Global}
-use Rattle.vs_instance.specs.declared.limits.TheConstants.{MAX_TRIPS}
+use Rattle.vs_instance.specs.declared.limits.TheConstants.{MAX_TRIPS, USUAL_TRIPS}
 use Rattle.vs_reader.specs.Numbers.{AreDigits}
 use Rattle.vs_words.specs.declared.command.Command.{Command}
 use Rattle.vs_words.specs.declared.command.Command.TheVariants as commands
@@ -142,17 +142,22 @@ pub record AreOptions (effort : Effort) (words : List Word) : Type 0 where
   pub once : AreOnce options
   pub effort_is : effort ≡ with_options default_effort options
 
--- one word, which writes how many trips
-abbrev pub IsTripCount : ℕ → List Word → Type 0
-IsTripCount n words = (count : Word) × (words ≡ count ∷ []) × IsNumberUpTo 6 MAX_TRIPS count n
+-- how many trips the command takes at most
+abbrev pub most_trips : Counting → ℕ
+most_trips counting.Make = MAX_TRIPS
+most_trips counting.Trial = USUAL_TRIPS
+
+-- one word, which writes how many trips, no more than the command takes
+abbrev pub IsTripCount : Counting → ℕ → List Word → Type 0
+IsTripCount kind n words = (count : Word) × (words ≡ count ∷ []) × IsNumberUpTo 6 (most_trips kind) count n
 
 -- the words behind the first
 abbrev pub AreFurther : Command → List Word → Type 0
 AreFurther (commands.Search (Solve effort)) words = AreOptions effort words
-AreFurther (commands.Search (Trial n)) words = IsTripCount n words
+AreFurther (commands.Search (Trial n)) words = IsTripCount counting.Trial n words
 AreFurther (commands.Search (Resume effort)) words = AreOptions effort words
 AreFurther (commands.Search (Trace effort)) words = AreOptions effort words
-AreFurther (commands.Plain (Make n)) words = IsTripCount n words
+AreFurther (commands.Plain (Make n)) words = IsTripCount counting.Make n words
 AreFurther (commands.Plain _) words = words ≡ []
 
 -- the words ask for the command
@@ -197,10 +202,10 @@ MayBeTaken effort = (1 ≤ effort.workers) × (effort.workers ≤ 64) × IfSome 
 abbrev pub IsUnlimited : Effort → Type 0
 IsUnlimited effort = (effort.seconds ≡ None) × (effort.gap ≡ None)
 
--- a search may have as much as the command asks for, and an instance as many trips
+-- a search may have as much as the command asks for, and its instance as many trips
 abbrev pub IsSearchWithin : Search → Type 0
 IsSearchWithin (Solve effort) = MayBeTaken effort
-IsSearchWithin (Trial n) = n ≤ MAX_TRIPS
+IsSearchWithin (Trial n) = n ≤ USUAL_TRIPS
 IsSearchWithin (Resume effort) = MayBeTaken effort
 IsSearchWithin (Trace effort) = MayBeTaken effort
 

@@ -43,7 +43,7 @@ pub enum Plain {
     Network,
     /// Print the timetable of a document's plan.
     Blocks,
-    /// Write the generator's instance of so many trips, 0 to 2,000.
+    /// Write the generator's instance of so many trips, 0 to 10,000.
     Make(u32),
     /// Print how few vehicles each layer needs for all that it may run.
     Peak,

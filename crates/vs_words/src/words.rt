@@ -1,12 +1,12 @@
 //! Words, read as a command.
 
 ghost use Rattle.std.specs.Prelude.{◌≡◌, ℕ, ◌<◌, ◌≤◌, length, IsSome, IsTrue, MatchOption, ◌↔◌};
-ghost use Rattle.vs_words.specs.Words.{Answers, AreOptionsTaken, IsAlone, IsNumberFor, IsNumberUpTo, IsWordAt, TakesOption, Word, command_name, counted, digits_of, effort_of, given_with, least_of, most_of, number_in, search_name, searched, setting_name, words_of};
+ghost use Rattle.vs_words.specs.Words.{Answers, AreOptionsTaken, IsAlone, IsNumberFor, IsNumberUpTo, IsWordAt, TakesOption, Word, command_name, counted, digits_of, effort_of, given_with, least_of, most_of, most_trips, number_in, search_name, searched, setting_name, words_of};
 ghost use Rattle.vs_words.specs.declared.words.Searching.{Searching};
 ghost use Rattle.vs_words.specs.declared.words.Setting.{Setting};
 
 use crate::command::{Command, Effort, Plain, Search};
-use vs_instance::{MAX_BUDGET, MAX_TRIPS, MAX_WORKERS};
+use vs_instance::{MAX_BUDGET, MAX_TRIPS, MAX_WORKERS, USUAL_TRIPS};
 
 /// The first bad word, counted from 1. Where a word is missing it is one more than there are.
 #[derive(Clone, Copy, Debug, PartialEq, Eq)]
@@ -171,6 +171,16 @@ impl Counting {
             Counting::Trial => Command::Search(Search::Trial(n)),
         }
     }
+
+    /// How many trips it takes at most.
+    fn most(self) -> u32
+        ensures { result ≡ most_trips self }
+    {
+        match self {
+            Counting::Make => MAX_TRIPS,
+            Counting::Trial => USUAL_TRIPS,
+        }
+    }
 }
 
 /// A command that takes the options of a search.
@@ -316,7 +326,7 @@ fn count_of(words: &[String], kind: Counting) -> Result<Command, BadWord>
     let Some(count) = words.get(1) else {
         return Err(BadWord(2));
     };
-    match number_up_to(count.as_str(), MAX_DIGITS, MAX_TRIPS) {
+    match number_up_to(count.as_str(), MAX_DIGITS, kind.most()) {
         None => Err(BadWord(2)),
         Some(n) if words.len() == 2 => Ok(kind.command(n)),
         _ => Err(BadWord(3)),

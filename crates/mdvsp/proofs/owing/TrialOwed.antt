@@ -1,5 +1,5 @@
 -- What `trial` answers is owed: its instance is read, its document is read behind it, and holds.
-use Rattle.std.proofs.Common.{◌≡◌, ℕ, ◌≤◌, List, [], ◌∷◌, ◌++◌, take, Option, ℤ, refl, sym, ap, ◌∙◌, subst, append-nil}
+use Rattle.std.proofs.Common.{◌≡◌, ℕ, ◌≤◌, List, [], ◌∷◌, ◌++◌, take, Option, ℤ, refl, sym, ap, ◌∙◌, subst, append-nil, arith}
 use Rattle.std.specs.Prelude.{codes, decimal}
 use Rattle.std.proofs.lemmas.List.{take-append-drop}
 use Rattle.vs_instance.specs.Problem.{Problem}
@@ -31,7 +31,8 @@ use Rattle.mdvsp.specs.SolveAnswer.{SolveAnswer}
 pub made_stands : (n : ℕ) (made : List ℕ) → n ≤ 2000 → made ≡ lines (make_rows n)
     → IsWholeText made (made_problem n) (made_names n)
 made_stands n made few is =
-    subst (λ (bytes : List ℕ). IsWholeText bytes (made_problem n) (made_names n)) (sym is) (made_text n few)
+    subst (λ (bytes : List ℕ). IsWholeText bytes (made_problem n) (made_names n)) (sym is)
+    (made_text n (omega (arith, few)))
 
 -- and stands for the instance that is read from it
 pub whole_as_read : (made : List ℕ) (p q : Problem) (names others : NameLists) → IsWholeText made p names

@@ -2,16 +2,17 @@
 
 ghost use Rattle.std.specs.Prelude.{◌≡◌, ℕ, ◌<◌, ◌≤ℤ◌, pos, length, IfOk, IfSome, IsSome, IsTrue};
 ghost use Rattle.vs_circ.specs.Offers.{AreMust, AreOffers};
+ghost use Rattle.vs_instance.specs.Dearest.{most_multiplier};
 ghost use Rattle.vs_instance.specs.Instance.{IsInstance};
 ghost use Rattle.vs_instance.specs.Ways.{Permitted};
+ghost use Rattle.vs_instance.specs.declared.limits.TheConstants.{MAX_MULTIPLIER};
 ghost use Rattle.vs_match.specs.LawfulNets.{IsLawful};
 
 use std::alloc::Global;
 use std::test::Fail;
 use test_fixtures::texts::{LAYER, STOPS};
 use test_fixtures::{input_of, joined};
-use vs_circ::MAX_MULTIPLIER;
-use vs_instance::Instance;
+use vs_instance::{Instance, most_multiplier};
 use vs_match::{LayerNet, first_match, latest_first_match};
 use vs_types::{LayerNo, TripNo};
 
@@ -77,9 +78,11 @@ fn offer_of(instance: &Instance, i: TripNo, multipliers: &[i64]) -> Option<i64>
     requires { i.0 < length instance.now.trips }
     ensures permitted { IsSome result → Permitted instance.now 0 i.0 }
     ensures within { IfSome result (λ m. (pos 0 ≤ℤ m) × (m ≤ℤ MAX_MULTIPLIER)) }
+    ensures payable { IfSome result (λ m. m ≤ℤ pos (most_multiplier (length instance.now.trips))) }
 {
     let multiplier = *multipliers.get(i.0 as usize)?;
-    if !instance.trip(i).layers.has(LayerNo(0)) || multiplier < 0 || MAX_MULTIPLIER < multiplier {
+    let most = most_multiplier(instance.trips());
+    if !instance.trip(i).layers.has(LayerNo(0)) || multiplier < 0 || most < multiplier {
         return None;
     }
     Some(multiplier)

@@ -1,5 +1,5 @@
 -- The numbers and the blocks in the document of a state are within their limits.
-use Rattle.std.proofs.Common.{◌≡◌, [], inl, inr, refl, subst, arith, rules, Option, Some, None, option_map, ℤ, pos}
+use Rattle.std.proofs.Common.{◌≡◌, [], inl, inr, refl, sym, subst, arith, rules, Option, Some, None, option_map, ℤ, pos}
 use Rattle.std.specs.Prelude.{IfNone, IfSome}
 use Rattle.std.specs.List.{All}
 use Rattle.std.proofs.lemmas.Int.{ints}
@@ -13,15 +13,15 @@ use Rattle.vs_plan.specs.CheckedPlan.{Checked}
 use Rattle.vs_prices.specs.Bounds.{IsNoLess}
 use Rattle.vs_prices.specs.declared.bound.Bound.TheVariants.{AtLeast, NoPlan}
 use Rattle.vs_tree.specs.History.{Opening, State, incumbent, known, sets_at, spot_at, table_of}
+use Rattle.vs_tree.specs.Prices.{AreLawful, no_prices}
 use Rattle.vs_tree.specs.Report.{IsLesser, IsReached, bound_of}
 use Rattle.vs_tree.specs.Sound.{IsPlanOf, IsSound}
-use Rattle.vs_tree.proofs.CallerLemmas.{last-is}
+use Rattle.vs_tree.proofs.CallerLemmas.{last-is, lawful_fits, lawful_holds}
 use Rattle.vs_rows.specs.DocumentRows.{IsBetween, IsWithin}
 use Rattle.vs_cert.specs.StateDocument.{known_blocks}
 use Rattle.vs_rows.specs.declared.limits.TheConstants.{MAX_BOUND, MAX_COST}
 use Rattle.vs_rows.proofs.CallerLemmas.{checked_cost, cost_bound}
-use Rattle.vs_cert.proofs.states.TreeTables.{number_fits}
-use Rattle.vs_cert.proofs.states.WorthRange.{worth_within}
+use Rattle.vs_cert.proofs.states.WorthRange.{worth_below}
 
 module _ (o : Opening) (s : State) (instance : IsInstance o.problem) (sound : IsSound o s) where
   abbrev p : Problem
@@ -45,11 +45,12 @@ module _ (o : Opening) (s : State) (instance : IsInstance o.problem) (sound : Is
   reached_fits : (n : ℤ) → IsReached p s (AtLeast n) → IsWithin MAX_BOUND n
   reached_fits n at =
       let worth = at.worth in
-      let fits =
-      number_fits o s sound (table_of (spot_at s at.leaf)) worth.table (sound.numbers at.leaf at.is_leaf)
-      worth.listed in
-      let within = worth_within p instance worth.table fits (sets_at s at.leaf) n worth.worth in
-      (omega (arith, ints), omega (arith, ints))
+      let stands = sound.tables (table_of (spot_at s at.leaf)) no_prices (sound.numbers at.leaf at.is_leaf) in
+      let lawful = subst (AreLawful p) (sym worth.listed) stands in
+      let high = worth_below p instance worth.table (lawful_fits p worth.table lawful)
+      (lawful_holds p worth.table lawful) (sets_at s at.leaf) n worth.worth in
+      let low = sound.worths at.leaf (AtLeast n) at.is_leaf worth in
+      (omega (arith, ints, low), omega (arith, ints, high))
 
   same_fits : (n : ℤ) (cost : Option ℤ) → IfSome cost (IsBetween (pos 0) MAX_COST) → AtLeast n ≡ bound_of cost
       → IsWithin MAX_BOUND n

@@ -1,49 +1,25 @@
 -- A shipment whose units suit their arcs can be sent from.
-use Rattle.std.proofs.Common.{◌≡◌, ◌<◌, ◌≤◌, ◌^◌, ℕ, List, length, get_or, refl, sym, subst, arith, inl, inr, ℤ, pos, Option, Some, None, ◌≤ℤ◌, IfSome}
+use Rattle.std.proofs.Common.{◌≡◌, ◌<◌, ◌≤◌, ◌^◌, ℕ, List, length, get_or, refl, sym, subst, arith, inl, inr, ℤ, pos, Option, Some, None, ◌≤ℤ◌}
 use Rattle.std.proofs.lemmas.Int.{ints}
 use Rattle.std.proofs.lemmas.Bool.{cases_lt}
 use Rattle.std.proofs.lemmas.List.{get_or_past}
-use Rattle.vs_instance.specs.declared.limits.TheConstants.{MAX_FLEET, MAX_MULTIPLIER}
+use Rattle.vs_instance.specs.declared.limits.TheConstants.{MAX_FLEET}
 use Rattle.vs_layer.specs.declared.arc.Arc.{Arc}
 use Rattle.vs_layer.specs.Graph.{arc_of}
 use Rattle.vs_match.specs.declared.arc_kind.ArcKind.{ArcKind}
 use Rattle.vs_match.specs.declared.arc_kind.ArcKind.TheVariants.{Trip, Waiting, Deadhead, PullOut, PullIn, RestIn, RestWait, RestOut, Return}
-use Rattle.vs_match.specs.declared.layer_net.TheConstants.{MAX_ARC_COST}
 use Rattle.vs_match.specs.LayerGraph.{LayerGraph, kind_of}
-use Rattle.vs_path.specs.declared.residual.TheConstants.{MAX_STEP_COST, MAX_SEARCH_NODES}
+use Rattle.vs_path.specs.declared.residual.TheConstants.{MAX_SEARCH_NODES}
+use Rattle.vs_path.specs.StepCosts.{most_step}
 use Rattle.vs_path.specs.Residual.{IsWithin, AllWithin}
 use Rattle.vs_ship.specs.declared.shipment.Shipment.{Shipment}
 use Rattle.vs_ship.specs.declared.shipment.TheConstants.{MAX_FIRST_PRICE}
-use Rattle.vs_circ.specs.Offers.{offer_of, paid}
+use Rattle.vs_circ.specs.Offers.{offer_of}
 use Rattle.vs_ship.specs.Shipments.{CanShip, IsSized}
-use Rattle.vs_circ.specs.shipping.Prepared.{AreOfferedCosts, AreOfferedRooms, AreSmallOffers, HasSmallArcs, offered_cost, offered_room, room_if}
+use Rattle.vs_circ.specs.shipping.Prepared.{AreOfferedCosts, AreOfferedRooms, AreSmallSteps, HasSmallArcs, offered_cost, offered_room, room_if}
 use Rattle.vs_ship.specs.Suiting.{AllSuit, HasNoGain}
 use Rattle.vs_ship.specs.Leaving.{IsLeftBy}
 use Rattle.vs_ship.proofs.CallerLemmas.{suit-signs}
-
--- what a trip is paid is within 0 and `MAX_MULTIPLIER`
-paid-within : (offer : Option ℤ) → IfSome offer (λ m. (pos 0 ≤ℤ m) × (m ≤ℤ MAX_MULTIPLIER))
-    → (pos 0 ≤ℤ paid offer) × (paid offer ≤ℤ MAX_MULTIPLIER)
-paid-within None small = (omega (arith, ints), omega (arith, ints))
-paid-within (Some m) small = small
-
-module _ (offers : List (Option ℤ)) (small : AreSmallOffers offers) where
-  offered_cost-within : (kind : ArcKind) (a : Arc) → pos 0 ≤ℤ a.cost → a.cost ≤ℤ MAX_ARC_COST
-      → IsWithin MAX_STEP_COST (offered_cost offers kind a)
-  offered_cost-within (Trip i) a no_gain limit =
-      let paid_is = paid-within (offer_of offers i.0) (small i.0) in
-      record {
-        low = omega (arith, ints, no_gain, limit, paid_is.0, paid_is.1);
-        high = omega (arith, ints, no_gain, limit, paid_is.0, paid_is.1);
-      }
-  offered_cost-within Waiting a no_gain limit = record { low = omega (arith, ints); high = omega (arith, ints) }
-  offered_cost-within Deadhead a no_gain limit = record { low = omega (arith, ints); high = omega (arith, ints) }
-  offered_cost-within PullOut a no_gain limit = record { low = omega (arith, ints); high = omega (arith, ints) }
-  offered_cost-within PullIn a no_gain limit = record { low = omega (arith, ints); high = omega (arith, ints) }
-  offered_cost-within RestIn a no_gain limit = record { low = omega (arith, ints); high = omega (arith, ints) }
-  offered_cost-within RestWait a no_gain limit = record { low = omega (arith, ints); high = omega (arith, ints) }
-  offered_cost-within RestOut a no_gain limit = record { low = omega (arith, ints); high = omega (arith, ints) }
-  offered_cost-within Return a no_gain limit = record { low = omega (arith, ints); high = omega (arith, ints) }
 
 room_if-< : (offer : Option ℤ) → room_if offer ≤ 1
 room_if-< None = omega arith
@@ -77,14 +53,13 @@ offered-no_gain offers RestOut a more no_gain trip = no_gain
 offered-no_gain offers Return a more no_gain trip = no_gain
 
 module _ (n : LayerGraph) (offers : List (Option ℤ)) (arcs : HasSmallArcs n) where
-  pub costs-within : AreSmallOffers offers → (cost : List ℤ) → length cost ≡ length n.graph.arcs
-      → AreOfferedCosts n offers cost → AllWithin MAX_STEP_COST cost
-  costs-within small cost sized offered k =
+  -- no arc costs more than a step may
+  pub steps-within : AreSmallSteps n offers → (cost : List ℤ) → length cost ≡ length n.graph.arcs
+      → AreOfferedCosts n offers cost → AllWithin (pos (most_step n.graph.nodes)) cost
+  steps-within small cost sized offered k =
       elim (cases_lt k (length n.graph.arcs)) [
         | inl within ↦
-            subst (IsWithin MAX_STEP_COST) (sym (offered k within))
-            (offered_cost-within offers small (kind_of n k) (arc_of n.graph k) (arcs.no_gain k within)
-            (arcs.cost k within))
+            subst (IsWithin (pos (most_step n.graph.nodes))) (sym (offered k within)) (small k within)
         | inr past ↦
             let none = get_or_past cost k (pos 0) (omega (arith, past, sized)) in
             record { low = omega (arith, ints, none); high = omega (arith, ints, none) }
@@ -115,14 +90,14 @@ module _ (n : LayerGraph) (offers : List (Option ℤ)) (arcs : HasSmallArcs n) w
 
 pub suit-can : (n : LayerGraph) (offers : List (Option ℤ)) (s : Shipment) → HasSmallArcs n → n.graph.nodes ≤
     MAX_SEARCH_NODES
-    → AreSmallOffers offers → IsSized n.graph s → AreOfferedCosts n offers s.costs.cost.items
+    → AreSmallSteps n offers → IsSized n.graph s → AreOfferedCosts n offers s.costs.cost.items
     → AreOfferedRooms n offers s.costs.room.items → AllWithin MAX_FIRST_PRICE s.prices.items
     → AllSuit n.graph s.costs.cost.items s.costs.room.items s.prices.items s.flow.units.items
     → IsLeftBy n.graph s.flow.units.items s.surplus.items → CanShip n.graph s
 suit-can n offers s arcs nodes small sized costs rooms first suit left = record {
   sized = sized;
   nodes = nodes;
-  costs = costs-within n offers arcs small s.costs.cost.items sized.cost costs;
+  costs = steps-within n offers arcs small s.costs.cost.items sized.cost costs;
   rooms = rooms-within n offers arcs s.costs.room.items sized.room rooms;
   prices = λ v.
       let within = first v in

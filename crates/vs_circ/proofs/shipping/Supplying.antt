@@ -27,7 +27,8 @@ use Rattle.vs_ship.proofs.CallerLemmas.{excess-weighed, gained-none, gained-≤,
 use Rattle.vs_circ.proofs.low.Reindexing.{over_range, total-same}
 use Rattle.vs_circ.proofs.low.TripArcs.{arc_or_none, at_trip, at_trip-arc, at_trip-none, on_trip, on_trips, total-by_trip}
 use Rattle.vs_circ.proofs.low.UnitBlocks.{arcs_inside}
-use Rattle.vs_circ.proofs.shipping.Preparing.{costs-within, rooms-within}
+use Rattle.vs_circ.proofs.shipping.Preparing.{rooms-within, steps-within}
+use Rattle.vs_circ.proofs.shipping.SmallSteps.{small_steps_of_none}
 use Rattle.vs_circ.proofs.shipping.SmallArcs.{small_arcs}
 
 -- where no trip is offered, an arc costs what it costs
@@ -144,7 +145,9 @@ module _ (p : Problem) (is : IsInstance p) (l : LayerNo) (n : LayerGraph) (lawfu
       can-supply = record {
         sized = sized;
         nodes = nodes;
-        costs = costs-within n [] (small_arcs p is l.0 n lawful) (λ i. tt) s.costs.cost.items sized.cost costs;
+        costs =
+            steps-within n [] (small_arcs p is l.0 n lawful) (small_steps_of_none p is l n lawful) s.costs.cost.items
+            sized.cost costs;
         rooms = rooms-within n [] (small_arcs p is l.0 n lawful) s.costs.room.items sized.room rooms;
         prices = λ v.
             let at = free v in record { low = omega (arith, ints, at); high = omega (arith, ints, at) };

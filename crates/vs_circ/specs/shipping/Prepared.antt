@@ -6,7 +6,8 @@ use Rattle.vs_match.specs.declared.arc_kind.ArcKind.{ArcKind}
 use Rattle.vs_match.specs.declared.arc_kind.ArcKind.TheVariants.{Trip, Return}
 use Rattle.vs_match.specs.declared.layer_net.TheConstants.{MAX_ARC_COST}
 use Rattle.vs_match.specs.LayerGraph.{LayerGraph, IsArcOfTrip, kind_of}
-use Rattle.vs_path.specs.Residual.{price_at}
+use Rattle.vs_path.specs.StepCosts.{most_step}
+use Rattle.vs_path.specs.Residual.{IsWithin, price_at}
 use Rattle.vs_circ.specs.declared.preparing.TheConstants.{UNLIMITED}
 use Rattle.vs_instance.specs.declared.limits.TheConstants.{MAX_FLEET, MAX_MULTIPLIER}
 use Rattle.vs_circ.specs.Offers.{offer_of, paid}
@@ -37,6 +38,11 @@ AreOfferedRooms n offers room = (k : ℕ) → k < length n.graph.arcs
 -- no multiplier is beyond the greatest
 abbrev pub AreSmallOffers : List (Option ℤ) → Type 0
 AreSmallOffers offers = (i : ℕ) → IfSome (offer_of offers i) (λ m. (pos 0 ≤ℤ m) × (m ≤ℤ MAX_MULTIPLIER))
+
+-- with the multipliers taken off, no arc costs more than a step may in a net of so many nodes
+abbrev pub AreSmallSteps : LayerGraph → List (Option ℤ) → Type 0
+AreSmallSteps n offers = (k : ℕ) → k < length n.graph.arcs
+    → IsWithin (pos (most_step n.graph.nodes)) (offered_cost offers (kind_of n k) (arc_of n.graph k))
 
 -- the costs and rooms of a lawful net's arcs, of which one at most is a trip's
 pub record HasSmallArcs (n : LayerGraph) : Type 0 where

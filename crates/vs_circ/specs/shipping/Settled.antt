@@ -1,8 +1,9 @@
 -- Shipments from which nothing is left to send.
-use Rattle.std.specs.Prelude.{List, Option, ℤ}
+use Rattle.std.specs.Prelude.{List, Option, ℤ, pos}
 use Rattle.vs_layer.specs.Circulation.{IsCirculation}
 use Rattle.vs_match.specs.LayerGraph.{LayerGraph}
-use Rattle.vs_path.specs.declared.residual.TheConstants.{MAX_STEP_COST, MAX_SEARCH_PRICE}
+use Rattle.vs_path.specs.declared.residual.TheConstants.{MAX_SEARCH_PRICE}
+use Rattle.vs_path.specs.StepCosts.{most_step}
 use Rattle.vs_path.specs.Residual.{AllWithin, HasSignRule}
 use Rattle.vs_ship.specs.declared.shipment.Shipment.{Shipment}
 use Rattle.vs_circ.specs.shipping.Prepared.{AreOfferedCosts, AreOfferedRooms}
@@ -12,7 +13,7 @@ use Rattle.vs_ship.specs.Shipments.{AreInRoom, IsSized, residual_of}
 -- the arcs cost and take what they do where these trips are offered, and none carries more
 pub record IsOfOffers (n : LayerGraph) (offers : List (Option ℤ)) (s : Shipment) : Type 0 where
   pub costs : AreOfferedCosts n offers s.costs.cost.items
-  pub small : AllWithin MAX_STEP_COST s.costs.cost.items
+  pub small : AllWithin (pos (most_step n.graph.nodes)) s.costs.cost.items
   pub rooms : AreOfferedRooms n offers s.costs.room.items
   pub in_room : AreInRoom n.graph s
 

@@ -7,7 +7,7 @@ use Rattle.vs_instance.specs.HoldingTable.{price_of, scaled}
 use Rattle.vs_instance.specs.Pieces.{trip_piece}
 use Rattle.vs_instance.specs.Problem.{Problem}
 use Rattle.vs_instance.specs.Restriction.{set_of}
-use Rattle.vs_multi.specs.Multipliers.{AreOfTable, limited}
+use Rattle.vs_multi.specs.Multipliers.{AreOfTable, limited, greatest_paid}
 use Rattle.vs_prices.specs.Bounds.{ReachesLagrangian}
 use Rattle.vs_prices.specs.Table.{prices_in}
 use Rattle.vs_prices.specs.Worth.{least}
@@ -70,7 +70,8 @@ worked-along p root sets t u old new same_old same_new worked = by_root root wor
     begun-along : (multipliers : List ℤ) → AreOfTable p sets old multipliers → AreOfTable p sets t multipliers
     begun-along multipliers begun = record {
       each_trip = begun.each_trip;
-      price = λ i inside. begun.price i inside ∙ ap (λ (x : Prices). limited (least_of p sets i x)) same_old;
+      price = λ i inside. begun.price i inside
+          ∙ ap (λ (x : Prices). limited (greatest_paid p) (least_of p sets i x)) same_old;
     }
 
     by_root : (b : Bool) → IsWorked p b sets t u → IsWorked p b sets old new

@@ -1,5 +1,5 @@
 -- The names that an instance text gives are names, no two of a kind the same.
-use Rattle.std.proofs.Common.{◌≡◌, ℕ, ◌<◌, List, [], ◌∷◌, ◌++◌, length, sym, subst, inl, inr, arith, ◌∙◌}
+use Rattle.std.proofs.Common.{◌≡◌, ℕ, ◌<◌, ◌≤◌, List, [], ◌∷◌, ◌++◌, length, sym, subst, inl, inr, arith, ◌∙◌}
 use Rattle.std.proofs.lemmas.List.{get_or_default, length_push}
 use Rattle.std.proofs.lemmas.List.Elements.{All-nil, All-push}
 use Rattle.std.proofs.lemmas.List.Quantifiers.{all_pairs_push}
@@ -11,6 +11,7 @@ use Rattle.vs_reader.specs.NameRules.{AreNames}
 use Rattle.vs_reader.specs.Names.{IsName, NameLists}
 use Rattle.vs_reader.specs.Rows.{Field, Row}
 use Rattle.vs_reader.specs.Texts.{StandsFor}
+use Rattle.vs_reader.proofs.CallerLemmas.{most_in-≤}
 
 -- names of layers and of trips, no two of a kind the same
 pub record HaveNames (names : NameLists) : Type 0 where
@@ -43,7 +44,12 @@ adds_names version old row new (inr (inr (inl a))) h = subst (λ (d : Declared).
       trips = h.trips;
     })
 adds_names version old row new (inr (inr (inr a))) h = subst (λ (d : Declared). HaveNames d.names) (sym a.added)
-    (record { layers = h.layers; trips = one_more_name old.names.trips a.name h.trips a.new_name a.room })
+    (record {
+      layers = h.layers;
+      trips =
+          one_more_name old.names.trips a.name h.trips a.new_name
+          (let room = a.room in omega (arith, room, most_in-≤ version));
+    })
 
 add_all_names : (version : Version) (old : Declared) (rows : List Row) (new : Declared)
     → AddAll version old rows new → HaveNames old.names → HaveNames new.names

@@ -5,6 +5,7 @@ use Rattle.std.specs.Option.{IfSome}
 use Rattle.std.specs.declared.option.Option.{Option}
 use Rattle.std.specs.declared.option.Option.TheVariants as option
 use Rattle.std.proofs.lemmas.Option.{MatchOption-at_some, none-some}
+use Rattle.vs_instance.specs.declared.layer.Layer.{Layer}
 use Rattle.vs_instance.specs.declared.parts.Deadhead.{Deadhead}
 use Rattle.vs_instance.specs.declared.misfit.Misfit.{Misfit}
 use Rattle.vs_instance.specs.declared.misfit.NewError.{NewError}
@@ -17,7 +18,7 @@ use Rattle.vs_instance.specs.Instance.{IsDeadhead}
 use Rattle.vs_instance.specs.Misfits.{AreParts, MakeInstance, problem_of, deadheads_of, has_twin_before, misfits_of, IsFirstOf, IsFirstMisfit, IsMisfit, first_misfit, layer_misfits, trip_misfits, layers_misfits, deadheads_misfits, trips_misfits, closure_misfits}
 use Rattle.vs_instance.proofs.misfits.Firsts.{first-skip, first-stop, none_from_first}
 use Rattle.vs_instance.proofs.misfits.Empty.{None, none-append, each_none, none_each}
-use Rattle.vs_instance.proofs.misfits.WithinLimits.{layer_fits, none_of_layer, trip_fits, none_of_trip}
+use Rattle.vs_instance.proofs.misfits.WithinLimits.{fleet_fits, layer_fits, none_of_layer, none_of_trip, payable_fits, trip_fits}
 use Rattle.vs_instance.proofs.misfits.Given.{IsFit, deadhead_fits, none_of_deadhead, given_all, own_way, once_from, none_before}
 use Rattle.vs_instance.proofs.misfits.Closed.{closed_from_none, none_of_closed}
 use Rattle.vs_instance.proofs.deadheads.Gathered.{nth_misfits}
@@ -28,10 +29,16 @@ if_some P (option.Some x) each = each x refl
 
 -- nothing is wrong, part by part
 pub record NoMisfits (parts : Parts) : Type 0 where
-  pub layers : None (layers_misfits parts.layers.items)
+  pub layers : None (layers_misfits parts.most (length parts.trips.items) parts.layers.items)
   pub deadheads : None (deadheads_misfits parts.deadheads.items)
   pub trips : None (trips_misfits parts.trips.items)
   pub closure : None (closure_misfits parts.stops (deadheads_of parts.deadheads.items))
+
+fit_layers : (parts : Parts) → NoMisfits parts → (l : ℕ) (layer : Layer) → l < length parts.layers.items
+    → None (layer_misfits parts.most (length parts.trips.items) l (get_or parts.layers.items l layer))
+fit_layers parts none l layer within =
+    each_none (layer_misfits parts.most (length parts.trips.items)) 0 parts.layers.items none.layers l l layer within
+    (omega arith)
 
 fit_deadheads : (parts : Parts) → NoMisfits parts → (n : ℕ) (d : Deadhead) → n < length parts.deadheads.items
     → IsFit (has_twin_before parts.deadheads.items n (get_or parts.deadheads.items n d))
@@ -74,13 +81,19 @@ makes_instance parts are none =
     let given = all_deadheads parts are none in
     record {
       once = once_from parts.deadheads.items (λ n d within. (fit_deadheads parts none n d within).once);
+      fleets = λ l layer within.
+          fleet_fits parts.most (length parts.trips.items) l (get_or parts.layers.items l layer)
+          (fit_layers parts none l layer within);
       instance = record {
         few_stops = are.few_stops;
         few_layers = are.few_layers;
-        few_trips = are.few_trips;
+        few_trips = omega (arith, are.few_trips, are.most);
         layers = λ l layer within.
-            layer_fits (problem_of parts) l _ (are.layers l layer within)
-            (each_none layer_misfits 0 parts.layers.items none.layers l l layer within (omega arith));
+            layer_fits (problem_of parts) parts.most (length parts.trips.items) l _ (omega (arith, are.most))
+            (are.layers l layer within) (fit_layers parts none l layer within);
+        payable = λ l layer within.
+            payable_fits parts.most (length parts.trips.items) l (get_or parts.layers.items l layer)
+            (fit_layers parts none l layer within);
         deadheads =
             λ k s. if_some (IsDeadhead (problem_of parts) k s) (map.get (deadheads_of parts.deadheads.items) (k, s))
             (given (k, s));
@@ -99,8 +112,9 @@ pub no_misfits : (parts : Parts) → MakeInstance parts → NoMisfits parts
 no_misfits parts made =
     let q = made.instance in
     record {
-      layers = none_each layer_misfits 0 parts.layers.items
-          (λ k j layer within is. none_of_layer (problem_of parts) j _ (q.layers k layer within));
+      layers = none_each (layer_misfits parts.most (length parts.trips.items)) 0 parts.layers.items
+          (λ k j layer within is. none_of_layer (problem_of parts) parts.most (length parts.trips.items) j _
+          (q.layers k layer within) (made.fleets k layer within) (q.payable k layer within));
       deadheads = none_each (nth_misfits parts.deadheads.items) 0 parts.deadheads.items (λ k j d within is.
           let own = own_way map.empty parts.deadheads.items made.once k d within in
           let here =
@@ -153,35 +167,44 @@ module _ (ls ds ts cs : List Misfit) where
       first-skip ((ls ++ ds) ++ ts) cs (first-skip (ls ++ ds) ts (first-skip ls ds none ∙ none') ∙ none'') ∙ is
 
 module _ (parts : Parts) where
-  pub at_layers : (m : Misfit) → option.Some m ≡ first_misfit (layers_misfits parts.layers.items)
+  pub at_layers : (m : Misfit)
+      → option.Some m ≡ first_misfit (layers_misfits parts.most (length parts.trips.items) parts.layers.items)
       → first_misfit (misfits_of parts) ≡ option.Some m
   at_layers m is =
-      at_first (layers_misfits parts.layers.items) (deadheads_misfits parts.deadheads.items)
+      at_first (layers_misfits parts.most (length parts.trips.items) parts.layers.items)
+      (deadheads_misfits parts.deadheads.items)
       (trips_misfits parts.trips.items)
       (closure_misfits parts.stops (deadheads_of parts.deadheads.items)) m (sym is)
 
-  pub at_deadheads : (e : NewError) → option.None ≡ first_misfit (layers_misfits parts.layers.items)
+  pub at_deadheads : (e : NewError)
+      → option.None ≡ first_misfit (layers_misfits parts.most (length parts.trips.items) parts.layers.items)
       → IsFirstOf (deadheads_misfits parts.deadheads.items) e → IsFirstMisfit parts e
   at_deadheads (error.Misfit m) none is =
-      at_second (layers_misfits parts.layers.items) (deadheads_misfits parts.deadheads.items)
+      at_second (layers_misfits parts.most (length parts.trips.items) parts.layers.items)
+      (deadheads_misfits parts.deadheads.items)
       (trips_misfits parts.trips.items) (closure_misfits parts.stops (deadheads_of parts.deadheads.items)) m
       (sym none) is
   at_deadheads error.Memory none is = tt
 
-  pub at_trips : (m : Misfit) → option.None ≡ first_misfit (layers_misfits parts.layers.items)
+  pub at_trips : (m : Misfit)
+      → option.None ≡ first_misfit (layers_misfits parts.most (length parts.trips.items) parts.layers.items)
       → None (deadheads_misfits parts.deadheads.items)
       → option.Some m ≡ first_misfit (trips_misfits parts.trips.items) → first_misfit (misfits_of parts) ≡ option.Some m
-  at_trips m none none' is = at_third (layers_misfits parts.layers.items) (deadheads_misfits parts.deadheads.items)
+  at_trips m none none' is =
+      at_third (layers_misfits parts.most (length parts.trips.items) parts.layers.items)
+      (deadheads_misfits parts.deadheads.items)
       (trips_misfits parts.trips.items) (closure_misfits parts.stops (deadheads_of parts.deadheads.items)) m
       (sym none) (ap first_misfit none') (sym is)
 
-  pub at_closure : (m : Misfit) → option.None ≡ first_misfit (layers_misfits parts.layers.items)
+  pub at_closure : (m : Misfit)
+      → option.None ≡ first_misfit (layers_misfits parts.most (length parts.trips.items) parts.layers.items)
       → None (deadheads_misfits parts.deadheads.items)
       → option.None ≡ first_misfit (trips_misfits parts.trips.items)
       → option.Some m ≡ first_misfit (closure_misfits parts.stops (deadheads_of parts.deadheads.items))
       → first_misfit (misfits_of parts) ≡ option.Some m
   at_closure m none none' none'' is =
-      at_fourth (layers_misfits parts.layers.items) (deadheads_misfits parts.deadheads.items)
+      at_fourth (layers_misfits parts.most (length parts.trips.items) parts.layers.items)
+      (deadheads_misfits parts.deadheads.items)
       (trips_misfits parts.trips.items) (closure_misfits parts.stops (deadheads_of parts.deadheads.items)) m
       (sym none) (ap first_misfit none') (sym none'') (sym is)
 
@@ -190,7 +213,8 @@ module _ (parts : Parts) where
   refuses_error error.Memory is misfit = absurd misfit
 
   -- nothing was found, part by part
-  pub made : AreParts parts → option.None ≡ first_misfit (layers_misfits parts.layers.items)
+  pub made : AreParts parts
+      → option.None ≡ first_misfit (layers_misfits parts.most (length parts.trips.items) parts.layers.items)
       → None (deadheads_misfits parts.deadheads.items)
       → option.None ≡ first_misfit (trips_misfits parts.trips.items)
       → option.None ≡ first_misfit (closure_misfits parts.stops (deadheads_of parts.deadheads.items))

@@ -1,16 +1,16 @@
 -- A layer's net is lawful: its arcs lie and cost as they should, and each trip has one.
 use Rattle.std.proofs.Common.{◌≡◌, ℕ, ◌+◌, ◌-◌, ◌*◌, ◌<◌, ◌≤◌, length, refl, sym, ap, subst, inl, inr, arith, pos}
-use Rattle.std.specs.Prelude.{ℤ, ◌≤ℤ◌}
+use Rattle.std.specs.Prelude.{ℤ, ◌≤ℤ◌, nat_abs}
 use Rattle.std.proofs.lemmas.Bool.{cases_order}
 use Rattle.std.proofs.lemmas.Int.{ints}
-use Rattle.vs_instance.specs.declared.limits.TheConstants.{TWO_DAYS}
+use Rattle.vs_instance.specs.declared.limits.TheConstants.{MAX_DEAREST_SUM, TWO_DAYS}
 use Rattle.vs_layer.specs.declared.arc.Arc.{Arc}
 use Rattle.vs_layer.specs.Graph.{IsNet, arc_of}
 use Rattle.vs_instance.specs.Problem.{Problem}
 use Rattle.vs_instance.specs.Instance.{IsInstance}
 use Rattle.vs_instance.specs.Ways.{layer_of, no_trip}
 use Rattle.vs_instance.specs.Pieces.{rated, trip_piece}
-use Rattle.vs_instance.proofs.CallerLemmas.{layer_of-IsLayer, way-within, rated-below}
+use Rattle.vs_instance.proofs.CallerLemmas.{fixed-rated-payable, layer_of-IsLayer, rated-below, rated-payable, way-within}
 use Rattle.vs_match.specs.declared.event.Event.{Event}
 use Rattle.vs_match.specs.declared.arc_kind.ArcKind.{ArcKind}
 use Rattle.vs_match.specs.declared.arc_kind.ArcKind.TheVariants.{Trip, Waiting, Deadhead, PullOut, PullIn, RestIn, RestWait, RestOut, Return}
@@ -20,6 +20,7 @@ use Rattle.vs_match.specs.Events.{departure, arrival, MayRun, IsEvent, HasPlace,
 use Rattle.vs_match.specs.NetArcs.{IsArcOf, IsTripArc, IsArcBefore, at_scale}
 use Rattle.vs_match.specs.LayerGraph.{LayerGraph, IsNetOf, IsArcOfTrip, kind_of}
 use Rattle.vs_match.specs.LawfulNets.{IsLawful, IsLawfulArc, IsFreeArc}
+use Rattle.vs_match.proofs.events.FewPoints.{few_points}
 use Rattle.vs_match.proofs.events.Places.{placed, has_node, same_node}
 use Rattle.vs_match.proofs.walks.WalkBounds.{first_of_match}
 use Rattle.vs_match.proofs.walks.WalkLaws.{walk_law}
@@ -44,65 +45,79 @@ module _ (p : Problem) (is : IsInstance p) (l : ℕ) (within : l < length p.laye
       ends_within e (net.points.only (point_of e) (x.k, x.within, x.point (point_of e)))
 
   -- an arc that costs so much is a free one
-  free : (a : Arc) (c : ℕ) → a.cost ≡ at_scale c → c ≤ 20000000000 → a.room ≡ (layer_of p l).fleet → IsFreeArc p l a
-  free a c cost few room = record {
-    no_gain = subst (λ (x : ℤ). pos 0 ≤ℤ x) (sym cost) (omega (arith, ints));
-    limit = subst (λ (x : ℤ). x ≤ℤ MAX_ARC_COST) (sym cost) (omega (arith, ints, few));
-    room = room;
-  }
+  free : (a : Arc) (c : ℕ) → a.cost ≡ at_scale c → c ≤ 20000000000 → length p.trips * c ≤ MAX_DEAREST_SUM
+      → a.room ≡ (layer_of p l).fleet → IsFreeArc p l a
+  free a c cost few payable room =
+      let scaled : length p.trips * (1000 * c) ≤ 1000 * MAX_DEAREST_SUM = omega (arith, payable) in
+      record {
+        no_gain = subst (λ (x : ℤ). pos 0 ≤ℤ x) (sym cost) (omega (arith, ints));
+        limit = subst (λ (x : ℤ). x ≤ℤ MAX_ARC_COST) (sym cost) (omega (arith, ints, few));
+        payable =
+            subst (λ (x : ℤ). length p.trips * nat_abs x ≤ 1000 * MAX_DEAREST_SUM) (sym cost) scaled;
+        room = room;
+      }
 
   -- the arcs by their kinds
   lawful_arc : (kind : ArcKind) (a : Arc) → IsArcOf p l matching n.points kind a → IsLawfulArc p l n.points kind a
   lawful_arc (Trip i) a arc = arc
   lawful_arc Waiting a arc =
       let until = event_within a.to arc.until arc.to in
-      let rate = rated-below p is l (arc.until.minute - arc.since.minute) 0 within (omega arith) (omega arith) in (
+      let rate = rated-below p is l (arc.until.minute - arc.since.minute) 0 within (omega arith) (omega arith) in
+      let all = rated-payable p is l (arc.until.minute - arc.since.minute) 0 within (omega arith) (omega arith) in (
         (arc.since, arc.from),
         (arc.until, arc.to),
         free a ((layer_of p l).per_minute * (arc.until.minute - arc.since.minute)) arc.cost (omega (arith, rate))
-            arc.room,
+            (omega (arith, all)) arc.room,
       )
   lawful_arc Deadhead a arc =
       let until = event_within a.to arc.until arc.to in
       let match = first_of_match p l matching arc.by arc.since arc.until arc.matched in
       let by = way-within p is arc.since.stop.0 arc.until.stop.0 arc.by match.way_is in
       let rate =
-      rated-below p is l (arc.until.minute - arc.since.minute) arc.by.metres within (omega arith) by.metres in (
+      rated-below p is l (arc.until.minute - arc.since.minute) arc.by.metres within (omega arith) by.metres in
+      let all =
+      rated-payable p is l (arc.until.minute - arc.since.minute) arc.by.metres within (omega arith) by.metres in (
         (arc.since, arc.from),
         (arc.until, arc.to),
-        free a (rated p l (arc.until.minute - arc.since.minute) arc.by.metres) arc.cost (omega (arith, rate)) arc.room,
+        free a (rated p l (arc.until.minute - arc.since.minute) arc.by.metres) arc.cost (omega (arith, rate)) all
+            arc.room,
       )
   lawful_arc PullOut a arc =
       let by = way-within p is (layer_of p l).depot.0 arc.until.stop.0 arc.by arc.way_is in
       let rate = rated-below p is l arc.by.minutes arc.by.metres within (omega (arith, by.minutes)) by.metres in
-      let fixed = (layer_of-IsLayer p is l within).fixed in (
+      let fixed = (layer_of-IsLayer p is l within).fixed in
+      let all =
+      fixed-rated-payable p is l arc.by.minutes arc.by.metres within (omega (arith, by.minutes)) by.metres in (
         arc.from,
         (arc.until, arc.to),
         free a ((layer_of p l).fixed + rated p l arc.by.minutes arc.by.metres) arc.cost (omega (arith, rate, fixed))
-            arc.room,
+            all arc.room,
       )
   lawful_arc PullIn a arc =
       let by = way-within p is arc.since.stop.0 (layer_of p l).depot.0 arc.by arc.way_is in
-      let rate = rated-below p is l arc.by.minutes arc.by.metres within (omega (arith, by.minutes)) by.metres in (
+      let rate = rated-below p is l arc.by.minutes arc.by.metres within (omega (arith, by.minutes)) by.metres in
+      let all = rated-payable p is l arc.by.minutes arc.by.metres within (omega (arith, by.minutes)) by.metres in (
         (arc.since, arc.from),
         arc.to,
-        free a (rated p l arc.by.minutes arc.by.metres) arc.cost (omega (arith, rate)) arc.room,
+        free a (rated p l arc.by.minutes arc.by.metres) arc.cost (omega (arith, rate)) all arc.room,
       )
   lawful_arc RestIn a arc =
       let by = way-within p is arc.since.stop.0 (layer_of p l).depot.0 arc.by arc.way_is in
-      let rate = rated-below p is l arc.by.minutes arc.by.metres within (omega (arith, by.minutes)) by.metres in (
+      let rate = rated-below p is l arc.by.minutes arc.by.metres within (omega (arith, by.minutes)) by.metres in
+      let all = rated-payable p is l arc.by.minutes arc.by.metres within (omega (arith, by.minutes)) by.metres in (
         (arc.since, arc.from),
         (arc.until, arc.to),
-        free a (rated p l arc.by.minutes arc.by.metres) arc.cost (omega (arith, rate)) arc.room,
+        free a (rated p l arc.by.minutes arc.by.metres) arc.cost (omega (arith, rate)) all arc.room,
       )
   lawful_arc RestWait a arc =
-      ((arc.since, arc.from), (arc.until, arc.to), free a 0 arc.cost (omega arith) arc.room)
+      ((arc.since, arc.from), (arc.until, arc.to), free a 0 arc.cost (omega arith) (omega arith) arc.room)
   lawful_arc RestOut a arc =
       let by = way-within p is (layer_of p l).depot.0 arc.until.stop.0 arc.by arc.after.way_is in
-      let rate = rated-below p is l arc.by.minutes arc.by.metres within (omega (arith, by.minutes)) by.metres in (
+      let rate = rated-below p is l arc.by.minutes arc.by.metres within (omega (arith, by.minutes)) by.metres in
+      let all = rated-payable p is l arc.by.minutes arc.by.metres within (omega (arith, by.minutes)) by.metres in (
         (arc.until.minute - arc.by.minutes, arc.from),
         (arc.until, arc.to),
-        free a (rated p l arc.by.minutes arc.by.metres) arc.cost (omega (arith, rate)) arc.room,
+        free a (rated p l arc.by.minutes arc.by.metres) arc.cost (omega (arith, rate)) all arc.room,
       )
   lawful_arc Return a arc = arc
 
@@ -151,6 +166,7 @@ module _ (p : Problem) (is : IsInstance p) (l : ℕ) (within : l < length p.laye
     layer = within;
     net = graph;
     labelled = record { each_arc = net.kinds; each_node = net.nodes };
+    few_nodes = omega (arith, net.nodes, few_points p l n.points net.points);
     arcs = λ k inside. lawful_arc (kind_of n k) (arc_of n.graph k) (net.only k inside);
     each_trip = arc_of_each;
     one_arc = λ i j k first second. elim (cases_order j k) [

@@ -11,32 +11,18 @@ use Rattle.vs_prices.specs.Bounds.{ReachesValue}
 use Rattle.vs_prices.specs.Worth.{IsWorth, worth_of}
 use Rattle.vs_prices.specs.declared.bound.Bound.{Bound}
 use Rattle.vs_prices.specs.declared.table.Table.{Table}
-use Rattle.vs_prices.proofs.CallerLemmas.{worth_of-IsWorth, left-restricts, right-restricts, set_of-other, set_of-same, reaches_more}
+use Rattle.vs_prices.proofs.CallerLemmas.{worth_of-IsWorth, left-restricts, right-restricts, reaches_more}
 use Rattle.vs_tree.specs.declared.spot.Spot.{Spot}
 use Rattle.vs_tree.specs.declared.spot.Spot.TheVariants.{Inner, Free, Held, Closed as ClosedSpot}
 use Rattle.vs_tree.specs.Prices.{AreLawful, AreWorth, Prices, no_prices, prices_of}
 use Rattle.vs_tree.specs.Sound.{IsOpening, IsSound}
 use Rattle.vs_prices.specs.Tree.{right_of, with_set}
 use Rattle.vs_tree.specs.History.{FullStep, Opening, Place, State, Took, Split, Closed, Offered, GaveBack, IsLeaf, IsLeafWorth, MayCome, MayFollow, MayGive, MaySplit, after, first_state, is_inner, left_part, place_at, prices_at, right_part, sets_at, spot_at, state_after, table_of, with_spot}
-use Rattle.vs_tree.proofs.CallerLemmas.{lawful_worth, leaf_within, last-prices, split, other, lower, upper, nowhere, where_is, split-here, split-lower, split-nowhere, split-other, split-upper, first_sound, step_sound, leaves-kept, prices-kept, same-worth, sets-kept, spot-here, spot-there, narrower-no_less}
+use Rattle.vs_tree.proofs.CallerLemmas.{lawful_worth, leaf_within, last-prices, split, other, lower, upper, nowhere, where_is, split-here, split-lower, split-nowhere, split-other, split-upper, first_sound, step_sound, leaves-kept, prices-kept, same-worth, sets-kept, spot-here, spot-there, narrower-no_less, with_set-within}
 use Rattle.vs_types.proofs.CallerLemmas.{rest-within}
 use Rattle.vs_node.specs.Laws.{WorkedSearchesReachTheStart}
 use Rattle.vs_node.specs.WorkedHistory.{AreWorkedFrom, AreWorkedPrices, IsWorkedStep}
 use Rattle.vs_node.specs.WorkedStep.{IsWorked}
-
--- a trip's set with fewer layers is within the old one, and any other is the same
-with_set-within : (sets : List LayerSet) (trip : TripNo) (layers : LayerSet) → trip.0 < length sets
-    → ((l : ℕ) → Has layers l → Has (set_of sets trip.0) l) → (i l : ℕ) → Has (set_of (with_set sets trip layers) i) l
-    → Has (set_of sets i) l
-with_set-within sets trip layers inside part i l has =
-    elim (cases_eq i trip.0) [
-      | inl same ↦
-          let now : Has layers l =
-          subst (λ (set : LayerSet). Has set l)
-          (ap (λ (j : ℕ). set_of (with_set sets trip layers) j) same ∙ set_of-same sets trip layers inside) has in
-          subst (λ (j : ℕ). Has (set_of sets j) l) (sym same) (part l now)
-      | inr apart ↦ subst (λ (set : LayerSet). Has set l) (set_of-other sets trip layers i apart) has
-    ]
 
 module _ (o : Opening) (opening : IsOpening o) (value : ℤ) (start : IsStartingValue o.problem value) where
   abbrev p : Problem

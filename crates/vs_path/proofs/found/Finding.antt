@@ -9,6 +9,7 @@ use Rattle.vs_queue.specs.NodeLists.{label_of}
 use Rattle.vs_path.specs.Labels.{Lists, AreLabels, Covers, Serves, IsOver, IsReached, IsSmall, Lacks, label_at, settled_at, source_of, waiting_at}
 use Rattle.vs_path.specs.Search.{AreMoved, AreTreeSteps, CanMove, IsCut, IsGoal, IsIn, moved, two_paths}
 use Rattle.vs_path.proofs.labelling.Settling.{order-≤}
+use Rattle.vs_path.proofs.labelling.StepCosts.{near-path, steps-≤}
 use Rattle.vs_path.proofs.found.NotNegative.{not-negative}
 
 module _ (r : ResidualNet) (prices surplus : List ℤ) (source : ℕ) (l : Lists) (over : IsOver r prices surplus source l)
@@ -56,13 +57,13 @@ pub can-move : (r : ResidualNet) (prices : List ℤ) (l : Lists) (goal : ℕ) (g
     → HasSignRule r prices → AreLabels r prices l → settled_at l goal ≡ Some g → CanMove l g.distance prices
 can-move r prices l goal g small sign labels goal_is v a is =
     let few = order-≤ r.graph.nodes l labels.are_listed in
-    let nodes = small.nodes in
-    let to_goal = labels.near goal g goal_is in
-    let to_v = labels.near v a is in
     let some_g = not-negative r prices l labels sign (suc g.place) goal g goal_is (omega arith) in
     let some_v = not-negative r prices l labels sign (suc a.place) v a is (omega arith) in
     let place_g = (labels.are_listed.placed goal g goal_is).0 in
     let place_v = (labels.are_listed.placed v a is).0 in
+    let to_goal = near-path r.graph.nodes prices (source_of l) g.place goal g.distance (omega arith)
+    (labels.near goal g goal_is) in
+    let to_v = near-path r.graph.nodes prices (source_of l) a.place v a.distance (omega arith) (labels.near v a is) in
     let p_g = small.each_price goal in
     let p_v = small.each_price v in
     let p_s = small.each_price (source_of l) in (
@@ -218,7 +219,19 @@ module _ (r : ResidualNet) (prices surplus : List ℤ) (source : ℕ) (l : Lists
           let to_v = labels.near v a e in
           let place_g = (labels.are_listed.placed goal reached.goal_is reached.settled).0 in
           let place_v = (labels.are_listed.placed v a e).0 in
-          inr (omega (arith, ints, at-some v a e, to_goal.low, to_goal.high, to_v.low, to_v.high))
+          let more_g = steps-≤ r.graph.nodes reached.goal_is.place r.graph.nodes (omega arith) in
+          let more_v = steps-≤ r.graph.nodes a.place r.graph.nodes (omega arith) in
+          inr (omega (
+            arith,
+            ints,
+            at-some v a e,
+            to_goal.low,
+            to_goal.high,
+            to_v.low,
+            to_v.high,
+            more_g,
+            more_v,
+          ))
 
   -- the goal is found
   pub is-goal : (path : List Step) → IsPath r (source_of l) path goal → AreTreeSteps r prices l path

@@ -10,6 +10,7 @@ use Rattle.vs_queue.specs.NodeLists.{label_of}
 use Rattle.vs_path.specs.Labels.{Lists, AreLabels, IsOver, IsReached, IsSmall, label_at, settled_at, source_of, step_at, waiting_at}
 use Rattle.vs_path.proofs.found.Finding.{over-covers}
 use Rattle.vs_path.proofs.labelling.Settling.{order-≤}
+use Rattle.vs_path.proofs.labelling.StepCosts.{near-path}
 use Rattle.vs_path.specs.LeastPaths.{LeastPaths, AreCosts, AreLeastPaths, AreSettledSteps, CanCost, CanCostTo, ComesBack, FollowsBack, IsLeastCost, IsSized, cost_to, distance_at, if_settled, last_step}
 
 -- steps that are followed back lead on
@@ -171,13 +172,13 @@ can-cost r prices l small labels v = go (settled_at l v) refl
     go None e = tt
     go (Some a) e =
         let few = order-≤ r.graph.nodes l labels.are_listed in
-        let nodes = small.nodes in
-        let near = labels.near v a e in
         let place = (labels.are_listed.placed v a e).0 in
+        let near =
+        near-path r.graph.nodes prices (source_of l) a.place v a.distance (omega arith) (labels.near v a e) in
         let p = small.each_price v in
         let q = small.each_price (source_of l) in (
           omega (arith, ints, p.low, p.high, q.low, q.high),
-          omega (arith, ints, near.low, near.high, place, few, nodes),
+          omega (arith, ints, near.low, near.high),
         )
 
 get_or-zero : (n i : ℕ) → get_or (replicate n (pos 0)) i (pos 0) ≡ pos 0

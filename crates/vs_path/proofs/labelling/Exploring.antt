@@ -103,8 +103,8 @@ module _ (r : ResidualNet) (prices : List ℤ) (source : ℕ) (steps : List (Opt
     arrived = λ v a is away. absurd (away (begun_only v a is).0);
     near = λ v a is.
         let only = begun_only v a is in
-        let P : Settled → Type 0 = λ b. IsNear prices source b.place v b.distance in
-        let Q : ℕ → Type 0 = λ w. IsNear prices source 0 w (pos 0) in
+        let P : Settled → Type 0 = λ b. IsNear r.graph.nodes prices source b.place v b.distance in
+        let Q : ℕ → Type 0 = λ w. IsNear r.graph.nodes prices source 0 w (pos 0) in
         subst P only.1
         (subst Q (sym only.0) (record { low = omega (arith, ints); high = omega (arith, ints) }));
     unsettled = λ v key is. absurd (none_waits v key is);

@@ -1,17 +1,19 @@
 -- What is known of the nodes stays known where a step gives a node a lesser label.
-use Rattle.std.proofs.Common.{◌≡◌, ◌≢◌, ℕ, ◌<◌, ◌≤◌, ◌∙◌, List, length, get_or, refl, sym, ap, subst, arith, inl, inr, Option, Some, None, ℤ, ◌+ℤ◌, ◌≤ℤ◌, ◌<ℤ◌, length-set, FitsSigned, w64}
+use Rattle.std.proofs.Common.{◌≡◌, ◌≢◌, ℕ, ◌+◌, ◌*◌, ◌<◌, ◌≤◌, ◌∙◌, List, length, get_or, refl, sym, ap, subst, arith, inl, inr, Option, Some, None, ℤ, pos, ◌+ℤ◌, ◌≤ℤ◌, ◌<ℤ◌, length-set, FitsSigned, w64}
 use Rattle.std.proofs.lemmas.Bool.{cases_eq, cases_lt}
 use Rattle.std.proofs.lemmas.Int.{ints, by_lt_z}
 use Rattle.std.proofs.lemmas.List.{get_or-set_same, get_or-set_other, get_or_default, get_or_past}
 use Rattle.vs_queue.specs.declared.step.Step.{Step}
 use Rattle.vs_queue.specs.declared.step.Step.TheVariants.{Forward, Back}
 use Rattle.vs_path.specs.declared.labels.TheConstants.{NO_BOUND}
-use Rattle.vs_path.specs.declared.residual.TheConstants.{MAX_STEP_COST}
 use Rattle.vs_path.specs.declared.residual.Way.TheVariants as way
 use Rattle.vs_queue.specs.declared.node_table.Settled.{Settled}
 use Rattle.vs_queue.specs.Keys.{IsBelow}
 use Rattle.vs_path.specs.Residual.{ResidualNet, IsOpen, IsWithin, AllWithin, HasSignRule, from_of, to_of, cost_of, price_at, reduced}
+use Rattle.vs_path.specs.declared.residual.TheConstants.{MAX_STEP_COST}
+use Rattle.vs_path.specs.StepCosts.{most_step}
 use Rattle.vs_path.proofs.labelling.Settling.{order-≤}
+use Rattle.vs_path.proofs.labelling.StepCosts.{near-path, step-within, steps-≤}
 use Rattle.vs_queue.specs.NodeLists.{label_of}
 use Rattle.vs_path.specs.Labels.{Lists, AreLabels, IsArrival, Covers, IsBetter, IsBound, IsFarthest, IsLowered, IsNear, IsRelaxed, IsRelaxedAlong, IsRelaxedFrom, IsSettledAt, IsSmall, Relaxes, label_at, lowered, settled_at, source_of, step_at, waiting_at}
 
@@ -25,37 +27,41 @@ not-less (Some key) label worse =
     (λ no_less. (key, refl, no_less))
 
 -- a step costs no more than an arc can
-pub cost-within : (r : ResidualNet) (s : Step) → AllWithin MAX_STEP_COST r.cost → IsWithin MAX_STEP_COST (cost_of r s)
-cost-within r (Forward k) costs = costs k
-cost-within r (Back k) costs =
+pub cost-within : (r : ResidualNet) (most : ℤ) (s : Step) → AllWithin most r.cost → IsWithin most (cost_of r s)
+cost-within r most (Forward k) costs = costs k
+cost-within r most (Back k) costs =
     let c = costs k in record { low = omega (arith, ints, c.low, c.high); high = omega (arith, ints, c.low, c.high) }
 
 -- a step more adds no more than that
 pub near-step : (r : ResidualNet) (prices : List ℤ) (source place count : ℕ) (s : Step) (distance : ℤ)
-    → AllWithin MAX_STEP_COST r.cost → place < count → IsNear prices source place (from_of r s) distance
-    → IsNear prices source count (to_of r s) (distance +ℤ reduced r prices s)
+    → AllWithin (pos (most_step r.graph.nodes)) r.cost → place < count
+    → IsNear r.graph.nodes prices source place (from_of r s) distance
+    → IsNear r.graph.nodes prices source count (to_of r s) (distance +ℤ reduced r prices s)
 near-step r prices source place count s distance costs less near =
-    let c = cost-within r s costs in
+    let most : ℕ = most_step r.graph.nodes in
+    let c = cost-within r (pos most) s costs in
+    let further : (place + 1) * most ≤ count * most = steps-≤ r.graph.nodes (place + 1) count (omega arith) in
     record {
-      low = omega (arith, ints, c.low, c.high, near.low, near.high);
-      high = omega (arith, ints, c.low, c.high, near.low, near.high);
+      low = omega (arith, ints, c.low, c.high, near.low, near.high, further);
+      high = omega (arith, ints, c.low, c.high, near.low, near.high, further);
     }
 
 -- a label fits 64 bits
 pub near-fits : (r : ResidualNet) (prices : List ℤ) (source count v : ℕ) (label : ℤ) → IsSmall r prices
-    → count ≤ r.graph.nodes → IsNear prices source count v label → FitsSigned w64 label
-near-fits r prices source count v label small few near =
+    → count ≤ r.graph.nodes → IsNear r.graph.nodes prices source count v label → FitsSigned w64 label
+near-fits r prices source count v label small few is_near =
+    let near = near-path r.graph.nodes prices source count v label few is_near in
     let p = small.each_price v in
     let q = small.each_price source in
-    omega (arith, ints, p.low, p.high, q.low, q.high, near.low, near.high, small.nodes)
+    omega (arith, ints, p.low, p.high, q.low, q.high, near.low, near.high)
 
 -- so does the distance along a step, and its two parts
 pub along-fits : (r : ResidualNet) (prices : List ℤ) (l : Lists) (s : Step) (distance : ℤ) → IsSmall r prices
     → AreLabels r prices l → IsSettledAt l (from_of r s) distance
     → FitsSigned w64 distance × FitsSigned w64 (distance +ℤ reduced r prices s)
 along-fits r prices l s distance small labels from =
-    let near : IsNear prices (source_of l) from.0.place (from_of r s) distance =
-    subst (λ (d : ℤ). IsNear prices (source_of l) from.0.place (from_of r s) d) from.2
+    let near : IsNear r.graph.nodes prices (source_of l) from.0.place (from_of r s) distance =
+    subst (λ (d : ℤ). IsNear r.graph.nodes prices (source_of l) from.0.place (from_of r s) d) from.2
     (labels.near (from_of r s) from.0 from.1) in
     let less : from.0.place < length l.order = (labels.are_listed.placed (from_of r s) from.0 from.1).0 in
     let few = order-≤ r.graph.nodes l labels.are_listed in (
@@ -68,15 +74,17 @@ along-fits r prices l s distance small labels from =
 pub along-few : (r : ResidualNet) (prices : List ℤ) (l : Lists) (s : Step) (distance : ℤ) → IsSmall r prices
     → AreLabels r prices l → IsSettledAt l (from_of r s) distance → (distance +ℤ reduced r prices s) <ℤ NO_BOUND
 along-few r prices l s distance small labels from =
-    let near : IsNear prices (source_of l) from.0.place (from_of r s) distance =
-    subst (λ (d : ℤ). IsNear prices (source_of l) from.0.place (from_of r s) d) from.2
+    let near : IsNear r.graph.nodes prices (source_of l) from.0.place (from_of r s) distance =
+    subst (λ (d : ℤ). IsNear r.graph.nodes prices (source_of l) from.0.place (from_of r s) d) from.2
     (labels.near (from_of r s) from.0 from.1) in
     let less : from.0.place < length l.order = (labels.are_listed.placed (from_of r s) from.0 from.1).0 in
     let few = order-≤ r.graph.nodes l labels.are_listed in
-    let then = near-step r prices (source_of l) from.0.place (length l.order) s distance small.cost less near in
+    let then = near-path r.graph.nodes prices (source_of l) (length l.order) (to_of r s)
+    (distance +ℤ reduced r prices s)
+    few (near-step r prices (source_of l) from.0.place (length l.order) s distance small.cost less near) in
     let p = small.each_price (to_of r s) in
     let q = small.each_price (source_of l) in
-    omega (arith, ints, p.low, p.high, q.low, q.high, then.low, then.high, few, small.nodes)
+    omega (arith, ints, p.low, p.high, q.low, q.high, then.low, then.high)
 
 -- so do the distance with the price of its node, and both with what the step costs
 pub parts-fit : (r : ResidualNet) (prices : List ℤ) (l : Lists) (s : Step) (distance : ℤ) → IsSmall r prices
@@ -84,15 +92,16 @@ pub parts-fit : (r : ResidualNet) (prices : List ℤ) (l : Lists) (s : Step) (di
     → FitsSigned w64 (distance +ℤ price_at prices (from_of r s))
     × FitsSigned w64 ((distance +ℤ price_at prices (from_of r s)) +ℤ cost_of r s)
 parts-fit r prices l s distance small labels from =
-    let near : IsNear prices (source_of l) from.0.place (from_of r s) distance =
-    subst (λ (d : ℤ). IsNear prices (source_of l) from.0.place (from_of r s) d) from.2
+    let near : IsNear r.graph.nodes prices (source_of l) from.0.place (from_of r s) distance =
+    subst (λ (d : ℤ). IsNear r.graph.nodes prices (source_of l) from.0.place (from_of r s) d) from.2
     (labels.near (from_of r s) from.0 from.1) in
     let less : from.0.place < length l.order = (labels.are_listed.placed (from_of r s) from.0 from.1).0 in
     let few = order-≤ r.graph.nodes l labels.are_listed in
     let source = small.each_price (source_of l) in
-    let c = cost-within r s small.cost in (
-      omega (arith, ints, source.low, source.high, near.low, near.high, less, few, small.nodes),
-      omega (arith, ints, source.low, source.high, near.low, near.high, less, few, small.nodes, c.low, c.high),
+    let path = near-path r.graph.nodes prices (source_of l) from.0.place (from_of r s) distance (omega arith) near in
+    let c = cost-within r MAX_STEP_COST s (step-within r.graph.nodes r.cost small.cost) in (
+      omega (arith, ints, source.low, source.high, path.low, path.high),
+      omega (arith, ints, source.low, source.high, path.low, path.high, c.low, c.high),
     )
 
 module _ (r : ResidualNet) (prices surplus : List ℤ) (l : Lists) (labels : AreLabels r prices l)
@@ -194,12 +203,12 @@ module _ (r : ResidualNet) (prices surplus : List ℤ) (l : Lists) (labels : Are
       sum = sum ∙ ap (λ (d : ℤ). d +ℤ reduced r prices step) (sym from.2);
     }
 
-    near_here : IsNear prices (source_of l) (length l.order) v label
+    near_here : IsNear r.graph.nodes prices (source_of l) (length l.order) v label
     near_here =
-        let near : IsNear prices (source_of l) from.0.place (from_of r step) distance =
-        subst (λ (d : ℤ). IsNear prices (source_of l) from.0.place (from_of r step) d) from.2
+        let near : IsNear r.graph.nodes prices (source_of l) from.0.place (from_of r step) distance =
+        subst (λ (d : ℤ). IsNear r.graph.nodes prices (source_of l) from.0.place (from_of r step) d) from.2
         (labels.near (from_of r step) from.0 from.1) in
-        subst (λ (d : ℤ). IsNear prices (source_of l) (length l.order) v d) (sym sum)
+        subst (λ (d : ℤ). IsNear r.graph.nodes prices (source_of l) (length l.order) v d) (sym sum)
         (near-step r prices (source_of l) from.0.place (length l.order) step distance small.cost place-< near)
 
     -- what a waiting node has, at the node of the step and at any other
@@ -235,7 +244,7 @@ module _ (r : ResidualNet) (prices surplus : List ℤ) (l : Lists) (labels : Are
       unsettled = at (λ w key. settled_at l w ≡ None) unsettled (λ w key ne has. labels.unsettled w key has);
       arrives = at (λ w key. IsArrival r prices new (length l.order) w key) arrival_here
           (λ w key ne has. arrival_other (length l.order) w key ne (labels.arrives w key has));
-      near_too = at (λ w key. IsNear prices (source_of l) (length l.order) w key) near_here
+      near_too = at (λ w key. IsNear r.graph.nodes prices (source_of l) (length l.order) w key) near_here
           (λ w key ne has. labels.near_too w key has);
       ordered = λ u w a key is has.
           at (λ w key. a.distance ≤ℤ key) (above u a is) (λ w key ne has. labels.ordered u w a key is has) w key has;

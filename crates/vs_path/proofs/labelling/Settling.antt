@@ -10,6 +10,7 @@ use Rattle.vs_queue.specs.Keys.{IsLeast}
 use Rattle.vs_path.specs.Residual.{ResidualNet, from_of, reduced}
 use Rattle.vs_queue.specs.NodeLists.{label_of}
 use Rattle.vs_path.specs.Labels.{Lists, AreLabels, AreListed, Covers, IsArrival, IsBound, IsFarthest, IsNear, IsRelaxed, count_settled, label_at, settle_in, settled_at, source_of, waiting_at}
+use Rattle.vs_path.proofs.labelling.StepCosts.{steps-≤}
 
 -- one more is settled
 pub count_settled-set : (settled : List (Option Settled)) (v : ℕ) (a : Settled) → v < length settled
@@ -78,11 +79,12 @@ module _ (r : ResidualNet) (prices : List ℤ) (l : Lists) (labels : AreLabels r
     sum = a.sum;
   }
 
-  near_later : (place later w : ℕ) (d : ℤ) → place ≤ later → IsNear prices (source_of l) place w d
-      → IsNear prices (source_of new) later w d
+  near_later : (place later w : ℕ) (d : ℤ) → place ≤ later → IsNear r.graph.nodes prices (source_of l) place w d
+      → IsNear r.graph.nodes prices (source_of new) later w d
   near_later place later w d le near =
-      subst (λ (s : ℕ). IsNear prices s later w d) (sym source_same)
-      (record { low = omega (arith, ints, near.low); high = omega (arith, ints, near.high) })
+      let more = steps-≤ r.graph.nodes place later le in
+      subst (λ (s : ℕ). IsNear r.graph.nodes prices s later w d) (sym source_same)
+      (record { low = omega (arith, ints, near.low, more); high = omega (arith, ints, near.high, more) })
 
   -- what a settled node has, at the new one and at any other
   at_settled : (P : ℕ → Settled → Type 0) → P v own
@@ -135,7 +137,7 @@ module _ (r : ResidualNet) (prices : List ℤ) (l : Lists) (labels : AreLabels r
     arrived = at_settled (λ w a. w ≢ source_of new → IsArrival r prices new a.place w a.distance)
         (λ away. arrival_kept (length l.order) v key (labels.arrives v key least.has))
         (λ w a is away. arrival_kept a.place w a.distance (labels.arrived w a is (λ e. away (e ∙ sym source_same))));
-    near = at_settled (λ w a. IsNear prices (source_of new) a.place w a.distance)
+    near = at_settled (λ w a. IsNear r.graph.nodes prices (source_of new) a.place w a.distance)
         (near_later (length l.order) (length l.order) v key (omega arith) (labels.near_too v key least.has))
         (λ w a is. near_later a.place a.place w a.distance (omega arith) (labels.near w a is));
     unsettled = λ w k is. let old = waited w k is in settled_other w old.0 ∙ labels.unsettled w k old.1;

@@ -12,6 +12,7 @@ use Rattle.vs_path.specs.Labels.{Lists, AreLabels, IsNear, IsOver, IsSmall, sett
 use Rattle.vs_path.specs.LeastPaths.{cost_to}
 use Rattle.vs_path.specs.Raising.{AreRaised, CanRaise, HasSpan, IsGreatest, IsRaised, IsRaisedAt, one_path, rise_of}
 use Rattle.vs_path.proofs.labelling.Settling.{order-≤}
+use Rattle.vs_path.proofs.labelling.StepCosts.{near-path, steps-few, steps-≤}
 use Rattle.vs_path.proofs.found.Finding.{over-covers}
 use Rattle.vs_path.proofs.found.Moving.{node-<}
 use Rattle.vs_path.proofs.found.NotNegative.{not-negative}
@@ -35,7 +36,8 @@ module _ (r : ResidualNet) (prices : List ℤ) (l : Lists) (beyond rise : ℤ) (
       let high = near.high in
       let place = (labels.are_listed.placed v a is).0 in
       let few = order-≤ r.graph.nodes l labels.are_listed in
-      omega (arith, ints, high)
+      let more = steps-≤ r.graph.nodes a.place r.graph.nodes (omega arith) in
+      omega (arith, ints, high, more)
 
   pub not-far : (rise ≡ beyond)
       ⊎ ((u : ℕ) × (u < r.graph.nodes) × (rise ≤ℤ
@@ -58,8 +60,8 @@ module _ (r : ResidualNet) (prices : List ℤ) (l : Lists) (beyond rise : ℤ) (
         let sized = small.each_node in
         let apart = span (source_of l) at.0 (omega arith) (omega (arith, at.1)) in
         let most = at.2 in
-        let nodes = small.nodes in
-        omega (arith, ints, apart, most, nodes)
+        let path = steps-few r.graph.nodes r.graph.nodes (omega arith) in
+        omega (arith, ints, apart, most, path)
   ]
 
   pub can-raise : pos 0 ≤ℤ beyond → beyond ≤ℤ MOST_RAISED → HasSignRule r prices → CanRaise l rise prices
@@ -74,10 +76,10 @@ module _ (r : ResidualNet) (prices : List ℤ) (l : Lists) (beyond rise : ℤ) (
       go (Some a) e =
           let p = small.each_price v in
           let q = small.each_price (source_of l) in
-          let near = labels.near v a e in
           let place = (labels.are_listed.placed v a e).0 in
           let order = order-≤ r.graph.nodes l labels.are_listed in
-          let nodes = small.nodes in
+          let near =
+          near-path r.graph.nodes prices (source_of l) a.place v a.distance (omega arith) (labels.near v a e) in
           omega (arith, ints, p.low, p.high, q.low, q.high, near.low, near.high)
 
 module _ (r : ResidualNet) (prices surplus : List ℤ) (source : ℕ) (l : Lists) (over : IsOver r prices surplus source l)
@@ -168,14 +170,15 @@ module _ (r : ResidualNet) (prices surplus : List ℤ) (source : ℕ) (l : Lists
   }
   each v inside (Some a) e =
       let labels = over.under_way.labels in
-      let near : IsNear prices source a.place v a.distance =
-      subst (λ (u : ℕ). IsNear prices u a.place v a.distance) over.under_way.from (labels.near v a e) in
+      let near : IsNear r.graph.nodes prices source a.place v a.distance =
+      subst (λ (u : ℕ). IsNear r.graph.nodes prices u a.place v a.distance) over.under_way.from (labels.near v a e) in
       let place = (labels.are_listed.placed v a e).0 in
       let order = order-≤ r.graph.nodes l labels.are_listed in
+      let more = steps-≤ r.graph.nodes a.place r.graph.nodes (omega arith) in
       record {
         cost = cost_to (Some a) (price_at prices source) (price_at prices v);
         least = least-cost r prices surplus source l over v (Some a) e;
-        few = record { low = omega (arith, ints, near.low); high = omega (arith, ints, near.high) };
+        few = record { low = omega (arith, ints, near.low, more); high = omega (arith, ints, near.high, more) };
         price = omega (arith, ints, at-some v a e);
       }
 

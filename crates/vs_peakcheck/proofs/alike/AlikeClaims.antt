@@ -6,7 +6,6 @@ use Rattle.std.proofs.lemmas.List.{ext_get_or}
 use Rattle.std.proofs.lemmas.List.Elements.{All-head, All-tail}
 use Rattle.vs_types.specs.declared.numbers.LayerNo.{LayerNo}
 use Rattle.vs_types.specs.declared.numbers.TripNo.{TripNo}
-use Rattle.vs_instance.specs.declared.limits.TheConstants.{MAX_FLEET}
 use Rattle.vs_instance.specs.HoldingTable.{price_of}
 use Rattle.vs_instance.specs.Plan.{LayerBlock}
 use Rattle.vs_instance.specs.Problem.{Problem}
@@ -15,7 +14,7 @@ use Rattle.vs_reader.specs.NameRules.{AreNames}
 use Rattle.vs_reader.specs.Names.{NameLists}
 use Rattle.vs_reader.specs.Rows.{Row}
 use Rattle.vs_rows.specs.DocumentRows.{BlockRow, EndRow, FleetRow, PriceRow}
-use Rattle.vs_peakcheck.specs.Counting.{counting, numbered, own_blocks, own_number, own_trips, permitted_trips}
+use Rattle.vs_peakcheck.specs.Counting.{counted_fleet, counting, numbered, own_blocks, own_number, own_trips, permitted_trips}
 use Rattle.vs_peakcheck.proofs.problem.CountedTrips.{count_is}
 use Rattle.vs_peakcheck.proofs.problem.PermittedTrips.{own_once}
 use Rattle.vs_peakcheck.specs.Alike.{AreAlike, SaysTheSame}
@@ -125,7 +124,9 @@ module _ (p : Problem) where
         (same_trips ks js (All-tail IsOwn k ks own) (All-tail IsOwn j js also) (ap (drop 1) e))
 
     all_own : (b : LayerBlock) → IsOfInstance (counting p l.0) b → All IsOwn b.1
-    all_own b is k d within = let inside = is.trips k d within in omega (arith, inside, count_is MAX_FLEET p l.0)
+    all_own b is k d within =
+        let inside = is.trips k d within in
+        omega (arith, inside, count_is (counted_fleet p) p l.0)
 
     -- and so are blocks
     same_own : (bs cs : List LayerBlock) → All (IsOfInstance (counting p l.0)) bs
@@ -151,7 +152,7 @@ module _ (p : Problem) where
     sizes : (c : Claimed) → IsClaimed (counting p l.0) c
         → AreFor (permitted_trips p l.0) c.table.into.items c.table.from.items
     sizes c is =
-        let size = count_is MAX_FLEET p l.0 in
+        let size = count_is (counted_fleet p) p l.0 in
         let into = is.fits.into_size in
         let from = is.fits.from_size in
         record { into_size = omega (arith, into, size); from_size = omega (arith, from, size) }

@@ -7,14 +7,13 @@ use Rattle.std.proofs.lemmas.Option.{IfSome_then}
 use Rattle.std.specs.Int.{bit_at}
 use Rattle.vs_types.proofs.CallerLemmas.{members-some}
 use Rattle.vs_instance.specs.declared.layer.Layer.{Layer}
-use Rattle.vs_instance.specs.declared.limits.TheConstants.{MAX_FLEET}
 use Rattle.vs_instance.specs.declared.trip.Trip.{Trip}
 use Rattle.vs_instance.specs.declared.way.Way.{Way}
 use Rattle.vs_instance.specs.Problem.{Problem}
-use Rattle.vs_instance.specs.Instance.{IsDeadhead, IsInstance, IsLayer, IsTrip}
+use Rattle.vs_instance.specs.Instance.{IsDeadhead, IsInstance, IsLayer, IsPayable, IsTrip}
 use Rattle.vs_instance.specs.Ways.{layer_of, trip_of}
 use Rattle.vs_instance.proofs.CallerLemmas.{layer_of-IsLayer, trip_of-IsTrip}
-use Rattle.vs_peakcheck.specs.Counting.{counted_layer, counted_trip, counting, permitted_trips}
+use Rattle.vs_peakcheck.specs.Counting.{counted_fleet, counted_layer, counted_trip, counting, permitted_trips}
 use Rattle.vs_peakcheck.proofs.problem.PermittedTrips.{all_within, few_permitted}
 use Rattle.vs_peakcheck.proofs.problem.CountedTrips.{count_is}
 
@@ -29,10 +28,10 @@ module _ (p : Problem) (l : ℕ) where
   abbrev q : Problem
   q = counting p l
 
-  layer_there : (layer : Layer) → IsLayer p layer → IsLayer q (counted_layer MAX_FLEET layer)
-  layer_there layer is = record {
+  layer_there : IsInstance p → (layer : Layer) → IsLayer p layer → IsLayer q (counted_layer (counted_fleet p) layer)
+  layer_there instance layer is = record {
     depot = is.depot;
-    fleet = omega arith;
+    fleet = omega (arith, instance.few_trips);
     fixed = omega arith;
     per_minute = omega arith;
     per_metre = omega arith;
@@ -65,9 +64,12 @@ module _ (p : Problem) (l : ℕ) where
   counting-IsInstance is layer = record {
     few_stops = is.few_stops;
     few_layers = omega arith;
-    few_trips = omega (arith, is.few_trips, few_permitted p l, count_is MAX_FLEET p l);
-    layers = All-cons (IsLayer q) (counted_layer MAX_FLEET (layer_of p l)) []
-        (layer_there (layer_of p l) (layer_of-IsLayer p is l layer)) (All-nil (IsLayer q));
+    few_trips = omega (arith, is.few_trips, few_permitted p l, count_is (counted_fleet p) p l);
+    layers = All-cons (IsLayer q) (counted_layer (counted_fleet p) (layer_of p l)) []
+        (layer_there is (layer_of p l) (layer_of-IsLayer p is l layer)) (All-nil (IsLayer q));
+    payable = All-cons (IsPayable (length q.trips)) (counted_layer (counted_fleet p) (layer_of p l)) []
+        (omega (arith, is.few_trips, few_permitted p l, count_is (counted_fleet p) p l))
+        (All-nil (IsPayable (length q.trips)));
     deadheads = λ k s. IfSome_then (map.get p.deadheads (k, s)) (is.deadheads k s) (deadhead_there k s);
     trips = All-map (IsTrip q) (λ (i : ℕ). counted_trip (trip_of p i)) (permitted_trips p l)
         (λ k d within.

@@ -7,7 +7,6 @@ use Rattle.std.proofs.lemmas.List.Elements.{All-head, All-map, All-tail, All-wea
 use Rattle.std.proofs.lemmas.List.Sums.{count_by-le-length, sum_by-cons}
 use Rattle.vs_types.specs.declared.numbers.LayerNo.{LayerNo}
 use Rattle.vs_types.specs.declared.numbers.TripNo.{TripNo}
-use Rattle.vs_instance.specs.declared.limits.TheConstants.{MAX_FLEET}
 use Rattle.vs_instance.specs.Problem.{Problem}
 use Rattle.vs_instance.specs.Instance.{IsInstance}
 use Rattle.vs_instance.specs.Ways.{layer_of}
@@ -15,7 +14,7 @@ use Rattle.vs_instance.specs.Blocks.{IsBlock, block_cost}
 use Rattle.vs_instance.specs.Plan.{IsPlan, LayerBlock, plan_cost, times_run, vehicles_used}
 use Rattle.vs_instance.proofs.CallerLemmas.{blocks-le-trips}
 use Rattle.vs_plan.proofs.CallerLemmas.{plan_trips}
-use Rattle.vs_peakcheck.specs.Counting.{counting, counting_with, numbered, own_blocks, own_number, own_trips, permitted_trips}
+use Rattle.vs_peakcheck.specs.Counting.{counted_fleet, counting, counting_with, numbered, own_blocks, own_number, own_trips, permitted_trips}
 use Rattle.vs_peakcheck.specs.CountingLaws.{CountsVehicles, IsALeastCost, IsLeastCost}
 use Rattle.vs_peakcheck.specs.Peak.{IsPeak, RunAll}
 use Rattle.vs_peakcheck.proofs.problem.PermittedTrips.{all_permitted, all_within, few_permitted, has_number, place_in, placed}
@@ -35,7 +34,7 @@ module _ (p : Problem) (l : LayerNo) where
   plan_counted : (blocks : List LayerBlock) → IsPlan q blocks → All (λ b. AreCounted p l b.1) blocks
   plan_counted blocks plan k d at =
       All-weaker (λ (i : TripNo). i.0 < length q.trips) (λ (i : TripNo). i.0 < length (permitted_trips p l.0))
-      (λ i within. omega (arith, within, count_is MAX_FLEET p l.0)) (get_or blocks k d).1
+      (λ i within. omega (arith, within, count_is (counted_fleet p) p l.0)) (get_or blocks k d).1
       (plan.each_block k d at).of_instance
 
   of_only : (b : LayerBlock) → IsBlock q b.0 b.1 → IsBlock q only b.1
@@ -50,12 +49,12 @@ module _ (p : Problem) (l : LayerNo) where
     each_block = All-map (λ (b : LayerBlock). (b.0 ≡ l) × IsBlock p l b.1) own_of blocks
         (λ k d at. (
           refl,
-          block_own p l MAX_FLEET (get_or blocks k d).1 (plan_counted blocks plan k d at) layer
+          block_own p l (counted_fleet p) (get_or blocks k d).1 (plan_counted blocks plan k d at) layer
               (of_only (get_or blocks k d) (plan.each_block k d at)),
         ));
     once = λ i within may.
         let at = placed p l.0 i (has_number p l.0 i within may) in
-        let here : place_in p l.0 i < length q.trips = omega (arith, at.0, count_is MAX_FLEET p l.0) in
+        let here : place_in p l.0 i < length q.trips = omega (arith, at.0, count_is (counted_fleet p) p l.0) in
         subst (λ (n : ℕ). times_run (own_blocks p l blocks) n ≡ 1) at.1
         (times_own p l blocks (place_in p l.0 i) (plan_counted blocks plan) at.0 ∙ plan.once (place_in p l.0 i) here);
   }
@@ -75,7 +74,7 @@ module _ (p : Problem) (l : LayerNo) where
       (λ k d at.
       let b = get_or blocks k d in
       ap (λ (m : LayerNo). block_cost q m b.1) (only_layer b.0 (plan.each_block k d at).layer)
-      ∙ costs_one p l MAX_FLEET b.1)
+      ∙ costs_one p l (counted_fleet p) b.1)
 
   -- the number of a trip among those that the layer may run
   abbrev there : TripNo → TripNo
@@ -152,7 +151,7 @@ module _ (p : Problem) (l : LayerNo) where
         fleet_enough fleet enough (suc m) within = absurd (omega arith)
 
     -- and there are enough, since no trip stands twice
-    enough_vehicles : IsInstance p → length list ≤ MAX_FLEET
+    enough_vehicles : IsInstance p → length list ≤ counted_fleet p
     enough_vehicles instance =
         let plan = back_plan (length list) (omega arith) in
         let trips = plan_trips (counting_with (length list) p l.0) back plan in
@@ -175,7 +174,7 @@ module _ (p : Problem) (l : LayerNo) where
     runs = plan_runs layer;
     plans = λ list run. (
       map there_of list,
-      back_plan list run MAX_FLEET (enough_vehicles list run instance),
+      back_plan list run (counted_fleet p) (enough_vehicles list run instance),
       blocks_back list run.each_block,
     );
     cost = plan_costs;

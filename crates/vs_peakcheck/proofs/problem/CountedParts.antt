@@ -3,7 +3,7 @@ use Rattle.std.proofs.Common.{◌≡◌, ℕ, ◌<◌, ◌≤◌, [], ◌∷◌,
 use Rattle.std.proofs.lemmas.Nat.{mul-le}
 use Rattle.std.proofs.lemmas.List.Elements.{All-weaker}
 use Rattle.vs_instance.specs.declared.layer.Layer.{Layer}
-use Rattle.vs_instance.specs.declared.limits.TheConstants.{MAX_FLEET, MAX_STOPS, TWO_DAYS}
+use Rattle.vs_instance.specs.declared.limits.TheConstants.{MAX_STOPS, MAX_TRIPS, TWO_DAYS}
 use Rattle.vs_instance.specs.declared.parts.Deadhead.{Deadhead}
 use Rattle.vs_instance.specs.declared.parts.Parts.{Parts}
 use Rattle.vs_instance.specs.declared.trip.Trip.{Trip}
@@ -11,7 +11,7 @@ use Rattle.vs_instance.specs.Instance.{IsInstance, IsLayer, IsTrip}
 use Rattle.vs_instance.specs.Misfits.{AreParts, problem_of}
 use Rattle.vs_instance.specs.Problem.{Problem}
 use Rattle.vs_instance.specs.Ways.{layer_of, trip_of}
-use Rattle.vs_peakcheck.specs.Counting.{counted_layer, counted_trip, counting, permitted_trips}
+use Rattle.vs_peakcheck.specs.Counting.{counted_fleet, counted_layer, counted_trip, counting, permitted_trips}
 use Rattle.vs_peakcheck.specs.Listed.{AreAllDeadheads, IsGiven}
 use Rattle.vs_peakcheck.specs.Parts.{CountingParts}
 use Rattle.vs_peakcheck.proofs.problem.CountedInstance.{counting-IsInstance}
@@ -19,8 +19,9 @@ use Rattle.vs_peakcheck.proofs.problem.ListedDeadheads.{same_deadheads}
 
 module _ (p : Problem) (l : ℕ) (instance : IsInstance p) (layer : l < length p.layers) (parts : Parts)
     (stops : parts.stops ≡ p.stops) (listed : AreAllDeadheads p parts.deadheads.items)
-    (layers : parts.layers.items ≡ counted_layer MAX_FLEET (layer_of p l) ∷ [])
-    (trips : parts.trips.items ≡ map (λ k. counted_trip (trip_of p k)) (permitted_trips p l)) where
+    (layers : parts.layers.items ≡ counted_layer (counted_fleet p) (layer_of p l) ∷ [])
+    (trips : parts.trips.items ≡ map (λ k. counted_trip (trip_of p k)) (permitted_trips p l))
+    (most : parts.most ≡ MAX_TRIPS) where
   same : problem_of parts ≡ counting p l
   same =
       let deadheads = same_deadheads p parts.deadheads.items instance listed in
@@ -36,7 +37,8 @@ module _ (p : Problem) (l : ℕ) (instance : IsInstance p) (layer : l < length p
       record {
         few_stops = few_stops;
         few_layers = is_instance.few_layers;
-        few_trips = is_instance.few_trips;
+        few_trips = omega (arith, is_instance.few_trips, most);
+        most = omega (arith, most);
         few_deadheads =
             let square = mul-le p.stops p.stops MAX_STOPS MAX_STOPS instance.few_stops instance.few_stops in
             omega (arith, listed.few, square);
@@ -60,6 +62,11 @@ module _ (p : Problem) (l : ℕ) (instance : IsInstance p) (layer : l < length p
   pub counting_parts : CountingParts p l parts
   counting_parts = record {
     are_parts = are_parts;
-    make = record { once = listed.once; instance = is_instance };
+    make = record {
+      once = listed.once;
+      fleets = All-weaker (IsLayer (problem_of parts)) (λ (x : Layer). x.fleet ≤ parts.most)
+          (λ x is. omega (arith, is.fleet, most)) parts.layers.items is_instance.layers;
+      instance = is_instance;
+    };
     problem = same;
   }

@@ -19,10 +19,9 @@ use Rattle.vs_reader.specs.Rows.{Row, all_fields, row_of}
 use Rattle.vs_reader.specs.Names.{name_of}
 use Rattle.vs_reader.specs.declared.input.Input.{Input}
 use Rattle.vs_rows.specs.DocumentRows.{BlockRow, Says}
-use Rattle.vs_peakcheck.specs.Counting.{counting, numbered, own_blocks, own_number, own_trips, permitted_trips}
+use Rattle.vs_peakcheck.specs.Counting.{counted_fleet, counting, numbered, own_blocks, own_number, own_trips, permitted_trips}
 use Rattle.vs_peakcheck.proofs.problem.PermittedTrips.{all_permitted, has_number}
 use Rattle.vs_peakcheck.proofs.problem.CountedTrips.{count_is}
-use Rattle.vs_instance.specs.declared.limits.TheConstants.{MAX_FLEET}
 use Rattle.vs_peakcheck.specs.PeakRows.{PartRow, PeakRow, block_rows}
 use Rattle.vs_peakcheck.specs.Places.{AtBlocks, MayRun, behind, may_run}
 use Rattle.vs_rows.specs.Standing.{IsNoBlock}
@@ -115,7 +114,7 @@ module _ (p : Problem) (l : LayerNo) where
     some_trip = omega (arith, some, length-map counted.1 own, ap length is.own_is);
     trips = All-weaker (λ (t : TripNo). t.0 < length (permitted_trips p l.0))
         (λ (t : TripNo). t.0 < length (counting p l.0).trips)
-        (λ t within. omega (arith, within, count_is MAX_FLEET p l.0)) counted.1 is.trips;
+        (λ t within. omega (arith, within, count_is (counted_fleet p) p l.0)) counted.1 is.trips;
   }
 
 -- the blocks that are read so far

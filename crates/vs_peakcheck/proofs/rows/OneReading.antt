@@ -10,7 +10,6 @@ use Rattle.vs_types.specs.declared.numbers.LayerNo.{LayerNo}
 use Rattle.vs_instance.specs.Problem.{Problem}
 use Rattle.vs_instance.specs.Plan.{LayerBlock}
 use Rattle.vs_instance.specs.HoldingTable.{price_of}
-use Rattle.vs_instance.specs.declared.limits.TheConstants.{MAX_FLEET}
 use Rattle.vs_plan.specs.Blocks.{IsOfInstance, pairs_of}
 use Rattle.vs_prices.specs.Table.{IsPrice}
 use Rattle.vs_reader.specs.Rows.{Field, Row, field_of}
@@ -19,7 +18,7 @@ use Rattle.vs_reader.specs.NameRules.{AreNames}
 use Rattle.vs_rows.specs.DocumentRows.{BlockRow, ClaimRow, CostRow, BoundRow, NodesRow, TableRow, SplitRow, LeafRow, DocumentRow, EndRow, FleetRow, IsWithin, PriceRow, Says, written_row}
 use Rattle.vs_rows.specs.declared.limits.TheConstants.{MAX_PRINTED_PRICE}
 use Rattle.vs_rows.proofs.CallerLemmas.{LeadsTo, first_word, leads_on, says_once, word_of}
-use Rattle.vs_peakcheck.specs.Counting.{counting, own_blocks, own_trips, permitted_trips}
+use Rattle.vs_peakcheck.specs.Counting.{counted_fleet, counting, own_blocks, own_trips, permitted_trips}
 use Rattle.vs_peakcheck.proofs.problem.CountedTrips.{count_is}
 use Rattle.vs_peakcheck.specs.declared.claimed.Claimed.{Claimed}
 use Rattle.vs_peakcheck.specs.Claims.{AreClaimed, IsClaimed}
@@ -115,7 +114,7 @@ module _ (p : Problem) where
         of_only = ap (λ (k : ℕ). record { 0 = k }) none;
         of_layer = refl;
         trips = λ k d within.
-            let inside = is.trips k d within in omega (arith, inside, count_is MAX_FLEET p l.0);
+            let inside = is.trips k d within in omega (arith, inside, count_is (counted_fleet p) p l.0);
         own_is = refl;
       } in
       let may : MayRun p l.0 (l, own_trips p l.0 b.1) = may_run_counted p l (l, own_trips p l.0 b.1) b counted in (
@@ -158,7 +157,7 @@ module _ (p : Problem) where
       let trips = permitted_trips p l in
       let price = price_of c.table.fleet.items 0 in
       let prices = price_rows l trips c.table.into.items c.table.from.items in
-      let size = count_is MAX_FLEET p l in
+      let size = count_is (counted_fleet p) p l in
       let one_fleet : 0 < length c.table.fleet.items = let e = is.fits.fleet_size in omega arith in
       let behind_blocks : LeadsTo peaks p (AtBlocks l c.count) (PartRow (FleetRow l price) ∷ prices)
       (AtLayer (l + 1)) = (

@@ -7,7 +7,6 @@ use Rattle.std.proofs.lemmas.List.{append-nil, drop_all, drop_more, get_or_appen
 use Rattle.std.proofs.lemmas.List.Concat.{flat_map-append}
 use Rattle.std.proofs.lemmas.List.Elements.{All-cons, All-nil, All-push}
 use Rattle.vs_types.specs.declared.numbers.LayerNo.{LayerNo}
-use Rattle.vs_instance.specs.declared.limits.TheConstants.{MAX_FLEET}
 use Rattle.vs_instance.specs.Problem.{Problem}
 use Rattle.vs_plan.specs.Blocks.{pairs_of}
 use Rattle.vs_instance.specs.HoldingTable.{price_of}
@@ -17,7 +16,7 @@ use Rattle.vs_reader.specs.declared.input.Input.{Input}
 use Rattle.vs_rows.specs.DocumentRows.{EndRow, FleetRow}
 use Rattle.vs_rows.specs.RowForms.{IsInput}
 use Rattle.vs_rows.specs.TableReading.{ReadsFleet}
-use Rattle.vs_peakcheck.specs.Counting.{counting, own_blocks, permitted_trips}
+use Rattle.vs_peakcheck.specs.Counting.{counted_fleet, counting, own_blocks, permitted_trips}
 use Rattle.vs_peakcheck.proofs.problem.CountedTrips.{count_is}
 use Rattle.vs_peakcheck.specs.declared.claimed.Claimed.{Claimed}
 use Rattle.vs_peakcheck.specs.declared.reading.prices.Prices.{Prices}
@@ -71,7 +70,7 @@ module _ (input : Input) (is_input : IsInput input) (at : ℕ) (l : LayerNo) (co
     (fleet : ReadsFleet input fleet_at l.0 price) (priced : ReadsPrices input (fleet_at + 1) l.0 prices) where
   claimed_is : IsClaimed (counting input.instance l.0) c
   claimed_is =
-      let size = count_is MAX_FLEET input.instance l.0 in
+      let size = count_is (counted_fleet input.instance) input.instance l.0 in
       record {
         few = subst IsCount (sym count_is') counted.few;
         no_blocks = subst (λ (o : Option ℕ). IfNone o (pairs_of c.blocks.items ≡ [])) (sym count_is') blocks.no_blocks;

@@ -30,8 +30,8 @@ AreApart-push names f apart new =
 AreApart-nil : AreApart []
 AreApart-nil i j d before within = absurd (omega arith)
 
-pub IsSound-nothing : IsSound nothing_yet
-IsSound-nothing = record {
+pub IsSound-nothing : (version : Version) → IsSound version nothing_yet
+IsSound-nothing version = record {
   stops_apart = AreApart-nil;
   layers_apart = AreApart-nil;
   few_stops = omega arith;
@@ -47,10 +47,11 @@ IsSound-nothing = record {
   trip_layers = All-nil (λ (t : Trip). (l : ℕ) → Has t.layers l → l < 0);
 }
 
-sound_stop : (old new : Declared) (row : Row) → IsSound old → AddsStop old row new → IsSound new
-sound_stop old new row s a =
+sound_stop : (version : Version) (old new : Declared) (row : Row) → IsSound version old → AddsStop old row new
+    → IsSound version new
+sound_stop version old new row s a =
     let more = length_push old.names.stops a.name in
-    subst IsSound (sym a.added) (record {
+    subst (IsSound version) (sym a.added) (record {
       stops_apart = AreApart-push old.names.stops a.name s.stops_apart a.new_name;
       layers_apart = s.layers_apart;
       few_stops = omega (arith, more, a.room);
@@ -76,9 +77,10 @@ sound_stop old new row s a =
       trip_layers = s.trip_layers;
     })
 
-sound_deadhead : (old new : Declared) (row : Row) → IsSound old → AddsDeadhead old row new → IsSound new
-sound_deadhead old new row s a =
-    subst IsSound (sym a.added) (record {
+sound_deadhead : (version : Version) (old new : Declared) (row : Row) → IsSound version old
+    → AddsDeadhead old row new → IsSound version new
+sound_deadhead version old new row s a =
+    subst (IsSound version) (sym a.added) (record {
       stops_apart = s.stops_apart;
       layers_apart = s.layers_apart;
       few_stops = s.few_stops;
@@ -99,11 +101,11 @@ sound_deadhead old new row s a =
       trip_layers = s.trip_layers;
     })
 
-sound_layer : (version : Version) (old new : Declared) (row : Row) → IsSound old → AddsLayer version old row new
-    → IsSound new
+sound_layer : (version : Version) (old new : Declared) (row : Row) → IsSound version old → AddsLayer version old row new
+    → IsSound version new
 sound_layer version old new row s a =
     let more = length_push old.names.layers a.name in
-    subst IsSound (sym a.added) (record {
+    subst (IsSound version) (sym a.added) (record {
       stops_apart = s.stops_apart;
       layers_apart = AreApart-push old.names.layers a.name s.layers_apart a.new_name;
       few_stops = s.few_stops;
@@ -135,11 +137,12 @@ named_layer names fields set some named =
     let at = Names-Contains names f (All-get_or (λ f. Contains names f) fields 0 [] some named.each) in
     (at.0, (named.members at.0).1 (f, Contains-get_or fields 0 [] some, at.1))
 
-sound_trip : (old new : Declared) (row : Row) → IsSound old → AddsTrip old row new → IsSound new
-sound_trip old new row s a =
+sound_trip : (version : Version) (old new : Declared) (row : Row) → IsSound version old
+    → AddsTrip version old row new → IsSound version new
+sound_trip version old new row s a =
     let more = length_push old.names.trips a.name in
     let r = a.row_is in
-    subst IsSound (sym a.added) (record {
+    subst (IsSound version) (sym a.added) (record {
       stops_apart = s.stops_apart;
       layers_apart = s.layers_apart;
       few_stops = s.few_stops;
@@ -166,16 +169,16 @@ sound_trip old new row s a =
           (λ l has. let w = (r.layers_are.members l).0 has in slice_get_within old.names.layers l w.0 w.2);
     })
 
-pub IsSound-Adds : (version : Version) (old new : Declared) (row : Row) → IsSound old → Adds version old row new
-    → IsSound new
-IsSound-Adds version old new row s (inl a) = sound_stop old new row s a
-IsSound-Adds version old new row s (inr (inl a)) = sound_deadhead old new row s a
+pub IsSound-Adds : (version : Version) (old new : Declared) (row : Row) → IsSound version old → Adds version old row new
+    → IsSound version new
+IsSound-Adds version old new row s (inl a) = sound_stop version old new row s a
+IsSound-Adds version old new row s (inr (inl a)) = sound_deadhead version old new row s a
 IsSound-Adds version old new row s (inr (inr (inl a))) = sound_layer version old new row s a
-IsSound-Adds version old new row s (inr (inr (inr a))) = sound_trip old new row s a
+IsSound-Adds version old new row s (inr (inr (inr a))) = sound_trip version old new row s a
 
-pub IsSound-AddAll : (version : Version) (old new : Declared) (rows : List Row) → IsSound old
-    → AddAll version old rows new → IsSound new
-IsSound-AddAll version old new [] s all = subst IsSound (sym all) s
+pub IsSound-AddAll : (version : Version) (old new : Declared) (rows : List Row) → IsSound version old
+    → AddAll version old rows new → IsSound version new
+IsSound-AddAll version old new [] s all = subst (IsSound version) (sym all) s
 IsSound-AddAll version old new (row ∷ rows) s all =
     IsSound-AddAll version all.0 new rows (IsSound-Adds version old all.0 row s all.1) all.2
 
@@ -186,13 +189,15 @@ one_stop old a b row x y =
     x.added ∙ ap (λ (f : Field). record old { names = record old.names { stops = old.names.stops ++ f ∷ [] } }) name
     ∙ sym y.added
 
-one_more_deadhead : (old a b : Declared) (row : Row) → IsSound old → AddsDeadhead old row a → AddsDeadhead old row b
+one_more_deadhead : (version : Version) (old a b : Declared) (row : Row) → IsSound version old
+    → AddsDeadhead old row a → AddsDeadhead old row b
     → a ≡ b
-one_more_deadhead old a b row s x y =
+one_more_deadhead version old a b row s x y =
     let d = one_deadhead old.names.stops row x.deadhead y.deadhead s.stops_apart x.row_is y.row_is in
     x.added ∙ ap (λ (d : Deadhead). record old { deadheads = old.deadheads ++ d ∷ [] }) d ∙ sym y.added
 
-one_more_layer : (version : Version) (old a b : Declared) (row : Row) → IsSound old → AddsLayer version old row a
+one_more_layer : (version : Version) (old a b : Declared) (row : Row) → IsSound version old
+    → AddsLayer version old row a
     → AddsLayer version old row b → a ≡ b
 one_more_layer version old a b row s x y =
     let l = one_layer version old.names.stops row x.name y.name x.layer y.layer s.stops_apart x.row_is y.row_is in
@@ -203,8 +208,9 @@ one_more_layer version old a b row s x y =
           old.layers ++ l.1 i ∷ [];
     }) ∙ sym y.added
 
-one_more_trip : (old a b : Declared) (row : Row) → IsSound old → AddsTrip old row a → AddsTrip old row b → a ≡ b
-one_more_trip old a b row s x y =
+one_more_trip : (version : Version) (old a b : Declared) (row : Row) → IsSound version old
+    → AddsTrip version old row a → AddsTrip version old row b → a ≡ b
+one_more_trip version old a b row s x y =
     let t = one_trip old.names row x.name y.name x.trip y.trip s.stops_apart x.row_is y.row_is in
     x.added ∙
     (λ i. record old {
@@ -213,7 +219,7 @@ one_more_trip old a b row s x y =
           old.trips ++ t.1 i ∷ [];
     }) ∙ sym y.added
 
-pub one_Adds : (version : Version) (old a b : Declared) (row : Row) → IsSound old → Adds version old row a
+pub one_Adds : (version : Version) (old a b : Declared) (row : Row) → IsSound version old → Adds version old row a
     → Adds version old row b → a ≡ b
 one_Adds version old a b row s x y =
     by (kind_of (field_of row 0)) (adds_by_kind version old row a x) (adds_by_kind version old row b y)
@@ -221,9 +227,9 @@ one_Adds version old a b row s x y =
     by : (kind : Option Kind) → AddsOfKind kind version old row a → AddsOfKind kind version old row b → a ≡ b
     by None x y = absurd x
     by (Some kind.Stop) x y = one_stop old a b row x y
-    by (Some kind.Deadhead) x y = one_more_deadhead old a b row s x y
+    by (Some kind.Deadhead) x y = one_more_deadhead version old a b row s x y
     by (Some kind.Layer) x y = one_more_layer version old a b row s x y
-    by (Some kind.Trip) x y = one_more_trip old a b row s x y
+    by (Some kind.Trip) x y = one_more_trip version old a b row s x y
 
 pub AddAll-push : (version : Version) (old mid new : Declared) (rows : List Row) (row : Row)
     → AddAll version old rows mid → Adds version mid row new → AddAll version old (rows ++ row ∷ []) new
@@ -231,7 +237,7 @@ AddAll-push version old mid new [] row all adds = (new, subst (λ (m : Declared)
 AddAll-push version old mid new (r ∷ rows) row all adds =
     (all.0, all.1, AddAll-push version all.0 mid new rows row all.2 adds)
 
-pub one_AddAll : (version : Version) (old a b : Declared) (rows : List Row) → IsSound old
+pub one_AddAll : (version : Version) (old a b : Declared) (rows : List Row) → IsSound version old
     → AddAll version old rows a → AddAll version old rows b → a ≡ b
 one_AddAll version old a b [] s x y = x ∙ sym y
 one_AddAll version old a b (row ∷ rows) s x y =

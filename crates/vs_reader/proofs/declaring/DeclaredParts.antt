@@ -9,8 +9,11 @@ use Rattle.vs_types.specs.declared.layer_set.LayerSet.{LayerSet}
 use Rattle.vs_types.specs.declared.numbers.TheConstants.{MAX_LAYERS}
 use Rattle.vs_instance.specs.declared.parts.Parts.{Parts}
 use Rattle.vs_instance.specs.Misfits.{AreParts}
+use Rattle.vs_reader.specs.declared.version.Version.{Version}
+use Rattle.vs_reader.specs.Versions.{most_in}
 use Rattle.vs_reader.specs.Names.{NameLists}
 use Rattle.vs_reader.specs.Drafts.{IsSound}
+use Rattle.vs_reader.proofs.declaring.RuleLemmas.{most_in-≤}
 
 -- a filter that keeps nothing passes nothing
 filter-none : (p : ℕ → Bool) (xs : List ℕ) → filter p xs ≡ [] → All (λ x. p x ≡ false) xs
@@ -40,9 +43,10 @@ some_member set l within has none =
     true≢false (sym (eq-eqb (bit_at set.0 l) 1 has) ∙ (rw (number_at l within) at fails))
 
 -- what is sound is made of parts
-pub are_parts : (parts : Parts) (names : NameLists) → parts.stops ≡ length names.stops
+pub are_parts : (version : Version) (parts : Parts) (names : NameLists) → parts.most ≡ most_in version
+    → parts.stops ≡ length names.stops
     → length parts.deadheads.items < 4294967296
-    → IsSound
+    → IsSound version
     (record {
       names = names;
       deadheads = parts.deadheads.items;
@@ -50,10 +54,11 @@ pub are_parts : (parts : Parts) (names : NameLists) → parts.stops ≡ length n
       trips =
           parts.trips.items;
     }) → AreParts parts
-are_parts parts names stops few s = record {
+are_parts version parts names most stops few s = record {
   few_stops = omega (arith, s.few_stops, stops);
   few_layers = omega (arith, s.few_layers, s.each_layer);
-  few_trips = omega (arith, s.few_trips, s.each_trip);
+  few_trips = omega (arith, s.few_trips, s.each_trip, most);
+  most = omega (arith, most, most_in-≤ version);
   few_deadheads = few;
   layers = rw stops s.depots;
   deadheads = rw stops s.deadheads;

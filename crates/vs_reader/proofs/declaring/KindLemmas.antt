@@ -14,7 +14,7 @@ AddsOfKind None version old row new = ⊥
 AddsOfKind (Some Stop) version old row new = AddsStop old row new
 AddsOfKind (Some Deadhead) version old row new = AddsDeadhead old row new
 AddsOfKind (Some Layer) version old row new = AddsLayer version old row new
-AddsOfKind (Some Trip) version old row new = AddsTrip old row new
+AddsOfKind (Some Trip) version old row new = AddsTrip version old row new
 
 module _ (version : Version) (old : Declared) (row : Row) (new : Declared) where
   of_kind : (kind : Option Kind) → kind_of (field_of row 0) ≡ kind → AddsOfKind kind version old row new

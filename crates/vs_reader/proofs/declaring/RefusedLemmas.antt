@@ -1,5 +1,5 @@
 -- A text in which a record breaks a rule declares nothing.
-use Rattle.std.proofs.Common.{◌≡◌, ℕ, ◌+◌, inl, inr, List, [], ◌∷◌, ◌++◌, length, get_or, Option, Some, None, IsSome, Contains, append_assoc, refl, sym, ◌∙◌, subst, arith}
+use Rattle.std.proofs.Common.{◌≡◌, ℕ, ◌+◌, Bool, true, false, if◌then◌else◌, inl, inr, List, [], ◌∷◌, ◌++◌, length, get_or, Option, Some, None, IsSome, Contains, append_assoc, refl, sym, ap, ◌∙◌, subst, arith}
 use Rattle.std.specs.Prelude.{All, AllPairs, codes}
 use Rattle.std.proofs.lemmas.List.{get_or_append_left, length-append}
 use Rattle.std.proofs.lemmas.List.Elements.{All-nil, All-push, All-head, All-tail, All-contains}
@@ -7,16 +7,14 @@ use Rattle.vs_reader.specs.declared.kind.Kind.{Kind}
 use Rattle.vs_reader.specs.declared.kind.Kind.TheVariants.{Stop, Deadhead, Layer, Trip}
 use Rattle.vs_reader.specs.declared.refused.Refused.{Refused}
 use Rattle.vs_reader.specs.declared.version.Version.{Version}
-use Rattle.vs_reader.specs.declared.version.Version.TheVariants.{One, Two}
 use Rattle.vs_reader.specs.Rows.{Field, Row, field_of}
 use Rattle.vs_reader.specs.Names.{IsName, NameLists, Names}
 use Rattle.vs_reader.specs.Kinds.{kind_of}
-use Rattle.vs_reader.specs.Versions.{layer_fields}
+use Rattle.vs_reader.specs.Versions.{layer_fields, most_in, writes_stay}
 use Rattle.vs_reader.specs.InstanceText.{Declared, AddsStop, AddsDeadhead, AddsLayer, AddsTrip, Adds, AddAll, StayOf, stay_fields, nothing_yet}
-use Rattle.vs_reader.specs.Rules.{AreKept, HasRoom, rules, rules_of_kind, stop_rules, deadhead_rules, layer_rules, stay_rules, trip_rules, layer_names}
+use Rattle.vs_reader.specs.Rules.{AreKept, HasRoom, WritesNumber, rules, rules_of_kind, stop_rules, deadhead_rules, layer_rules, stay_rules, trip_rules, layer_names}
 use Rattle.vs_reader.specs.Refusals.{BreaksRule}
 use Rattle.vs_types.specs.declared.numbers.TheConstants.{MAX_LAYERS}
-use Rattle.vs_instance.specs.declared.limits.TheConstants.{MAX_TRIPS}
 use Rattle.vs_reader.proofs.naming.NameLemmas.{Contains-Names}
 use Rattle.vs_reader.proofs.declaring.RuleLemmas.{AreKept-append, broken_not_kept}
 use Rattle.vs_reader.proofs.declaring.KindLemmas.{AddsOfKind, adds_by_kind, names_after}
@@ -59,19 +57,19 @@ kept_layers names earlier (f ∷ fields) are each once =
         (get_or_append_left earlier (f ∷ fields) f k within ∙ is ∙ sym (element_behind earlier fields f f))
 
 -- a row with the fields of a least rest behind seven others
-abbrev with_stay : Version → Field → Field → Field → Field → Field → Field → Field → Field → Row
-with_stay version a b c d e f g stay = a ∷ b ∷ c ∷ d ∷ e ∷ f ∷ g ∷ stay_fields version stay
+abbrev with_stay : Bool → Field → Field → Field → Field → Field → Field → Field → Field → Row
+with_stay writes a b c d e f g stay = a ∷ b ∷ c ∷ d ∷ e ∷ f ∷ g ∷ stay_fields writes stay
 
-with_stay-count : (version : Version) (a b c d e f g stay : Field)
-    → length (with_stay version a b c d e f g stay) ≡ layer_fields version
-with_stay-count One a b c d e f g stay = refl
-with_stay-count Two a b c d e f g stay = refl
+with_stay-count : (writes : Bool) (a b c d e f g stay : Field)
+    → length (with_stay writes a b c d e f g stay) ≡ (if writes then 8 else 7)
+with_stay-count false a b c d e f g stay = refl
+with_stay-count true a b c d e f g stay = refl
 
-with_stay-kept : (version : Version) (a b c d e f g field : Field) (stay : Option ℕ) → StayOf version field stay
-    → AreKept (stay_rules version (with_stay version a b c d e f g field))
-with_stay-kept One a b c d e f g field stay is = tt
-with_stay-kept Two a b c d e f g field None is = absurd is
-with_stay-kept Two a b c d e f g field (Some n) is = ((n, is), tt)
+with_stay-kept : (writes : Bool) (a b c d e f g field : Field) (stay : Option ℕ) → StayOf writes field stay
+    → AreKept (if writes then WritesNumber (field_of (with_stay writes a b c d e f g field) 7) ∷ [] else [])
+with_stay-kept false a b c d e f g field stay is = tt
+with_stay-kept true a b c d e f g field None is = absurd is
+with_stay-kept true a b c d e f g field (Some n) is = ((n, is), tt)
 
 module _ (version : Version) (old : Declared) (row : Row) (new : Declared) (are : AreAllNames old.names) where
   stop_kept : AddsStop old row new → AreKept (stop_rules old.names row)
@@ -96,14 +94,18 @@ module _ (version : Version) (old : Declared) (row : Row) (new : Declared) (are 
   layer_kept a =
       let r = a.row_is in
       let depot = named old.names.stops r.depot a.layer.depot.0 are.stops r.depot_is in
-      let row = with_stay version (codes "layer") a.name r.depot r.fleet r.fixed r.per_minute r.per_metre r.stay in
-      let count =
-      with_stay-count version (codes "layer") a.name r.depot r.fleet r.fixed r.per_minute r.per_metre r.stay in
-      let stay =
-      with_stay-kept version (codes "layer") a.name r.depot r.fleet r.fixed r.per_minute r.per_metre r.stay a.layer.stay
-      r.stay_is in
+      let writes = writes_stay version (length row) in
+      let same = ap (λ (k : Row). writes_stay version (length k)) r.row_is in
+      let written = with_stay writes (codes "layer") a.name r.depot r.fleet r.fixed r.per_minute r.per_metre r.stay in
+      let count : length written ≡ layer_fields version (length written) =
+      with_stay-count writes (codes "layer") a.name r.depot r.fleet r.fixed r.per_minute r.per_metre r.stay
+      ∙ ap (λ (w : Bool). if w then 8 else 7) same in
+      let stay : AreKept (stay_rules version written) =
+      subst (λ (w : Bool). AreKept (if w then WritesNumber (field_of written 7) ∷ [] else [])) same
+      (with_stay-kept writes (codes "layer") a.name r.depot r.fleet r.fixed r.per_minute r.per_metre r.stay a.layer.stay
+      r.stay_is) in
       let rest =
-      AreKept-append (stay_rules version row) (HasRoom MAX_LAYERS old.names.layers ∷ []) stay (a.room, tt) in
+      AreKept-append (stay_rules version written) (HasRoom MAX_LAYERS old.names.layers ∷ []) stay (a.room, tt) in
       subst (λ (r : Row). AreKept (layer_rules version old.names r)) (sym r.row_is) (
         count,
         (
@@ -127,13 +129,13 @@ module _ (version : Version) (old : Declared) (row : Row) (new : Declared) (are 
         ),
       )
 
-  trip_kept : AddsTrip old row new → AreKept (trip_rules old.names row)
+  trip_kept : AddsTrip version old row new → AreKept (trip_rules version old.names row)
   trip_kept a =
       let r = a.row_is in
       let from = named old.names.stops r.from a.trip.from.0 are.stops r.from_is in
       let to = named old.names.stops r.to a.trip.to.0 are.stops r.to_is in
       let layers = kept_layers old.names.layers [] r.layers are.layers r.layers_are.each r.layers_are.once in
-      subst (λ (r : Row). AreKept (trip_rules old.names r)) (sym r.row_is) (
+      subst (λ (r : Row). AreKept (trip_rules version old.names r)) (sym r.row_is) (
         omega (arith, r.some_layer),
         (
           a.new_name.name,
@@ -154,7 +156,7 @@ module _ (version : Version) (old : Declared) (row : Row) (new : Declared) (are 
                         (
                           (a.trip.metres, r.metres_are),
                           AreKept-append (layer_names old.names.layers [] r.layers)
-                              (HasRoom MAX_TRIPS old.names.trips ∷ []) layers
+                              (HasRoom (most_in version) old.names.trips ∷ []) layers
                               (a.room, tt),
                         ),
                       ),

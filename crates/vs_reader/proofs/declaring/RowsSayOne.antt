@@ -1,5 +1,5 @@
 -- A row says one thing alone.
-use Rattle.std.proofs.Common.{◌≡◌, ℕ, ◌+◌, ◌-◌, ◌*◌, inl, inr, List, ◌∷◌, length, take, drop, Option, Some, None, sym, ap, ◌∙◌, subst, arith}
+use Rattle.std.proofs.Common.{◌≡◌, ℕ, ◌+◌, ◌-◌, ◌*◌, Bool, true, false, inl, inr, List, ◌∷◌, length, take, drop, Option, Some, None, sym, ap, ◌∙◌, subst, arith}
 use Rattle.std.specs.Int.{bit_at}
 use Rattle.std.specs.Str.Parse.{digits_value}
 use Rattle.std.proofs.lemmas.Bool.{cases_eq}
@@ -10,10 +10,10 @@ use Rattle.vs_instance.specs.declared.parts.Deadhead.{Deadhead}
 use Rattle.vs_instance.specs.declared.layer.Layer.{Layer}
 use Rattle.vs_instance.specs.declared.trip.Trip.{Trip}
 use Rattle.vs_reader.specs.declared.version.Version.{Version}
-use Rattle.vs_reader.specs.declared.version.Version.TheVariants.{One, Two}
 use Rattle.vs_reader.specs.Rows.{Field, Row, field_of}
 use Rattle.vs_reader.specs.Names.{NameLists, Names}
 use Rattle.vs_reader.specs.Numbers.{IsNumber, IsTime}
+use Rattle.vs_reader.specs.Versions.{writes_stay}
 use Rattle.vs_reader.specs.InstanceText.{DeadheadRow, LayerRow, StayOf, stay_fields, TripRow, NameLayers}
 use Rattle.vs_reader.specs.Drafts.{AreApart}
 use Rattle.vs_reader.proofs.naming.NameLemmas.{same_number}
@@ -76,12 +76,12 @@ one_deadhead stops row d e apart a b =
     λ i. record { from = record { 0 = from i }; to = record { 0 = to i }; minutes = minutes i; metres = metres i }
 
 -- fields write one least rest
-one_stay : (version : Version) (f g : Field) (s t : Option ℕ) → stay_fields version f ≡ stay_fields version g
-    → StayOf version f s → StayOf version g t → s ≡ t
-one_stay One f g s t same is so = is ∙ sym so
-one_stay Two f g None t same is so = absurd is
-one_stay Two f g (Some m) None same is so = absurd so
-one_stay Two f g (Some m) (Some n) same is so =
+one_stay : (writes : Bool) (f g : Field) (s t : Option ℕ) → stay_fields writes f ≡ stay_fields writes g
+    → StayOf writes f s → StayOf writes g t → s ≡ t
+one_stay false f g s t same is so = is ∙ sym so
+one_stay true f g None t same is so = absurd is
+one_stay true f g (Some m) None same is so = absurd so
+one_stay true f g (Some m) (Some n) same is so =
     ap (λ (k : ℕ). Some k) (one_number f g m n (ap (λ (r : Row). field_of r 0) same) is so)
 
 pub one_layer : (version : Version) (stops : List Field) (row : Row) (f g : Field) (k l : Layer) → AreApart stops
@@ -101,7 +101,8 @@ one_layer version stops row f g k l apart a b =
     one_number a.per_metre b.per_metre k.per_metre l.per_metre
     (same_field row _ _ 6 a.row_is b.row_is) a.per_metre_is b.per_metre_is in
     let stay =
-    one_stay version a.stay b.stay k.stay l.stay (ap (λ (r : Row). drop 7 r) (sym a.row_is ∙ b.row_is)) a.stay_is
+    one_stay (writes_stay version (length row)) a.stay b.stay k.stay l.stay
+    (ap (λ (r : Row). drop 7 r) (sym a.row_is ∙ b.row_is)) a.stay_is
     b.stay_is in (
       same_field row _ _ 1 a.row_is b.row_is,
       λ i. record {

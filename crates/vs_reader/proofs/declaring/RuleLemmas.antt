@@ -1,9 +1,12 @@
 -- Lists of rules that are kept, or of which one is broken.
-use Rattle.std.proofs.Common.{◌≡◌, ℕ, ◌<◌, inl, inr, List, [], ◌∷◌, ◌++◌, length, drop, Option, Some, None, MatchOption, Result, append_assoc, append-nil, refl, sym, ap, ◌∙◌}
+use Rattle.std.proofs.Common.{◌≡◌, ℕ, ◌<◌, ◌≤◌, inl, inr, List, [], ◌∷◌, ◌++◌, length, drop, Option, Some, None, MatchOption, Result, append_assoc, append-nil, refl, sym, ap, ◌∙◌, arith}
 use Rattle.std.specs.Option.{ok_or}
 use Rattle.vs_instance.specs.declared.limits.TheConstants.{MAX_TRIPS, TWO_DAYS}
 use Rattle.vs_reader.specs.declared.refused.Why.{Why}
 use Rattle.vs_reader.specs.declared.refused.Why.TheVariants as why
+use Rattle.vs_reader.specs.declared.version.Version.{Version}
+use Rattle.vs_reader.specs.declared.version.Version.TheVariants.{One, Two, Three}
+use Rattle.vs_reader.specs.Versions.{most_in}
 use Rattle.vs_reader.specs.Rows.{Field, Row}
 use Rattle.vs_reader.specs.Numbers.{IsTime}
 use Rattle.vs_reader.specs.Names.{NameLists}
@@ -57,7 +60,14 @@ AreKept-behind [] more kept = kept
 AreKept-behind (rule ∷ rules) more kept = AreKept-behind rules more kept.1
 
 -- there is room for a trip that keeps its rules
-pub trip_room : (names : NameLists) (row : Row) → AreKept (trip_rules names row) → length names.trips < MAX_TRIPS
-trip_room names row kept =
+pub trip_room : (version : Version) (names : NameLists) (row : Row) → AreKept (trip_rules version names row)
+    → length names.trips < most_in version
+trip_room version names row kept =
     (AreKept-behind (layer_names names.layers [] (drop 7 row))
-    (HasRoom MAX_TRIPS names.trips ∷ []) kept.1.1.1.1.1.1.1.1.1.1).0
+    (HasRoom (most_in version) names.trips ∷ []) kept.1.1.1.1.1.1.1.1.1.1).0
+
+-- no version lets more be than there may be at all
+pub most_in-≤ : (version : Version) → most_in version ≤ MAX_TRIPS
+most_in-≤ One = omega arith
+most_in-≤ Two = omega arith
+most_in-≤ Three = omega arith

@@ -8,7 +8,7 @@ use Rattle.std.proofs.lemmas.Slice.Eq.{bytes_eq-Decides}
 use Rattle.csv.specs.Records.{fields_of}
 use Rattle.vs_reader.specs.declared.text_records.TextRecords.{TextRecords}
 use Rattle.vs_reader.specs.declared.version.Version.{Version}
-use Rattle.vs_reader.specs.declared.version.Version.TheVariants.{One, Two}
+use Rattle.vs_reader.specs.declared.version.Version.TheVariants.{One, Two, Three}
 use Rattle.vs_reader.specs.Rows.{Field, Row, field_of, row_of}
 use Rattle.vs_reader.specs.Versions.{header, version_name, version_of, HasHeader}
 use Rattle.vs_reader.specs.Left.{GivesNext}
@@ -25,38 +25,49 @@ header_of row version is =
     let begins = eqb (length row) 2 && bytes_eq (field_of row 0) (codes "instance") in
     let one = bytes_eq (field_of row 1) (codes "1") in
     let two = bytes_eq (field_of row 1) (codes "2") in
-    let parts = some_of begins one two version is in
+    let three = bytes_eq (field_of row 1) (codes "3") in
+    let parts = some_of begins one two three version is in
     let both = and_parts (eqb (length row) 2) (bytes_eq (field_of row 0) (codes "instance")) parts.0 in
     two_fields row (codes "instance") (version_name version) (eqb-true (length row) 2 both.0)
     ((bytes_eq-Decides (field_of row 0) (codes "instance")).0 both.1) (named parts.1)
   where
-    -- what a choice among the two says
-    Says : Bool → Bool → Version → Type 0
-    Says one two One = one ≡ true
-    Says one two Two = two ≡ true
+    -- what a choice among the three says
+    Says : Bool → Bool → Bool → Version → Type 0
+    Says one two three One = one ≡ true
+    Says one two three Two = two ≡ true
+    Says one two three Three = three ≡ true
 
-    some_of : (begins one two : Bool) (version : Version)
-        → cond begins (cond one (Some One) (cond two (Some Two) None)) None ≡ Some version
-        → (begins ≡ true) × Says one two version
-    some_of true true two One is = (refl, refl)
-    some_of true true two Two is = cc
-    some_of true false true One is = cc
-    some_of true false true Two is = (refl, refl)
-    some_of true false false version is = cc
-    some_of false one two version is = cc
+    some_of : (begins one two three : Bool) (version : Version)
+        → cond begins (cond one (Some One) (cond two (Some Two) (cond three (Some Three) None))) None ≡ Some version
+        → (begins ≡ true) × Says one two three version
+    some_of true true two three One is = (refl, refl)
+    some_of true true two three Two is = cc
+    some_of true true two three Three is = cc
+    some_of true false true three One is = cc
+    some_of true false true three Two is = (refl, refl)
+    some_of true false true three Three is = cc
+    some_of true false false true One is = cc
+    some_of true false false true Two is = cc
+    some_of true false false true Three is = (refl, refl)
+    some_of true false false false version is = cc
+    some_of false one two three version is = cc
 
-    named : Says (bytes_eq (field_of row 1) (codes "1")) (bytes_eq (field_of row 1) (codes "2")) version
-        → field_of row 1 ≡ version_name version
+    SaysIn : Version → Type 0
+    SaysIn = Says (bytes_eq (field_of row 1) (codes "1")) (bytes_eq (field_of row 1) (codes "2"))
+        (bytes_eq (field_of row 1) (codes "3"))
+
+    named : SaysIn version → field_of row 1 ≡ version_name version
     named = by version
       where
-        by : (v : Version) → Says (bytes_eq (field_of row 1) (codes "1")) (bytes_eq (field_of row 1) (codes "2")) v
-            → field_of row 1 ≡ version_name v
+        by : (v : Version) → SaysIn v → field_of row 1 ≡ version_name v
         by One says = (bytes_eq-Decides (field_of row 1) (codes "1")).0 says
         by Two says = (bytes_eq-Decides (field_of row 1) (codes "2")).0 says
+        by Three says = (bytes_eq-Decides (field_of row 1) (codes "3")).0 says
 
 version_of-header : (version : Version) → version_of (header version) ≡ Some version
 version_of-header One = refl
 version_of-header Two = refl
+version_of-header Three = refl
 
 -- what reading the first record answers
 pub header_read : (records : TextRecords) (rows : List Row) (said : Option Version) → GivesNext records rows true

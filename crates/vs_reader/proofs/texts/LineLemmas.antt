@@ -20,7 +20,7 @@ use Rattle.vs_reader.specs.Kinds.{is_result, before_result}
 use Rattle.vs_reader.specs.InstanceText.{AddAll, nothing_yet, instance_records}
 use Rattle.vs_reader.specs.RowEnds.{row_weight, weight_of}
 use Rattle.vs_reader.specs.declared.version.Version.{Version}
-use Rattle.vs_reader.specs.declared.version.Version.TheVariants.{One, Two}
+use Rattle.vs_reader.specs.declared.version.Version.TheVariants.{One, Two, Three}
 use Rattle.vs_reader.specs.Texts.{HasRows, StandsFor, EndsInLine, state_after, is_between}
 use Rattle.vs_reader.proofs.texts.TextLemmas.{weight_of-rows}
 
@@ -514,6 +514,7 @@ long_header : (version : Version) (rows : List Row) → HasHeader version rows �
 long_header version [] begins = absurd (omega (arith, ap (λ (r : Row). length r) begins))
 long_header One (row ∷ rows) begins = omega (arith, ap row_weight begins)
 long_header Two (row ∷ rows) begins = omega (arith, ap row_weight begins)
+long_header Three (row ∷ rows) begins = omega (arith, ap row_weight begins)
 
 -- lines of plain rows behind an instance text are read as these rows
 pub lines_behind : (bytes : List ℕ) (rows others : List Row) (version : Version) → HasRows bytes rows

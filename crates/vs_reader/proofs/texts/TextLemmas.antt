@@ -1,12 +1,13 @@
 -- A text is an instance text or is refused, and not both.
 use Rattle.std.proofs.Common.{◌≡◌, ℕ, ◌+◌, ◌≤◌, inl, inr, true, false, cond, List, [], ◌∷◌, ◌++◌, length, drop, refl, sym, ap, ◌∙◌, subst, arith}
-use Rattle.std.specs.Prelude.{AllPairs}
+use Rattle.std.specs.Prelude.{All, AllPairs}
 use Rattle.std.proofs.lemmas.List.{drop_at}
 use Rattle.csv.specs.Reading.{default_config, strip_bom, is_bom}
 use Rattle.csv.specs.declared.parser.State.TheVariants as state
 use Rattle.vs_instance.specs.Problem.{Problem}
 use Rattle.vs_instance.specs.Instance.{IsInstance}
 use Rattle.vs_instance.specs.Misfits.{are_twins, deadheads_of, problem_of}
+use Rattle.vs_instance.specs.declared.layer.Layer.{Layer}
 use Rattle.vs_instance.specs.declared.parts.Deadhead.{Deadhead}
 use Rattle.vs_instance.proofs.CallerLemmas.{refuses}
 use Rattle.vs_reader.specs.declared.draft.Draft.{Draft}
@@ -18,7 +19,7 @@ use Rattle.vs_reader.specs.declared.version.Version.{Version}
 use Rattle.vs_reader.specs.Rows.{Row}
 use Rattle.vs_reader.specs.RowEnds.{weight_of}
 use Rattle.vs_reader.specs.Names.{NameLists, HaveCounts}
-use Rattle.vs_reader.specs.Versions.{HasHeader}
+use Rattle.vs_reader.specs.Versions.{HasHeader, most_in}
 use Rattle.vs_reader.specs.Kinds.{before_result}
 use Rattle.vs_reader.specs.InstanceText.{Declared, AddAll, Makes, InstanceText, nothing_yet, instance_records}
 use Rattle.vs_reader.specs.Refusals.{BreaksRule, BreaksOrMisfits, HasMisfit, IsRefusal}
@@ -88,7 +89,7 @@ module _ (version : Version) (rows more : List Row) (header : Row) (begins : Has
   module _ (draft : Draft) (all : AddAll version nothing_yet (before_result more) (declared_of draft)) where
     -- which is no instance
     pub misfit_refused : HasNumbers draft.numbers (before_result more) → (e : ReadError)
-        → RefusesAs (λ refused. (version : Version) (records : List Row)
+        → RefusesAs (λ refused. (records : List Row)
         → AddAll version nothing_yet records (declared_of draft)
         → HasNumbers draft.numbers records → HasMisfit version records refused) e
         → RefusesAs (IsRefusal rows) e
@@ -97,13 +98,13 @@ module _ (version : Version) (rows more : List Row) (header : Row) (begins : Has
           version,
           begins,
           inr (subst (λ (rs : List Row). HasMisfit version rs refused) (sym records_are)
-              (misfit version (before_result more) all numbers)),
+              (misfit (before_result more) all numbers)),
         )
     misfit_refused numbers error.Memory misfit = tt
 
     -- which is an instance
     pub instance_text : (left : List Row) → more ≡ before_result more ++ left → (p : Problem) (names : NameLists)
-        (before : ℕ) → Makes (declared_of draft) p → names ≡ draft.names
+        (before : ℕ) → Makes version (declared_of draft) p → names ≡ draft.names
         → before ≡ length (before_result more) + 1
         → InstanceText rows p names before left
     instance_text left split p names before makes names_are before_is =
@@ -131,7 +132,7 @@ one_reading bytes p q names others before b rest r stands also =
     (subst (HasHeader also.text.version) rows also.text.first) stands.text.first in
     let same : also.text.declared ≡ stands.text.declared =
     one_AddAll stands.text.version nothing_yet also.text.declared stands.text.declared (instance_records stands.rows)
-    IsSound-nothing
+    (IsSound-nothing stands.text.version)
     (subst (λ (v : Version). AddAll v nothing_yet (instance_records stands.rows) also.text.declared) version
     (subst (λ (rs : List Row). AddAll also.text.version nothing_yet (instance_records rs) also.text.declared) rows
     also.text.declares))
@@ -155,7 +156,7 @@ one_reading bytes p q names others before b rest r stands also =
 
 -- what is declared isn't an instance where its parts have a misfit
 misfit_refutes : (version : Version) (records : List Row) (refused : Refused)
-    (misfit : HasMisfit version records refused) (p : Problem) → ¬ (Makes misfit.declared p)
+    (misfit : HasMisfit version records refused) (p : Problem) → ¬ (Makes version misfit.declared p)
 misfit_refutes version records refused misfit p makes =
     let parts = misfit.parts_are in
     let same : p ≡ problem_of misfit.parts =
@@ -170,6 +171,9 @@ misfit_refutes version records refused misfit p makes =
     refuses misfit.parts misfit.misfit misfit.first (record {
       once = subst (λ (ds : List Deadhead). AllPairs (λ d e. are_twins d e ≡ false) ds)
           (sym parts.deadheads) makes.once;
+      fleets =
+          subst (λ (n : ℕ). All (λ (layer : Layer). layer.fleet ≤ n) misfit.parts.layers.items) (sym parts.most)
+          (subst (All (λ (layer : Layer). layer.fleet ≤ most_in version)) (sym parts.layers) makes.fleets);
       instance = subst IsInstance same makes.instance;
     })
 
@@ -188,18 +192,20 @@ refused_none bytes refused p names before rest is stands =
           let same = one_version is.rows stands.text.version begins.0 first begins.1 in
           refuted begins.0 begins.2
           (subst (λ (v : Version). AddAll v nothing_yet (instance_records is.rows) stands.text.declared) same declares)
+          (subst (λ (v : Version). Makes v stands.text.declared p) same stands.text.makes)
     ]
   where
     refuted : (version : Version) → BreaksOrMisfits version (instance_records is.rows) refused
-        → AddAll version nothing_yet (instance_records is.rows) stands.text.declared → ⊥
-    refuted version (inl breaks) declares =
+        → AddAll version nothing_yet (instance_records is.rows) stands.text.declared
+        → Makes version stands.text.declared p → ⊥
+    refuted version (inl breaks) declares makes =
         breaks_refutes version 2 nothing_yet stands.text.declared
         (instance_records is.rows) refused AreAllNames-nothing breaks declares
-    refuted version (inr misfit) declares =
+    refuted version (inr misfit) declares makes =
         misfit_refutes version (instance_records is.rows) refused misfit p
-        (subst (λ (d : Declared). Makes d p)
+        (subst (λ (d : Declared). Makes version d p)
         (one_AddAll version nothing_yet stands.text.declared misfit.declared
-        (instance_records is.rows) IsSound-nothing declares misfit.declares) stands.text.makes)
+        (instance_records is.rows) (IsSound-nothing version) declares misfit.declares) makes)
 
 -- a text has as many names as its instance has stops, layers and trips
 pub stands_counts : (bytes : List ℕ) (p : Problem) (names : NameLists) (before : ℕ) (rest : List Row)
@@ -207,7 +213,8 @@ pub stands_counts : (bytes : List ℕ) (p : Problem) (names : NameLists) (before
 stands_counts bytes p names before rest stands =
     let t = stands.text in
     let sound =
-    IsSound-AddAll t.version nothing_yet t.declared (instance_records stands.rows) IsSound-nothing t.declares in
+    IsSound-AddAll t.version nothing_yet t.declared (instance_records stands.rows) (IsSound-nothing t.version)
+    t.declares in
     record {
       stops = ap (λ (n : NameLists). length n.stops) t.names_are ∙ sym (ap (λ (q : Problem). q.stops) t.makes.problem);
       layers = ap (λ (n : NameLists). length n.layers) t.names_are ∙ sym sound.each_layer

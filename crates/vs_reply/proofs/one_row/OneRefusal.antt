@@ -11,6 +11,7 @@ use Rattle.vs_reader.specs.declared.refused.Refused.{Refused}
 use Rattle.vs_reader.specs.declared.refused.Why.{Why}
 use Rattle.vs_reader.specs.declared.refused.Why.TheVariants.{Misfit as misfit_why}
 use Rattle.vs_reader.specs.declared.version.Version.{Version}
+use Rattle.vs_reader.specs.Versions.{most_in}
 use Rattle.vs_reader.specs.Rows.{Row}
 use Rattle.vs_reader.specs.Names.{NameLists}
 use Rattle.vs_reader.specs.InstanceText.{Declared, nothing_yet, instance_records}
@@ -49,34 +50,39 @@ one_rule version n names (row ∷ rows) a b (inr (kept, rest)) (inr (keeps, more
     one_rule version (n + 1) (with_row names row) rows a b rest more
 
 -- the misfits of what is declared
-abbrev misfits_with : ℕ → List Deadhead → List Layer → List Trip → List Misfit
-misfits_with stops deadheads layers trips =
-    layers_misfits layers ++ deadheads_misfits deadheads ++ trips_misfits trips
+abbrev misfits_with : ℕ → ℕ → List Deadhead → List Layer → List Trip → List Misfit
+misfits_with most stops deadheads layers trips =
+    layers_misfits most (length trips) layers ++ deadheads_misfits deadheads ++ trips_misfits trips
     ++ closure_misfits stops (deadheads_of deadheads)
 
-abbrev declared_misfits : Declared → List Misfit
-declared_misfits d = misfits_with (length d.names.stops) d.deadheads d.layers d.trips
+abbrev declared_misfits : Version → Declared → List Misfit
+declared_misfits version d = misfits_with (most_in version) (length d.names.stops) d.deadheads d.layers d.trips
 
-misfits_declared : (d : Declared) (parts : Parts) → ArePartsOf d parts → misfits_of parts ≡ declared_misfits d
-misfits_declared d parts are =
-    ap (λ (n : ℕ). misfits_with n parts.deadheads.items parts.layers.items parts.trips.items) are.stops
-    ∙ ap (λ (xs : List Deadhead). misfits_with (length d.names.stops) xs parts.layers.items parts.trips.items)
+misfits_declared : (version : Version) (d : Declared) (parts : Parts) → ArePartsOf version d parts
+    → misfits_of parts ≡ declared_misfits version d
+misfits_declared version d parts are =
+    ap (λ (m : ℕ). misfits_with m parts.stops parts.deadheads.items parts.layers.items parts.trips.items) are.most
+    ∙ ap (λ (n : ℕ). misfits_with (most_in version) n parts.deadheads.items parts.layers.items parts.trips.items)
+    are.stops
+    ∙ ap (λ (xs : List Deadhead). misfits_with (most_in version) (length d.names.stops) xs parts.layers.items
+    parts.trips.items)
     are.deadheads
-    ∙ ap (λ (xs : List Layer). misfits_with (length d.names.stops) d.deadheads xs parts.trips.items) are.layers
-    ∙ ap (misfits_with (length d.names.stops) d.deadheads d.layers) are.trips
+    ∙ ap (λ (xs : List Layer). misfits_with (most_in version) (length d.names.stops) d.deadheads xs parts.trips.items)
+    are.layers
+    ∙ ap (misfits_with (most_in version) (length d.names.stops) d.deadheads d.layers) are.trips
 
 first_declared : (version : Version) (records : List Row) (a : Refused) (h : HasMisfit version records a)
-    → first_misfit (declared_misfits h.declared) ≡ Some h.misfit
+    → first_misfit (declared_misfits version h.declared) ≡ Some h.misfit
 first_declared version records a h =
-    sym (ap first_misfit (misfits_declared h.declared h.parts h.parts_are)) ∙ h.first
+    sym (ap first_misfit (misfits_declared version h.declared h.parts h.parts_are)) ∙ h.first
 
 one_misfit : (version : Version) (records : List Row) (a b : Refused) → HasMisfit version records a
     → HasMisfit version records b → a ≡ b
 one_misfit version records a b x y =
     let declared : x.declared ≡ y.declared =
-    one_AddAll version nothing_yet x.declared y.declared records IsSound-nothing x.declares y.declares in
+    one_AddAll version nothing_yet x.declared y.declared records (IsSound-nothing version) x.declares y.declares in
     let found : Some x.misfit ≡ Some y.misfit =
-    sym (first_declared version records a x) ∙ ap (λ (d : Declared). first_misfit (declared_misfits d)) declared
+    sym (first_declared version records a x) ∙ ap (λ (d : Declared). first_misfit (declared_misfits version d)) declared
     ∙ first_declared version records b y in
     let misfit : x.misfit ≡ y.misfit = same_Some x.misfit y.misfit found in
     same_refusal a b (x.row_is ∙ ap (misfit_row records) misfit ∙ sym y.row_is)

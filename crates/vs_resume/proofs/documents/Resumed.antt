@@ -47,6 +47,7 @@ use Rattle.vs_resume.proofs.trees.Growth.{few_leaves, turns_leaves}
 use Rattle.vs_resume.proofs.trees.InPlace.{leaf_rows, leaf_rows-preorder}
 use Rattle.vs_resume.proofs.documents.Naming.{named_within}
 use Rattle.vs_resume.proofs.documents.OnCourse.{IsOnCourse}
+use Rattle.vs_resume.proofs.documents.LowWorths.{low_worths}
 use Rattle.vs_resume.proofs.trees.Renamed.{length-named}
 use Rattle.vs_resume.proofs.documents.WrittenLeaves.{IsPrintable, each_no_less, one_of, printable_worths, strong_leaves, worths_written}
 use Rattle.vs_resume.proofs.documents.WrittenTables.{IsLawful, all_lawful, as_many}
@@ -107,8 +108,8 @@ cases_named p tables (leaf ∷ places) (found ∷ cases) are =
     (subst (λ (n : ℕ). n < length tables) (sym here.number) inside) (cases_named p tables places cases are.1)
 
 module _ (p : Problem) (is : IsInstance p) (budget : ℕ) (small : budget ≤ MAX_BUDGET) (d : Document)
-    (room : HasRoom p d budget) (c : Course) (left : ℕ) (on : IsOnCourse p budget d c left) (e : Document)
-    (prints : IsPrintedOf c (budget - left) e) where
+    (text : HasText p d) (given : HoldingDocument p d) (room : HasRoom p d budget) (c : Course) (left : ℕ)
+    (on : IsOnCourse p budget d c left) (e : Document) (prints : IsPrintedOf c (budget - left) e) where
   abbrev s : Standing
   s = on.last
 
@@ -156,7 +157,7 @@ module _ (p : Problem) (is : IsInstance p) (budget : ℕ) (small : budget ≤ MA
         | inr has ↦
             All-contains IsPrintable worths (bound_of e.bound)
             (printable_worths p is c.tables.items on.course.lawful (leaves (permitted_sets p) s.tree) c.cases.items
-            on.course.cases) has
+            on.course.cases (low_worths p budget d c left text given on)) has
       ])
 
   -- the leaves are few

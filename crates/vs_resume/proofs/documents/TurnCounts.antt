@@ -1,12 +1,17 @@
 -- How many nodes turns finish: no more than they add leaves, and than there are more leaves that aren't below the cost.
-use Rattle.std.proofs.Common.{◌≡◌, ℕ, ◌+◌, ◌-◌, ◌<◌, ◌≤◌, inl, inr, List, [], ◌∷◌, sym, ap, ◌∙◌, subst, arith, Option, Some, None, slice_get, ℤ, pos}
+use Rattle.std.proofs.Common.{◌≡◌, ℕ, ◌+◌, ◌-◌, ◌<◌, ◌≤◌, inl, inr, List, [], ◌∷◌, ◌++◌, take, drop, sym, ap, ◌∙◌, subst, arith, Option, Some, None, slice_get, ℤ, pos}
+use Rattle.std.specs.List.{All}
 use Rattle.std.proofs.lemmas.Int.{ints}
+use Rattle.std.proofs.lemmas.List.Elements.{All-append, All-drop, All-take, All-weaker}
 use Rattle.std.proofs.lemmas.Option.{slice_get_within}
 use Rattle.vs_instance.specs.Plan.{plan_cost}
 use Rattle.vs_instance.specs.Problem.{Problem}
 use Rattle.vs_instance.specs.Restriction.{permitted_sets}
+use Rattle.vs_prices.specs.Bounds.{IsNoLess}
 use Rattle.vs_prices.specs.declared.bound.Bound.{Bound}
 use Rattle.vs_prices.specs.Tree.{LeafPlace, leaves}
+use Rattle.vs_prices.proofs.CallerLemmas.{no_less-trans}
+use Rattle.vs_rows.proofs.CallerLemmas.{all_at}
 use Rattle.vs_tree.specs.History.{IsCheaper}
 use Rattle.vs_tree.specs.Prices.{Prices}
 use Rattle.vs_cert.specs.Answers.{count_not_below}
@@ -37,12 +42,13 @@ no_more p left nodes s t turn = elim turn.plan [
       (cheaper-no_more (pos (plan_cost p t.blocks)) s.cost found.cheaper)
 ]
 
--- from a standing whose leaves have these worths to another one so many nodes were finished
+-- from a standing whose leaves have these worths to another one so many nodes were finished, and none became worth less
 pub record AreCounted (p : Problem) (s t : Standing) (worths : List Bound) (nodes : ℕ) : Type 0 where
   pub now : List Bound
   pub are_worths : AreNamedWorths p t.tables (leaves_of p t) now
   pub count : nodes + count_leaves s.tree + count_not_below s.cost worths
       ≤ count_leaves t.tree + count_not_below t.cost now
+  pub low : (least : Bound) → All (λ worth. IsNoLess worth least) worths → All (λ worth. IsNoLess worth least) now
 
 -- by one turn
 module _ (p : Problem) (left nodes : ℕ) (s t : Standing) (turn : IsTurn p left s t nodes) (worths : List Bound)
@@ -55,6 +61,18 @@ module _ (p : Problem) (left nodes : ℕ) (s t : Standing) (turn : IsTurn p left
 
   abbrev now : List Bound
   now = in_place worths turn.number turn.worths
+
+  low : (least : Bound) → All (λ worth. IsNoLess worth least) worths → All (λ worth. IsNoLess worth least) now
+  low least each =
+      let Low : Bound → Type 0 = λ worth. IsNoLess worth least in
+      let here : IsNoLess turn.worth least = all_at Low worths turn.number turn.worth each stands in
+      let deeper : All Low turn.worths =
+      All-weaker (λ (worth : Bound). IsNoLess worth turn.worth) Low
+      (λ worth more. no_less-trans worth turn.worth least more here) turn.worths turn.deeper.no_less in
+      All-append Low (take turn.number worths) (turn.worths ++ drop (turn.number + 1) worths)
+      (All-take Low turn.number worths each)
+      (All-append Low turn.worths (drop (turn.number + 1) worths) deeper
+      (All-drop Low (turn.number + 1) worths each))
 
   kept : AreNamedWorths p t.tables (leaves_of p s) worths
   kept =
@@ -90,6 +108,7 @@ module _ (p : Problem) (left nodes : ℕ) (s t : Standing) (turn : IsTurn p left
         (no_more p left nodes s t turn) stands turn.next.next.below in
         let grown = ap count_leaves turn.tree ∙ grows turn.part s.tree turn.number inside in
         omega (arith, more, grown, turn.each_node);
+    low = low;
   }
 
 -- by several
@@ -98,7 +117,7 @@ pub turns_counted : (p : Problem) (left : ℕ) (s t : Standing) (turns : List Tu
     → AreCounted p s t worths (nodes_of turns)
 turns_counted p left s t [] are worths is =
     subst (λ (x : Standing). AreCounted p s x worths (nodes_of [])) (sym are)
-    (record { now = worths; are_worths = is; count = omega arith })
+    (record { now = worths; are_worths = is; count = omega arith; low = λ least each. each })
 turns_counted p left s t (turn ∷ turns) are worths is =
     let one = turn_counted p left turn.nodes s turn.standing are.0 worths is in
     let rest = turns_counted p (left - turn.nodes) turn.standing t turns are.1 one.now one.are_worths in
@@ -106,4 +125,5 @@ turns_counted p left s t (turn ∷ turns) are worths is =
       now = rest.now;
       are_worths = rest.are_worths;
       count = omega (arith, one.count, rest.count, nodes-cons turn turns);
+      low = λ least each. rest.low least (one.low least each);
     }

@@ -11,7 +11,7 @@ use Rattle.vs_types.specs.declared.numbers.TripNo.{TripNo}
 use Rattle.vs_instance.specs.Instance.{IsInstance}
 use Rattle.vs_instance.specs.Problem.{Problem}
 use Rattle.vs_prices.specs.Bounds.{IsNoLess}
-use Rattle.vs_prices.specs.Table.{Fits}
+use Rattle.vs_prices.specs.Table.{Fits, HoldingTable}
 use Rattle.vs_prices.specs.Worth.{IsWorth}
 use Rattle.vs_prices.specs.declared.bound.Bound.{Bound}
 use Rattle.vs_prices.specs.declared.bound.Bound.TheVariants.{AtLeast, NoPlan}
@@ -26,11 +26,12 @@ use Rattle.vs_tree.specs.Prices.{AreWorth, no_prices, prices_of}
 use Rattle.vs_tree.specs.Report.{bound_of}
 use Rattle.vs_tree.proofs.CallerLemmas.{worth_of_table}
 use Rattle.vs_cert.specs.StateDocument.{IsRenumbered}
-use Rattle.vs_cert.proofs.CallerLemmas.{worth_within, AreNoLess, IsOneOf, worths-append, reaches}
+use Rattle.vs_cert.proofs.CallerLemmas.{worth_below, AreNoLess, IsOneOf, worths-append, reaches}
 use Rattle.vs_cert.specs.Answers.{AreWorths}
 use Rattle.vs_resume.specs.Cases.{AreCasesOf, IsCaseOf}
 use Rattle.vs_resume.specs.Order.{worths_in}
 use Rattle.vs_resume.specs.declared.cases.Case.{Case}
+use Rattle.vs_resume.proofs.documents.LowWorths.{IsNotTooLow}
 use Rattle.vs_resume.proofs.documents.WrittenTables.{IsLawful, table_at}
 use Rattle.vs_resume.proofs.trees.Zips.{zip-cut}
 
@@ -98,25 +99,27 @@ abbrev pub IsPrintable : Bound → Type 0
 IsPrintable NoPlan = Unit {0}
 IsPrintable (AtLeast n) = IsWithin MAX_BOUND n
 
-printable : (p : Problem) → IsInstance p → (table : Table) → Fits p table → (sets : List LayerSet) (worth : Bound)
-    → IsWorth p sets table worth → IsPrintable worth
-printable p is table fits sets NoPlan worth = tt
-printable p is table fits sets (AtLeast n) worth =
-    let within = worth_within p is table fits sets n worth in
-    (omega (arith, ints), omega (arith, ints))
+printable : (p : Problem) → IsInstance p → (table : Table) → Fits p table → HoldingTable p table
+    → (sets : List LayerSet) (worth : Bound) → IsWorth p sets table worth → IsNotTooLow worth → IsPrintable worth
+printable p is table fits holds sets NoPlan worth low = tt
+printable p is table fits holds sets (AtLeast n) worth low =
+    let high = worth_below p is table fits holds sets n worth in
+    (omega (arith, ints, low), omega (arith, ints, high))
 
--- tables that fit are worth no others
+-- tables that hold are worth no others
 pub printable_worths : (p : Problem) → IsInstance p → (tables : List Table) → All (IsLawful p) tables
     → (places : List LeafPlace) (cases : List Case) → AreCasesOf p tables places cases
-    → All IsPrintable (worths_in cases)
-printable_worths p is tables lawful [] [] are = All-nil IsPrintable
-printable_worths p is tables lawful [] (found ∷ cases) are = absurd are
-printable_worths p is tables lawful (leaf ∷ places) [] are = absurd are
-printable_worths p is tables lawful (leaf ∷ places) (found ∷ cases) are =
+    → All IsNotTooLow (worths_in cases) → All IsPrintable (worths_in cases)
+printable_worths p is tables lawful [] [] are low = All-nil IsPrintable
+printable_worths p is tables lawful [] (found ∷ cases) are low = absurd are
+printable_worths p is tables lawful (leaf ∷ places) [] are low = absurd are
+printable_worths p is tables lawful (leaf ∷ places) (found ∷ cases) are low =
     let here = are.0 in
-    let fits = (all_at (IsLawful p) tables leaf.table here.table lawful here.named).0 in
-    All-cons IsPrintable found.worth (worths_in cases) (printable p is here.table fits leaf.sets found.worth here.worth)
-    (printable_worths p is tables lawful places cases are.1)
+    let table = all_at (IsLawful p) tables leaf.table here.table lawful here.named in
+    All-cons IsPrintable found.worth (worths_in cases)
+    (printable p is here.table table.0 table.1 leaf.sets found.worth here.worth
+    (All-head IsNotTooLow found.worth (worths_in cases) low))
+    (printable_worths p is tables lawful places cases are.1 (All-tail IsNotTooLow found.worth (worths_in cases) low))
 
 -- one by one
 pub each_no_less : (least : Bound) (worths : List Bound) → All (λ worth. IsNoLess worth least) worths

@@ -1,7 +1,7 @@
 -- Prices made from prices with the sign rule have it too.
-use Rattle.std.proofs.Common.{◌≡◌, ◌<◌, List, length, inl, inr, arith, ℤ}
+use Rattle.std.proofs.Common.{◌≡◌, ◌<◌, List, length, ap, inl, inr, arith, ℤ, pos}
 use Rattle.std.proofs.lemmas.Int.{ints, by_lt_z}
-use Rattle.vs_path.specs.declared.residual.TheConstants.{MAX_STEP_COST}
+use Rattle.vs_path.specs.StepCosts.{most_step}
 use Rattle.vs_queue.specs.declared.step.Step.{Step}
 use Rattle.vs_queue.specs.declared.step.Step.TheVariants.{Forward, Back}
 use Rattle.vs_path.specs.Residual.{ResidualNet, IsResidual, HasSignRule, AllWithin, arc_no, from_of, to_of, price_at}
@@ -16,11 +16,13 @@ step-ends r is (Forward k) below = let arc = is.net.each_arc k (omega (arith, is
 step-ends r is (Back k) below = let arc = is.net.each_arc k (omega (arith, is.arcs)) in (arc.to, arc.from)
 
 -- where gaps are closed
-pub sign-near : (r : ResidualNet) (old new : List ℤ) → IsResidual r → AllWithin MAX_STEP_COST r.cost
+pub sign-near : (r : ResidualNet) (old new : List ℤ) → IsResidual r
+    → AllWithin (pos (most_step r.graph.nodes)) r.cost
     → length old ≡ r.graph.nodes → AreNear old new → HasSignRule r old → HasSignRule r new
 sign-near r old new is costs each_node near rule s is_open =
     let ends = step-ends r is s is_open.arc in
-    let cost = cost-within r s costs in
+    let cost = cost-within r (pos (most_step r.graph.nodes)) s costs in
+    let most : most_step (length old) ≡ most_step r.graph.nodes = ap most_step each_node in
     let before = rule s is_open in
     by_lt_z (price_at old (to_of r s)) (price_at old (from_of r s))
     (λ falls.
@@ -28,7 +30,7 @@ sign-near r old new is costs each_node near rule s is_open =
     (omega (arith, ends.0, each_node)) (omega (arith, ints, falls)) in
     elim closed.enough [
       | inl enough ↦ omega (arith, ints, before, enough)
-      | inr enough ↦ omega (arith, ints, cost.low, enough)
+      | inr enough ↦ omega (arith, ints, cost.low, enough, most)
     ])
     (λ rises.
     let closed = near.closed (from_of r s) (to_of r s) (omega (arith, ends.0, each_node))

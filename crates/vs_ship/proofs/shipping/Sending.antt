@@ -9,7 +9,9 @@ use Rattle.vs_instance.specs.Lagrangian.{total}
 use Rattle.vs_queue.specs.declared.step.Step.{Step}
 use Rattle.vs_queue.specs.declared.step.Step.TheVariants.{Forward, Back}
 use Rattle.vs_path.specs.declared.residual.Costs.{Costs}
-use Rattle.vs_path.specs.declared.residual.TheConstants.{MAX_SEARCH_PRICE, MAX_STEP_COST}
+use Rattle.vs_path.specs.declared.residual.TheConstants.{MAX_SEARCH_PRICE}
+use Rattle.vs_path.specs.StepCosts.{most_step}
+use Rattle.vs_path.proofs.CallerLemmas.{steps-few}
 use Rattle.vs_path.specs.Residual.{ResidualNet, HasSignRule, IsWithin, AllWithin, IsOpen, IsPath, price_at, reduced, step_in}
 use Rattle.vs_path.specs.Labels.{Lacks}
 use Rattle.vs_path.specs.Search.{IsGoal}
@@ -206,7 +208,7 @@ module _ (g : Graph) (old new : Shipment) (source goal : ℕ) (path : List Step)
               (arith, ints, before.high, fell);
         }
         | inr near ↦ record {
-          low = omega (arith, ints, first.low, near, can.nodes);
+          low = omega (arith, ints, first.low, near, steps-few g.nodes g.nodes (omega arith));
           high = omega (arith, ints, before.high, fell);
         }
       ]
@@ -221,7 +223,8 @@ module _ (g : Graph) (old new : Shipment) (source goal : ℕ) (path : List Step)
   sent-can = record {
     sized = sized;
     nodes = can.nodes;
-    costs = subst (λ (c : Costs). AllWithin MAX_STEP_COST c.cost.items) (sym same_costs) can.costs;
+    costs = subst (λ (c : Costs). AllWithin (pos (most_step g.nodes)) c.cost.items)
+        (sym same_costs) can.costs;
     rooms = λ k. omega (arith, room_same k, can.rooms k);
     prices = prices_within;
     first = first_within;

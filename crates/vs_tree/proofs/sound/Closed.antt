@@ -1,19 +1,21 @@
 -- A state stays sound where a leaf is closed.
-use Rattle.std.proofs.Common.{◌≡◌, ◌≢◌, ℕ, ◌+◌, ◌<◌, false, List, [], ◌∷◌, ◌++◌, length, get_or, refl, sym, ap, ◌∙◌, subst, arith, inl, inr, length-append}
+use Rattle.std.proofs.Common.{◌≡◌, ◌≢◌, ℕ, ◌+◌, ◌<◌, false, List, [], ◌∷◌, ◌++◌, length, get_or, refl, sym, ap, ◌∙◌, subst, arith, inl, inr, length-append, pos}
 use Rattle.std.specs.List.{All}
 use Rattle.std.proofs.lemmas.Bool.{cases_eq}
 use Rattle.std.proofs.lemmas.List.{get_or-append-add}
 use Rattle.std.proofs.lemmas.List.Elements.{All-append, All-cons, All-nil}
 use Rattle.vs_types.specs.declared.layer_set.LayerSet.{LayerSet}
 use Rattle.vs_prices.specs.declared.bound.Bound.{Bound}
-use Rattle.vs_prices.specs.Bounds.{IsBelow}
+use Rattle.vs_prices.specs.declared.bound.Bound.TheVariants.{AtLeast}
+use Rattle.vs_prices.specs.Bounds.{IsBelow, IsNoLess}
 use Rattle.vs_tree.specs.declared.spot.Spot.{Spot}
 use Rattle.vs_tree.specs.declared.spot.Spot.TheVariants.{Held, Closed as ClosedSpot}
 use Rattle.vs_tree.specs.Prices.{AreLawful, AreWorth, Prices, no_prices}
-use Rattle.vs_tree.specs.History.{Opening, State, Closed, IsClosed, IsHeldBy, IsLeafWorth, MayClose, after, is_closed, is_held, is_inner, known, prices_at, sets_at, spot_at, table_of}
+use Rattle.vs_tree.specs.History.{Opening, State, Closed, IsClosed, IsHeldBy, IsLeaf, IsLeafWorth, MayClose, after, is_closed, is_held, is_inner, known, prices_at, sets_at, spot_at, table_of}
 use Rattle.vs_instance.specs.Problem.{Problem}
 use Rattle.vs_tree.specs.Sound.{IsSound}
 use Rattle.vs_tree.proofs.Spots.{leaf_within}
+use Rattle.vs_tree.proofs.sound.Worths.{new_worth}
 use Rattle.vs_tree.proofs.sound.Relabelled.{count-less, count-more, count-same, held-before, numbers-kept, prices-kept, restrictions-kept, same-worth, sets-kept, shared-kept, spot-here, spot-there}
 
 -- lawful prices that come to others are lawful together
@@ -62,22 +64,41 @@ module _ (o : Opening) (s : State) (worker leaf table : ℕ) (prices : Prices)
       ap (λ (x : Spot). get_or n.tables (table_of x) no_prices) here
       ∙ last-prices s.tables prices table may.gives.number
 
+  -- what it is worth within the leaf's layers
+  given_worth : (j : ℕ) (worth : Bound) → j ≡ leaf → IsLeafWorth o.problem n j worth
+      → AreWorth o.problem (sets_at s leaf) prices worth
+  given_worth j worth same is_worth =
+      let at : IsLeafWorth o.problem n leaf worth =
+      subst (λ (i : ℕ). IsLeafWorth o.problem n i worth) same is_worth in
+      let first : AreWorth o.problem (sets_at s leaf) (prices_at n leaf) worth =
+      subst (λ (x : List LayerSet). AreWorth o.problem x (prices_at n leaf) worth)
+      (sets-kept s n leaf spot within refl leaf) at in
+      subst (λ (x : Prices). AreWorth o.problem (sets_at s leaf) x worth) given first
+
+  -- another leaf has the table that it had
+  old_worth : (j : ℕ) (worth : Bound) → j ≢ leaf → IsLeaf s j → IsLeafWorth o.problem n j worth
+      → IsLeafWorth o.problem s j worth
+  old_worth j worth apart old is_worth =
+      same-worth o.problem s n j worth (sets-kept s n leaf spot within refl j)
+      (prices-kept s n j (prices ∷ []) refl (sound.numbers j old) (elsewhere j apart)) is_worth
+
+  worths : (j : ℕ) (worth : Bound) → IsLeaf n j → IsLeafWorth o.problem n j worth → IsNoLess worth (AtLeast (pos 0))
+  worths j worth is is_worth =
+      elim (cases_eq j leaf) [
+        | inl same ↦
+            new_worth o s leaf table prices was may.gives sound worth (given_worth j worth same is_worth)
+        | inr apart ↦
+            let old : IsLeaf s j = ap is_inner (sym (elsewhere j apart)) ∙ is in
+            sound.worths j worth old (old_worth j worth apart old is_worth)
+      ]
+
   closed : (j : ℕ) (worth : Bound) → IsClosed n j → IsLeafWorth o.problem n j worth → ¬ (IsBelow worth (known s))
   closed j worth (number, is) is_worth =
       elim (cases_eq j leaf) [
-        | inl same ↦
-            let at : IsLeafWorth o.problem n leaf worth =
-            subst (λ (i : ℕ). IsLeafWorth o.problem n i worth) same is_worth in
-            let first : AreWorth o.problem (sets_at s leaf) (prices_at n leaf) worth =
-            subst (λ (x : List LayerSet). AreWorth o.problem x (prices_at n leaf) worth)
-            (sets-kept s n leaf spot within refl leaf) at in
-            may.done worth (subst (λ (x : Prices). AreWorth o.problem (sets_at s leaf) x worth) given first)
+        | inl same ↦ may.done worth (given_worth j worth same is_worth)
         | inr apart ↦
             let before : spot_at s j ≡ ClosedSpot number = sym (elsewhere j apart) ∙ is in
-            let inside = sound.numbers j (ap is_inner before) in
-            sound.closed j worth (number, before)
-            (same-worth o.problem s n j worth (sets-kept s n leaf spot within refl j)
-            (prices-kept s n j (prices ∷ []) refl inside (elsewhere j apart)) is_worth)
+            sound.closed j worth (number, before) (old_worth j worth apart (ap is_inner before) is_worth)
       ]
 
   before : (other j : ℕ) → IsHeldBy n other j → IsHeldBy s other j
@@ -96,6 +117,7 @@ module _ (o : Opening) (s : State) (worker leaf table : ℕ) (prices : Prices)
         restrictions = restrictions-kept s n leaf spot within refl o.problem sound.restrictions;
         numbers = numbers-kept s n leaf spot within refl was refl (prices ∷ []) refl
             (omega (arith, more, may.gives.number)) sound.numbers;
+        worths = worths;
         plans = sound.plans;
         cheaper = sound.cheaper;
         closed = closed;

@@ -8,7 +8,7 @@ use Rattle.vs_tree.specs.declared.spot.Spot.TheVariants.{Free, Held, Closed as C
 use Rattle.vs_tree.specs.History.{Opening, State, GaveBack, IsAmong, IsClosed, IsHeldBy, IsLeafWorth, after, is_closed, is_held, is_inner, known, spot_at, table_of}
 use Rattle.vs_tree.specs.Sound.{IsSound}
 use Rattle.vs_tree.proofs.Spots.{leaf_within}
-use Rattle.vs_tree.proofs.sound.Relabelled.{count-less, count-same, held-before, numbers-kept, prices-kept, restrictions-kept, same-worth, sets-kept, shared-kept, spot-here, spot-there}
+use Rattle.vs_tree.proofs.sound.Relabelled.{count-less, count-same, held-before, numbers-kept, prices-kept, restrictions-kept, same-worth, sets-kept, shared-kept, spot-here, spot-there, worths-kept}
 
 -- one of a longer list is the first, or one of the others
 pub among-cons : (worker first : ℕ) (others : List ℕ) → IsAmong worker (first ∷ others)
@@ -73,6 +73,7 @@ module _ (o : Opening) (s : State) (worker leaf : ℕ) (may : IsHeldBy s worker 
     restrictions = restrictions-kept s n leaf spot within refl o.problem sound.restrictions;
     numbers = numbers-kept s n leaf spot within refl was refl [] (sym (append-nil s.tables))
         (sound.numbers leaf was) sound.numbers;
+    worths = worths-kept s n leaf spot within refl was refl o.problem refl refl sound.worths;
     plans = sound.plans;
     cheaper = sound.cheaper;
     closed = closed;

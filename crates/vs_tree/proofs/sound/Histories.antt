@@ -1,16 +1,19 @@
 -- Every state of a history is sound.
-use Rattle.std.proofs.Common.{◌≡◌, ℕ, zero, suc, ◌<◌, List, [], ◌∷◌, refl, subst, arith, Option, Some, None, IfSome}
+use Rattle.std.proofs.Common.{◌≡◌, ℕ, zero, suc, ◌<◌, List, [], ◌∷◌, refl, subst, arith, Option, Some, None, IfSome, pos}
 use Rattle.std.specs.List.{All}
 use Rattle.std.proofs.lemmas.List.Elements.{All-cons, All-nil}
 use Rattle.vs_instance.specs.Plan.{LayerBlock, IsPlan}
 use Rattle.vs_instance.specs.Restriction.{IsRestriction}
 use Rattle.vs_instance.proofs.CallerLemmas.{permitted_sets-IsRestriction, plans_lie_within}
 use Rattle.vs_plan.specs.CheckedPlan.{Checked}
+use Rattle.vs_prices.specs.Bounds.{IsNoLess}
+use Rattle.vs_prices.specs.declared.bound.Bound.{Bound}
+use Rattle.vs_prices.specs.declared.bound.Bound.TheVariants.{AtLeast}
 use Rattle.vs_tree.specs.Laws.{HistoriesAreSound}
 use Rattle.vs_tree.specs.Prices.{AreLawful, zero_prices}
-use Rattle.vs_tree.specs.History.{FullStep, Opening, State, Took, Split, Closed, Offered, GaveBack, IsClosed, IsHeldBy, IsLeaf, MayCome, MayFollow, after, first_state, plans_of, sets_at, state_after}
+use Rattle.vs_tree.specs.History.{FullStep, Opening, State, Took, Split, Closed, Offered, GaveBack, IsClosed, IsHeldBy, IsLeaf, IsLeafWorth, MayCome, MayFollow, after, first_state, plans_of, sets_at, state_after}
 use Rattle.vs_tree.specs.Sound.{EachIsCheaper, IsInOneLeaf, IsOpening, IsPlanOf, IsSound}
-use Rattle.vs_tree.proofs.LawfulPrices.{zeros_lawful}
+use Rattle.vs_tree.proofs.LawfulPrices.{zero_worth, zeros_lawful}
 use Rattle.vs_tree.proofs.sound.Took.{took_sound}
 use Rattle.vs_tree.proofs.sound.Split.{split_sound}
 use Rattle.vs_tree.proofs.sound.Closed.{closed_sound}
@@ -45,6 +48,12 @@ module _ (o : Opening) (opening : IsOpening o) where
   restrictions zero inside = permitted_sets-IsRestriction o.problem opening.instance
   restrictions (suc k) inside = absurd (omega arith)
 
+  worths : (k : ℕ) (worth : Bound) → IsLeaf start k → IsLeafWorth o.problem start k worth
+      → IsNoLess worth (AtLeast (pos 0))
+  worths zero worth leaf is =
+      zero_worth o.problem (sets_at start 0) (permitted_sets-IsRestriction o.problem opening.instance) worth is
+  worths (suc k) worth leaf is = absurd cc
+
   plans : (first : Option Checked) → o.first ≡ first → All (IsPlanOf o.problem) (plans_of first)
   plans None is = All-nil (IsPlanOf o.problem)
   plans (Some plan) is =
@@ -62,6 +71,7 @@ module _ (o : Opening) (opening : IsOpening o) where
         (All-nil (AreLawful o.problem));
     restrictions = restrictions;
     numbers = λ k leaf. let root = only_root k leaf in rw root (omega arith);
+    worths = worths;
     plans = plans o.first refl;
     cheaper = cheaper o.first;
     closed = λ k worth closed. absurd (not_closed k closed);

@@ -26,6 +26,7 @@ module _ (o : Opening) (s : State) (offers : List ℕ) (sound : IsSound o s) whe
         tables = sound.tables;
         restrictions = sound.restrictions;
         numbers = sound.numbers;
+        worths = sound.worths;
         plans = sound.plans;
         cheaper = sound.cheaper;
         closed = sound.closed;
@@ -53,6 +54,7 @@ module _ (o : Opening) (s : State) (offers : List ℕ) (sound : IsSound o s) whe
         tables = sound.tables;
         restrictions = sound.restrictions;
         numbers = sound.numbers;
+        worths = sound.worths;
         plans = All-append (IsPlanOf o.problem) s.accepted (plan ∷ []) sound.plans
             (All-cons (IsPlanOf o.problem) plan [] is_plan (All-nil (IsPlanOf o.problem)));
         cheaper = cheaper-more s.accepted plan sound.cheaper less;

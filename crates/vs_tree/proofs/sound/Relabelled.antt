@@ -11,7 +11,7 @@ use Rattle.vs_tree.specs.declared.spot.Spot.{Spot}
 use Rattle.vs_tree.specs.declared.spot.Spot.TheVariants.{Held}
 use Rattle.vs_tree.specs.Prices.{AreWorth, Prices, no_prices}
 use Rattle.vs_tree.specs.History.{Place, State, IsHeldBy, IsLeaf, IsLeafWorth, count_spots, is_held, is_inner, place_at, prices_at, sets_at, spot_at, table_of, with_spot}
-use Rattle.vs_tree.specs.Sound.{IsInOneLeaf}
+use Rattle.vs_tree.specs.Sound.{AreNotNegative, IsInOneLeaf}
 use Rattle.vs_tree.proofs.Spots.{count-with_spot, length-with_spot, with_spot-other, with_spot-same, with_spot-sets}
 
 -- a leaf of the same prices and layers is worth the same
@@ -119,6 +119,22 @@ module _ (s n : State) (k : ℕ) (spot : Spot) (within : k < length s.places)
 
     pub shared-kept : (blocks : List LayerBlock) → IsInOneLeaf s blocks → IsInOneLeaf n blocks
     shared-kept blocks one = shared-along s n blocks leaves-kept sets-kept one
+
+    -- no leaf is worth less than 0 where the leaf has the same table
+    pub worths-kept : (p : Problem) → n.tables ≡ s.tables → table_of spot ≡ table_of (spot_at s k) → AreNotNegative p s
+        → AreNotNegative p n
+    worths-kept p tables table each j worth leaf is_worth =
+        let same : table_of (spot_at n j) ≡ table_of (spot_at s j) =
+        elim (cases_eq j k) [
+          | inl here ↦
+              ap (λ (i : ℕ). table_of (spot_at n i)) here ∙ ap table_of spot-here ∙ table
+              ∙ ap (λ (i : ℕ). table_of (spot_at s i)) (sym here)
+          | inr other ↦ ap table_of (spot-there j other)
+        ] in
+        each j worth (sym (leaves-kept j) ∙ leaf)
+        (same-worth p s n j worth (sets-kept j)
+        (ap (λ (ts : List Prices). get_or ts (table_of (spot_at n j)) no_prices) tables
+        ∙ ap (λ (t : ℕ). get_or s.tables t no_prices) same) is_worth)
 
     pub numbers-kept : (more : List Prices) → n.tables ≡ s.tables ++ more → table_of spot < length n.tables
         → ((j : ℕ) → IsLeaf s j → table_of (spot_at s j) < length s.tables)

@@ -1,5 +1,5 @@
 -- A state stays sound where a leaf is split.
-use Rattle.std.proofs.Common.{◌≡◌, ◌≢◌, ℕ, ◌+◌, ◌<◌, ◌≤◌, Bool, true, false, List, [], ◌∷◌, length, refl, sym, ap, ◌∙◌, subst, arith, inl, inr, cond}
+use Rattle.std.proofs.Common.{◌≡◌, ◌≢◌, ℕ, ◌+◌, ◌<◌, ◌≤◌, Bool, true, false, List, [], ◌∷◌, length, get_or, refl, sym, ap, ◌∙◌, subst, arith, inl, inr, cond, pos}
 use Rattle.std.proofs.lemmas.Bool.{cases_eq}
 use Rattle.vs_types.specs.LayerSet.{Has}
 use Rattle.vs_types.specs.declared.layer_set.LayerSet.{LayerSet}
@@ -8,17 +8,21 @@ use Rattle.vs_instance.specs.Instance.{IsInstance}
 use Rattle.vs_instance.specs.Plan.{LayerBlock, IsPlan}
 use Rattle.vs_instance.specs.Restriction.{IsRestriction, IsWithin, set_of}
 use Rattle.vs_prices.specs.declared.bound.Bound.{Bound}
-use Rattle.vs_prices.specs.Bounds.{IsBelow}
+use Rattle.vs_prices.specs.declared.bound.Bound.TheVariants.{AtLeast}
+use Rattle.vs_prices.specs.Bounds.{IsBelow, IsNoLess}
+use Rattle.vs_prices.specs.Worth.{IsWorth, worth_of}
 use Rattle.vs_tree.specs.declared.spot.Spot.{Spot}
 use Rattle.vs_tree.specs.declared.spot.Spot.TheVariants.{Inner, Free, Held, Closed as ClosedSpot}
-use Rattle.vs_tree.specs.Prices.{Prices}
+use Rattle.vs_tree.specs.Prices.{AreWorth, Prices, no_prices}
 use Rattle.vs_prices.specs.Tree.{right_of, with_set}
-use Rattle.vs_tree.specs.History.{Opening, Place, State, Split, IsClosed, IsHeldBy, IsLeaf, IsLeafWorth, MaySplit, after, count_spots, is_closed, is_held, is_inner, known, left_part, no_place, place_at, right_part, sets_at, spot_at, table_of}
+use Rattle.vs_tree.specs.History.{Opening, Place, State, Split, IsClosed, IsHeldBy, IsLeaf, IsLeafWorth, MaySplit, after, count_spots, is_closed, is_held, is_inner, known, left_part, no_place, place_at, prices_at, right_part, sets_at, spot_at, table_of}
 use Rattle.vs_tree.specs.Sound.{IsIn, IsInOneLeaf, IsSound}
 use Rattle.vs_tree.proofs.Spots.{leaf_within}
-use Rattle.vs_prices.proofs.CallerLemmas.{left-restricts, restriction-layers, right-restricts, IsRunIn, run_once, narrower, runs_in, wider}
+use Rattle.vs_prices.proofs.CallerLemmas.{no_less-trans, worth_of-IsWorth, left-restricts, restriction-layers, right-restricts, IsRunIn, run_once, narrower, runs_in, wider}
 use Rattle.vs_types.proofs.CallerLemmas.{rest-within, shares_out, SharesOut}
-use Rattle.vs_tree.proofs.sound.Closed.{all-more, one-more}
+use Rattle.vs_tree.proofs.NarrowerSets.{narrower-no_less, with_set-within}
+use Rattle.vs_tree.proofs.sound.Worths.{new_worth}
+use Rattle.vs_tree.proofs.sound.Closed.{all-more, last-prices, one-more}
 use Rattle.vs_tree.proofs.sound.Grown.{split, other, lower, upper, nowhere, where_is, count-split, length-split, split-here, split-lower, split-nowhere, split-other, split-upper}
 use Rattle.vs_tree.proofs.sound.Relabelled.{prices-kept, same-worth}
 
@@ -249,6 +253,55 @@ module _ (o : Opening) (s : State) (worker leaf table : ℕ) (trip : TripNo) (le
           | nowhere past ↦ absurd (none_past j past is)
         ]
 
+    -- a part is worth no less than the leaf with the new table, and so no less than 0
+    part_worth : (layers : LayerSet) → IsRestriction o.problem (with_set sets trip layers)
+        → ((l : ℕ) → Has layers l → Has (set_of sets trip.0) l) → (worth : Bound)
+        → AreWorth o.problem (with_set sets trip layers) prices worth → IsNoLess worth (AtLeast (pos 0))
+    part_worth layers restricts part worth is_worth =
+        let t = is_worth.table in
+        let whole = worth_of o.problem sets t in
+        let is_whole = worth_of-IsWorth o.problem sets t in
+        no_less-trans worth whole (AtLeast (pos 0))
+        (narrower-no_less o.problem sets (with_set sets trip layers) restricts
+        (with_set-within sets trip layers inside part) t worth whole is_worth.worth is_whole)
+        (new_worth o s leaf table prices was may.gives sound whole
+        (record { table = t; listed = is_worth.listed; worth = is_whole }))
+
+    new_part : (j : ℕ) (layers : LayerSet)
+        → place_at n.places j ≡ record { spot = Free table; sets = with_set sets trip layers }
+        → IsRestriction o.problem (with_set sets trip layers) → ((l : ℕ) → Has layers l → Has (set_of sets trip.0) l)
+        → (worth : Bound) → IsLeafWorth o.problem n j worth → IsNoLess worth (AtLeast (pos 0))
+    new_part j layers is_place restricts part worth is_worth =
+        let prices-are : prices_at n j ≡ prices =
+        ap (λ (q : Place). get_or n.tables (table_of q.spot) no_prices) is_place
+        ∙ last-prices s.tables prices table may.gives.number in
+        let sets-are : sets_at n j ≡ with_set sets trip layers = ap (λ (q : Place). q.sets) is_place in
+        part_worth layers restricts part worth (record {
+          table = is_worth.table;
+          listed = is_worth.listed ∙ prices-are;
+          worth = subst (λ (some : List LayerSet). IsWorth o.problem some is_worth.table worth) sets-are is_worth.worth;
+        })
+
+    worths : (j : ℕ) (worth : Bound) → IsLeaf n j → IsLeafWorth o.problem n j worth → IsNoLess worth (AtLeast (pos 0))
+    worths j worth is is_worth =
+        elim (where_is size leaf j) [
+          | split here ↦ absurd (leaf_no_more j here is)
+          | other apart below ↦
+              let same = spot_other j apart below in
+              let old : IsLeaf s j = ap is_inner (sym same) ∙ is in
+              sound.worths j worth old
+              (same-worth o.problem s n j worth (sets_other j apart below)
+              (prices-kept s n j (prices ∷ []) refl (sound.numbers j old) same) is_worth)
+          | lower here ↦
+              new_part j left (at_lower j here)
+              (left-restricts o.problem sets trip left inside may.part restriction) may.part.within worth is_worth
+          | upper here ↦
+              new_part j right (at_upper j here)
+              (right-restricts o.problem sets trip left inside may.part restriction)
+              (rest-within (set_of sets trip.0) left) worth is_worth
+          | nowhere past ↦ absurd (none_past j past is)
+        ]
+
     -- what is closed or held then was so before
     old_spot : (kind : Spot → Bool) → kind inner ≡ false → kind (Free table) ≡ false → kind no_place.spot ≡ false
         → (j : ℕ) → kind (spot_at n j) ≡ true → (j ≢ leaf) × (j < size)
@@ -302,6 +355,7 @@ module _ (o : Opening) (s : State) (worker leaf table : ℕ) (trip : TripNo) (le
           tables = all-more o.problem s.tables prices sound.tables may.gives.lawful;
           restrictions = restrictions;
           numbers = numbers;
+          worths = worths;
           plans = sound.plans;
           cheaper = sound.cheaper;
           closed = closed;

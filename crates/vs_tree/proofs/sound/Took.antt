@@ -8,7 +8,7 @@ use Rattle.vs_tree.specs.declared.spot.Spot.TheVariants.{Free, Held, Closed as C
 use Rattle.vs_tree.specs.History.{Opening, State, MayTake, IsAmong, IsClosed, IsHeldBy, IsLeafWorth, Took, after, is_closed, is_held, is_inner, known, spot_at, table_of}
 use Rattle.vs_tree.specs.Sound.{IsSound}
 use Rattle.vs_tree.proofs.Spots.{leaf_within}
-use Rattle.vs_tree.proofs.sound.Relabelled.{count-more, count-same, numbers-kept, prices-kept, restrictions-kept, same-worth, sets-kept, shared-kept, spot-here, spot-there}
+use Rattle.vs_tree.proofs.sound.Relabelled.{count-more, count-same, numbers-kept, prices-kept, restrictions-kept, same-worth, sets-kept, shared-kept, spot-here, spot-there, worths-kept}
 
 module _ (o : Opening) (s : State) (worker leaf : ℕ) (may : MayTake o s worker leaf) (sound : IsSound o s) where
   abbrev n : State
@@ -62,6 +62,7 @@ module _ (o : Opening) (s : State) (worker leaf : ℕ) (may : MayTake o s worker
     restrictions = restrictions-kept s n leaf spot within refl o.problem sound.restrictions;
     numbers = numbers-kept s n leaf spot within refl was refl [] (sym (append-nil s.tables))
         (sound.numbers leaf was) sound.numbers;
+    worths = worths-kept s n leaf spot within refl was refl o.problem refl refl sound.worths;
     plans = sound.plans;
     cheaper = sound.cheaper;
     closed = closed;

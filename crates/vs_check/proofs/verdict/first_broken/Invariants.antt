@@ -1,4 +1,4 @@
-use Rattle.std.proofs.Common.{◌≡◌, drop}
+use Rattle.std.proofs.Common.{◌≡◌, drop, length}
 use Rattle.vs_instance.specs.Firsts.{first}
 use Rattle.vs_instance.proofs.CallerLemmas.{first_from}
 use Rattle.vs_need.specs.Nets.{AreNets}
@@ -13,6 +13,6 @@ ghost-broken_for a = a._instance.now
 abbrev pub invariant-loop-t : goal.invariant-loop-t
 invariant-loop-t l = record {
   nets : AreNets l.instance l.nets.nets.now;
-  room : HasRoom l.nets.nets.now l.scratch;
+  room : HasRoom (length l.instance.trips) l.nets.nets.now l.scratch;
   so_far : first_from (table_flaws l.instance) l.t (drop l.t l.tables) ≡ first (tables_flaws l.instance l.tables);
 }

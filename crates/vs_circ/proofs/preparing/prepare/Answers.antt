@@ -33,7 +33,7 @@ returns-clause-can c =
     let Left : Graph → Type 0 = λ g. IsLeftBy g c.fit.new.units c.fit.new.surplus in
     let LeftBy : List ℕ → Type 0 = λ us. IsLeftBy n.graph us c.fit.new.surplus in
     let LeftAt : List ℤ → Type 0 = IsLeftBy n.graph units_now in
-    suit-can n c.args.offers.now _ c.requires.arcs c.requires.nodes c.requires.offers
+    suit-can n c.args.offers.now _ c.requires.arcs c.requires.nodes c.requires.steps
     (record {
       units = ap length units ∙ c.fit.auto.units ∙ ap length c.deref_mut-units.ensures.value ∙ sized.units;
       cost = ap length cost ∙ c.offer_arcs.auto.cost ∙ ap length c.deref_mut-cost.ensures.value ∙ sized.cost;

@@ -6,6 +6,7 @@ use Rattle.vs_circ.proofs.low.LawfulArcs.{trip_arc}
 use Rattle.vs_circ.proofs.shipping.Preparing.{suit-can}
 use Rattle.vs_circ.proofs.shipping.Refitting.{refitted-costs, refitted-first, refitted-rooms, refitted-suit}
 use Rattle.vs_circ.proofs.shipping.SmallArcs.{small_arcs}
+use Rattle.vs_circ.proofs.shipping.SmallSteps.{small_steps}
 use Rattle.vs_circ.proofs.refitting.refit.Goals as goal
 
 pub loop-i-init : goal.loop-i-init
@@ -43,6 +44,7 @@ returns-clause-can c =
       layer.4.each_trip,
       c.loop-i-test.false,
     ) in
-    suit-can n offers s (small_arcs layer.0 layer.2 layer.1.0 n layer.3) c.requires.nodes layer.4.within are.sized
+    suit-can n offers s (small_arcs layer.0 layer.2 layer.1.0 n layer.3) c.requires.nodes
+    (small_steps layer.0 layer.2 layer.1 n layer.3 offers layer.4) are.sized
     (refitted-costs n offers c.loop-i.i s all are) (refitted-rooms n offers c.loop-i.i s all are) are.prices
     (refitted-suit n offers c.loop-i.i s all are) are.left

@@ -1,6 +1,9 @@
 use Rattle.std.proofs.Common.{◌≡◌, ◌∙◌, ℕ, List, ℤ, sym, ap, subst, to_z, of_z, rules}
 use Rattle.std.specs.Int.{w128}
 use Rattle.std.proofs.lemmas.Int.{to_z-of_z}
+use Rattle.vs_path.specs.declared.residual.TheConstants.{MAX_STEP_COST}
+use Rattle.vs_path.specs.Residual.{AllWithin}
+use Rattle.vs_path.proofs.CallerLemmas.{step-within}
 use Rattle.vs_circ.specs.PricedFlows.{PaysNoLess}
 use Rattle.vs_circ.specs.shipping.Values.{worth_of_units}
 use Rattle.vs_circ.proofs.shipping.Relaxed.{centred-moves, least-of-settled}
@@ -15,6 +18,11 @@ layer_prices-requires-clause-prices c =
     let layer = c.requires.of_layer in
     centred-moves layer.0 layer.2 layer.1 c.args.net.now layer.3 c.args.offers.now c.args.shipment.now
     c.requires.settled c.args.space.now.prices.items c.requires.prices
+
+pub worth_of-value-requires-clause-small : goal.worth_of-value-requires-clause-small
+worth_of-value-requires-clause-small c =
+    subst (AllWithin MAX_STEP_COST) (sym c.deref-cost.ensures.value)
+    (step-within c.args.net.now.graph.nodes c.args.shipment.now.costs.cost.items c.requires.settled.offered.small)
 
 pub returns : goal.returns
 returns c = record {

@@ -9,7 +9,7 @@ use Rattle.vs_match.proofs.sizes.full_count.Goals as goal
 pub overflow_add-total : goal.overflow_add-total
 overflow_add-total c =
     let p = c.args.instance.now in
-    let each : (i : ℕ) → count_by (is_connection p c.args.l.0 i) (numbers p) ≤ 2000 = λ i.
+    let each : (i : ℕ) → count_by (is_connection p c.args.l.0 i) (numbers p) ≤ 10000 = λ i.
     omega (
       arith,
       count_by-le-length (is_connection p c.args.l.0 i) (numbers p),
@@ -25,7 +25,7 @@ overflow_add-total c =
       c.loop-i-test.true,
       c.trips-i-end.ensures.count,
       c.trips-i-end.ensures.instance.few_trips,
-      sum_by-≤ (λ i. count_by (is_connection p c.args.l.0 i) (numbers p)) 2000 c.loop-i.i each,
+      sum_by-≤ (λ i. count_by (is_connection p c.args.l.0 i) (numbers p)) 10000 c.loop-i.i each,
     )
 
 pub loop-i-preserved : goal.loop-i-preserved

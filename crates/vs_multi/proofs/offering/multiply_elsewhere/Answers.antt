@@ -1,4 +1,4 @@
-use Rattle.std.proofs.Common.{◌≡◌, ◌∙◌, arith, sym, subst, ℤ, pos, to_z, of_z, w64}
+use Rattle.std.proofs.Common.{◌≡◌, ◌∙◌, length, arith, sym, subst, ℤ, pos, to_z, of_z, w64}
 use Rattle.std.proofs.lemmas.Int.{ints}
 use Rattle.std.proofs.lemmas.List.{length-set}
 use Rattle.vs_instance.specs.Restriction.{set_of}
@@ -17,12 +17,13 @@ loop-i-preserved c =
     record {
       size = length-set c.loop-i.multipliers c.loop-i.i _ ∙ c.loop-i.invariant.size;
       done = place_filled (pos 0)
-          (λ j m. IsLeastElsewhere p (set_of c.args.sets.now j) c.args.table.now c.args.l.0 j m × IsMultiplier m)
+          (λ j m. IsLeastElsewhere p (set_of c.args.sets.now j) c.args.table.now c.args.l.0 j m
+          × IsMultiplier (length p.trips) m)
           c.loop-i.multipliers c.loop-i.i _
           (omega (arith, c.loop-i.invariant.size, c.loop-i-test.true, c.trips-i-end.ensures.count))
           c.loop-i.invariant.done
           (subst (λ (m : ℤ). IsLeastElsewhere p (set_of c.args.sets.now c.loop-i.i) c.args.table.now c.args.l.0
-          c.loop-i.i m × IsMultiplier m) (sym value) (price, within));
+          c.loop-i.i m × IsMultiplier (length p.trips) m) (sym value) (price, within));
     }
 
 pub returns-clause-prices : goal.returns-clause-prices

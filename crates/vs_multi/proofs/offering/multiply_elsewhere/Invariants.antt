@@ -11,5 +11,5 @@ invariant-loop-i l = record {
   size : length l.multipliers ≡ length l.instance.trips;
   done : (j : ℕ) → j < l.i
       → IsLeastElsewhere l.instance (set_of l.sets j) l.table l.l.0 j (multiplier_of l.multipliers j)
-      × IsMultiplier (multiplier_of l.multipliers j);
+      × IsMultiplier (length l.instance.trips) (multiplier_of l.multipliers j);
 }

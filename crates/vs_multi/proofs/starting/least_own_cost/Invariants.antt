@@ -1,4 +1,4 @@
-use Rattle.std.specs.Prelude.{IfSome}
+use Rattle.std.specs.Prelude.{IfSome, length}
 use Rattle.vs_multi.specs.Multipliers.{IsLeastOwnCost, MayCostAlone}
 use Rattle.vs_multi.proofs.starting.least_own_cost.Given as goal
 
@@ -6,5 +6,5 @@ use Rattle.vs_multi.proofs.starting.least_own_cost.Given as goal
 abbrev pub invariant-loop-l : goal.invariant-loop-l
 invariant-loop-l l = record {
   value : IsLeastOwnCost l.instance l.l l.i l.least;
-  limits : IfSome l.least MayCostAlone;
+  limits : IfSome l.least (MayCostAlone (length l.instance.trips));
 }

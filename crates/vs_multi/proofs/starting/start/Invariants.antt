@@ -8,6 +8,6 @@ use Rattle.vs_multi.proofs.starting.start.Given as goal
 abbrev pub invariant-loop-i : goal.invariant-loop-i
 invariant-loop-i l = record {
   size : length l.multipliers ≡ length l.instance.trips;
-  within : (j : ℕ) → j < l.i → IsMultiplier (multiplier_of l.multipliers j);
+  within : (j : ℕ) → j < l.i → IsMultiplier (length l.instance.trips) (multiplier_of l.multipliers j);
   done : (j : TripNo) → j.0 < l.i → IsStart l.instance j (multiplier_of l.multipliers j.0);
 }

@@ -1,5 +1,7 @@
-use Rattle.std.proofs.Common.{◌≡◌, ◌∙◌, List, Option, None, arith, sym, ap, subst, get_or, ℤ, w64, FitsSigned}
+use Rattle.std.proofs.Common.{◌≡◌, ◌∙◌, ℕ, List, Option, None, length, arith, sym, ap, subst, get_or, ℤ, w64, FitsSigned}
 use Rattle.std.specs.Prelude.{IfSome}
+use Rattle.vs_need.specs.Room.{HasRoom}
+use Rattle.vs_need.proofs.Cuts.{kept_room}
 use Rattle.vs_need.proofs.FoundFor.{needs_fit, needs-copied}
 use Rattle.vs_need.proofs.finding.needs.Goals as goal
 
@@ -23,3 +25,12 @@ returns-clause-needs g c =
     (omega (arith, given.each_trip, c.narrow.auto.answer))
     (λ i within. copied i (omega (arith, within, c.narrow.auto.answer))
     ∙ ap (λ (found : List (Option ℤ)). get_or found i None) same)
+
+pub returns-clause-scratch : goal.returns-clause-scratch
+returns-clause-scratch g c =
+    let given = c.requires.1 in
+    let P : ℕ → Type 0 =
+    λ trips. HasRoom trips (g.N.ArcReader.nets c.find_nexts.new.nets) c.find_nexts.new.self in
+    subst P (sym given.each_trip) (kept_room (length g.p.trips) (g.N.ArcReader.nets c.args.nets.now)
+    (g.N.ArcReader.nets c.find_nexts.new.nets) c.args.scratch.now c.find_nexts.new.self c.find_nexts.ensures.nets
+    given.can_judge.room c.find_nexts.ensures.kept)

@@ -1,7 +1,13 @@
 use Rattle.std.proofs.Common.{Bool, sym, subst}
+use Rattle.vs_multi.proofs.CallerLemmas.{of_table_within}
 use Rattle.vs_node.specs.WorkedStep.{AreBegunWith}
 use Rattle.vs_node.proofs.searches.Begun.{worked-by}
 use Rattle.vs_node.proofs.searching.first_round.Goals as goal
+
+pub few_rounds-requires-2-clause-multipliers : goal.few_rounds-requires-2-clause-multipliers
+few_rounds-requires-2-clause-multipliers c =
+    let case = c.args.case.now in
+    of_table_within case.instance.now case.sets.now c.args.own.now c.of_table.new.multipliers c.of_table.ensures
 
 pub returns-then-root-clause-worked : goal.returns-then-root-clause-worked
 returns-then-root-clause-worked c =

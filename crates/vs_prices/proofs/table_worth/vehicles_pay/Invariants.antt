@@ -8,6 +8,6 @@ use Rattle.vs_prices.proofs.table_worth.vehicles_pay.Given as goal
 abbrev pub invariant-loop-l : goal.invariant-loop-l
 invariant-loop-l l = record {
   value : l.paid ≡ total (map (fleet_price l.instance l.table) (range_with_len 0 l.l));
-  low : neg_ℤ (pos (2000000000000000000000 * l.l)) ≤ℤ l.paid;
-  high : l.paid ≤ℤ pos (2000000000000000000000 * l.l);
+  low : neg_ℤ (pos (10000000000000000000000 * l.l)) ≤ℤ l.paid;
+  high : l.paid ≤ℤ pos (10000000000000000000000 * l.l);
 }

@@ -15,7 +15,7 @@ use Rattle.vs_reader.proofs.reading.read_declarations.Goals.{then-not-found-via-
 
 pub loop-number-init : goal.loop-number-init
 loop-number-init c = record {
-  sound = subst IsSound (sym c.new-draft.ensures.declared) IsSound-nothing;
+  sound = subst (IsSound c.args.version) (sym c.new-draft.ensures.declared) (IsSound-nothing c.args.version);
   progress =
       λ rows left. IsProgress-start c.args.version rows c.new-draft.result c.args.records.now
       c.new-draft.ensures.declared c.new-draft.ensures.numbers left;

@@ -7,6 +7,6 @@ use Rattle.vs_reader.proofs.reading.read_declarations.Given as goal
 
 abbrev pub invariant-loop-number : goal.invariant-loop-number
 invariant-loop-number l = record {
-  sound : IsSound (declared_of l.draft);
+  sound : IsSound l.version (declared_of l.draft);
   progress : (rows : List Row) → AreLeft l.fn.records rows → IsProgress l.version rows l.number l.draft l.records;
 }

@@ -42,7 +42,7 @@ made-requires-clause-sound c =
     let begins = rw c.in-Some.is at (c.in_ok-version.ensures c.requires.rows c.requires.left) in
     let d = c.in_ok-declarations.ensures begins.1.0 begins.1.2 in
     IsSound-AddAll c.in-Some.version nothing_yet (declared_of c.in_ok-declarations.declarations.draft)
-    (before_result begins.1.0) IsSound-nothing d.declares
+    (before_result begins.1.0) (IsSound-nothing c.in-Some.version) d.declares
 
 pub made-requires-clause-few : goal.made-requires-clause-few
 made-requires-clause-few c =

@@ -1,10 +1,11 @@
 use Rattle.std.proofs.Common.{inl, refl, arith, ◌<◌, ◌≤◌, List, [], ◌∷◌, ◌++◌, length, drop}
 use Rattle.std.proofs.lemmas.List.{length-drop}
 use Rattle.std.proofs.lemmas.Result.{err_from_is_err_and}
-use Rattle.vs_instance.specs.declared.limits.TheConstants.{MAX_TRIPS}
 use Rattle.csv.specs.Records.{fields_of}
 use Rattle.vs_reader.specs.declared.refused.Why.TheVariants.{TooMany}
 use Rattle.vs_reader.specs.Rows.{Row, field_of}
+use Rattle.vs_reader.specs.declared.version.Version.{Version}
+use Rattle.vs_reader.specs.Versions.{most_in}
 use Rattle.vs_reader.specs.Names.{NameLists}
 use Rattle.vs_reader.specs.Rules.{Rule, WritesNumber, HasRoom, AreKept, layer_names}
 use Rattle.vs_reader.specs.Calls.{call_rules, trip_name_rules}
@@ -12,7 +13,7 @@ use Rattle.vs_reader.proofs.places.RecordFields.{long_row}
 use Rattle.vs_reader.proofs.declaring.RuleLemmas.{AreKept-append, BreaksFirst-skip, BreaksFirst-stop}
 use Rattle.vs_reader.proofs.records.trip.Goals as goal
 
-module _ (names : NameLists) (row : Row) where
+module _ (version : Version) (names : NameLists) (row : Row) where
   -- the rules of a trip's record that are judged before its layers, in four parts
   abbrev to_first : List Rule
   to_first = trip_name_rules names row ++ call_rules names row 2
@@ -27,7 +28,7 @@ module _ (names : NameLists) (row : Row) where
   for_layers = layer_names names.layers [] (drop 7 row)
 
   abbrev for_room : List Rule
-  for_room = HasRoom MAX_TRIPS names.trips ∷ []
+  for_room = HasRoom (most_in version) names.trips ∷ []
 
   kept_to_metres : AreKept (trip_name_rules names row) → AreKept (call_rules names row 2)
       → AreKept (call_rules names row 4)
@@ -40,31 +41,38 @@ module _ (names : NameLists) (row : Row) where
 
 pub returns-in_err-layers : goal.returns-in_err-layers
 returns-in_err-layers c =
+    let version = c.args.version in
     let names = c.args.names.now in
     let row = fields_of c.args.row.now in
     let kept =
-    kept_to_metres names row c.in_ok-named_trip.ensures.0
+    kept_to_metres version names row c.in_ok-named_trip.ensures.0
     c.in_ok-first.ensures.0 c.in_ok-last.ensures.0 c.in_ok-metres.ensures.0 in
-    let breaks = BreaksFirst-stop (for_layers names row) (for_room names row) _ c.in_err-layers.ensures in
+    let breaks = BreaksFirst-stop (for_layers version names row) (for_room version names row) _
+    c.in_err-layers.ensures in
     let p = err_from_is_err_and c.from_residual-in_err-layers.result c.from_residual-in_err-layers.ensures.1 in
     rw (p.1, p.2)
-    (BreaksFirst-skip (to_metres names row) (for_layers names row ++ for_room names row) _ kept breaks)
+    (BreaksFirst-skip (to_metres version names row) (for_layers version names row ++ for_room version names row)
+    _ kept breaks)
 
-pub returns-then-trips : goal.returns-then-trips
-returns-then-trips c =
+pub returns-then-trips-most : goal.returns-then-trips-most
+returns-then-trips-most c =
+    let version = c.args.version in
     let names = c.args.names.now in
     let row = fields_of c.args.row.now in
     let kept =
-    kept_to_metres names row c.in_ok-named_trip.ensures.0
+    kept_to_metres version names row c.in_ok-named_trip.ensures.0
     c.in_ok-first.ensures.0 c.in_ok-last.ensures.0 c.in_ok-metres.ensures.0 in
-    let full : ¬ (length names.trips < MAX_TRIPS) =
-    λ room. absurd (omega (arith, c.trips.ensures.count, c.if-trips.true)) in
+    let full : ¬ (length names.trips < most_in version) =
+    λ room. absurd (omega (arith, c.trips.ensures.count, c.most.ensures, c.if-trips-most.true)) in
     let breaks =
-    BreaksFirst-skip (for_layers names row) (for_room names row) TooMany c.in_ok-layers.ensures.0 (inl (full, refl)) in
-    BreaksFirst-skip (to_metres names row) (for_layers names row ++ for_room names row) TooMany kept breaks
+    BreaksFirst-skip (for_layers version names row) (for_room version names row) TooMany
+    c.in_ok-layers.ensures.0 (inl (full, refl)) in
+    BreaksFirst-skip (to_metres version names row) (for_layers version names row ++ for_room version names row)
+    TooMany kept breaks
 
 pub returns : goal.returns
 returns c =
+    let version = c.args.version in
     let names = c.args.names.now in
     let row = fields_of c.args.row.now in
     let name = c.in_ok-named_trip.ensures in
@@ -72,10 +80,12 @@ returns c =
     let last = c.in_ok-last.ensures in
     let metres = c.in_ok-metres.ensures in
     let many : 8 ≤ length row = name.0.0 in
-    let room : length names.trips < MAX_TRIPS = omega (arith, c.trips.ensures.count, c.if-trips.false) in
-    let behind = AreKept-append (for_layers names row) (for_room names row) c.in_ok-layers.ensures.0 (room, tt) in (
-      AreKept-append (to_metres names row) (for_layers names row ++ for_room names row)
-          (kept_to_metres names row name.0 first.0 last.0 metres.0) behind,
+    let room : length names.trips < most_in version = omega
+    (arith, c.trips.ensures.count, c.most.ensures, c.if-trips-most.false) in
+    let behind = AreKept-append (for_layers version names row) (for_room version names row)
+    c.in_ok-layers.ensures.0 (room, tt) in (
+      AreKept-append (to_metres version names row) (for_layers version names row ++ for_room version names row)
+          (kept_to_metres version names row name.0 first.0 last.0 metres.0) behind,
       record {
         from = field_of row 2;
         start = field_of row 3;

@@ -44,8 +44,8 @@ returns-clause-stopped g c =
     let left = c.loop-goes_on.left in
     IfOk-weaker c.document_of.result (IsPrintedOf now (c.args.budget - left)) (StoppedResume p c.args.budget
     c.args.document)
-    (λ e prints. so_far p c.trips.ensures.instance c.args.budget c.requires.budget c.args.document c.requires.room now
-    left c.loop-goes_on.invariant.on_course e prints) c.document_of.ensures
+    (λ e prints. so_far p c.trips.ensures.instance c.args.budget c.requires.budget c.args.document c.requires.text
+    c.requires.holds c.requires.room now left c.loop-goes_on.invariant.on_course e prints) c.document_of.ensures
 
 pub returns-clause-answers : goal.returns-clause-answers
 returns-clause-answers g c never =
@@ -59,5 +59,5 @@ returns-clause-answers g c never =
       | then-loop-goes_on-test+else-left-gt0 w ↦ inl (let none = w.if-left-gt0.false in omega (arith, none))
     ] in
     IfOk-weaker c.document_of.result (IsPrintedOf now (c.args.budget - left)) (ResumeAnswer p c.args.budget d)
-    (λ e prints. answers p c.trips.ensures.instance c.args.budget c.requires.budget d c.requires.room now left
-    c.loop-goes_on.invariant.on_course e prints done) c.document_of.ensures
+    (λ e prints. answers p c.trips.ensures.instance c.args.budget c.requires.budget d c.requires.text c.requires.holds
+    c.requires.room now left c.loop-goes_on.invariant.on_course e prints done) c.document_of.ensures

@@ -23,8 +23,9 @@ deepened-requires g c =
     record {
       sets = subst (IsRestriction p)
           (sym (c.deref-layers.ensures.value ∙ c.in_ok-sets.ensures.items ∙ c.deref.ensures.value)) restricts;
-      some = omega (arith, c.min.ensures, c.requires.left);
-      few = omega (arith, c.min.ensures);
+      some = c.turn_nodes.ensures.some;
+      few = c.turn_nodes.ensures.few;
+      room = c.turn_nodes.ensures.room;
       can = c.requires.can;
     }
 
@@ -35,7 +36,7 @@ put_part-requires g c =
     let inside = next_within old c.args.k c.requires.next in
     let found = c.index.result.now in
     let here = case_at p old c.requires.course c.args.k inside found c.index.ensures in
-    let deep : IsBegunOn (narrowed p c.deref-layers.result.now) c.min.result c.in_ok-tree.tree =
+    let deep : IsBegunOn (narrowed p c.deref-layers.result.now) c.turn_nodes.result c.in_ok-tree.tree =
     c.in_ok-tree.ensures.begun in
     let budget = deep.budget in
     record {
@@ -44,7 +45,7 @@ put_part-requires g c =
       sets = λ other there. same_sets old c.args.k found other here there
           ∙ sym (c.in_ok-sets.ensures.items ∙ c.deref.ensures.value);
       part = deep.problem ∙ ap (λ (s : List LayerSet). narrowed p s) c.deref-layers.ensures.value;
-      budget = omega (arith, budget, c.min.ensures);
+      budget = omega (arith, budget, c.turn_nodes.ensures.few);
       few = c.requires.few;
     }
 
@@ -76,7 +77,7 @@ returns g c =
     let found = c.index.result.now in
     let here = case_at p old c.requires.course c.args.k inside found c.index.ensures in
     let t = c.in_ok-tree.tree in
-    let deep : IsBegunOn (narrowed p c.deref-layers.result.now) c.min.result t = c.in_ok-tree.ensures.begun in
+    let deep : IsBegunOn (narrowed p c.deref-layers.result.now) c.turn_nodes.result t = c.in_ok-tree.ensures.begun in
     let known = c.instance-part.ensures in
     let sound = histories_are_sound t.opening t.steps known.opening known.history in
     let nodes = c.report-finished.result.finished in
@@ -88,19 +89,20 @@ returns g c =
     let layers : put.leaf.sets.items ≡ c.deref-layers.result.now =
     same_sets old c.args.k found put.leaf here put.is_leaf
     ∙ sym (c.deref-layers.ensures.value ∙ c.in_ok-sets.ensures.items ∙ c.deref.ensures.value) in
-    let of_leaf = subst (λ (s : List LayerSet). IsBegunOn (narrowed p s) c.min.result t) (sym layers) deep in
+    let of_leaf = subst (λ (s : List LayerSet). IsBegunOn (narrowed p s) c.turn_nodes.result t) (sym layers) deep in
     let some_node : 1 ≤ nodes = some_of nodes c.if-finished-eq0.false in
-    let few_nodes : nodes ≤ c.min.result = omega (arith, finished, spent, budget) in
+    let few_nodes : nodes ≤ c.turn_nodes.result = omega (arith, finished, spent, budget) in
     let same = ap (λ ts. length ts.items) taken.tables in
     record {
       stays = c.deepened.ensures.stays;
       may = c.deepened.ensures.may;
       turn = inr (
         some_node,
-        omega (arith, few_nodes, c.min.ensures),
+        omega (arith, few_nodes, c.turn_nodes.ensures.few),
         λ s course. turned_on p c.trips.ensures.instance c.args.left nodes c.args.k t old mid new put taken
-            known.opening known.history (omega (arith, few_nodes, c.min.ensures))
-            (omega (arith, few_nodes, c.min.ensures)) finished some_node c.min.result of_leaf c.requires.next s course,
+            known.opening known.history (omega (arith, few_nodes, c.turn_nodes.ensures.few))
+            (omega (arith, few_nodes, c.turn_nodes.ensures.within)) finished some_node c.turn_nodes.result
+            of_leaf c.requires.next s course,
       );
       few = omega (arith, same, c.in_ok-put_part.ensures.few);
       goes_on = λ never. ap not (c.is_over.ensures.1 (c.in_ok-tree.ensures.found never).over);

@@ -1,11 +1,13 @@
 use Rattle.std.proofs.Common.{inl, inr, arith}
 use Rattle.std.proofs.lemmas.Int.{ints}
+use Rattle.vs_path.proofs.CallerLemmas.{steps-few}
 use Rattle.vs_ship.proofs.centring.raise.Goals as goal
 
 pub returns-clause-raised : goal.returns-clause-raised
 returns-clause-raised c =
     let raised = c.raise.ensures.raised in
-    let few = c.requires.small.nodes in
+    let nodes = c.args.residual.now.graph.nodes in
+    let path = steps-few nodes nodes (omega arith) in
     let source = c.requires.within c.args.source in
     record {
       each_node = omega (arith, c.requires.small.each_node);
@@ -23,7 +25,7 @@ returns-clause-raised c =
                 let at = c.requires.within far.0 in
                 record {
                   low = omega (arith, ints, here.low, rose);
-                  high = omega (arith, ints, here.high, most, far.2, at.low, source.high, few);
+                  high = omega (arith, ints, here.high, most, far.2, at.low, source.high, path);
                 }
           ];
       sign_rule = c.raise.ensures.sign_rule;

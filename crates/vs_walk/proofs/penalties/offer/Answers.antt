@@ -18,5 +18,6 @@ returns-clause-bid c = record {
 pub returns-clause-within : goal.returns-clause-within
 returns-clause-within c = (
   omega (arith, ints, clamps, c.max.ensures.value, c.min.ensures.value),
-  omega (arith, ints, clamps, c.max.ensures.value, c.min.ensures.value),
+  omega (arith, ints, clamps, c.max.ensures.value, c.min.ensures.value, c.most_multiplier.ensures.limit),
+  omega (arith, ints, clamps, c.max.ensures.value, c.min.ensures.value, c.most_multiplier.ensures.value),
 )

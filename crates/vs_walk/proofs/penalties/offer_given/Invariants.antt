@@ -10,5 +10,6 @@ abbrev pub invariant-loop-i : goal.invariant-loop-i
 invariant-loop-i l = record {
   size : length l.offers ≡ length l.case.instance.now.trips;
   done : (j : ℕ) → j < l.i
-      → IfSome (offer_of l.offers j) (λ o. IsMultiplier o × Has (set_of l.case.sets.now j) l.l.0);
+      → IfSome (offer_of l.offers j)
+      (λ o. IsMultiplier (length l.case.instance.now.trips) o × Has (set_of l.case.sets.now j) l.l.0);
 }

@@ -1,4 +1,4 @@
-use Rattle.std.proofs.Common.{◌≡◌, ◌≤◌, List, sym, ap, ◌∙◌, subst}
+use Rattle.std.proofs.Common.{◌≡◌, ◌≤◌, ℕ, List, length, sym, ap, ◌∙◌, subst}
 use Rattle.std.specs.FinMap as map
 use Rattle.std.specs.Option.{IfSome}
 use Rattle.std.proofs.lemmas.Result.{err_from_is_err_and}
@@ -12,12 +12,17 @@ use Rattle.vs_instance.proofs.deadheads.Gathered.{Map}
 use Rattle.vs_instance.proofs.misfits.Judged.{all_short, at_layers, at_deadheads, at_trips, at_closure, refuses, refuses_error, made}
 use Rattle.vs_instance.proofs.instance.Instance.new.Goals as goal
 
+-- what was judged are the layers and trips of the parts
+layers_are : (most : ℕ) (ts us : List Trip) (ls ms : List Layer) → ts ≡ us → ls ≡ ms
+    → first_misfit (layers_misfits most (length ts) ls) ≡ first_misfit (layers_misfits most (length us) ms)
+layers_are most ts us ls ms trips layers = λ i. first_misfit (layers_misfits most (length (trips i)) (layers i))
+
 pub returns-in-Some-clause-refused : goal.returns-in-Some-clause-refused
 returns-in-Some-clause-refused c =
     let first =
     at_layers c.args.parts c.in-Some.misfit
-    (c.in-Some.ensures
-    ∙ ap (λ (ls : List Layer). first_misfit (layers_misfits ls)) c.as_slice-layers.ensures.value) in
+    (c.in-Some.ensures ∙ layers_are c.args.parts.most _ _ _ _ c.as_slice-trips.ensures.value
+    c.as_slice-layers.ensures.value) in
     λ _. refuses c.args.parts c.in-Some.misfit first
 
 pub returns-in_err-ways-clause-misfit : goal.returns-in_err-ways-clause-misfit
@@ -26,8 +31,8 @@ returns-in_err-ways-clause-misfit c =
     let told : IsFirstOf (deadheads_misfits c.as_slice-deadheads.result.now) p.0 =
     rw p.2 c.in_err-ways.ensures.misfit in
     let h = at_deadheads c.args.parts p.0
-    (c.in_default.ensures
-    ∙ ap (λ (ls : List Layer). first_misfit (layers_misfits ls)) c.as_slice-layers.ensures.value)
+    (c.in_default.ensures ∙ layers_are c.args.parts.most _ _ _ _ c.as_slice-trips.ensures.value
+    c.as_slice-layers.ensures.value)
     (subst (λ (ds : List Deadhead). IsFirstOf (deadheads_misfits ds) p.0) c.as_slice-deadheads.ensures.value told) in
     rw p.1 h
 
@@ -37,16 +42,16 @@ returns-in_err-ways-clause-refused c =
     let told : IsFirstOf (deadheads_misfits c.as_slice-deadheads.result.now) p.0 =
     rw p.2 c.in_err-ways.ensures.misfit in
     let h = at_deadheads c.args.parts p.0
-    (c.in_default.ensures
-    ∙ ap (λ (ls : List Layer). first_misfit (layers_misfits ls)) c.as_slice-layers.ensures.value)
+    (c.in_default.ensures ∙ layers_are c.args.parts.most _ _ _ _ c.as_slice-trips.ensures.value
+    c.as_slice-layers.ensures.value)
     (subst (λ (ds : List Deadhead). IsFirstOf (deadheads_misfits ds) p.0) c.as_slice-deadheads.ensures.value told) in
     rw p.1 (refuses_error c.args.parts p.0 h)
 
 pub returns-in-Some-trips_misfit-clause-misfit : goal.returns-in-Some-trips_misfit-clause-misfit
 returns-in-Some-trips_misfit-clause-misfit c =
     at_trips c.args.parts c.in-Some-trips_misfit.misfit
-    (c.in_default.ensures
-    ∙ ap (λ (ls : List Layer). first_misfit (layers_misfits ls)) c.as_slice-layers.ensures.value)
+    (c.in_default.ensures ∙ layers_are c.args.parts.most _ _ _ _ c.as_slice-trips.ensures.value
+    c.as_slice-layers.ensures.value)
     (sym (ap deadheads_misfits c.as_slice-deadheads.ensures.value) ∙ c.in_ok-ways.ensures.fit)
     (c.in-Some-trips_misfit.ensures ∙ ap (λ (ts : List Trip). first_misfit (trips_misfits ts))
     c.as_slice-trips.ensures.value)
@@ -54,8 +59,8 @@ returns-in-Some-trips_misfit-clause-misfit c =
 pub returns-in-Some-trips_misfit-clause-refused : goal.returns-in-Some-trips_misfit-clause-refused
 returns-in-Some-trips_misfit-clause-refused c =
     let first = at_trips c.args.parts c.in-Some-trips_misfit.misfit
-    (c.in_default.ensures
-    ∙ ap (λ (ls : List Layer). first_misfit (layers_misfits ls)) c.as_slice-layers.ensures.value)
+    (c.in_default.ensures ∙ layers_are c.args.parts.most _ _ _ _ c.as_slice-trips.ensures.value
+    c.as_slice-layers.ensures.value)
     (sym (ap deadheads_misfits c.as_slice-deadheads.ensures.value) ∙ c.in_ok-ways.ensures.fit)
     (c.in-Some-trips_misfit.ensures
     ∙ ap (λ (ts : List Trip). first_misfit (trips_misfits ts)) c.as_slice-trips.ensures.value) in
@@ -76,8 +81,8 @@ returns-in-Some-detour-clause-misfit c =
     let given : c.in_ok-ways.ways.given ≡ deadheads_of c.args.parts.deadheads.items =
     c.in_ok-ways.ensures.given.1 ∙ ap deadheads_of c.as_slice-deadheads.ensures.value in
     at_closure c.args.parts c.in-Some-detour.misfit
-    (c.in_default.ensures
-    ∙ ap (λ (ls : List Layer). first_misfit (layers_misfits ls)) c.as_slice-layers.ensures.value)
+    (c.in_default.ensures ∙ layers_are c.args.parts.most _ _ _ _ c.as_slice-trips.ensures.value
+    c.as_slice-layers.ensures.value)
     (sym (ap deadheads_misfits c.as_slice-deadheads.ensures.value) ∙ c.in_ok-ways.ensures.fit)
     (c.in_default-trips_misfit.ensures
     ∙ ap (λ (ts : List Trip). first_misfit (trips_misfits ts)) c.as_slice-trips.ensures.value)
@@ -89,8 +94,8 @@ returns-in-Some-detour-clause-refused c =
     let given : c.in_ok-ways.ways.given ≡ deadheads_of c.args.parts.deadheads.items =
     c.in_ok-ways.ensures.given.1 ∙ ap deadheads_of c.as_slice-deadheads.ensures.value in
     let first = at_closure c.args.parts c.in-Some-detour.misfit
-    (c.in_default.ensures
-    ∙ ap (λ (ls : List Layer). first_misfit (layers_misfits ls)) c.as_slice-layers.ensures.value)
+    (c.in_default.ensures ∙ layers_are c.args.parts.most _ _ _ _ c.as_slice-trips.ensures.value
+    c.as_slice-layers.ensures.value)
     (sym (ap deadheads_misfits c.as_slice-deadheads.ensures.value) ∙ c.in_ok-ways.ensures.fit)
     (c.in_default-trips_misfit.ensures
     ∙ ap (λ (ts : List Trip). first_misfit (trips_misfits ts)) c.as_slice-trips.ensures.value)
@@ -103,8 +108,8 @@ invariant_of-result c =
     let given : c.in_ok-ways.ways.given ≡ deadheads_of c.args.parts.deadheads.items =
     c.in_ok-ways.ensures.given.1 ∙ ap deadheads_of c.as_slice-deadheads.ensures.value in
     let whole = made c.args.parts c.requires
-    (c.in_default.ensures
-    ∙ ap (λ (ls : List Layer). first_misfit (layers_misfits ls)) c.as_slice-layers.ensures.value)
+    (c.in_default.ensures ∙ layers_are c.args.parts.most _ _ _ _ c.as_slice-trips.ensures.value
+    c.as_slice-layers.ensures.value)
     (sym (ap deadheads_misfits c.as_slice-deadheads.ensures.value) ∙ c.in_ok-ways.ensures.fit)
     (c.in_default-trips_misfit.ensures
     ∙ ap (λ (ts : List Trip). first_misfit (trips_misfits ts)) c.as_slice-trips.ensures.value)
@@ -124,8 +129,8 @@ returns-clause-made c =
     let given : c.in_ok-ways.ways.given ≡ deadheads_of c.args.parts.deadheads.items =
     c.in_ok-ways.ensures.given.1 ∙ ap deadheads_of c.as_slice-deadheads.ensures.value in
     made c.args.parts c.requires
-    (c.in_default.ensures
-    ∙ ap (λ (ls : List Layer). first_misfit (layers_misfits ls)) c.as_slice-layers.ensures.value)
+    (c.in_default.ensures ∙ layers_are c.args.parts.most _ _ _ _ c.as_slice-trips.ensures.value
+    c.as_slice-layers.ensures.value)
     (sym (ap deadheads_misfits c.as_slice-deadheads.ensures.value) ∙ c.in_ok-ways.ensures.fit)
     (c.in_default-trips_misfit.ensures
     ∙ ap (λ (ts : List Trip). first_misfit (trips_misfits ts)) c.as_slice-trips.ensures.value)

@@ -1,4 +1,4 @@
-use Rattle.std.proofs.Common.{◌≡◌, ◌+◌, ◌<◌, ◌≤◌, List, length, arith, get_or, sym, ◌∙◌, ext_get_or, w64, ℤ, pos, of_z, to_z}
+use Rattle.std.proofs.Common.{◌≡◌, ◌+◌, ◌<◌, ◌≤◌, ℕ, List, length, set, arith, get_or, sym, subst, ◌∙◌, ext_get_or, w64, ℤ, pos, of_z, to_z}
 use Rattle.std.proofs.lemmas.Int.{ints, to_z-of_z}
 use Rattle.std.proofs.lemmas.List.{length-set, get_or_default}
 use Rattle.vs_multi.specs.Multipliers.{IsMultiplier}
@@ -29,12 +29,18 @@ loop-i-preserved c =
     between-same (to_z w64 (of_z w64 c.index.result.now)) (to_z w64 (of_z w64 (get_or newest i (pos 0))))
     c.nearer.result c.nearer.ensures.between (get_or old i (pos 0)) (get_or newest i (pos 0)) number
     (start ∙ read ∙ before) end (sym same) in
-    let is : IsMultiplier number =
-    between-IsMultiplier (get_or old i (pos 0)) (get_or newest i (pos 0)) number between
-    (c.requires.within i) newer in
+    let long : length newest ≡ length (set items i number) =
+    omega (arith, length-set items i number, inv.each_trip, c.requires.each_trip) in
+    let other_is : (k : ℕ) → IsMultiplier (length newest) (get_or items k (pos 0)) =
+    λ k. subst (λ (n : ℕ). IsMultiplier n (get_or items k (pos 0)))
+    (inv.each_trip ∙ sym c.requires.each_trip) (inv.within k) in
+    let is : IsMultiplier (length newest) number =
+    between-IsMultiplier (get_or old i (pos 0)) (get_or newest i (pos 0)) number between (length newest)
+    (subst (λ (n : ℕ). IsMultiplier n (get_or old i (pos 0))) (sym c.requires.each_trip) (c.requires.within i)) newer in
     record {
       each_trip = length-set items i number ∙ inv.each_trip;
-      within = each_after_set (λ k n. IsMultiplier n) items i number inside (λ k other. inv.within k) is;
+      within = λ k. subst (λ (n : ℕ). IsMultiplier n (get_or (set items i number) k (pos 0))) long
+          (each_after_set (λ j n. IsMultiplier (length newest) n) items i number inside (λ j other. other_is j) is k);
       passes = inv.passes;
       taken = each_after_set (λ k n. k < i + 1 → LiesBetween (get_or old k (pos 0)) (get_or newest k (pos 0)) n)
           items i number inside (λ k other below. inv.taken k (omega arith)) (λ below. between);

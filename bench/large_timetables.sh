@@ -1,0 +1,82 @@
+#!/usr/bin/env bash
+# Solves large timetables of version 3 by `--nodes 1` and four workers, judges each document, and says how long that
+# took and the gap. While nothing else runs on four processors, each has to keep its goals.
+#
+#     bench/large_timetables.sh [PROGRAM [TIMETABLE..]]
+#
+# A TIMETABLE is made_5000, made_10000, city_4 or city_12, and all of them where none is given. It takes some six
+# minutes, and ends with 1 where a document was wrong or a goal was missed.
+set -u
+program=$(realpath "${1:-bin/mdvsp}")
+[ $# -eq 0 ] || shift
+cd "$(dirname "$0")/.." || exit 1
+work=$(mktemp -d)
+trap 'rm -rf "$work"' EXIT
+wrong=0
+
+# The milliseconds in which `check` has to judge each document.
+CHECK=3000
+
+# The timetable $1.
+timetable() {
+  case $1 in
+    made_5000) "$program" make 5000 ;;
+    made_10000) "$program" make 10000 ;;
+    city_4) bench/city.py 5000 41 2 2 ;;
+    city_12) bench/city.py 5000 41 3 4 ;;
+  esac
+}
+
+# The goals of the timetable $1: the milliseconds of the search, and the gap in parts per million of the cost.
+goals() {
+  case $1 in
+    made_5000) echo 40000 1000 ;;
+    made_10000) echo 150000 1500 ;;
+    city_4) echo 70000 200 ;;
+    city_12) echo 150000 3000 ;;
+  esac
+}
+
+# Runs the program with the words behind the first, writes to the file $1, and says how many milliseconds it took.
+timed() {
+  local output=$1 start
+  shift
+  start=$(date +%s%3N)
+  "$program" --quiet "$@" > "$output"
+  echo $(($(date +%s%3N) - start))
+}
+
+# The gap of a document in parts per million of its cost, rounded up, or 1000000 where it has no plan.
+gap_of() {
+  awk -F, '$1 == "cost" { cost = $2 } $1 == "bound" { bound = $2; exit }
+    END { if (cost == "none" || cost + 0 == 0) print 1000000
+          else { gap = (cost - bound) * 1000000 / cost; print (gap > int(gap) ? int(gap) + 1 : gap) } }' "$1"
+}
+
+# Solves and judges the timetable $1.
+tries() {
+  local most most_gap took checked gap row reason=
+  read -r most most_gap <<< "$(goals "$1")"
+  timetable "$1" > "$work/timetable"
+  took=$(timed "$work/document" solve --workers 4 --nodes 1 "$work/timetable")
+  checked=$(timed "$work/row" check "$work/timetable" "$work/document")
+  row=$(cat "$work/row")
+  gap=$(gap_of "$work/document")
+  case $row in
+    yes,*) ;;
+    *) reason=", which is wrong" ;;
+  esac
+  [ "$took" -le "$most" ] || reason="$reason, later than $most ms"
+  [ "$gap" -le "$most_gap" ] || reason="$reason, above $most_gap parts per million"
+  [ "$checked" -le "$CHECK" ] || reason="$reason, judged later than $CHECK ms"
+  [ -z "$reason" ] || wrong=$((wrong + 1))
+  echo "large_timetables: $1: $took ms, $gap parts per million, judged in $checked ms: $row$reason"
+}
+
+[ $# -gt 0 ] || set -- made_5000 made_10000 city_4 city_12
+for name in "$@"; do
+  [ -n "$(goals "$name")" ] || { echo "large_timetables: there is no timetable $name"; exit 1; }
+  tries "$name"
+done
+echo "large_timetables: $wrong wrong"
+[ "$wrong" -eq 0 ]
