@@ -2,9 +2,10 @@
 """Keeps what is written from packaging/commands.txt: the usage, the manual page, and the completions of three shells.
 
     tools/usage.py            fails where a file isn't what the table says, and where the versions differ: that of the
-                              table from CHANGES.md and the Python package, its toolchain from `rt version`
+                              table from CHANGES.md and the Python package, the logic of its toolchain from `rt version`
     tools/usage.py --write    writes these files
 
+Toolchains of several names have one logic, which is all that proofs depend on. Another name is printed and is no fault.
 Where `rt` isn't installed, the toolchain isn't compared, and the script says so.
 """
 
@@ -411,8 +412,11 @@ def version_faults(table: Table) -> Iterator[str]:
         print("usage: rt isn't here, so the toolchain's name is not compared")
         return
     run = subprocess.run(["rt", "version"], capture_output=True, text=True, check=False)
-    if run.stdout.strip() != table.toolchain:
-        yield f"`rt version` prints {run.stdout.strip()!r}, packaging/commands.txt has {table.toolchain!r}"
+    here = run.stdout.strip()
+    if here.partition(" logic ")[2] != table.toolchain.partition(" logic ")[2]:
+        yield f"`rt version` prints {here!r}, packaging/commands.txt has {table.toolchain!r}"
+    elif here != table.toolchain:
+        print(f"usage: the toolchain here is {here!r}, with the logic of {table.toolchain!r}")
 
 
 def main() -> int:

@@ -6,7 +6,7 @@ use crate::command::Command;
 pub const VERSION: &str = "1.0.0";
 
 /// The toolchain whose proof the sources pass.
-pub const TOOLCHAIN: &str = "rattle-kit-13f logic dac8208d650f15bf";
+pub const TOOLCHAIN: &str = "rattle-kit-13b logic dac8208d650f15bf";
 
 /// How the program is called, in a line.
 pub const USAGE_LINE: &str = "usage: mdvsp [--quiet] [--log] COMMAND [ARGUMENTS] > output";
