@@ -124,7 +124,7 @@ fn main() {
         known: None,
         root: false,
     };
-    let mut room = vs_node::Room::new((), &nets).expect("memory");
+    let mut room = vs_node::Room::new((), &nets, 1).expect("memory");
     let (begun, log) = (Instant::now(), env::var("LOG").is_ok());
     let mut taken = 0;
     loop {

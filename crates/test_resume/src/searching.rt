@@ -29,7 +29,7 @@ pub fn searched(alloc: Global, instance: &Instance, budget: u32) -> Result<Tree,
     let nets = layer_nets(alloc, instance)?;
     let mut tree = Tree::start(alloc, instance.copy(alloc)?, budget, 1, None)?;
     let mut task = blank_task(alloc, instance)?;
-    let mut room = Room::new(alloc, &nets)?;
+    let mut room = Room::new(alloc, &nets, 1)?;
     let mut left = budget;
     while left > 0 {
         let Some(leaf) = take(&mut tree, &mut task) else {

@@ -115,7 +115,7 @@ fn worked(
 /// What the best round is worth, what the plan costs then, and what becomes of the root.
 fn found(alloc: Global, instance: &Instance) -> Result<(Bound, Option<i64>, Next), Fail> {
     let nets = layer_nets(alloc, instance)?;
-    let mut room = Room::new(alloc, &nets)?;
+    let mut room = Room::new(alloc, &nets, 1)?;
     let (worth, task) = root_task(alloc, instance, &nets, &mut room.work)?;
     let (cost, next) = worked(alloc, instance, &nets, &task, &mut room)?;
     Ok((worth, cost, next))

@@ -25,7 +25,7 @@ fn worked(alloc: Global, instance: &Instance) -> Result<Outcome, Fail>
         known: None,
         root: true,
     };
-    let mut room = Room::new(alloc, &nets)?;
+    let mut room = Room::new(alloc, &nets, 1)?;
     Ok(work(alloc, instance, &nets, &task, &mut room)?)
 }
 

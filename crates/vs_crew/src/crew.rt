@@ -78,14 +78,14 @@ fn enlisted(alloc: Global, instance: &Instance, workers: u32) -> Result<Vec<Work
 {
     let mut crew = Vec::with_capacity(alloc, workers as usize)?;
     for number in 0..workers {
-        let worker = enlist(alloc, instance, number)?;
+        let worker = enlist(alloc, instance, workers, number)?;
         crew.push(worker)?;
     }
     Ok(crew)
 }
 
-/// A worker of this number. It keeps nothing for the nets before it works on a leaf.
-fn enlist(alloc: Global, instance: &Instance, number: u32) -> Result<Worker, Memory>
+/// A worker of this number among so many. It keeps nothing for the nets before it works on a leaf.
+fn enlist(alloc: Global, instance: &Instance, workers: u32, number: u32) -> Result<Worker, Memory>
     ensures { IfOk result (IsEnlisted instance.now number) }
 {
     Ok(Worker {
@@ -97,7 +97,7 @@ fn enlist(alloc: Global, instance: &Instance, number: u32) -> Result<Worker, Mem
             known: None,
             root: false,
         },
-        room: Room::new(alloc, &[])?,
+        room: Room::new(alloc, &[], workers)?,
         taken: 0,
         over: false,
     })

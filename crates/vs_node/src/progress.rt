@@ -12,7 +12,9 @@ const TIMES: i128 = 4;
 /// how far it has come.
 #[derive(Clone, Copy, Debug)]
 pub struct Progress {
-    /// How many leaves there were.
+    /// How many workers take leaves side by side.
+    workers: u32,
+    /// How many leaves they have taken together, as far as one of them can tell.
     leaves: u32,
     /// What the first one's table was worth.
     first: Option<i128>,
@@ -21,9 +23,10 @@ pub struct Progress {
 }
 
 impl Progress {
-    /// Before the first leaf.
-    pub fn new() -> Progress {
+    /// Before the first leaf of one of so many workers.
+    pub fn new(workers: u32) -> Progress {
         Progress {
+            workers,
             leaves: 0,
             first: None,
             vain: false,
@@ -35,8 +38,9 @@ impl Progress {
         self.vain
     }
 
-    /// Counts a leaf whose table is worth so much. After this many, further ones are in vain where they raise the
-    /// bound so slowly that it doesn't come near the cost that is known.
+    /// Counts a leaf whose table is worth so much, once for each worker, since all of them take as many. After this
+    /// many leaves, further ones are in vain where they raise the bound so slowly that it doesn't come near the cost
+    /// that is known.
     pub(crate) fn note(&mut self, trial: u32, worth: Bound, known: Option<i64>) {
         let (Bound::AtLeast(worth), Some(known)) = (worth, known) else {
             self.vain = false;
@@ -47,6 +51,6 @@ impl Progress {
         let rise = worth.saturating_sub(first).saturating_mul(LEAVES * TIMES);
         let gap = i128::from(known).saturating_sub(worth);
         self.vain = self.leaves > trial && rise < gap.saturating_mul(i128::from(self.leaves));
-        self.leaves = self.leaves.saturating_add(1);
+        self.leaves = self.leaves.saturating_add(self.workers);
     }
 }

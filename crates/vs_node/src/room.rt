@@ -21,12 +21,12 @@ pub struct Room {
 }
 
 impl Room {
-    /// Before the first leaf.
-    pub fn new(alloc: Global, nets: &[LayerNet]) -> Result<Room, Memory> {
+    /// Before the first leaf of one of so many workers.
+    pub fn new(alloc: Global, nets: &[LayerNet], workers: u32) -> Result<Room, Memory> {
         Ok(Room {
             work: Work::new(alloc, nets)?,
             cuts: KeptCuts::none(),
-            progress: Progress::new(),
+            progress: Progress::new(workers),
         })
     }
 }
