@@ -1,12 +1,18 @@
 #!/usr/bin/env bash
 # Solves large timetables of version 3 by `--nodes 1` and four workers, judges each document, and says how long that
-# took and the gap. While nothing else runs on four processors, each has to keep its goals.
+# took, how much memory, and the gap. While nothing else runs on four processors, each has to keep its goals.
 #
-#     bench/large_timetables.sh [PROGRAM [TIMETABLE..]]
+#     bench/large_timetables.sh [--out FILE] [PROGRAM [TIMETABLE..]]
 #
-# A TIMETABLE is made_5000, made_10000, city_4 or city_12, and all of them where none is given. It takes some six
-# minutes, and ends with 1 where a document was wrong or a goal was missed.
+# A TIMETABLE is made_5000, made_10000, city_4, city_2x2 or city_12, and all of them where none is given. It takes some
+# seven minutes, and ends with 1 where a document was wrong or a goal was missed. FILE gets a row for each timetable.
+# Memory is measured where /usr/bin/time is installed.
 set -u
+out=/dev/null
+if [ "${1:-}" = --out ]; then
+  out=$(realpath "$2")
+  shift 2
+fi
 program=$(realpath "${1:-bin/mdvsp}")
 [ $# -eq 0 ] || shift
 cd "$(dirname "$0")/.." || exit 1
@@ -20,10 +26,22 @@ CHECK=3000
 # The timetable $1.
 timetable() {
   case $1 in
-    made_5000) "$program" make 5000 ;;
-    made_10000) "$program" make 10000 ;;
-    city_4) bench/city.py 5000 41 2 2 ;;
+    made_5000) "$program" --quiet make 5000 ;;
+    made_10000) "$program" --quiet make 10000 ;;
+    city_4) bench/city.py 5000 42 4 1 ;;
+    city_2x2) bench/city.py 5000 42 2 2 ;;
     city_12) bench/city.py 5000 41 3 4 ;;
+  esac
+}
+
+# What the timetable $1 is, for a table.
+title() {
+  case $1 in
+    made_5000) echo "make 5000" ;;
+    made_10000) echo "make 10000" ;;
+    city_4) echo "city 5000, four types at one depot" ;;
+    city_2x2) echo "city 5000, two types at two depots" ;;
+    city_12) echo "city 5000, three types at four depots" ;;
   esac
 }
 
@@ -33,17 +51,28 @@ goals() {
     made_5000) echo 40000 1000 ;;
     made_10000) echo 150000 1500 ;;
     city_4) echo 70000 200 ;;
+    city_2x2) echo 150000 3000 ;;
     city_12) echo 150000 3000 ;;
   esac
 }
 
-# Runs the program with the words behind the first, writes to the file $1, and says how many milliseconds it took.
-timed() {
-  local output=$1 start
+# Runs the program with the words behind the first, writes to the file $1, and says how many milliseconds it took, how
+# many of CPU time, and how many megabytes it held.
+measured() {
+  local output=$1
   shift
-  start=$(date +%s%3N)
-  "$program" --quiet "$@" > "$output"
-  echo $(($(date +%s%3N) - start))
+  if [ -x /usr/bin/time ]; then
+    /usr/bin/time -o "$work/time" -f '%e %U %S %M' "$program" --quiet "$@" > "$output"
+  else
+    TIMEFORMAT='%R %U %S 0'
+    { time "$program" --quiet "$@" > "$output" 2> "$work/error"; } 2> "$work/time"
+  fi
+  tail -n 1 "$work/time" | awk '{ printf "%.0f %.0f %.0f\n", 1000 * $1, 1000 * ($2 + $3), $4 / 1024 }'
+}
+
+# The field behind the first of the first row $1 of the document $2.
+field() {
+  awk -F, -v name="$1" '$1 == name { print $2; exit }' "$2"
 }
 
 # The gap of a document in parts per million of its cost, rounded up, or 1000000 where it has no plan.
@@ -55,11 +84,11 @@ gap_of() {
 
 # Solves and judges the timetable $1.
 tries() {
-  local most most_gap took checked gap row reason=
+  local most most_gap took cpu megabytes checked gap row reason=
   read -r most most_gap <<< "$(goals "$1")"
   timetable "$1" > "$work/timetable"
-  took=$(timed "$work/document" solve --workers 4 --nodes 1 "$work/timetable")
-  checked=$(timed "$work/row" check "$work/timetable" "$work/document")
+  read -r took cpu megabytes <<< "$(measured "$work/document" solve --workers 4 --nodes 1 "$work/timetable")"
+  read -r checked _ <<< "$(measured "$work/row" check "$work/timetable" "$work/document")"
   row=$(cat "$work/row")
   gap=$(gap_of "$work/document")
   case $row in
@@ -70,10 +99,14 @@ tries() {
   [ "$gap" -le "$most_gap" ] || reason="$reason, above $most_gap parts per million"
   [ "$checked" -le "$CHECK" ] || reason="$reason, judged later than $CHECK ms"
   [ -z "$reason" ] || wrong=$((wrong + 1))
-  echo "large_timetables: $1: $took ms, $gap parts per million, judged in $checked ms: $row$reason"
+  echo "large_timetables: $1: $took ms, $gap parts per million, $megabytes MB, judged in $checked ms: $row$reason"
+  printf '"%s",%s,%s,%s,%s,%s,%s,%s,%s,%s\n' "$(title "$1")" "$(grep -c '^trip,' "$work/timetable")" \
+    "$(grep -c '^layer,' "$work/timetable")" "$took" "$cpu" "$megabytes" "$(field cost "$work/document")" \
+    "$(field bound "$work/document")" "$checked" "${row%%,*}" >> "$out"
 }
 
-[ $# -gt 0 ] || set -- made_5000 made_10000 city_4 city_12
+[ $# -gt 0 ] || set -- made_5000 made_10000 city_4 city_2x2 city_12
+echo "timetable,trips,layers,wall,cpu,megabytes,cost,bound,check,audit" > "$out"
 for name in "$@"; do
   [ -n "$(goals "$name")" ] || { echo "large_timetables: there is no timetable $name"; exit 1; }
   tries "$name"
