@@ -28,8 +28,8 @@ timetable() {
   case $1 in
     made_5000) "$program" --quiet make 5000 ;;
     made_10000) "$program" --quiet make 10000 ;;
-    city_4) bench/city.py 5000 42 4 1 ;;
-    city_2x2) bench/city.py 5000 42 2 2 ;;
+    city_4) bench/city.py 5000 41 4 1 ;;
+    city_2x2) bench/city.py 5000 41 2 2 ;;
     city_12) bench/city.py 5000 41 3 4 ;;
   esac
 }
@@ -51,7 +51,7 @@ goals() {
     made_5000) echo 40000 1000 ;;
     made_10000) echo 150000 1500 ;;
     city_4) echo 70000 200 ;;
-    city_2x2) echo 150000 3000 ;;
+    city_2x2) echo 70000 200 ;;
     city_12) echo 150000 3000 ;;
   esac
 }
