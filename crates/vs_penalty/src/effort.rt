@@ -49,9 +49,6 @@ const DONE_ON_SMALL: i64 = 2_500;
 /// Turns end where it costs no more than one part in so many above it: there is little left to gain.
 const NEAR: i64 = 50_000;
 
-/// After how many turns in a row that find no cheaper plan they end.
-pub(crate) const MOST_VAIN: u32 = 2;
-
 /// A walker's turn takes as much as so many quick passes.
 const PASSES_A_TURN: u64 = 75;
 

@@ -5,9 +5,7 @@ ghost use Rattle.vs_multi.specs.Multipliers.{AreMultipliers};
 ghost use Rattle.vs_multi.specs.Rounds.{IsCase};
 ghost use Rattle.vs_penalty.specs.Seekers.{AreWalkers, CanSeek, IsSeekerFor};
 
-use crate::effort::{
-    MOST_VAIN, effort_for, is_large, is_slow, is_small, quick_passes, turn_effort,
-};
+use crate::effort::{effort_for, is_large, is_slow, is_small, quick_passes, turn_effort};
 use crate::seeking::Seeker;
 use crate::walkers::{Hands, Walkers};
 use vs_bundle::{Aim, Ascent, Lanes};
@@ -22,11 +20,27 @@ const FIRST_STEP: u32 = 2;
 /// How many circulations a layer keeps in a climb: it is kept from one part of it to the next.
 const CUTS: u32 = 100;
 
-/// How many turns the walkers have at most.
-const TURNS: u32 = 6;
+/// When the turns of the walkers end: after so many, after so many in a row that find no cheaper plan, or after so much
+/// effort of all walkers, as far as that is usual.
+#[derive(Clone, Copy, Debug)]
+struct Turns {
+    most: u32,
+    vain: u32,
+    effort: u64,
+}
 
-/// After so much effort of all walkers they end, as far as that is usual.
-const WALKS: u64 = 120_000_000;
+const TURNS: Turns = Turns {
+    most: 6,
+    vain: 2,
+    effort: 120_000_000,
+};
+
+/// On a large instance later turns find much cheaper plans too.
+const TURNS_LARGE: Turns = Turns {
+    most: 12,
+    vain: 3,
+    effort: 240_000_000,
+};
 
 /// A part of the climb: how many rounds it has at most, and how much effort they usually take.
 #[derive(Clone, Copy, Debug)]
@@ -59,8 +73,8 @@ const FURTHER: Stage = Stage {
 
 /// After all turns: on a large instance, where the climb is slow and has had more rounds before, and where it isn't.
 const LAST_LARGE: Stage = Stage {
-    rounds: 200,
-    effort: 50_000_000,
+    rounds: 1_200,
+    effort: 170_000_000,
 };
 
 const LAST_SLOW: Stage = Stage {
@@ -145,13 +159,14 @@ impl Seeker {
         }
         let most = self.penalties.rate.most;
         let budget = turn_effort(case.instance, self.of_pass);
-        let most_walks = effort_for(case.instance, self.of_pass, WALKS);
+        let turns = turns_for(case.instance);
+        let most_walks = effort_for(case.instance, self.of_pass, turns.effort);
         let mut walkers = Walkers::new(case, multipliers, most, budget)?;
         let mut vain = 0;
         let mut climbed_for = self.choices.cost();
-        for turn in 0..TURNS {
+        for turn in 0..turns.most {
             climbed_for = self.climb_further(case, ascent, climbed_for, multipliers, work, watch)?;
-            let is_spent = vain == MOST_VAIN || walkers.effort() > most_walks;
+            let is_spent = vain == turns.vain || walkers.effort() > most_walks;
             if is_spent || self.is_over(case.instance, watch) {
                 break;
             }
@@ -250,6 +265,15 @@ impl Seeker {
             paced: false,
             effort: effort_for(instance, self.of_pass, stage.effort),
         }
+    }
+}
+
+/// When the turns of the walkers end.
+fn turns_for(instance: &Instance) -> Turns {
+    if is_large(instance) {
+        TURNS_LARGE
+    } else {
+        TURNS
     }
 }
 
