@@ -12,7 +12,7 @@ use vs_bundle::{Aim, Climbed, KeptCuts, WHOLE, climb};
 use vs_circ::Work;
 use vs_instance::Instance;
 use vs_match::layer_nets;
-use vs_multi::{Case, greatest_step};
+use vs_multi::{Case, NoWatch, greatest_step};
 use vs_prices::permitted_sets;
 use vs_types::Memory;
 
@@ -60,7 +60,7 @@ fn climbed_from(
         nets: &nets,
         sets: &sets,
     };
-    climb(&case, &aim, kept, multipliers, &mut work)
+    climb(&case, &aim, kept, multipliers, &mut work, &NoWatch)
 }
 
 /// The value that a climb comes to, and how much of each trip the layer runs then.

@@ -17,7 +17,7 @@ use crate::stride::Stride;
 use crate::valuing::Trial;
 use vs_circ::{Work, begin_runs};
 use vs_cuts::WHOLE;
-use vs_multi::{Case, NoWatch};
+use vs_multi::Case;
 use vs_types::Memory;
 use vs_weights::{Bundle, Forecast};
 
@@ -318,23 +318,25 @@ impl Ascent {
 /// Climbs from these multipliers to ever better ones, and leaves the best. The circulations that the layers found so
 /// far, each taken by a weight, run every trip once at some multipliers. Each round makes a step towards these, and
 /// finds a further circulation in each layer there. It begins with the circulations of the climb before that are kept,
-/// and its own are kept in the end. The multipliers keep within their limits, also where memory runs out. What they
-/// are worth a table shows: nothing is promised of that.
-pub fn climb(
+/// and its own are kept in the end. All of that ends early where the watch says so. The multipliers keep within their
+/// limits, also where memory runs out. What they are worth a table shows: nothing is promised of that.
+pub fn climb<W: Lanes>(
     case: &Case<'_>,
     aim: &Aim,
     kept: &mut KeptCuts,
     multipliers: &mut [i64],
     work: &mut Work,
+    watch: &W,
 ) -> Result<Climbed, Memory>
+    requires works { W.works watch.now }
     requires case { IsCase case.now.instance.now case.now.nets.now case.now.sets.now }
     requires multipliers { AreMultipliers case.now.instance.now multipliers.old }
     ensures within { AreMultipliers case.now.instance.now multipliers.new }
     ensures shares { IfOk result (λ climbed. AreSharesFor case.now.instance.now climbed.shares) }
 {
     let bundle = kept.take(case, aim.cuts)?;
-    let mut ascent = Ascent::begin_with(case, aim, bundle, multipliers, work, &NoWatch)?;
-    let rounds = ascent.go_on(case, aim, multipliers, work, &NoWatch);
+    let mut ascent = Ascent::begin_with(case, aim, bundle, multipliers, work, watch)?;
+    let rounds = ascent.go_on(case, aim, multipliers, work, watch);
     let climbed = Climbed {
         shares: Shares::of(case, &ascent.bundle)?,
         value: ascent.top,

@@ -216,8 +216,7 @@ fn found_at_root<W: Hands>(
         watch,
     )?;
     task.known = lesser(task.known, cost_of(&agreed));
-    let brief = watch.is_over();
-    let outcome = work_from(alloc, instance, nets, task, begun, brief, room)?;
+    let outcome = work_from(alloc, instance, nets, task, begun, room, watch)?;
     let plan = cheaper(agreed, outcome.plan);
     Ok(Some(Outcome {
         table: outcome.table,

@@ -10,7 +10,7 @@ ghost use Rattle.vs_node.specs.SplitRule.{AreLeadsFor};
 use crate::care::{Care, most_cuts, most_rounds};
 use crate::leads::Leads;
 use crate::room::Room;
-use vs_bundle::{Aim, Shares, climb};
+use vs_bundle::{Aim, Lanes, Shares, climb};
 use vs_multi::{Case, few_rounds, greatest_step, keep_better, multipliers_of, raise};
 use vs_prices::{Bound, Table};
 use vs_types::{Memory, SCALE};
@@ -38,15 +38,18 @@ pub(crate) struct Climb {
 }
 
 /// Makes a table, which is worth so much, better by a climb from the multipliers that it stands for, and by sweeps
-/// where care is taken. Without any care it stays as it is, and nothing is known of how layers share trips.
-pub(crate) fn refine(
+/// where care is taken. Without any care it stays as it is, and nothing is known of how layers share trips. The climb
+/// ends early where the watch says so.
+pub(crate) fn refine<W: Lanes>(
     case: &Case<'_>,
     known: Option<i64>,
     care: Care,
     table: &mut Table,
     own_worth: Bound,
     room: &mut Room,
+    watch: &W,
 ) -> Result<Climb, Memory>
+    requires works { W.works watch.now }
     requires case { IsCase case.now.instance.now case.now.nets.now case.now.sets.now }
     requires fits { Fits case.now.instance.now table.old }
     requires holds { HoldingTable case.now.instance.now table.old }
@@ -61,7 +64,7 @@ pub(crate) fn refine(
     if care.is_none() {
         return as_it_is(case, table, own_worth);
     }
-    let climbed = climb_on(case, known, care, table, own_worth, room)?;
+    let climbed = climb_on(case, known, care, table, own_worth, room, watch)?;
     if care.is_little() {
         return Ok(climbed);
     }
@@ -92,14 +95,16 @@ fn as_it_is(case: &Case<'_>, table: &Table, worth: Bound) -> Result<Climb, Memor
 
 /// Climbs from the multipliers that a table stands for, which is worth so much. The table becomes what the best ones
 /// show, where that is worth more.
-fn climb_on(
+fn climb_on<W: Lanes>(
     case: &Case<'_>,
     known: Option<i64>,
     care: Care,
     table: &mut Table,
     own_worth: Bound,
     room: &mut Room,
+    watch: &W,
 ) -> Result<Climb, Memory>
+    requires works { W.works watch.now }
     requires case { IsCase case.now.instance.now case.now.nets.now case.now.sets.now }
     requires fits { Fits case.now.instance.now table.old }
     requires holds { HoldingTable case.now.instance.now table.old }
@@ -114,7 +119,7 @@ fn climb_on(
     let mut multipliers = multipliers_of(case, table)?;
     let aim = aim_for(case, known, care)?;
     let (cuts, work) = (&mut room.cuts, &mut room.work);
-    let climbed = climb(case, &aim, cuts, &mut multipliers, work)?;
+    let climbed = climb(case, &aim, cuts, &mut multipliers, work, watch)?;
     let mut last = Vec::from_slice(case.alloc, &multipliers)?;
     let mut best = few_rounds(case, LAST_ROUNDS, &mut last, work)?;
     let worth = keep_better(table, own_worth, &mut best.table, best.worth);

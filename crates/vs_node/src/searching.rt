@@ -13,9 +13,10 @@ use crate::keeping::better;
 use crate::outcome::{Outcome, Task, outcome_of};
 use crate::progress::Progress;
 use crate::room::Room;
+use vs_bundle::Lanes;
 use vs_circ::Work;
 use vs_instance::Instance;
-use vs_multi::{Best, Case, few_rounds, of_table, start};
+use vs_multi::{Best, Case, NoWatch, few_rounds, of_table, start};
 use vs_prices::{Bound, Table};
 use vs_types::Memory;
 
@@ -32,17 +33,19 @@ pub(crate) fn search(case: &Case<'_>, task: &Task, room: &mut Room) -> Result<Ou
         IsFollowedBy case.now.instance.now task.now outcome) }
 {
     let first = first_round(case, task.root, &task.table, &mut room.work)?;
-    search_from(case, task, first, false, room)
+    search_from(case, task, first, room, &NoWatch)
 }
 
-/// The same where the first round was made. In brief there is no climb, and nothing is raised.
-pub(crate) fn search_from(
+/// The same where the first round was made. Where the watch says that the work is over there is no climb, and nothing
+/// is raised. Where it says so later the climb ends.
+pub(crate) fn search_from<W: Lanes>(
     case: &Case<'_>,
     task: &Task,
     first: Best,
-    brief: bool,
     room: &mut Room,
+    watch: &W,
 ) -> Result<Outcome, Memory>
+    requires works { W.works watch.now }
     requires leaf { IsAtHand case.now.instance.now case.now.nets.now case.now.sets.now task.now }
     requires choice { (i : ℕ) × (i < length case.now.sets.now) × HasChoice case.now.sets.now i }
     requires fits { Fits case.now.instance.now first.table }
@@ -54,8 +57,14 @@ pub(crate) fn search_from(
         IsFollowedBy case.now.instance.now task.now outcome) }
 {
     let (mut table, worth) = better(case, &task.table, first.table, first.worth)?;
-    let care = care_for(case.instance, task, brief, worth, &mut room.progress);
-    let climbed = refine(case, task.known, care, &mut table, worth, room)?;
+    let care = care_for(
+        case.instance,
+        task,
+        watch.is_over(),
+        worth,
+        &mut room.progress,
+    );
+    let climbed = refine(case, task.known, care, &mut table, worth, room, watch)?;
     let outcome = outcome_of(case, task.known, table, climbed.worth, &climbed.leads, room)?;
     Ok(outcome)
 }

@@ -18,6 +18,7 @@ use crate::room::Room;
 use crate::searching::{search, search_from};
 use crate::splitting::first_with_choice;
 use std::alloc::Global;
+use vs_bundle::Lanes;
 use vs_circ::Work;
 use vs_instance::{Instance, MAX_TRIPS};
 use vs_match::LayerNet;
@@ -112,17 +113,19 @@ pub fn begin<W: Watch>(
     one_round(&case, multipliers, work, watch)
 }
 
-/// The same as `work` at the root, whose first step was made. In brief there is no climb, and nothing is raised: that
-/// is for a search that is told to stop.
-pub fn work_from(
+/// The same as `work` at the root, whose first step was made. Layers run side by side where the watch has threads for
+/// them. Where it says that the work is over there is no climb, and nothing is raised. Where it says so later the climb
+/// ends.
+pub fn work_from<W: Lanes>(
     alloc: Global,
     instance: &Instance,
     nets: &[LayerNet],
     task: &Task,
     begun: Best,
-    brief: bool,
     room: &mut Room,
+    watch: &W,
 ) -> Result<Outcome, Memory>
+    requires works { W.works watch.now }
     requires nets { AreLayerNets instance.now nets.now }
     requires restriction { IsRestriction instance.now task.now.sets.items }
     requires fits { Fits instance.now task.now.table }
@@ -157,7 +160,7 @@ pub fn work_from(
             Ok(closed)
         }
         Some(_trip) => {
-            let outcome = search_from(&case, task, begun, brief, room)?;
+            let outcome = search_from(&case, task, begun, room, watch)?;
             Ok(outcome)
         }
     }

@@ -3,7 +3,7 @@ use Rattle.vs_node.proofs.sets.Leads.{leads_for}
 use Rattle.vs_node.proofs.climbing.climb_on.Goals as goal
 
 pub returns : goal.returns
-returns c =
+returns g c =
     let case = c.args.case.now in
     let best = c.in_ok-best in
     let better = c.keep_better-worth in

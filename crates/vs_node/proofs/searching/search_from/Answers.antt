@@ -12,7 +12,7 @@ use Rattle.vs_node.proofs.searches.Nexts.{next_of_worth}
 use Rattle.vs_node.proofs.searching.search_from.Goals as goal
 
 pub returns-clause-found : goal.returns-clause-found
-returns-clause-found c =
+returns-clause-found g c =
     let p = c.args.case.now.instance.now in
     let task = c.args.task.now in
     let outcome = c.in_ok-outcome.outcome in
@@ -39,7 +39,7 @@ returns-clause-found c =
     }
 
 pub returns-clause-next : goal.returns-clause-next
-returns-clause-next c =
+returns-clause-next g c =
     let p = c.args.case.now.instance.now in
     let task = c.args.task.now in
     let outcome = c.in_ok-outcome.outcome in
