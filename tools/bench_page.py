@@ -7,8 +7,9 @@
 The file is one that bench/run.py writes. The page names it in a line `<!-- bench: file NAME -->`; while the name is
 `none`, nothing is compared. What is written stands between the lines `<!-- bench: NAME -->` and `<!-- bench: end -->`,
 where NAME is a key of SECTIONS. Times are medians, with the least and the greatest behind them. The table `leaves` is
-of bench/results/leaves_by_class.csv, which bench/classes.sh writes. The plots are docs/pictures/bench_gap.svg (gap over
-time, beside CBC), bench_trips.svg (time over trips) and bench_workers.svg (speed-up over workers).
+of bench/results/leaves_by_class.csv, which bench/classes.sh writes, and the table `large` of
+bench/results/large_timetables.csv, which bench/large_timetables.sh writes. The plots are docs/pictures/bench_gap.svg
+(gap over time, beside CBC), bench_trips.svg (time over trips) and bench_workers.svg (speed-up over workers).
 """
 
 from __future__ import annotations
@@ -25,6 +26,7 @@ TOP = Path(__file__).resolve().parent.parent
 PAGE = TOP / "docs" / "benchmarks.md"
 PICTURES = TOP / "docs" / "pictures"
 CLASSES = TOP / "bench" / "results" / "leaves_by_class.csv"
+LARGE = TOP / "bench" / "results" / "large_timetables.csv"
 NAMED = re.compile(r"<!-- bench: file (\S+) -->")
 PART = re.compile(r"(<!-- bench: (?!file|end)(\w+) -->\n)(.*?)(<!-- bench: end -->)", re.S)
 
@@ -278,6 +280,21 @@ def together(timetables: list[dict[str, Row]]) -> list[str]:
     return cells
 
 
+def large(_: Results) -> str:
+    """Returns a row for each timetable that bench/large_timetables.sh had planned by four workers."""
+    rows = []
+    with open(LARGE, encoding="utf-8", newline="") as file:
+        for run in csv.DictReader(file):
+            apart = gap(run)
+            shown = "" if apart is None else f"{apart:.4f}"
+            seconds = [short(int(run[what]) / 1000) for what in ("wall", "cpu")]
+            judged = short(int(run["check"]) / 1000)
+            rows.append([run["timetable"], thousands(run["trips"]), run["layers"], thousands(run["cost"]), shown])
+            rows[-1] += [*seconds, run["megabytes"], judged]
+    heads = ["Timetable", "Trips", "Layers", "Plan", "Gap, %", "Seconds", "CPU s", "MB", "`check`, s"]
+    return table(heads, rows)
+
+
 def plots(_: Results) -> str:
     """Returns the links to the plots."""
     return "".join(f"![{plot[0]}](pictures/{name})\n\n" for name, plot in PLOTS.items())
@@ -295,6 +312,7 @@ SECTIONS = {
     "infeasible": lambda found: commands(found, "infeasible"),
     "memory": memory,
     "leaves": leaves,
+    "large": large,
     "plots": plots,
 }
 
