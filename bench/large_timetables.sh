@@ -4,10 +4,11 @@
 #
 #     bench/large_timetables.sh [--out FILE] [PROGRAM [TIMETABLE..]]
 #
-# A TIMETABLE is made_5000, made_10000, city_4, city_2x2 or city_12, and all of them where none is given. It takes some
-# seven minutes, and ends with 1 where a document was wrong or a goal was missed. FILE gets a row for each timetable.
-# Memory is measured where /usr/bin/time is installed. Only the gap of city_2x2 has no goal, and it may take longer than
-# city_4: two depots of one type are nearly alike, and plans as near the bound aren't found in that time.
+# A TIMETABLE is made_5000, made_10000, city_4, city_4_SEED, city_2x2 or city_12. Where none is given it is each of them,
+# with the seeds 44 to 46, on which no constant was chosen. That takes some seven minutes. It ends with 1 where a document
+# was wrong or a goal was missed. FILE gets a row for each timetable.
+# Memory is measured where /usr/bin/time is installed. city_2x2 has the goals of city_4, since both have four layers. It
+# misses them: two depots of one type are nearly alike, and plans as near the bound aren't found in that time.
 set -u
 out=/dev/null
 if [ "${1:-}" = --out ]; then
@@ -30,6 +31,7 @@ timetable() {
     made_5000) "$program" --quiet make 5000 ;;
     made_10000) "$program" --quiet make 10000 ;;
     city_4) bench/city.py 5000 41 4 1 ;;
+    city_4_*) bench/city.py 5000 "${1##*_}" 4 1 ;;
     city_2x2) bench/city.py 5000 41 2 2 ;;
     city_12) bench/city.py 5000 41 3 4 ;;
   esac
@@ -41,18 +43,19 @@ title() {
     made_5000) echo "make 5000" ;;
     made_10000) echo "make 10000" ;;
     city_4) echo "city 5000, four types at one depot" ;;
+    city_4_*) echo "city 5000, four types at one depot, seed ${1##*_}" ;;
     city_2x2) echo "city 5000, two types at two depots" ;;
     city_12) echo "city 5000, three types at four depots" ;;
   esac
 }
 
-# The goals of the timetable $1: the milliseconds of the search, and the gap in parts per million of the cost or `none`.
+# The goals of the timetable $1: the milliseconds of the search, and the gap in parts per million of the cost.
 goals() {
   case $1 in
     made_5000) echo 40000 1000 ;;
     made_10000) echo 150000 1500 ;;
-    city_4) echo 70000 200 ;;
-    city_2x2) echo 150000 none ;;
+    city_4 | city_4_*) echo 70000 200 ;;
+    city_2x2) echo 70000 200 ;;
     city_12) echo 150000 3000 ;;
   esac
 }
@@ -97,7 +100,7 @@ tries() {
     *) reason=", which is wrong" ;;
   esac
   [ "$took" -le "$most" ] || reason="$reason, later than $most ms"
-  [ "$most_gap" = none ] || [ "$gap" -le "$most_gap" ] || reason="$reason, above $most_gap parts per million"
+  [ "$gap" -le "$most_gap" ] || reason="$reason, above $most_gap parts per million"
   [ "$checked" -le "$CHECK" ] || reason="$reason, judged later than $CHECK ms"
   [ -z "$reason" ] || wrong=$((wrong + 1))
   echo "large_timetables: $1: $took ms, $gap parts per million, $megabytes MB, judged in $checked ms: $row$reason"
@@ -106,7 +109,7 @@ tries() {
     "$(field bound "$work/document")" "$checked" "${row%%,*}" >> "$out"
 }
 
-[ $# -gt 0 ] || set -- made_5000 made_10000 city_4 city_2x2 city_12
+[ $# -gt 0 ] || set -- made_5000 made_10000 city_4 city_4_44 city_4_45 city_4_46 city_2x2 city_12
 echo "timetable,trips,layers,wall,cpu,megabytes,cost,bound,check,audit" > "$out"
 for name in "$@"; do
   [ -n "$(goals "$name")" ] || { echo "large_timetables: there is no timetable $name"; exit 1; }
