@@ -10,8 +10,8 @@ use std::alloc::Global;
 use vs_circ::Work;
 use vs_multi::Case;
 use vs_node::settle;
-use vs_plan::{CheckedPlan, cheaper, cost_of};
-use vs_types::{LayerSet, Memory, SCALE};
+use vs_plan::{Block, CheckedPlan, cheaper, cost_of};
+use vs_types::{LayerSet, Memory, SCALE, TripNo};
 use vs_walk::{Pool, lowest_layers};
 
 /// The cheapest plan that was found, and the choices of layers by which plans were found.
@@ -47,6 +47,17 @@ impl Choices {
     /// The same in 1/1000 of a cost unit.
     pub fn known(&self) -> Option<i64> {
         self.cost().map(|cost| cost.saturating_mul(SCALE))
+    }
+
+    /// By trip: the number of the vehicle that runs it in the cheapest plan, from 0 on. All are 0 where none is known.
+    pub fn vehicles(&self, case: &Case<'_>) -> Result<Vec<u32>, Memory>
+        ensures { IfOk result (λ vehicles. length vehicles.items ≡ length case.now.instance.now.trips) }
+    {
+        let mut vehicles = vec![in case.alloc; 0; case.instance.trips() as usize]?;
+        if let Some(best) = &self.best {
+            number_vehicles(&best.plan().blocks, &mut vehicles);
+        }
+        Ok(vehicles)
     }
 
     /// Whether the cheapest plan costs less than so much more than this value, both in 1/1000 of a cost unit.
@@ -137,5 +148,28 @@ fn is_cheaper(cost: Option<i64>, known: Option<i64>) -> bool {
         (Some(cost), Some(known)) => cost < known,
         (Some(_), None) => true,
         _ => false,
+    }
+}
+
+/// Gives each trip of these blocks the number of its block.
+fn number_vehicles(blocks: &[Block], vehicles: &mut [u32])
+    ensures { length vehicles.new ≡ length vehicles.old }
+{
+    let mut number = 0;
+    for block in blocks {
+        number_trips(&block.trips, number, vehicles);
+        number = number.saturating_add(1);
+    }
+}
+
+/// Gives each of these trips this number.
+fn number_trips(trips: &[TripNo], number: u32, vehicles: &mut [u32])
+    ensures { length vehicles.new ≡ length vehicles.old }
+{
+    for trip in trips {
+        let place = trip.0 as usize;
+        if place < vehicles.len() {
+            vehicles[place] = number;
+        }
     }
 }

@@ -2,10 +2,11 @@
 //! about a fifth of a microsecond.
 
 ghost use Rattle.std.specs.Prelude.{◌≡◌, ◌*◌, ◌<◌, ◌≤◌, ◌↔◌, IsTrue, length};
-ghost use Rattle.vs_penalty.specs.Slow.{IsLarge, IsSlow};
+ghost use Rattle.vs_penalty.specs.Slow.{IsSlow};
 
-use vs_instance::{Instance, MAX_LAYERS, MAX_TRIPS, USUAL_TRIPS};
+use vs_instance::{Instance, MAX_LAYERS, MAX_TRIPS};
 use vs_types::SCALE;
+use vs_walk::is_large;
 
 /// How many offers of trips to layers there are in all, where the quick passes for them lie between the two limits. A
 /// pass takes the longer the more it offers.
@@ -84,13 +85,6 @@ pub(crate) fn is_small(instance: &Instance) -> bool
     ensures { IsTrue result ↔ length instance.now.trips * length instance.now.layers ≤ SMALL }
 {
     offers(instance) <= SMALL
-}
-
-/// Whether an instance is large: it has more trips than a text of version 1 or 2 may have.
-pub(crate) fn is_large(instance: &Instance) -> bool
-    ensures { IsTrue result ↔ IsLarge instance.now }
-{
-    instance.trips() > USUAL_TRIPS
 }
 
 /// Whether a climb takes many rounds to multipliers near which cheap plans are found.

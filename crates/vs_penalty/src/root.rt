@@ -5,7 +5,7 @@ ghost use Rattle.vs_multi.specs.Multipliers.{AreMultipliers};
 ghost use Rattle.vs_multi.specs.Rounds.{IsCase};
 ghost use Rattle.vs_penalty.specs.Seekers.{AreWalkers, CanSeek, IsSeekerFor};
 
-use crate::effort::{effort_for, is_large, is_slow, is_small, quick_passes, turn_effort};
+use crate::effort::{effort_for, is_slow, is_small, quick_passes, turn_effort};
 use crate::seeking::Seeker;
 use crate::walkers::{Hands, Walkers};
 use vs_bundle::{Aim, Ascent, Lanes};
@@ -13,6 +13,7 @@ use vs_circ::{Work, begin_runs};
 use vs_instance::Instance;
 use vs_multi::{Case, Watch};
 use vs_types::Memory;
+use vs_walk::is_large;
 
 /// The first step of a climb, in per cent of the greatest. The multipliers are known to within some per cent of it.
 const FIRST_STEP: u32 = 2;
@@ -35,11 +36,11 @@ const TURNS: Turns = Turns {
     effort: 120_000_000,
 };
 
-/// On a large instance later turns find much cheaper plans too.
+/// On a large instance later turns find much cheaper plans too, also where several before them were in vain.
 const TURNS_LARGE: Turns = Turns {
-    most: 12,
-    vain: 3,
-    effort: 240_000_000,
+    most: 16,
+    vain: 6,
+    effort: 320_000_000,
 };
 
 /// A part of the climb: how many rounds it has at most, and how much effort they usually take.
@@ -217,6 +218,7 @@ impl Seeker {
         ensures walkers { AreWalkers case.now.instance.now walkers.new }
     {
         let before = self.choices.cost();
+        walkers.take_vehicles(case, &self.choices.vehicles(case)?);
         let pool = &mut self.choices.pool;
         walkers.take_turn(case, turn, multipliers, pool, work, watch)?;
         self.choices.draw_cheapest(case, work)?;

@@ -94,6 +94,18 @@ impl Walkers {
         Ok(Walkers { walks })
     }
 
+    /// Tells each the number of the vehicle that runs each trip in the cheapest plan.
+    pub fn take_vehicles(&mut self, case: &Case<'_>, vehicles: &[u32])
+        requires walkers { AreWalkers case.now.instance.now self.old }
+        requires vehicles { length vehicles.now ≡ length case.now.instance.now.trips }
+        ensures { AreWalkers case.now.instance.now self.new }
+    {
+        let _ = case;
+        for k in 0..self.walks.len() {
+            self.walks[k].walker.take_vehicles(vehicles);
+        }
+    }
+
     /// A turn of each. In even turns they begin with the choices of the pool, in odd ones each with its own. What they
     /// know in the end goes into the pool, in their order.
     pub fn take_turn<W: Hands>(

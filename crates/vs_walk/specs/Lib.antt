@@ -1,4 +1,5 @@
 pub mod Choices
+pub mod Large
 pub mod Moves
 pub mod Noted
 pub mod Penalties

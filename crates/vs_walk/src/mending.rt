@@ -1,27 +1,47 @@
-//! Choices made cheaper: some layers share out their trips anew, or all of them those of some hours.
+//! Choices made cheaper: some layers share out their trips anew, or all of them those of some hours or some vehicles.
 
 ghost use Rattle.std.specs.Prelude.{◌<◌, ◌≤◌, length};
 ghost use Rattle.vs_circ.specs.shipping.Ready.{IsReadyToRun};
+ghost use Rattle.vs_instance.specs.Restriction.{IsRestriction};
 ghost use Rattle.vs_types.specs.declared.numbers.TheConstants.{MAX_LAYERS};
 ghost use Rattle.vs_multi.specs.Rounds.{IsCase};
 ghost use Rattle.vs_walk.specs.Walkers.{IsWalkerFor};
+ghost use Rattle.vs_walk.specs.declared.savings.TheConstants.{KINDS};
 
 use crate::draws::Draws;
+use crate::large::is_large;
 use crate::passes::Course;
 use crate::penalties::high_for;
 use crate::rate::Rate;
-use crate::scope::{Scope, count_free, free_within, offer_free};
+use crate::savings::KINDS;
+use crate::scope::{ALL, Scope, count_free, free_within, offer_free};
 use crate::walker::{FEW, FEW_LAYERS, Walker};
 use vs_circ::Work;
 use vs_instance::Instance;
 use vs_multi::{Case, Watch};
 use vs_types::{LayerNo, LayerSet, Memory, TripNo};
 
-/// The rate rises by one part in so many.
-const GROWTH: u64 = 8;
+/// How passes go: the rate rises by one part in so many, and there are so many passes at most.
+#[derive(Clone, Copy, Debug)]
+struct Passes {
+    growth: u64,
+    most: u32,
+}
 
-/// How many passes there are at most.
-const PASSES: u32 = 40;
+/// Where some layers share out their trips anew, or all of them those of some hours.
+const PASSES: Passes = Passes {
+    growth: 8,
+    most: 40,
+};
+
+/// Where all layers share out the trips of some vehicles. With a rate that rises more slowly they find cheaper choices.
+const PASSES_FOR_VEHICLES: Passes = Passes {
+    growth: 12,
+    most: 100,
+};
+
+/// The trips of how many vehicles are shared out anew, by the two kinds of mending that do so.
+const VEHICLES: [u32; 2] = [15, 60];
 
 /// How many times at most a choice is mended. The effort ends it sooner.
 const MOST_TRIES: u32 = 10_000;
@@ -66,13 +86,53 @@ impl Walker {
             if is_over || vain == MOST_VAIN || trips == 0 || layers == 0 {
                 break;
             }
-            let is_tried = self.mend_once(case, (k % 2) as usize, work, watch);
+            let kind = self.kind_at(case.instance, k);
+            let is_tried = self.mend_and_note(case, kind, work, watch);
             vain = if is_tried { 0 } else { vain.saturating_add(1) };
         }
     }
 
-    /// Lets some layers share out their trips anew, and takes what they agree on where it costs no more. There are two
-    /// kinds of it. False where the layers have no two trips to share out.
+    /// Which kind of mending a try is. On a large instance every second try is of the kind that has saved most for its
+    /// effort, and the other tries are of all kinds in turn. Else there are two kinds in turn.
+    fn kind_at(&self, instance: &Instance, k: u32) -> usize
+        ensures { result < KINDS }
+    {
+        if !is_large(instance) {
+            (k % 2) as usize
+        } else if k % 2 == 0 {
+            (k / 2 % 4) as usize
+        } else {
+            self.savings.best()
+        }
+    }
+
+    /// Mends once, and notes what that saves. False where there are no two trips to share out.
+    fn mend_and_note<W: Watch>(
+        &mut self,
+        case: &Case<'_>,
+        kind: usize,
+        work: &mut Work,
+        watch: &W,
+    ) -> bool
+        requires case { IsCase case.now.instance.now case.now.nets.now case.now.sets.now }
+        requires trips { 0 < length case.now.instance.now.trips }
+        requires layers { 0 < length case.now.instance.now.layers }
+        requires kind { kind < KINDS }
+        requires walker { IsWalkerFor case.now.instance.now self.old }
+        requires ready { IsReadyToRun case.now.nets.now work.old }
+        ensures walker { IsWalkerFor case.now.instance.now self.new }
+        ensures ready { IsReadyToRun case.now.nets.now work.new }
+    {
+        let (cost, before) = (self.draft.cost(), work.effort());
+        let is_tried = self.mend_once(case, kind, work, watch);
+        let saved = cost.saturating_sub(self.draft.cost()).max(0) as u64;
+        let effort = work.effort().saturating_sub(before);
+        self.savings.note(kind, saved, effort);
+        is_tried
+    }
+
+    /// Lets layers share out some trips anew, and takes what they agree on where it costs no more. There are four kinds
+    /// of it. False where there are no two trips to share out.
     fn mend_once<W: Watch>(
         &mut self,
         case: &Case<'_>,
@@ -83,29 +143,51 @@ impl Walker {
         requires case { IsCase case.now.instance.now case.now.nets.now case.now.sets.now }
         requires trips { 0 < length case.now.instance.now.trips }
         requires layers { 0 < length case.now.instance.now.layers }
-        requires kind { kind < 2 }
+        requires kind { kind < KINDS }
         requires walker { IsWalkerFor case.now.instance.now self.old }
         requires ready { IsReadyToRun case.now.nets.now work.old }
         ensures walker { IsWalkerFor case.now.instance.now self.new }
         ensures ready { IsReadyToRun case.now.nets.now work.new }
     {
-        let scope = draw_scope(&mut self.draws, case.instance, kind);
-        free_within(case.instance, scope, &self.draft.layers, &mut self.sets);
+        let layers = self.free_some(case, kind);
         let free = count_free(&self.sets);
         if free < 2 {
             return false;
         }
-        if !self.agree_in(case, scope, kind, free / FEW, work, watch) {
+        if !self.agree_in(case, layers, kind, free / FEW, work, watch) {
             self.mends[kind].lower();
             return true;
         }
         self.choose(case);
         if self.next.is_like(&self.draft) {
             self.mends[kind].raise();
-        } else if self.reckon(case, scope.layers, work) && self.next.cost() <= self.draft.cost() {
+        } else if self.reckon(case, layers, work) && self.next.cost() <= self.draft.cost() {
             self.take_next();
         }
         true
+    }
+
+    /// Frees the trips that are shared out anew by this kind of mending. Gives the layers that do so.
+    fn free_some(&mut self, case: &Case<'_>, kind: usize) -> LayerSet
+        requires case { IsCase case.now.instance.now case.now.nets.now case.now.sets.now }
+        requires trips { 0 < length case.now.instance.now.trips }
+        requires layers { 0 < length case.now.instance.now.layers }
+        requires kind { kind < KINDS }
+        requires walker { IsWalkerFor case.now.instance.now self.old }
+        ensures walker { IsWalkerFor case.now.instance.now self.new }
+        ensures sets { IsRestriction case.now.instance.now self.new.sets.items }
+    {
+        if kind < 2 {
+            let scope = draw_scope(&mut self.draws, case.instance, kind);
+            free_within(case.instance, scope, &self.draft.layers, &mut self.sets);
+            scope.layers
+        } else {
+            self.nearby
+                .draw(&mut self.draws, case.instance, VEHICLES[kind - 2]);
+            self.nearby
+                .free(case.instance, &self.draft.layers, &mut self.sets);
+            ALL
+        }
     }
 
     /// Passes of these layers from the choice that is worked on. Gives whether they agree: no more than a few trips are
@@ -113,7 +195,7 @@ impl Walker {
     fn agree_in<W: Watch>(
         &mut self,
         case: &Case<'_>,
-        scope: Scope,
+        layers: LayerSet,
         kind: usize,
         few: u32,
         work: &mut Work,
@@ -121,7 +203,7 @@ impl Walker {
     ) -> bool
         requires case { IsCase case.now.instance.now case.now.nets.now case.now.sets.now }
         requires layers { 0 < length case.now.instance.now.layers }
-        requires kind { kind < 2 }
+        requires kind { kind < KINDS }
         requires walker { IsWalkerFor case.now.instance.now self.old }
         requires sets { IsCase case.now.instance.now case.now.nets.now self.old.sets.items }
         requires ready { IsReadyToRun case.now.nets.now work.old }
@@ -129,15 +211,24 @@ impl Walker {
         ensures ready { IsReadyToRun case.now.nets.now work.new }
     {
         let most = self.penalties.rate.most;
+        let passes = if kind < 2 {
+            PASSES
+        } else {
+            PASSES_FOR_VEHICLES
+        };
         let course = Course {
-            layers: scope.layers,
+            layers,
             few,
-            passes: PASSES,
+            passes: passes.most,
             end: u64::MAX,
         };
         let high = high_for(case.instance.trips(), most);
         offer_free(&self.sets, &self.best, high, &mut self.offered);
-        self.penalties.rate = Rate::up_to(self.mends[kind].part_of(self.agreed), most, GROWTH);
+        self.penalties.rate = Rate::up_to(
+            self.mends[kind].part_of(self.agreed),
+            most,
+            passes.growth,
+        );
         let offered: &[i64] = &self.offered;
         self.penalties.begin_from(offered, &self.draft.layers);
         let first = self.draws.below(case.instance.layers());

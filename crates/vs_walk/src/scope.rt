@@ -118,7 +118,7 @@ pub(crate) fn offer_free(sets: &[LayerSet], best: &[i64], high: i64, offered: &m
 }
 
 /// Those of the permitted layers that are wanted, or all where there are none.
-fn narrowed(permitted: LayerSet, wanted: LayerSet) -> LayerSet
+pub(crate) fn narrowed(permitted: LayerSet, wanted: LayerSet) -> LayerSet
     requires { members permitted ≢ [] }
     ensures some { members result ≢ [] }
     ensures part { (l : ℕ) → Has result l → Has permitted l }

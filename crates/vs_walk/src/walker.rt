@@ -11,13 +11,17 @@ ghost use Rattle.vs_walk.specs.Walkers.{IsWalkerFor};
 use crate::choice::Draft;
 use crate::choosing::lowest_layers;
 use crate::draws::{Divisor, Draws};
+use crate::large::is_large;
+use crate::nearby::Nearby;
 use crate::passes::Course;
 use crate::penalties::Penalties;
 use crate::pool::Pool;
 use crate::rate::Rate;
+use crate::savings::{KINDS, Savings};
 use crate::scope::ALL;
 use std::mem::swap;
 use vs_circ::{Work, begin_runs};
+use vs_instance::Instance;
 use vs_multi::{Case, Watch};
 use vs_types::{LayerNo, LayerSet, MAX_LAYERS, Memory};
 
@@ -50,12 +54,15 @@ pub struct Walker {
     pub(crate) penalties: Penalties,
     /// The choices that it knows.
     pub pool: Pool,
+    /// What the cheapest of them cost when the turn before began.
+    known: Option<i64>,
     /// The rate at which layers agreed that began where none runs a trip.
     pub(crate) agreed: u64,
     /// How passes from kept choices begin: in all layers, and in those of the cheapest choices.
     pub(crate) restarts: [Divisor; 2],
-    /// How the two kinds of mending begin.
-    pub(crate) mends: [Divisor; 2],
+    /// How the four kinds of mending begin.
+    pub(crate) mends: [Divisor; KINDS],
+    pub(crate) savings: Savings,
     pub(crate) draws: Draws,
     /// How many times it began from a kept choice.
     pub(crate) tries: u32,
@@ -64,6 +71,8 @@ pub struct Walker {
     pub(crate) next: Draft,
     /// By trip: the layers in which it may be run, and the multiplier to begin with.
     pub(crate) sets: Vec<LayerSet>,
+    /// The vehicles of the cheapest plan.
+    pub(crate) nearby: Nearby,
     pub(crate) offered: Vec<i64>,
     /// What it did so far, as `Work::effort` counts it.
     pub effort: u64,
@@ -90,17 +99,28 @@ impl Walker {
             best: Vec::from_slice(case.alloc, multipliers)?,
             penalties: Penalties::new(case, multipliers, Rate::new(most, most, 1))?,
             pool: Pool::new(case.alloc, trips),
+            known: None,
             agreed: 0,
             restarts: [Divisor::new(8); 2],
-            mends: [Divisor::new(4); 2],
+            mends: first_mends(),
+            savings: Savings::new(),
             draws: Draws::new(number),
             tries: 0,
             draft: Draft::new(case.alloc, trips, layers)?,
             next: Draft::new(case.alloc, trips, layers)?,
             sets: vec![in case.alloc; LayerSet(0); trips]?,
+            nearby: Nearby::new(case.alloc, trips)?,
             offered: Vec::from_slice(case.alloc, multipliers)?,
             effort: 0,
         })
+    }
+
+    /// Takes the number of the vehicle that runs each trip in the cheapest plan.
+    pub fn take_vehicles(&mut self, vehicles: &[u32])
+        requires { length vehicles.now ≡ length self.old.nearby.vehicles.items }
+        ensures { (p : Problem) → IsWalkerFor p self.old → IsWalkerFor p self.new }
+    {
+        self.nearby.vehicles.copy_from_slice(vehicles);
     }
 
     /// Takes the choices of another pool in place of its own.
@@ -113,9 +133,9 @@ impl Walker {
         self.pool.merge(case.alloc, pool)
     }
 
-    /// A turn, from these multipliers on. Where it is the first turn or no choice is known, it begins with passes to a
-    /// first agreement. Passes from kept choices follow. What is left of the budget mends the cheapest choice. Each of
-    /// these ends where the watch says so.
+    /// A turn, from these multipliers on. Where it is the first turn, no choice is known, or the turn before came to no
+    /// cheaper one, it begins with passes to a first agreement. Passes from kept choices follow. What is left of the
+    /// budget mends the cheapest choice. Each of these ends where the watch says so.
     pub fn walk<W: Watch>(
         &mut self,
         case: &Case<'_>,
@@ -132,6 +152,8 @@ impl Walker {
         self.best.copy_from_slice(multipliers);
         begin_runs(case.alloc, case.nets, work)?;
         let before = work.effort();
+        self.savings.fade();
+        self.forget_where_stuck(case.instance);
         if turn == 0 || self.pool.count() == 0 {
             self.begin_anew(case, turn, work, watch)?;
         }
@@ -183,18 +205,30 @@ impl Walker {
     {
         let end = work.effort().saturating_add(self.budget.saturating_mul(4));
         let course = Course::in_all(case.instance, MOST_PASSES, end);
-        self.penalties.rate = self.first_rate(case.instance.layers(), turn);
+        self.penalties.rate = self.first_rate(case.instance, turn);
         self.penalties.begin(&self.best);
         let first = self.number.saturating_add(turn.saturating_mul(3));
         self.penalties.set_first(first);
         self.penalties.agree(case, course, work, watch)
     }
 
+    /// Forgets its choices where the turn before came to no cheaper one on a large instance. One that is found anew may
+    /// be mended further.
+    fn forget_where_stuck(&mut self, instance: &Instance)
+        ensures { (p : Problem) → IsWalkerFor p self.old → IsWalkerFor p self.new }
+    {
+        let known = self.pool.cost();
+        if is_large(instance) && known == self.known {
+            self.pool.clear();
+        }
+        self.known = known;
+    }
+
     /// The rate with which passes begin that begin anew: a small part of the greatest, the greater the later the walker
     /// and the turn.
-    fn first_rate(&self, layers: u32, turn: u32) -> Rate {
+    fn first_rate(&self, instance: &Instance, turn: u32) -> Rate {
         let most = self.penalties.rate.most;
-        let pace = pace_for(layers);
+        let pace = pace_for(instance);
         let later = turn.saturating_mul(4).saturating_add(self.number);
         let thirds = u64::from(later) + 3;
         let part = (pace.part.saturating_mul(3) / thirds).max(1);
@@ -292,11 +326,20 @@ impl Walker {
     }
 }
 
-/// The slower a rate rises, the less the best multipliers are left behind, and with few layers it may rise faster.
-fn pace_for(layers: u32) -> Pace
+/// How each kind of mending begins. All layers agree on the trips of some vehicles at a far smaller rate than on all of
+/// them.
+fn first_mends() -> [Divisor; KINDS] {
+    let usual = Divisor::new(4);
+    let small = Divisor::new(32);
+    [usual, usual, small, small]
+}
+
+/// The slower a rate rises, the less the best multipliers are left behind. With few layers it may rise faster, but not
+/// on a large instance.
+fn pace_for(instance: &Instance) -> Pace
     ensures { 0 < result.growth }
 {
-    if layers > FEW_LAYERS {
+    if instance.layers() > FEW_LAYERS || is_large(instance) {
         Pace {
             part: 2_000,
             growth: 20,

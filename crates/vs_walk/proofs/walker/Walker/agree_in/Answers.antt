@@ -23,6 +23,7 @@ returns-clause-walker g c =
       draft = old.draft;
       next = old.next;
       sets = old.sets;
+      nearby = old.nearby;
       offered = subst (AreMultipliers c.args.case.now.instance.now) (sym written) (record {
         each_trip = c.offer_free.ensures.each ∙ ap length c.deref_mut.ensures.value ∙ old.offered.each_trip;
         within = c.offer_free.ensures.within;
