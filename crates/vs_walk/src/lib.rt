@@ -3,8 +3,8 @@
 //! In a pass each layer is paid a little more for a trip that no other one runs and a little less for one that another
 //! does. Where every trip is run, each is given to one layer, and a choice of layers is found. A walk begins passes
 //! from the best multipliers, goes on from the cheapest choices, and mends them. To mend a choice, a few layers share
-//! out their trips anew, or all layers do with the trips of some hours. On a large instance all layers also do so with
-//! the trips of some vehicles that come near each other.
+//! out their trips anew, or all layers do with the trips of some hours. On a large instance with few layers all of
+//! them also do so with the trips of some vehicles that come near each other.
 #![tactic(auto)]
 
 mod choice;

@@ -9,7 +9,7 @@ ghost use Rattle.vs_walk.specs.Walkers.{IsWalkerFor};
 ghost use Rattle.vs_walk.specs.declared.savings.TheConstants.{KINDS};
 
 use crate::draws::Draws;
-use crate::large::is_large;
+use crate::large::is_large_with_few_layers;
 use crate::passes::Course;
 use crate::penalties::high_for;
 use crate::rate::Rate;
@@ -92,12 +92,12 @@ impl Walker {
         }
     }
 
-    /// Which kind of mending a try is. On a large instance every second try is of the kind that has saved most for its
-    /// effort, and the other tries are of all kinds in turn. Else there are two kinds in turn.
+    /// Which kind of mending a try is. On a large instance with few layers every second try is of the kind that has saved
+    /// most for its effort, and the other tries are of all kinds in turn. Else there are two kinds in turn.
     fn kind_at(&self, instance: &Instance, k: u32) -> usize
         ensures { result < KINDS }
     {
-        if !is_large(instance) {
+        if !is_large_with_few_layers(instance) {
             (k % 2) as usize
         } else if k % 2 == 0 {
             (k / 2 % 4) as usize

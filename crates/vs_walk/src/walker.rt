@@ -11,7 +11,7 @@ ghost use Rattle.vs_walk.specs.Walkers.{IsWalkerFor};
 use crate::choice::Draft;
 use crate::choosing::lowest_layers;
 use crate::draws::{Divisor, Draws};
-use crate::large::is_large;
+use crate::large::{is_large, is_large_with_few_layers};
 use crate::nearby::Nearby;
 use crate::passes::Course;
 use crate::penalties::Penalties;
@@ -212,13 +212,13 @@ impl Walker {
         self.penalties.agree(case, course, work, watch)
     }
 
-    /// Forgets its choices where the turn before came to no cheaper one on a large instance. One that is found anew may
-    /// be mended further.
+    /// Forgets its choices where the turn before came to no cheaper one on a large instance with few layers. One that is
+    /// found anew may be mended further.
     fn forget_where_stuck(&mut self, instance: &Instance)
         ensures { (p : Problem) → IsWalkerFor p self.old → IsWalkerFor p self.new }
     {
         let known = self.pool.cost();
-        if is_large(instance) && known == self.known {
+        if is_large_with_few_layers(instance) && known == self.known {
             self.pool.clear();
         }
         self.known = known;
