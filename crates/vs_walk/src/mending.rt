@@ -92,8 +92,8 @@ impl Walker {
         }
     }
 
-    /// Which kind of mending a try is. On a large instance with few layers every second try is of the kind that has saved
-    /// most for its effort, and the other tries are of all kinds in turn. Else there are two kinds in turn.
+    /// Which kind of mending a try is. On a large instance with few layers every second try is of the kind that has
+    /// saved most for its effort, and the other tries are of all kinds in turn. Else there are two kinds in turn.
     fn kind_at(&self, instance: &Instance, k: u32) -> usize
         ensures { result < KINDS }
     {

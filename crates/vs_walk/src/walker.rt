@@ -212,8 +212,8 @@ impl Walker {
         self.penalties.agree(case, course, work, watch)
     }
 
-    /// Forgets its choices where the turn before came to no cheaper one on a large instance with few layers. One that is
-    /// found anew may be mended further.
+    /// Forgets its choices where the turn before came to no cheaper one on a large instance with few layers. One that
+    /// is found anew may be mended further.
     fn forget_where_stuck(&mut self, instance: &Instance)
         ensures { (p : Problem) → IsWalkerFor p self.old → IsWalkerFor p self.new }
     {
