@@ -100,10 +100,7 @@ impl Walkers {
         requires vehicles { length vehicles.now ≡ length case.now.instance.now.trips }
         ensures { AreWalkers case.now.instance.now self.new }
     {
-        let _ = case;
-        for k in 0..self.walks.len() {
-            self.walks[k].walker.take_vehicles(vehicles);
-        }
+        tell_vehicles(&mut self.walks, case, vehicles);
     }
 
     /// A turn of each. In even turns they begin with the choices of the pool, in odd ones each with its own. What they
@@ -172,6 +169,17 @@ impl Walkers {
     }
 }
 
+/// Tells each of these walkers the number of the vehicle that runs each trip in the cheapest plan.
+fn tell_vehicles(walks: &mut [Walk], case: &Case<'_>, vehicles: &[u32])
+    requires walkers { AreWalks case.now.instance.now walks.old }
+    requires vehicles { length vehicles.now ≡ length case.now.instance.now.trips }
+    ensures { AreWalks case.now.instance.now walks.new }
+{
+    for k in 0..walks.len() {
+        walks[k].take_vehicles(case, vehicles);
+    }
+}
+
 /// A turn of each of the first of these, up to this number.
 fn walk_first<W: Hands>(
     walks: &mut [Walk],
@@ -227,6 +235,16 @@ fn walk_sharing<W: Watch>(
 }
 
 impl Walk {
+    /// Tells the walker the number of the vehicle that runs each trip in the cheapest plan.
+    fn take_vehicles(&mut self, case: &Case<'_>, vehicles: &[u32])
+        requires walker { IsWalkerFor case.now.instance.now self.old.walker }
+        requires vehicles { length vehicles.now ≡ length case.now.instance.now.trips }
+        ensures { IsWalkerFor case.now.instance.now self.new.walker }
+    {
+        let _ = case;
+        self.walker.take_vehicles(vehicles);
+    }
+
     /// A turn with what is kept here for the nets.
     fn go_with<W: Watch>(&mut self, case: &Case<'_>, turn: &Turn<'_>, work: &mut Work, watch: &W)
         requires turn { IsTurnIn case.now.instance.now case.now.nets.now case.now.sets.now turn.now }
